@@ -59,6 +59,40 @@ fn flag<'a>(alloc: Global, name: &'a str, help: &'a str) -> Arg<'a> {
         .action(ArgAction::SetTrue)
 }
 
+/// A file that a command can't do without.
+fn required_file<'a>(alloc: Global, help: &'a str) -> Arg<'a> {
+    Arg::new(alloc, FILE)
+        .help(help)
+        .required(true)
+        .action(ArgAction::Set)
+}
+
+/// The command with one more option or argument.
+fn with_arg<'a>(
+    command: Result<Command<'a>, AllocError>,
+    arg: Arg<'a>,
+) -> Result<Command<'a>, AllocError> {
+    command?.arg(arg)
+}
+
+/// The command with one more command below it.
+fn with_subcommand<'a>(
+    command: Result<Command<'a>, AllocError>,
+    subcommand: Result<Command<'a>, AllocError>,
+) -> Result<Command<'a>, AllocError> {
+    command?.subcommand(subcommand?)
+}
+
+fn pages_option<'a>(alloc: Global) -> Arg<'a> {
+    let help = "Pages of 4096 bytes, 8 to 16384";
+    number_option(alloc, "pages", help, 8, 16384, "1024")
+}
+
+fn commits_option<'a>(alloc: Global) -> Arg<'a> {
+    let help = "The most accepted writes, 1 to 4294967295";
+    number_option(alloc, "commits", help, 1, 4294967295, "1000000")
+}
+
 /// A command that takes the limits of a store, and its files.
 fn command<'a>(
     alloc: Global,
@@ -66,53 +100,21 @@ fn command<'a>(
     about: &'a str,
     files: Arg<'a>,
 ) -> Result<Command<'a>, AllocError> {
-    let pages = number_option(
-        alloc,
-        "pages",
-        "Pages of 4096 bytes, 8 to 16384",
-        8,
-        16384,
-        "1024",
-    );
-    let commits = number_option(
-        alloc,
-        "commits",
-        "The most accepted writes, 1 to 4294967295",
-        1,
-        4294967295,
-        "1000000",
-    );
-    Command::new(alloc, name)
-        .about(about)
-        .arg(pages)?
-        .arg(commits)?
-        .arg(files)
+    let command = Ok(Command::new(alloc, name).about(about));
+    let command = with_arg(command, pages_option(alloc));
+    let command = with_arg(command, commits_option(alloc));
+    with_arg(command, files)
 }
 
 /// The command `run`: a file, `--journal`, `--strict` and the limits.
 fn run_command<'a>(alloc: Global) -> Result<Command<'a>, AllocError> {
-    let file = Arg::new(alloc, FILE)
-        .help("The script, a command a line; - is standard input")
-        .required(true)
-        .action(ArgAction::Set);
-    let journal = flag(
-        alloc,
-        JOURNAL,
-        "Print the journal and its check after the replies",
-    );
-    let strict = flag(
-        alloc,
-        STRICT,
-        "End with status 1 after the first line that is refused",
-    );
-    command(
-        alloc,
-        "run",
-        "Run a script and print the reply to each line",
-        file,
-    )?
-    .arg(journal)?
-    .arg(strict)
+    let file = required_file(alloc, "The script, a command a line; - is standard input");
+    let about = "Run a script and print the reply to each line";
+    let command = command(alloc, "run", about, file);
+    let help = "Print the journal and its check after the replies";
+    let command = with_arg(command, flag(alloc, JOURNAL, help));
+    let help = "End with status 1 after the first line that is refused";
+    with_arg(command, flag(alloc, STRICT, help))
 }
 
 /// The command `race`: the scripts and the limits.
@@ -130,23 +132,22 @@ fn race_command<'a>(alloc: Global) -> Result<Command<'a>, AllocError> {
     )
 }
 
+/// The option of `shell` that names the file for the journal.
+fn journal_option<'a>(alloc: Global) -> Arg<'a> {
+    Arg::new(alloc, JOURNAL)
+        .long(JOURNAL)
+        .value_name("FILE")
+        .help("Write the journal and its check into a new or empty file at the end")
+        .action(ArgAction::Set)
+}
+
 /// The command `shell`: a file and a file for the journal, which may be left out, and the limits.
 fn shell_command<'a>(alloc: Global) -> Result<Command<'a>, AllocError> {
     let file = Arg::new(alloc, FILE)
         .help("Lines that are run first")
         .action(ArgAction::Set);
-    let journal = Arg::new(alloc, JOURNAL)
-        .long(JOURNAL)
-        .value_name("FILE")
-        .help("Write the journal and its check into a new or empty file at the end")
-        .action(ArgAction::Set);
-    command(
-        alloc,
-        "shell",
-        "Answer each line of standard input when it comes",
-        file,
-    )?
-    .arg(journal)
+    let about = "Answer each line of standard input when it comes";
+    with_arg(command(alloc, "shell", about, file), journal_option(alloc))
 }
 
 /// A command that takes the file of a journal alone.
@@ -155,11 +156,9 @@ fn journal_command<'a>(
     name: &'a str,
     about: &'a str,
 ) -> Result<Command<'a>, AllocError> {
-    let file = Arg::new(alloc, FILE)
-        .help("What race or run --journal printed, or a journal's text alone")
-        .required(true)
-        .action(ArgAction::Set);
-    Command::new(alloc, name).about(about).arg(file)
+    let command = Ok(Command::new(alloc, name).about(about));
+    let help = "What race or run --journal printed, or a journal's text alone";
+    with_arg(command, required_file(alloc, help))
 }
 
 fn check_command<'a>(alloc: Global) -> Result<Command<'a>, AllocError> {
@@ -172,17 +171,44 @@ fn check_command<'a>(alloc: Global) -> Result<Command<'a>, AllocError> {
 
 /// The command `dump`: the file of a journal, and `--state`.
 fn dump_command<'a>(alloc: Global) -> Result<Command<'a>, AllocError> {
-    let state = flag(
-        alloc,
-        STATE,
-        "Print a script that makes its last state alone, and not its history",
-    );
-    journal_command(
-        alloc,
-        "dump",
-        "Print the script that makes a journal's writes again",
-    )?
-    .arg(state)
+    let about = "Print the script that makes a journal's writes again";
+    let help = "Print a script that makes its last state alone, and not its history";
+    let state = flag(alloc, STATE, help);
+    with_arg(journal_command(alloc, "dump", about), state)
+}
+
+/// The program without its commands.
+fn program<'a>(alloc: Global) -> Command<'a> {
+    Command::new(alloc, "bestore")
+        .about(
+            "A shared attribute store in memory, with the attributes, indices and queries of BeOS",
+        )
+        .version(VERSION)
+        .subcommand_required(true)
+}
+
+/// The program with all commands, in the order in which help lists them.
+fn commands<'a>(alloc: Global) -> Result<Command<'a>, AllocError> {
+    let command = with_subcommand(Ok(program(alloc)), run_command(alloc));
+    let command = with_subcommand(command, race_command(alloc));
+    let command = with_subcommand(command, shell_command(alloc));
+    let command = with_subcommand(command, check_command(alloc));
+    with_subcommand(command, dump_command(alloc))
+}
+
+/// The task that the words ask for, by a program with all commands.
+fn task_by<'a>(
+    alloc: Global,
+    command: &mut Command<'a>,
+    words: &'a [&'a str],
+) -> Result<Task, Error>
+    ensures { IfOk result IsTask }
+{
+    let matches = command.try_get_matches_from_mut(words)?;
+    match task_of(alloc, &matches)? {
+        Some(task) => Ok(task),
+        None => Err(command.error(ErrorKind::InvalidValue, "a value is out of its range")?),
+    }
 }
 
 /// Reads the words of a command line, which begin with the program's name. An error is `clap`'s: a
@@ -190,22 +216,8 @@ fn dump_command<'a>(alloc: Global) -> Result<Command<'a>, AllocError> {
 pub fn task<'a>(alloc: Global, words: &'a [&'a str]) -> Result<Task, Error>
     ensures { IfOk result IsTask }
 {
-    let mut command = Command::new(alloc, "bestore")
-        .about(
-            "A shared attribute store in memory, with the attributes, indices and queries of BeOS",
-        )
-        .version(VERSION)
-        .subcommand_required(true)
-        .subcommand(run_command(alloc)?)?
-        .subcommand(race_command(alloc)?)?
-        .subcommand(shell_command(alloc)?)?
-        .subcommand(check_command(alloc)?)?
-        .subcommand(dump_command(alloc)?)?;
-    let matches = command.try_get_matches_from_mut(words)?;
-    match task_of(alloc, &matches)? {
-        Some(task) => Ok(task),
-        None => Err(command.error(ErrorKind::InvalidValue, "a value is out of its range")?),
-    }
+    let mut command = commands(alloc)?;
+    task_by(alloc, &mut command, words)
 }
 
 /// The limits of a store of one pass, if they are within their ranges, as `clap` has seen to.

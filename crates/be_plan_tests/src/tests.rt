@@ -76,19 +76,29 @@ fn set_each(alloc: Global, volume: &mut Volume, words: &str) -> Result<(), Refus
     Ok(())
 }
 
+/// Does a line: the values of an attribute, or a list as often as the line says.
+fn do_line(alloc: Global, volume: &mut Volume, line: &str) -> Result<(), Refusal> {
+    if let Some(words) = line.strip_prefix("each ") {
+        return set_each(alloc, volume, words);
+    }
+    let (times, line) = line.split_once(" times ").unwrap_or(("1", line));
+    for _ in 0..word_of(times.as_bytes()).unwrap_or(0) {
+        write_line(alloc, volume, line)?;
+    }
+    Ok(())
+}
+
+fn do_lines(alloc: Global, volume: &mut Volume, lines: &str) -> Result<(), Refusal> {
+    for line in lines.lines() {
+        do_line(alloc, volume, line)?;
+    }
+    Ok(())
+}
+
 /// Makes a volume.
 pub(crate) fn volume_of(alloc: Global, lines: &str) -> Result<Volume, Refusal> {
     let mut volume = Volume::new(alloc);
-    for line in lines.lines() {
-        if let Some(words) = line.strip_prefix("each ") {
-            set_each(alloc, &mut volume, words)?;
-            continue;
-        }
-        let (times, line) = line.split_once(" times ").unwrap_or(("1", line));
-        for _ in 0..word_of(times.as_bytes()).unwrap_or(0) {
-            write_line(alloc, &mut volume, line)?;
-        }
-    }
+    do_lines(alloc, &mut volume, lines)?;
     Ok(volume)
 }
 

@@ -4,12 +4,13 @@
 ghost use Rattle.be_volume.specs.Volume.{State};
 ghost use Rattle.be_plan.specs.Sources.{IsVolume};
 
-use super::write;
+use super::volume_of;
 use arrayvec::ArrayVec;
 use be_plan::{KeyRange, Source, VolumeSource, answer, volume_source};
 use be_query::parse;
+use be_test_tools::again;
 use be_value::{Kind, Name, Refusal, Value};
-use be_volume::{Op, Volume};
+use be_volume::Volume;
 use std::alloc::Global;
 use std::test::Fail;
 
@@ -71,25 +72,23 @@ impl Source for Estimating<'_> {
     }
 }
 
-/// Does a list of operations, again if it is refused memory.
-fn write_again(volume: &mut Volume, ops: &[Op]) -> Result<(), Refusal> {
-    match write(volume, ops) {
-        Err(Refusal::OutOfMemory) => write(volume, ops),
-        done => done,
+/// The lines of nodes 1 to 130: k is the node's number and m falls from 130 to 1, and both have an
+/// index.
+fn crossing_lines(alloc: Global) -> Result<String, Refusal> {
+    let mut lines = String::from_str(alloc, "mkindex k ULLG\nmkindex m ULLG")?;
+    for node in 1..=130u64 {
+        let falling = 131u64.wrapping_sub(node);
+        lines.push_str(format!(in alloc;
+            "\nnew;set {node} k ULLG {node};set {node} m ULLG {falling}"
+        )?.as_str())?;
     }
+    Ok(lines)
 }
 
-/// Nodes 1 to 130: k is the node's number and m falls from 130 to 1, and both have an index.
+/// The volume of these lines. The lines are made again if memory is refused.
 fn crossing(alloc: Global) -> Result<Volume, Refusal> {
-    let mut volume = Volume::new(alloc);
-    write_again(&mut volume, &[Op::MkIndex(Name::new("k")?, Kind::Ullg)])?;
-    write_again(&mut volume, &[Op::MkIndex(Name::new("m")?, Kind::Ullg)])?;
-    for node in 1..=130 {
-        let rises = Op::Set(node, Name::new("k")?, Value::uint64(node));
-        let falls = Op::Set(node, Name::new("m")?, Value::uint64(131 - node));
-        write_again(&mut volume, &[Op::New, rises, falls])?;
-    }
-    Ok(volume)
+    let lines = again!(crossing_lines(alloc))?;
+    volume_of(alloc, lines.as_str())
 }
 
 /// The nodes and how often a value was asked for, as `FIRST LAST COUNT asks ASKED`.
@@ -142,14 +141,17 @@ const CASES: &[(&str, u64, &str)] = &[
     ("k<=65 && (m>=70 || m==1)", 130, "1 61 61 asks 69"),
 ];
 
-#[test]
-fn both_sides(rt: HostRuntime) -> Result<(), Fail> {
-    let alloc = rt.alloc();
-    let volume = crossing(alloc)?;
+/// Fails unless each case has its text.
+fn tells_each(alloc: Global, volume: &Volume) -> Result<(), Fail> {
     for (text, keys, wanted) in CASES {
-        if !tells(alloc, &volume, text, *keys, wanted)? {
+        if !tells(alloc, volume, text, *keys, wanted)? {
             return Err(Fail::new(text));
         }
     }
     Ok(())
+}
+
+#[test]
+fn both_sides(rt: HostRuntime) -> Result<(), Fail> {
+    tells_each(rt.alloc(), &crossing(rt.alloc())?)
 }

@@ -68,11 +68,11 @@ fn keys_of_values(alloc: Global, values: &str) -> Result<String, AllocError> {
 
 /// Fails unless each range of a comparison with one of the values leaves out what it can.
 fn exact(alloc: Global, kind: &str, values: &str) -> Result<(), Fail> {
-    let volume = volume_of_values(alloc, kind, 7, values)?;
     let lines = match keys_of_values(alloc, values) {
         Err(_) => keys_of_values(alloc, values)?,
         Ok(lines) => lines,
     };
+    let volume = volume_of_values(alloc, kind, 7, values)?;
     replies(alloc, &volume, lines.as_str())
 }
 

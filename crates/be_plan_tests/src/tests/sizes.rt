@@ -1,10 +1,11 @@
 //! As many nodes of a plain volume as a version may have, by each way to ask for them. No contract
 //! rules out that memory runs out at one size alone.
-use super::write;
+use super::volume_of;
 use be_plan::{answer, choose_from, run, volume_source};
 use be_query::{Query, parse};
-use be_value::{Kind, Name, Refusal, Value, word_of};
-use be_volume::{Op, Volume};
+use be_test_tools::again;
+use be_value::{Refusal, word_of};
+use be_volume::Volume;
 use std::alloc::Global;
 use std::test::Fail;
 
@@ -14,23 +15,19 @@ const COUNTS: &str =
      2047 2048 \
 2049 4095 4096 4097 8191 8192 8193 16383 16384 16385 26000";
 
-/// Does a list of operations, again if it is refused memory.
-fn write_again(volume: &mut Volume, ops: &[Op]) -> Result<(), Refusal> {
-    match write(volume, ops) {
-        Err(Refusal::OutOfMemory) => write(volume, ops),
-        done => done,
+/// The lines of a volume of that many nodes, each of which has its number in the attribute k.
+fn numbered_lines(alloc: Global, count: u64) -> Result<String, Refusal> {
+    let mut lines = String::from_str(alloc, "mkindex k ULLG")?;
+    for node in 1..=count {
+        lines.push_str(format!(in alloc; "\nnew;set {node} k ULLG {node}")?.as_str())?;
     }
+    Ok(lines)
 }
 
-/// A volume of that many nodes, each of which has its number in the attribute k.
+/// The volume of these lines. The lines are made again if memory is refused.
 fn numbered(alloc: Global, count: u64) -> Result<Volume, Refusal> {
-    let mut volume = Volume::new(alloc);
-    write_again(&mut volume, &[Op::MkIndex(Name::new("k")?, Kind::Ullg)])?;
-    for node in 1..=count {
-        let set = Op::Set(node, Name::new("k")?, Value::uint64(node));
-        write_again(&mut volume, &[Op::New, set])?;
-    }
-    Ok(volume)
+    let lines = again!(numbered_lines(alloc, count))?;
+    volume_of(alloc, lines.as_str())
 }
 
 /// Whether these are the nodes from 1 to a number.
@@ -68,24 +65,21 @@ fn copies(volume: &Volume) -> Result<bool, Refusal> {
     Ok(volume.copy()?.next() == volume.next())
 }
 
-/// Nodes that a query finds, and a copy of all of them.
-#[test]
-fn many_nodes(rt: HostRuntime) -> Result<(), Fail> {
-    let alloc = rt.alloc();
-    let volume = numbered(alloc, 26_000)?;
+/// Fails unless each way finds each number of nodes.
+fn finds_each(alloc: Global, volume: &Volume) -> Result<(), Fail> {
     for count in COUNTS.split(' ') {
-        let found = match finds(alloc, &volume, count) {
-            Err(Refusal::OutOfMemory) => finds(alloc, &volume, count)?,
-            found => found?,
-        };
-        if !found {
+        if !again!(finds(alloc, volume, count))? {
             return Err(Fail::new(count));
         }
     }
-    let copied = match copies(&volume) {
-        Err(Refusal::OutOfMemory) => copies(&volume)?,
-        copied => copied?,
-    };
-    assert!(rt; copied);
+    Ok(())
+}
+
+/// Nodes that a query finds, and a copy of all of them.
+#[test]
+fn many_nodes(rt: HostRuntime) -> Result<(), Fail> {
+    let volume = numbered(rt.alloc(), 26_000)?;
+    finds_each(rt.alloc(), &volume)?;
+    assert!(rt; again!(copies(&volume))?);
     Ok(())
 }
