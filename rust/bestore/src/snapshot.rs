@@ -360,7 +360,12 @@ impl Iterator for State<'_> {
             return None;
         }
         match self.snapshot.pass.raw().state(&self.place) {
-            Ok(list) if !list.operations.is_empty() => Some(Ok(list.into())),
+            Ok(mut list) if !list.operations.is_empty() => {
+                // It has room for the longest batch, and many are kept at the same time.
+                list.operations.shrink_to_fit();
+                list.bytes.shrink_to_fit();
+                Some(Ok(list.into()))
+            }
             Ok(_) => {
                 self.is_over = true;
                 None

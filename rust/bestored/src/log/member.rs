@@ -135,6 +135,7 @@ impl Member {
                 return Ok(Turn::End);
             }
             tokio::time::sleep(REST).await;
+            self.let_go();
             let connected = async {
                 let database = self.access.connect().await?;
                 self.check(&database.head().await?)?;
@@ -175,7 +176,7 @@ impl Member {
         self.database.listen().await?;
         let mut looked = None;
         while !self.line.is_closing() {
-            self.pass.follow()?;
+            self.let_go();
             self.tried = Instant::now();
             if self.apply_some(Some(shared)).await? == ENTRIES {
                 continue;
@@ -224,6 +225,11 @@ impl Member {
             state.role = role;
         });
         Ok(())
+    }
+
+    /// Lets go of a store that was carried on. What fails is tried again.
+    fn let_go(&mut self) {
+        let _ = self.pass.follow();
     }
 
     /// Applies all entries up to this one, which the log has.
@@ -308,7 +314,7 @@ impl Member {
         shared.watcher.written();
         loop {
             self.write_state_if_due(shared);
-            self.pass.follow()?;
+            self.let_go();
             if self.line.is_at_end() {
                 return Ok(Turn::End);
             }
