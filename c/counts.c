@@ -115,7 +115,7 @@ static void set_in_turn(void)
     kinds[turn++ % 3]();
 }
 
-/* How many words of pages such a write changes, on the average. A word is stored only if it changes. */
+/* How many words of pages such a write changes on average. A word is stored only if it changes. */
 static double words_of(void (*write)(void))
 {
     enum { TIMES = 60 };
@@ -145,7 +145,7 @@ static void wear_out(void)
     bes_pass reader = BES_PASS_INIT;
     uint32_t answer = BES_OK;
     OK(bes_another(&pass, &reader));
-    for (int cycle = 0; cycle < 60; cycle++) {
+    for (int cycle = 0; cycle < 100; cycle++) {
         OK(bes_pin(&reader, &number));
         do {
             bes_batch_clear(&batch);
@@ -192,8 +192,10 @@ static void all_pages_are_free(uint64_t pages)
     bes_usage usage;
     OK(bes_another(&pass, &reader));
     for (uint64_t node = 1; node <= nodes_count; node++) {
-        if (node % 97 == 0)
-            OK((bes_unpin(&reader), bes_pin(&reader, &number)));
+        if (node % 97 == 0) {
+            bes_unpin(&reader);
+            OK(bes_pin(&reader, &number));
+        }
         apply_if_full(1);
         OK(bes_batch_remove_node(&batch, node));
     }
@@ -290,7 +292,7 @@ int main(int argc, char **argv)
     CHECK(atexit(print_seed) == 0);
     for (int i = 0; i < (is_short ? 2 : 4); i++) {
         nodes_count = draw(LEAST_NODES, MOST_NODES);
-        pages = pages_for_all() + draw(250, 600);
+        pages = pages_for_all() + draw(450, 700);
         words_stored(pages);
         entry_alone();
         lists_of_state();

@@ -352,6 +352,7 @@ fn row_costs(rt: HostRuntime) -> Result<(), Fail> {
     let rows = r#"row 150 kind name size => 3 found, 66 words read
 row 150 size name kind => 3 found, 145 words read
 row 150 kind name other => 2 found, 98 words read
+row 301 kind name size => 0 found, 142 words read
 row 302 kind name size => 0 found, 138 words read"#;
     expect_rows(rt.alloc(), rows)
 }
