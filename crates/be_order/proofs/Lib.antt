@@ -4,6 +4,7 @@ pub mod Filters
 pub mod Fronts
 pub mod IndexParts
 pub mod KeyLists
+pub mod Listed
 pub mod PageKeys
 pub mod Some
 pub mod Walked

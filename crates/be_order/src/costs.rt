@@ -1,189 +1,236 @@
-//! What a page costs by the query's own way, beside a walk that asks.
+//! What a page costs by each way, where keys of the order's own index don't decide the query.
 //!
-//! The own way finds the whole answer, asks for the key of each node and sorts. The numbers here
-//! decide only which way a page goes, so any of them is right.
-ghost use Rattle.std.specs.Prelude.{◌≡◌, ℕ, List, IfSome, Some};
+//! A walk may ask each node what is left of the query. It may look each node up in a list of all
+//! nodes of which that is true. Or the whole answer is found and sorted. The numbers here decide
+//! only which way a page goes, so any of them is right.
+ghost use Rattle.std.specs.Prelude.{◌≡◌};
 ghost use Rattle.be_plan.specs.Sources.{StillAnswers};
-ghost use Rattle.be_plan.specs.Walk.{AreAllOn};
-ghost use Rattle.be_volume.specs.Reading.{index_kind};
 ghost use Rattle.be_volume.specs.Volume.{State};
 
 use crate::OrderedSource;
-use arrayvec::ArrayVec;
-use be_plan::{KeyRange, PreparedQuery, Source};
+use be_plan::{KeyBounds, KeyRange};
 use be_query::{Cmp, Comparison, Literal, Tree};
-use be_value::{Kind, Name, Value, key_of};
+use be_value::Name;
 
-/// A key of an index.
-type Key = ArrayVec<u8, 264>;
+/// A question about a node takes the time in which a walk passes so many keys, or more.
+const KEYS_A_QUESTION: u64 = 8;
 
-/// So many nodes are asked in the time in which the own way puts one more node in its place.
-const ASKED_A_NODE: u64 = 2;
+/// The key of a node, which a sort needs, takes so many questions.
+const QUESTIONS_A_KEY: u64 = 2;
 
-/// A question about a node takes the time in which a walk passes so many keys.
-const KEYS_A_NODE: u64 = 8;
+/// How many keys a walk takes at a time at most that asks each node for a short page, and that
+/// looks each node up at least.
+const SHORT_PART: usize = 64;
 
-/// What the query's own way costs, in nodes asked. If it isn't known how many nodes it finds, the
-/// cost is that of its walk alone, without what puts the nodes in order.
+/// How many keys a walk takes at a time at most that looks each node up.
+const LONG_PART: usize = 4096;
+
+/// A pattern leaves about one in so many texts.
+const TEXTS_A_HIT: u64 = 8;
+
+/// What it costs to answer a part of a query.
 #[derive(Clone, Copy)]
-pub(crate) struct OwnCost {
-    asked: u64,
-    is_whole: bool,
+struct Cost {
+    /// About how many keys a walk passes that lists the nodes; the greatest number without an
+    /// index.
+    keys: u64,
+    /// About how many nodes these are.
+    hits: u64,
+    /// What it costs to ask one node instead, in questions.
+    asking: u64,
 }
 
-impl OwnCost {
-    /// Whether the own way finds no more nodes than a page of so many has.
-    pub(crate) fn fits(self, most: usize) -> bool {
-        self.is_whole && self.asked <= most as u64
-    }
-
-    /// Whether a walk that has asked of so many nodes, and found so many, costs more.
-    pub(crate) fn is_spent(self, asked: u64, found: usize) -> bool {
-        let placed = if self.is_whole { 0 } else { found as u64 };
-        asked
-            >= self
-                .asked
-                .saturating_add(placed.saturating_mul(ASKED_A_NODE))
-    }
-
-    /// The cost of the cheaper of two.
-    fn or(self, other: OwnCost) -> OwnCost {
-        if other.asked < self.asked {
-            other
-        } else {
-            self
+impl Cost {
+    /// Of two sides that are both needed.
+    fn and(self, other: Cost) -> Cost {
+        Cost {
+            keys: self.keys.saturating_add(other.keys),
+            hits: self.hits.saturating_add(other.hits),
+            asking: self.asking.saturating_add(other.asking),
         }
     }
 
-    /// The cost of both.
-    fn and(self, other: OwnCost) -> OwnCost {
-        OwnCost {
-            asked: self.asked.saturating_add(other.asked),
-            is_whole: self.is_whole && other.is_whole,
+    /// Of two sides of which one is enough: the one whose walk is shorter.
+    fn or(self, other: Cost) -> Cost {
+        let asking = self.asking.saturating_add(other.asking);
+        let shorter = if other.keys < self.keys { other } else { self };
+        Cost { asking, ..shorter }
+    }
+}
+
+/// How many keys a walk takes at a time, and how many it may pass before it gives up.
+#[derive(Clone, Copy)]
+pub(crate) struct Pace {
+    pub(crate) part: usize,
+    pub(crate) limit: u64,
+}
+
+/// The pace of a walk that asks each node, and of one that looks each node up in a list. A walk
+/// with the limit 0 isn't begun.
+#[derive(Clone, Copy)]
+pub(crate) struct Paces {
+    pub(crate) asking: Pace,
+    pub(crate) looking_up: Pace,
+}
+
+/// Whether most texts that begin as the comparison wants fail it.
+fn is_loose(comparison: &Comparison) -> bool {
+    match &comparison.literal {
+        Literal::Pattern(pattern) => {
+            comparison.op == Cmp::Eq && !pattern.is_plain() && !pattern.is_prefix()
         }
+        Literal::Text(_) => false,
     }
 }
 
-/// What it costs to find so many nodes, and to put them in order.
-fn cost_to_place(nodes: u64) -> OwnCost {
-    OwnCost {
-        asked: nodes.saturating_mul(ASKED_A_NODE),
-        is_whole: true,
-    }
-}
-
-/// What it costs to walk over so many keys.
-fn cost_to_walk(keys: u64) -> OwnCost {
-    OwnCost {
-        asked: keys / KEYS_A_NODE,
-        is_whole: false,
-    }
-}
-
-/// Makes the query's range for the index of the name that all its comparisons are on. Returns the
-/// kind of that index, if there is one.
-pub(crate) fn meet_own<S: Source>(prepared: &mut PreparedQuery, source: &mut S) -> Option<Kind>
-    ghost volume: { State }
-    requires { S.answers_for source.old volume }
-    ensures kind { IfSome result (λ kind. (name : List ℕ) → AreAllOn prepared.old name
-        → index_kind volume name ≡ Some kind) }
-    ensures same { prepared.new ≡ prepared.old }
-    ensures stays { S.kept source.new ≡ S.kept source.old }
-    ensures answers { S.answers_for source.new volume }
-{
-    let place = prepared.place();
-    let Some(name) = prepared.name() else {
-        return None;
-    };
-    let Some(kind) = source.kind_of(name) else {
-        return None;
-    };
-    prepared.meet(place, kind);
-    Some(kind)
-}
-
-/// The least and the greatest key that an index of texts may have for the text that a comparison
-/// finds, if it finds one.
-fn keys_of_text(comparison: &Comparison, kind: Kind) -> Option<(Key, Key)> {
-    let Literal::Pattern(pattern) = &comparison.literal else {
-        return None;
-    };
-    if kind != Kind::Cstr || comparison.op != Cmp::Eq || !pattern.is_plain() {
-        return None;
-    }
-    let Ok(value) = Value::text(pattern.prefix()) else {
-        return None;
-    };
-    if !value.kind().indexable() {
-        return None;
-    }
-    Some((key_of(&value, 0), key_of(&value, u64::MAX)))
-}
-
-/// The keys of an index from one to another.
-fn keys_between<'a>(name: &'a Name, low: &'a [u8], high: &'a [u8]) -> KeyRange<'a> {
-    KeyRange {
-        name,
-        low,
-        high: Some(high),
-    }
-}
-
-/// What a comparison costs as the one that a query is answered from.
-fn cost_of<S: OrderedSource>(source: &mut S, comparison: &Comparison) -> OwnCost
+/// The cost of a comparison, whose part of the query is the whole under `&&`.
+fn cost_of_comparison<S: OrderedSource>(
+    source: &mut S,
+    bounds: &mut KeyBounds,
+    whole: &Tree,
+    comparison: &Comparison,
+) -> Cost
     requires { (volume : State) × S.answers_for source.old volume }
     ensures stays { S.kept source.new ≡ S.kept source.old }
     ensures answers { StillAnswers S.answers_for source.old source.new }
     ensures still { (volume : State) × S.answers_for source.new volume }
 {
-    let name = &comparison.name;
-    let Some(kind) = source.kind_of(name) else {
-        return cost_to_walk(u64::MAX);
+    let Some(kind) = source.kind_of(&comparison.name) else {
+        return Cost {
+            keys: u64::MAX,
+            hits: u64::MAX,
+            asking: 1,
+        };
     };
-    let Some((low, high)) = keys_of_text(comparison, kind) else {
-        return cost_to_walk(source.estimate(name));
-    };
-    let keys = keys_between(name, low.as_slice(), high.as_slice());
-    cost_to_place(source.about(keys))
+    let _rest = bounds.narrow(whole, &comparison.name, kind);
+    let keys = source.about(bounds.keys(&comparison.name));
+    if is_loose(comparison) {
+        return Cost {
+            keys,
+            hits: keys / TEXTS_A_HIT,
+            asking: 4,
+        };
+    }
+    Cost {
+        keys,
+        hits: keys,
+        asking: 2,
+    }
 }
 
-/// The same of a part of a query: one side of an `&&` is enough, of an `||` both are needed.
-fn cost_of_part<S: OrderedSource>(source: &mut S, tree: &Tree) -> OwnCost
+/// The cost of a part of a query, which is a side of the whole under `&&`.
+fn cost_of<S: OrderedSource>(
+    source: &mut S,
+    bounds: &mut KeyBounds,
+    tree: &Tree,
+    whole: &Tree,
+) -> Cost
     requires { (volume : State) × S.answers_for source.old volume }
     ensures stays { S.kept source.new ≡ S.kept source.old }
     ensures answers { StillAnswers S.answers_for source.old source.new }
     ensures still { (volume : State) × S.answers_for source.new volume }
 {
     match tree {
-        Tree::Leaf(comparison) => cost_of(source, comparison),
+        Tree::Leaf(comparison) => cost_of_comparison(source, bounds, whole, comparison),
         Tree::And(a, b) => {
-            let left = cost_of_part(source, a);
-            let right = cost_of_part(source, b);
+            let left = cost_of(source, bounds, a, whole);
+            let right = cost_of(source, bounds, b, whole);
             left.or(right)
         }
         Tree::Or(a, b) => {
-            let left = cost_of_part(source, a);
-            let right = cost_of_part(source, b);
+            let left = cost_of(source, bounds, a, a);
+            let right = cost_of(source, bounds, b, b);
             left.and(right)
         }
     }
 }
 
-/// What the query's own way costs. `own` is what `meet_own` returned.
-pub(crate) fn own_cost<S: OrderedSource>(
-    prepared: &PreparedQuery,
-    own: Option<Kind>,
+/// Whether a part is one pattern that few texts of this name match.
+fn is_pattern_of(tree: &Tree, name: &Name) -> bool {
+    match tree {
+        Tree::Leaf(comparison) => comparison.name == *name && is_loose(comparison),
+        Tree::And(_, _) | Tree::Or(_, _) => false,
+    }
+}
+
+/// About how many of all keys a walk passes until it has found so many nodes.
+fn passed_for(most: u64, all: u64, hits: u64) -> u64 {
+    match most.saturating_mul(all).checked_div(hits) {
+        Some(passed) => passed.min(all),
+        None => all,
+    }
+}
+
+/// The pace of a walk that asks each node. A part has one more than the page, so that a page whose
+/// nodes all pass takes one part.
+fn asking_pace(most: usize, limit: u64) -> Pace {
+    Pace {
+        part: most.saturating_add(1).min(SHORT_PART).max(most / 8),
+        limit,
+    }
+}
+
+/// The pace of a walk over about so many keys that looks each node up.
+fn looking_up_pace(passed: u64, limit: u64) -> Pace {
+    let part = match usize::try_from(passed / 4) {
+        Ok(part) => part.max(SHORT_PART).min(LONG_PART),
+        Err(_) => LONG_PART,
+    };
+    Pace { part, limit }
+}
+
+/// The paces of walks over so many keys, for a page of so many nodes.
+fn paces_for(cost: Cost, all: u64, most: usize) -> Paces {
+    let passed = passed_for(most as u64, all, cost.hits);
+    let list = (cost.keys / KEYS_A_QUESTION).saturating_add(passed / KEYS_A_QUESTION);
+    let sorted = cost
+        .hits
+        .saturating_mul(QUESTIONS_A_KEY)
+        .saturating_mul(KEYS_A_QUESTION);
+    let asked = match list.saturating_mul(2).checked_div(cost.asking) {
+        Some(most) if passed <= most / 2 => most,
+        _ => 0,
+    };
+    let looked_up = if passed <= sorted { sorted } else { 0 };
+    Paces {
+        asking: asking_pace(most, asked),
+        looking_up: looking_up_pace(passed, looked_up),
+    }
+}
+
+/// The paces of walks over these keys for a page of a query of which this is left. Neither is begun
+/// if the whole answer fits into the page.
+pub(crate) fn paces_of<S: OrderedSource>(
     source: &mut S,
-) -> OwnCost
+    keys: KeyRange<'_>,
+    left: &Tree,
+    most: usize,
+) -> Paces
     ghost volume: { State }
     requires { S.answers_for source.old volume }
     ensures stays { S.kept source.new ≡ S.kept source.old }
     ensures answers { S.answers_for source.new volume }
 {
-    if let Some(kind) = own {
-        if let Some(keys) = prepared.keys_for(kind) {
-            return cost_to_place(source.about(keys));
-        }
+    let mut bounds = KeyBounds::new();
+    let cost = cost_of(source, &mut bounds, left, left);
+    if cost.keys <= most as u64 {
+        return Paces {
+            asking: asking_pace(most, 0),
+            looking_up: looking_up_pace(0, 0),
+        };
     }
-    cost_of_part(source, prepared.query().tree())
+    if cost.keys == u64::MAX {
+        return Paces {
+            asking: asking_pace(most, u64::MAX),
+            looking_up: looking_up_pace(0, 0),
+        };
+    }
+    let all = source.about(keys);
+    if is_pattern_of(left, keys.name) {
+        return Paces {
+            asking: asking_pace(most, 0),
+            looking_up: looking_up_pace(passed_for(most as u64, all, cost.hits), u64::MAX),
+        };
+    }
+    paces_for(cost, all, most)
 }

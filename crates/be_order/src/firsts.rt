@@ -1,5 +1,6 @@
 //! The first of an answer by number, and any few of it.
-ghost use Rattle.std.specs.Prelude.{◌≡◌, IfErr, IfOk, OnOk, Some, filter, nat_le, take, true};
+ghost use Rattle.std.specs.Prelude.{◌≡◌, ℕ, List, IfErr, IfOk, IfSome, OnOk, Some};
+ghost use Rattle.std.specs.Prelude.{filter, nat_le, take, true};
 ghost use Rattle.std.specs.Option.{option_copied};
 ghost use Rattle.be_value.specs.Refusal.{Answers};
 ghost use Rattle.be_value.specs.declared.refusals.Refusal.TheVariants.{OutOfMemory};
@@ -11,7 +12,6 @@ ghost use Rattle.be_plan.specs.Prepared.{Decides};
 ghost use Rattle.be_plan.specs.Walk.{AreAllOn};
 ghost use Rattle.be_order.specs.Firsts.{IsAnyOf, from_number};
 
-use crate::costs::meet_own;
 use crate::{OrderedKeys, OrderedSource};
 use be_plan::{KeyRange, PreparedQuery, Source, answer_into};
 use be_query::Query;
@@ -91,6 +91,28 @@ pub fn first_prepared_into<S: Source>(
     ensures answers { S.answers_for source.new volume }
 {
     first_by_number(alloc, prepared.query(), source, first, most, found)
+}
+
+/// Makes the query's range for the index of the name that all its comparisons are on. Returns the
+/// kind of that index, if there is one.
+fn meet_own<S: Source>(prepared: &mut PreparedQuery, source: &mut S) -> Option<Kind>
+    ghost volume: { State }
+    requires { S.answers_for source.old volume }
+    ensures kind { IfSome result (λ kind. (name : List ℕ) → AreAllOn prepared.old name
+        → index_kind volume name ≡ Some kind) }
+    ensures same { prepared.new ≡ prepared.old }
+    ensures stays { S.kept source.new ≡ S.kept source.old }
+    ensures answers { S.answers_for source.new volume }
+{
+    let place = prepared.place();
+    let Some(name) = prepared.name() else {
+        return None;
+    };
+    let Some(kind) = source.kind_of(name) else {
+        return None;
+    };
+    prepared.meet(place, kind);
+    Some(kind)
 }
 
 /// Any few nodes of the keys of a range that decides a query, by one walk, if the source walks so.

@@ -1,25 +1,30 @@
 //! Pages of a prepared query.
-ghost use Rattle.std.specs.Prelude.{◌≡◌, ◌∷◌, ◌++◌, [], ℕ, List, None, OnErr, IfErr, IfOk, IfSome};
-ghost use Rattle.std.specs.Prelude.{Ok, Some, length, take};
+ghost use Rattle.std.specs.Prelude.{◌≡◌, ◌≤◌, ◌∷◌, ◌++◌, [], ℕ, List, None};
+ghost use Rattle.std.specs.Prelude.{OnErr, IfErr, IfOk, IfSome};
+ghost use Rattle.std.specs.Prelude.{Ok, Some, length, take, true};
 ghost use Rattle.std.specs.Option.{option_copied, option_map};
 ghost use Rattle.be_value.specs.Key.{key as key_bytes};
 ghost use Rattle.be_value.specs.Refusal.{Answers};
 ghost use Rattle.be_value.specs.declared.refusals.Refusal.TheVariants.{OutOfMemory};
-ghost use Rattle.be_query.specs.Grammar.{Formula};
-ghost use Rattle.be_volume.specs.Query.{sees};
+ghost use Rattle.be_query.specs.Grammar.{Formula, comparisons};
+ghost use Rattle.be_query.specs.View.{formula};
+ghost use Rattle.be_volume.specs.Query.{covered, sees};
 ghost use Rattle.be_volume.specs.Reading.{index_kind};
 ghost use Rattle.be_volume.specs.Volume.{State};
+ghost use Rattle.be_plan.specs.Bounding.{Bounding};
 ghost use Rattle.be_plan.specs.Prepared.{Decides};
 ghost use Rattle.be_plan.specs.Walk.{AreAllOn};
+ghost use Rattle.be_order.specs.Asked.{Lists};
 ghost use Rattle.be_order.specs.Ordered.{cursor_bytes, page, page_with};
 
-use crate::asked::ask_page;
-use crate::costs::{meet_own, own_cost};
+use crate::asked::{Left, Walk, ask_page};
+use crate::costs::{Pace, paces_of};
 use crate::keys::{Index, key_in};
 use crate::{Order, OrderedKeys, OrderedSource, ordered_into};
 use arrayvec::ArrayVec;
-use be_plan::{KeyRange, PreparedQuery};
-use be_value::{Kind, Refusal};
+use be_plan::{KeyBounds, KeyRange, PreparedQuery, Source, choose_from, true_nodes_into};
+use be_query::{Query, Tree};
+use be_value::{Kind, Name, Refusal};
 use std::alloc::Global;
 
 /// Keeps the first of the nodes, and moves the cursor to the last of these.
@@ -92,13 +97,216 @@ fn walk_page<S: OrderedSource>(
     Ok(Some(more))
 }
 
+/// A list of all nodes of which a part of a query is true; none if it rests on no index, or there
+/// is no memory for it.
+fn list_true<S: Source>(alloc: Global, tree: &Tree, source: &mut S) -> Option<Vec<u64>>
+    ghost volume: { State }
+    requires answers { S.answers_for source.old volume }
+    requires few { comparisons (formula tree.now) ≤ 256 }
+    ensures lists { IfSome result (λ nodes. Lists volume (formula tree.now) nodes.items) }
+    ensures stays { S.kept source.new ≡ S.kept source.old }
+    ensures answers { S.answers_for source.new volume }
+{
+    let mut nodes = Vec::new(alloc);
+    match true_nodes_into(alloc, tree, source, &mut nodes) {
+        Ok(()) => Some(nodes),
+        Err(_) => None,
+    }
+}
+
+/// A page of a query that rests on an index, by a walk that looks each node up in a list of all
+/// nodes of which what is left is true. None if there is no such list, or the walk gave up.
+fn look_up_page<S: OrderedSource>(
+    alloc: Global,
+    tree: &Tree,
+    source: &mut S,
+    walk: Walk<'_>,
+    most: usize,
+    pace: Pace,
+    cursor: &mut Option<ArrayVec<u8, 264>>,
+    found: &mut Vec<u64>,
+) -> Result<Option<bool>, Refusal>
+    ghost volume: { State }
+    requires answers { S.answers_for source.old volume }
+    requires few { comparisons (formula tree.now) ≤ 256 }
+    requires kind { index_kind volume walk.keys.name.now ≡ Some walk.kind }
+    ensures page { IfOk result (λ asked. IfSome asked (λ more. (f : Formula)
+        → covered volume f ≡ true
+        → Bounding f walk.entry.keys.name.now walk.entry.kind walk.entry.keys.low.now
+        (option_copied walk.entry.keys.high) (Some (formula tree.now))
+        → page volume f walk.entry.keys.name.now walk.entry.descending (cursor_bytes cursor.old)
+        most ≡ Ok (page_with found.new.items (cursor_bytes cursor.new) more))) }
+    ensures memory { IfErr result (λ e. e ≡ OutOfMemory) }
+    ensures cursor { OnErr result (cursor.new ≡ cursor.old) }
+    ensures none { IfOk result (λ asked. asked ≡ None → cursor.new ≡ cursor.old) }
+    ensures stays { S.kept source.new ≡ S.kept source.old }
+    ensures answers { S.answers_for source.new volume }
+{
+    if pace.limit == 0 {
+        return Ok(None);
+    }
+    let Some(nodes) = list_true(alloc, tree, source) else {
+        return Ok(None);
+    };
+    let listed = Some(nodes.as_slice());
+    let left = Left { tree, listed };
+    ask_page(alloc, left, source, walk, most, pace, cursor, found)
+}
+
+/// The same by a walk that asks each node.
+fn asking_page<S: OrderedSource>(
+    alloc: Global,
+    tree: &Tree,
+    source: &mut S,
+    walk: Walk<'_>,
+    most: usize,
+    pace: Pace,
+    cursor: &mut Option<ArrayVec<u8, 264>>,
+    found: &mut Vec<u64>,
+) -> Result<Option<bool>, Refusal>
+    ghost volume: { State }
+    requires answers { S.answers_for source.old volume }
+    requires kind { index_kind volume walk.keys.name.now ≡ Some walk.kind }
+    ensures page { IfOk result (λ asked. IfSome asked (λ more. (f : Formula)
+        → covered volume f ≡ true
+        → Bounding f walk.entry.keys.name.now walk.entry.kind walk.entry.keys.low.now
+        (option_copied walk.entry.keys.high) (Some (formula tree.now))
+        → page volume f walk.entry.keys.name.now walk.entry.descending (cursor_bytes cursor.old)
+        most ≡ Ok (page_with found.new.items (cursor_bytes cursor.new) more))) }
+    ensures memory { IfErr result (λ e. e ≡ OutOfMemory) }
+    ensures cursor { OnErr result (cursor.new ≡ cursor.old) }
+    ensures none { IfOk result (λ asked. asked ≡ None → cursor.new ≡ cursor.old) }
+    ensures stays { S.kept source.new ≡ S.kept source.old }
+    ensures answers { S.answers_for source.new volume }
+{
+    if pace.limit == 0 {
+        return Ok(None);
+    }
+    let left = Left { tree, listed: None };
+    ask_page(alloc, left, source, walk, most, pace, cursor, found)
+}
+
+/// Whether the query rests on an index, and there was memory to find out.
+fn rests_on_index<S: Source>(alloc: Global, query: &Query, source: &mut S) -> bool
+    ghost volume: { State }
+    requires { S.answers_for source.old volume }
+    ensures covered { result ≡ true → covered volume query.now ≡ true }
+    ensures stays { S.kept source.new ≡ S.kept source.old }
+    ensures answers { S.answers_for source.new volume }
+{
+    choose_from(alloc, query, source).is_ok()
+}
+
+/// A page of a query of which something is left to ask, by a walk over the keys of the order's own
+/// index. None if another way is right: the source doesn't walk so, the query rests on no index, or
+/// it is cheaper to sort the whole answer.
+fn find_page<S: OrderedSource>(
+    alloc: Global,
+    query: &Query,
+    source: &mut S,
+    walk: Walk<'_>,
+    tree: &Tree,
+    most: usize,
+    cursor: &mut Option<ArrayVec<u8, 264>>,
+    found: &mut Vec<u64>,
+) -> Result<Option<bool>, Refusal>
+    ghost volume: { State }
+    requires answers { S.answers_for source.old volume }
+    requires few { comparisons (formula tree.now) ≤ 256 }
+    requires kind { index_kind volume walk.keys.name.now ≡ Some walk.kind }
+    requires bounding { Bounding query.now walk.keys.name.now walk.kind walk.keys.low.now
+        (option_copied walk.keys.high) (Some (formula tree.now)) }
+    ensures page { IfOk result (λ asked. IfSome asked (λ more.
+        page volume query.now walk.entry.keys.name.now walk.entry.descending
+        (cursor_bytes cursor.old) most
+        ≡ Ok (page_with found.new.items (cursor_bytes cursor.new) more))) }
+    ensures memory { IfErr result (λ e. e ≡ OutOfMemory) }
+    ensures cursor { OnErr result (cursor.new ≡ cursor.old) }
+    ensures none { IfOk result (λ asked. asked ≡ None → cursor.new ≡ cursor.old) }
+    ensures stays { S.kept source.new ≡ S.kept source.old }
+    ensures answers { S.answers_for source.new volume }
+{
+    let paces = paces_of(source, walk.keys, tree, most);
+    if !rests_on_index(alloc, query, source) {
+        return Ok(None);
+    }
+    let asked = asking_page(alloc, tree, source, walk, most, paces.asking, cursor, found)?;
+    if let Some(more) = asked {
+        return Ok(Some(more));
+    }
+    look_up_page(
+        alloc,
+        tree,
+        source,
+        walk,
+        most,
+        paces.looking_up,
+        cursor,
+        found,
+    )
+}
+
+/// A page of a query by the keys that it leaves in the order's own index, of that kind. None if
+/// another way is right.
+fn page_beside<S: OrderedSource>(
+    alloc: Global,
+    query: &Query,
+    source: &mut S,
+    kind: Kind,
+    order: Order<'_>,
+    cursor: &mut Option<ArrayVec<u8, 264>>,
+    found: &mut Vec<u64>,
+) -> Result<Option<bool>, Refusal>
+    ghost volume: { State }
+    requires answers { S.answers_for source.old volume }
+    requires kind { index_kind volume order.by.now ≡ Some kind }
+    ensures page { IfOk result (λ asked. IfSome asked (λ more.
+        page volume query.now order.entry.by.now order.entry.descending
+        (cursor_bytes cursor.old) order.entry.most
+        ≡ Ok (page_with found.new.items (cursor_bytes cursor.new) more))) }
+    ensures memory { IfErr result (λ e. e ≡ OutOfMemory) }
+    ensures cursor { OnErr result (cursor.new ≡ cursor.old) }
+    ensures none { IfOk result (λ asked. asked ≡ None → cursor.new ≡ cursor.old) }
+    ensures stays { S.kept source.new ≡ S.kept source.old }
+    ensures answers { S.answers_for source.new volume }
+{
+    let mut bounds = KeyBounds::new();
+    let Some(tree) = bounds.narrow(query.tree(), order.by, kind) else {
+        return Ok(None);
+    };
+    let walk = Walk {
+        keys: bounds.keys(order.by),
+        kind,
+        descending: order.descending,
+    };
+    find_page(alloc, query, source, walk, tree, order.most, cursor, found)
+}
+
+/// Makes the query's range for the index of a name, of that kind, if all its comparisons are on
+/// this name.
+fn meet_by(prepared: &mut PreparedQuery, by: &Name, kind: Kind)
+    ensures { prepared.new ≡ prepared.old }
+{
+    let is_by = match prepared.name() {
+        Some(name) => *name == *by,
+        None => false,
+    };
+    if is_by {
+        prepared.meet(prepared.place(), kind);
+    }
+}
+
 /// Puts a page of a prepared query into a list, as `ordered_into` does of a query. If the range of
 /// the query on the order's own index decides it, and the source walks in order, the page costs one
 /// walk over as many keys as the page has nodes, and one more; then it takes no memory but for the
-/// list. Otherwise it walks the index from the cursor and asks the query of each node until the
-/// page is full: a question for each node that is passed. That ends once it has cost about what
-/// `ordered_into` does, which then answers. So a page costs at most about twice what the cheaper of
-/// both ways does.
+/// list.
+///
+/// Otherwise there are three ways. A walk over the keys that the query leaves in that index asks
+/// each node for the rest of the query; or it looks the node up in a list of all nodes of which the
+/// rest is true; or the whole answer is found and sorted, as `ordered_into` does. Two descents for
+/// each comparison estimate which is the cheapest. A walk that asks ends once it has cost twice
+/// what the list was thought to cost, and one that looks up once it has cost what sorting would.
+/// Then the next of these ways answers.
 pub fn ordered_prepared_into<S: OrderedSource>(
     alloc: Global,
     prepared: &mut PreparedQuery,
@@ -120,7 +328,7 @@ pub fn ordered_prepared_into<S: OrderedSource>(
     let Some(kind) = source.kind_of(order.by) else {
         return Err(Refusal::NoSuchIndex);
     };
-    let own = meet_own(prepared, source);
+    meet_by(prepared, order.by, kind);
     if let Some(keys) = prepared.keys_for(kind) {
         if *keys.name == *order.by {
             let walked = walk_page(source, keys, kind, order, cursor, found)?;
@@ -129,13 +337,8 @@ pub fn ordered_prepared_into<S: OrderedSource>(
             }
         }
     }
-    let own_cost = own_cost(prepared, own, source);
     let query = prepared.query();
-    let index = Index {
-        name: order.by,
-        kind,
-    };
-    let asked = ask_page(alloc, query, source, index, order, own_cost, cursor, found)?;
+    let asked = page_beside(alloc, query, source, kind, order, cursor, found)?;
     if let Some(more) = asked {
         return Ok(more);
     }

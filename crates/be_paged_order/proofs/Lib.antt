@@ -1,4 +1,3 @@
 mod Orders
-mod Readers
 mod WalkedKeys
 mod WayKeys

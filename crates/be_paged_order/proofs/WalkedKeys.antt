@@ -1,21 +1,25 @@
 -- The entries of an index that a walk over its tree passes.
-use Rattle.std.proofs.Common.{◌≡◌, ◌⊎◌, ◌<◌, ◌≤◌, ℕ, zero, suc, Bool, true, false, ◌&&◌, List, [], ◌∷◌, ◌++◌, refl, sym, ap, ◌∙◌, subst, arith, inl, inr, take, length, map, reverse, get_or}
+use Rattle.std.proofs.Common.{◌≡◌, ◌⊎◌, ◌≤◌, ℕ, suc, Bool, true, false, ◌&&◌, IfNone, IfSome, List, [], ◌∷◌, ◌++◌, None, Some, refl, sym, ap, ◌∙◌, subst, arith, inl, inr, take, length, map, get_or}
 use Rattle.std.specs.FinMap as fin
-use Rattle.std.specs.List.{filter, Contains}
+use Rattle.std.specs.List.{Contains}
 use Rattle.std.specs.Option.{option_copied}
 use Rattle.std.specs.declared.option.Option.{Option}
 use Rattle.std.specs.declared.cmp.Ordering.TheVariants.{Less}
 use Rattle.std.proofs.lemmas.List.{append-nil}
 use Rattle.std.proofs.lemmas.List.Elements.{All-contains, All-contains_itself}
+use Rattle.be_pages.specs.declared.room.Standing.{Standing}
+use Rattle.be_value.specs.declared.values.Kind.TheVariants as kinds
 use Rattle.be_order.proofs.PageKeys.{contains_mapped, mapped_contains}
 use Rattle.be_order.specs.Ordered.{is_after, key_cmp, nodes_of}
-use Rattle.be_order.specs.Walks.{AreFirst, HasWalked, IsEntry}
+use Rattle.be_order.specs.Walks.{HasWalked, IsEntry}
 use Rattle.be_paged_reading.specs.Catalog.{IsPairOf}
 use Rattle.be_paged_reading.specs.Entry.{Entry}
-use Rattle.be_paged_reading.specs.Page.{Contents, IsNamedAt}
-use Rattle.be_paged_reading.specs.Version.{Spells}
+use Rattle.be_paged_reading.specs.Page.{Contents, contents_of, IsNamedAt}
+use Rattle.be_paged_reading.specs.Source.{HasNumbers, IsFound}
+use Rattle.be_paged_reading.specs.Version.{IsVersion, Spells}
+use Rattle.be_paged_reading.specs.declared.on_page.FoundIndex.{FoundIndex}
 use Rattle.be_paged_reading.proofs.Asking.RangeNodes.{node_of_key}
-use Rattle.be_paged_reading.proofs.Asking.SourceKeys.{key_finds}
+use Rattle.be_paged_reading.proofs.Asking.SourceKeys.{entry_tree, key_finds, no_key}
 use Rattle.be_paged_reading.proofs.CatalogPairs.Finding.{found_pair}
 use Rattle.be_paged_reading.proofs.IndexEntries.Indexing.{named_found}
 use Rattle.be_plan.specs.Narrow.{Within}
@@ -26,11 +30,11 @@ use Rattle.be_tree_reading.specs.Range.{is_from, number_of, pairs_from}
 use Rattle.be_tree_reading.specs.Tree.{pairs}
 use Rattle.be_tree_reading.specs.Way.{is_until, numbers_in, pairs_until, walk, walk_of}
 use Rattle.be_tree_reading.specs.declared.way.Way.{Way}
-use Rattle.be_volume.specs.Keys.{IsKey}
+use Rattle.be_tree_reading.proofs.Trees.{tree_rising}
 use Rattle.be_volume.specs.Sound.{IsSound}
 use Rattle.be_volume.specs.Volume.{State}
 use Rattle.be_paged_order.specs.Ways.{IsWayOf, lies_on}
-use Rattle.be_paged_order.proofs.Orders.{IsFirstOr, InOrder, entry, few_taken, first_or, from_filter, from_taken, from_turned, in_filter, in_turned, keys_ordered, ordered_filtered, ordered_taken, ordered_turned, rising_ordered}
+use Rattle.be_paged_order.proofs.Orders.{InOrder, entry, few_taken, first_or, from_filter, from_taken, from_turned, in_filter, in_turned, keys_ordered, ordered_filtered, ordered_taken, ordered_turned, rising_ordered}
 
 both : (a b : Bool) → a ≡ true → b ≡ true → (a && b) ≡ true
 both true b h k = k
@@ -41,7 +45,7 @@ numbers_are [] = refl
 numbers_are (x ∷ xs) = ap (λ l. number_of x.key ∷ l) (numbers_are xs)
 
 -- a walk over no index
-pub none_walked : (Is : List ℕ → ℕ → Type 0) (descending : Bool) (cursor : Option (List ℕ)) (most : ℕ) (before : List ℕ) → ((k : List ℕ) (n : ℕ) → Is k n → ⊥) → HasWalked Is descending cursor most before before
+none_walked : (Is : List ℕ → ℕ → Type 0) (descending : Bool) (cursor : Option (List ℕ)) (most : ℕ) (before : List ℕ) → ((k : List ℕ) (n : ℕ) → Is k n → ⊥) → HasWalked Is descending cursor most before before
 none_walked Is descending cursor most before none = record {
   entries = [];
   first = record {
@@ -148,7 +152,7 @@ module _ (w : ℕ → ℕ → ℕ) (c : Contents) (s : State) (name : List ℕ) 
         mapped [] = refl
         mapped (x ∷ xs) = ap suc (mapped xs)
 
-    pub has_walked : (before after : List ℕ) → after ≡ before ++ numbers_in (take most walked) → HasWalked (IsEntry s name low high) descending cursor most before after
+    has_walked : (before after : List ℕ) → after ≡ before ++ numbers_in (take most walked) → HasWalked (IsEntry s name low high) descending cursor most before after
     has_walked before after added = record {
       entries = map entry (take most walked);
       first = record {
@@ -159,3 +163,29 @@ module _ (w : ℕ → ℕ → ℕ) (c : Contents) (s : State) (name : List ℕ) 
       };
       added = added ∙ ap (λ l. before ++ l) (numbers_are (take most walked));
     }
+
+nowhere : Entry
+nowhere = record { name = []; kind = kinds.Cstr; root = 0 }
+
+-- the numbers of the keys on a way over an index, if there is one
+module _ (standing : ℕ → Standing) (w : ℕ → ℕ → ℕ) (page : ℕ) (s : State) (version : IsVersion standing w page s) (name low : List ℕ) (high : Option (List ℕ)) (descending : Bool) (cursor : Option (List ℕ))
+    (way : Way) (is : IsWayOf low high descending cursor way) (most : ℕ) (before after : List ℕ) where
+  abbrev contents : Contents
+  contents = contents_of (w page)
+
+  abbrev Walked : Type 0
+  Walked = HasWalked (IsEntry s name low high) descending cursor most before after
+
+  walked_by : (index : Option FoundIndex) → IsFound contents.entries name index → IfSome index (λ i. after ≡ before ++ numbers_in (take most (walk_of way (pairs w i.root)))) →
+      IfNone index (after ≡ before) → Walked
+  walked_by None found added same =
+      subst (HasWalked (IsEntry s name low high) descending cursor most before) (sym same)
+      (none_walked (IsEntry s name low high) descending cursor most before (λ k n e. no_key w contents s name found.absent.0 version.spells found.absent.1 k e.is_key))
+  walked_by (Some index) found added same =
+      let tree = entry_tree standing w contents index.place nowhere version.in_hand found.named.in_range in
+      has_walked w contents s name index.place nowhere version.spells found.named version.sound (tree_rising standing w (get_or contents.entries index.place nowhere).root tree) low high
+      descending cursor way is most before after
+      (added ∙ ap (λ (r : ℕ). before ++ numbers_in (take most (walk_of way (pairs w r)))) (found.root nowhere))
+
+  pub numbers_walked : HasNumbers w contents.entries name way most before after → Walked
+  numbers_walked h = walked_by h.index h.found h.added h.same

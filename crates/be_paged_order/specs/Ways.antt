@@ -1,5 +1,5 @@
 -- The way of a walk over the keys of a range that come after a cursor.
-use Rattle.std.specs.Prelude.{◌≡◌, ℕ, Bool, true, false, ◌&&◌, List, slice_index_or}
+use Rattle.std.specs.Prelude.{◌≡◌, ℕ, Bool, true, false, ◌&&◌, List}
 use Rattle.std.specs.Option.{option_copied, option_map_or}
 use Rattle.std.specs.Ordering.{is_ge}
 use Rattle.std.specs.declared.option.Option.{Option}
@@ -8,8 +8,6 @@ use Rattle.be_tree_reading.specs.Way.{is_until}
 use Rattle.be_tree_reading.specs.declared.way.Way.{Way}
 use Rattle.be_volume.specs.Maps.{name_cmp}
 use Rattle.be_plan.specs.Narrow.{Within}
-use Rattle.be_paged_reading.specs.Entry.{Entry}
-use Rattle.be_paged_reading.specs.Page.{IsNamedAt}
 use Rattle.be_order.specs.Ordered.{is_after}
 
 -- the key lies on a way with these ends
@@ -30,9 +28,3 @@ pub record IsWayOf (low : List ℕ) (high : Option (List ℕ)) (descending : Boo
       ≡ true → Within low high k × (is_after descending cursor k ≡ true)
   pub all : (k : List ℕ) → Within low high k → is_after descending cursor k ≡ true
       → lies_on way.back way.strict way.low.now (option_copied way.high) k ≡ true
-
--- the tree of the index of that name among the entries
-pub record HasRoot (entries : List Entry) (name : List ℕ) (root : ℕ) : Type 0 where
-  pub place : ℕ
-  pub named : IsNamedAt entries name place
-  pub root_is : (d : Entry) → root ≡ (slice_index_or entries place d).root

@@ -1,12 +1,11 @@
 //! Answers in the order of an index, from pages.
 //!
-//! be_paged_reading's source reads a version in pages, and goes over an index forwards only. Here a
-//! source has the same calls, and walks the tree of an index in either direction besides: what
-//! be_order asks for a page.
+//! be_paged_reading's source reads a version in pages, and walks an index either way. Here a source
+//! has the same calls and those of be_order besides: a page in order is a walk over a range of
+//! keys, from a cursor on.
 #![tactic(auto)]
 
 mod pages;
-mod walks;
 mod ways;
 
 pub use pages::{OrderedPages, ordered_source};

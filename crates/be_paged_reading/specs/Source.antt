@@ -1,6 +1,6 @@
 -- What a source over a version has in hand.
 use Rattle.std.specs.Prelude.{◌≡◌, ℕ, ◌<◌, ◌&&◌, Bool, IfSome, IfNone, List, true}
-use Rattle.std.specs.Prelude.{is_some, length, slice_index_or}
+use Rattle.std.specs.Prelude.{◌++◌, is_some, length, slice_index_or, take}
 use Rattle.std.specs.declared.option.Option.{Option}
 use Rattle.be_pages.specs.declared.room.Standing.{Standing}
 use Rattle.be_tree_reading.specs.Page.{IsReadableAt, item_at}
@@ -9,7 +9,9 @@ use Rattle.be_tree_reading.specs.Key.{payload_at}
 use Rattle.be_tree_reading.specs.Pair.{Pair}
 use Rattle.be_tree_reading.specs.Range.{pairs_from}
 use Rattle.be_tree_reading.specs.Tree.{pairs}
+use Rattle.be_tree_reading.specs.Way.{numbers_in, walk_of}
 use Rattle.be_tree_reading.specs.declared.cursor.Cursor.{Cursor}
+use Rattle.be_tree_reading.specs.declared.way.Way.{Way}
 use Rattle.be_value.specs.Key.{IsValue, key}
 use Rattle.be_value.specs.Value.{kind_of, is_indexable}
 use Rattle.be_value.specs.declared.values.Value.{Value}
@@ -48,6 +50,16 @@ pub record IsIndexOf (entries : List Entry) (index : FoundIndex) : Type 0 where
   pub in_range : index.place < length entries
   pub kind : (d : Entry) → index.kind ≡ (slice_index_or entries index.place d).kind
   pub root : (d : Entry) → index.root ≡ (slice_index_or entries index.place d).root
+
+-- The list has gained the numbers of the keys on a way over the index of a name, in the way's
+-- order, up to `most` of them; without an index it is as before.
+pub record HasNumbers (words : ℕ → ℕ → ℕ) (entries : List Entry) (name : List ℕ) (way : Way)
+    (most : ℕ) (before after : List ℕ) : Type 0 where
+  pub index : Option FoundIndex
+  pub found : IsFound entries name index
+  pub added : IfSome index (λ i. after
+      ≡ before ++ numbers_in (take most (walk_of way (pairs words i.root))))
+  pub same : IfNone index (after ≡ before)
 
 abbrev pub IsKnown : List Entry → Option FoundIndex → Type 0
 IsKnown entries known = IfSome known (λ last. IsIndexOf entries last)

@@ -5,15 +5,17 @@
 //! asked from that very key, it goes on from there and makes no descent. The nodes of a range are
 //! read leaf by leaf, and texts are tested so: no key is unpacked. A query asks for the same index
 //! again and again, so the source keeps what it found last.
-ghost use Rattle.std.specs.Prelude.{◌≡◌, true};
+ghost use Rattle.std.specs.Prelude.{◌≡◌, true, IfErr, OnOk};
 ghost use Rattle.be_pages.specs.Pages.{IsUnchanged};
+ghost use Rattle.be_plan.specs.Sources.{StillAnswers};
 ghost use Rattle.be_tree_reading.specs.Cursor.{IsCursor, remaining};
 ghost use Rattle.be_tree_reading.specs.Range.{pairs_from};
 ghost use Rattle.be_tree_reading.specs.Tree.{IsTree, pairs};
+ghost use Rattle.be_value.specs.declared.refusals.Refusal.TheVariants.{OutOfMemory};
 ghost use Rattle.be_value.specs.declared.values.Kind.TheVariants.{Cstr};
 ghost use Rattle.be_volume.specs.Volume.{State};
 ghost use Rattle.be_paged_reading.specs.Page.{contents_of};
-ghost use Rattle.be_paged_reading.specs.Source.{IsIndexOf, StandsAfter};
+ghost use Rattle.be_paged_reading.specs.Source.{HasNumbers, IsIndexOf, StandsAfter};
 ghost use Rattle.be_paged_reading.specs.Version.{HasVersion, IsVersion};
 
 use crate::on_page::{FoundIndex, known_index};
@@ -23,7 +25,9 @@ use arrayvec::ArrayVec;
 use be_pages::Look;
 use be_plan::{KeyRange, Source, TextTest};
 use be_query::Comparison;
-use be_tree_reading::{Cursor, has_key, is_key_at, key_at, numbers_within};
+use be_tree_reading::{
+    Cursor, Way, about_within, has_key, is_key_at, key_at, numbers_in_order, numbers_within,
+};
 use be_value::{Kind, Name, Refusal, Value};
 
 /// A place that no index has.
@@ -113,6 +117,45 @@ impl<L: Look> PagedSource<L> {
             }
         }
         self.cursor.seek(&mut self.look, index.root, from, after);
+    }
+
+    /// Adds the number that each key on a way over the index of a name ends with, in the order of
+    /// the way, `most` at most. Without an index it adds nothing.
+    pub fn numbers_in_order(
+        &mut self,
+        name: &Name,
+        way: Way<'_>,
+        most: usize,
+        found: &mut Vec<u64>,
+    ) -> Result<(), Refusal>
+        requires { (volume : State) × ⟦<PagedSource<L> as Source>⟧.answers_for self.old volume }
+        ensures memory { IfErr result (λ e. e ≡ OutOfMemory) }
+        ensures added { OnOk result (HasNumbers (L.words self.old.look)
+            (contents_of (L.words self.old.look self.old.page)).entries name.now way.entry most
+            found.old.items found.new.items) }
+        ensures stays { ⟦<PagedSource<L> as Source>⟧.kept self.new
+            ≡ ⟦<PagedSource<L> as Source>⟧.kept self.old }
+        ensures answers { StillAnswers ⟦<PagedSource<L> as Source>⟧.answers_for self.old self.new }
+    {
+        let Some(index) = known_index(&mut self.look, self.page, name, &mut self.known) else {
+            return Ok(());
+        };
+        numbers_in_order(&mut self.look, index.root, way, most, found)?;
+        Ok(())
+    }
+
+    /// About how many keys the index of a name has in a range. It costs two descents, and is exact
+    /// for a range within one leaf.
+    pub fn about_within(&mut self, keys: KeyRange<'_>) -> u64
+        requires { (volume : State) × ⟦<PagedSource<L> as Source>⟧.answers_for self.old volume }
+        ensures stays { ⟦<PagedSource<L> as Source>⟧.kept self.new
+            ≡ ⟦<PagedSource<L> as Source>⟧.kept self.old }
+        ensures answers { StillAnswers ⟦<PagedSource<L> as Source>⟧.answers_for self.old self.new }
+    {
+        match known_index(&mut self.look, self.page, keys.name, &mut self.known) {
+            Some(index) => about_within(&mut self.look, index.root, keys.low, keys.high),
+            None => 0,
+        }
     }
 }
 

@@ -56,6 +56,19 @@ named_allows s (And a b) name n value pick at on h seen = (
 )
 named_allows s (Or a b) name n value pick at on h seen = absurd on
 
+-- a value that is seen is one that the formula allows, by way of a pick that lies behind it
+pub seen_allows : (s : State) (f : Formula) (name : List ℕ) (n : ℕ) (value : Value) (pick at : ℕ) → at + comparisons f ≤ pick → sat s f n ≡ true → sees s n name ≡ Some value → Allows pick at f name value
+seen_allows s (Leaf own op literal) name n value pick at end h seen =
+    λ same. ap (λ o. option_map_or (λ v. holds op v literal) o false) (sym seen ∙ ap (sees s n) (sym same)) ∙ h
+seen_allows s (And a b) name n value pick at end h seen = (
+  seen_allows s a name n value pick at (omega (arith, end)) (and_first (sat s a n) (sat s b n) h) seen,
+  seen_allows s b name n value pick (at + comparisons a) (omega (arith, end)) (and_second (sat s a n) (sat s b n) h) seen,
+)
+seen_allows s (Or a b) name n value pick at end h seen = (
+  λ from below. absurd (omega (arith, end, below)),
+  λ from below. absurd (omega (arith, end, below)),
+)
+
 -- a walk over the range of comparisons of one name has all nodes of which they are true
 pub named_found : (s : State) (f : Formula) (name : List ℕ) (kind : Kind) (low : List ℕ) (high : Option (List ℕ)) (found : List ℕ) →
     IsSound s → AreAllOn f name → index_kind s name ≡ Some kind →

@@ -1,3 +1,4 @@
+pub mod Bounding
 pub mod Cover
 pub mod Explain
 pub mod Marks

@@ -128,6 +128,29 @@ fn collect<S: Source>(
     collect_side(alloc, source, range, rest, found)
 }
 
+/// Puts the nodes of which a part of a query is true into a list, as `answer_into` does of the
+/// whole.
+pub fn true_nodes_into<S: Source>(
+    alloc: Global,
+    tree: &Tree,
+    source: &mut S,
+    found: &mut Vec<u64>,
+) -> Result<(), Refusal>
+    ghost volume: { State }
+    requires answers { S.answers_for source.old volume }
+    requires few { comparisons (formula tree.now) ≤ 256 }
+    ensures answer { Answers (λ _. found.new.items) result (scan volume (formula tree.now)) }
+    ensures rising { OnOk result (IsStrictlyIncreasing found.new.items) }
+    ensures stays { S.kept source.new ≡ S.kept source.old }
+    ensures answers { S.answers_for source.new volume }
+{
+    found.clear();
+    let mut range = Range::whole();
+    collect(alloc, source, &mut range, tree, found)?;
+    put_in_order(alloc, found)?;
+    Ok(())
+}
+
 /// Puts the nodes of which the query is true into a list, ascending, in place of what it had. They
 /// come from comparisons that the source's own indices choose; `explain` of the cover that
 /// `choose_from` gives shows which. A query that rests on no index is refused by `NotCovered`. The
@@ -149,11 +172,7 @@ pub fn answer_into<S: Source>(
     ensures stays { S.kept source.new ≡ S.kept source.old }
     ensures answers { S.answers_for source.new volume }
 {
-    found.clear();
-    let mut range = Range::whole();
-    collect(alloc, source, &mut range, query.tree(), found)?;
-    put_in_order(alloc, found)?;
-    Ok(())
+    true_nodes_into(alloc, query.tree(), source, found)
 }
 
 /// The nodes that `answer_into` puts into a list, in a list of their own.

@@ -12,6 +12,7 @@
 #![tactic(auto)]
 
 mod asking;
+mod bounding;
 mod choosing;
 mod coverage;
 mod evaluating;
@@ -31,7 +32,8 @@ mod spine;
 mod texts;
 mod walks;
 
-pub use asking::{answer, answer_into};
+pub use asking::{answer, answer_into, true_nodes_into};
+pub use bounding::KeyBounds;
 pub use choosing::choose_from;
 pub use coverage::covers;
 pub use evaluating::is_true;

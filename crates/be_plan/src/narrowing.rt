@@ -31,6 +31,7 @@ ghost use Rattle.be_volume.specs.Maps.{name_cmp};
 ghost use Rattle.be_volume.specs.Query.{holds, holds_of_number, is_true_of, literal_number, sat};
 ghost use Rattle.be_volume.specs.Volume.{State};
 ghost use Rattle.be_plan.specs.Walk.{AreAllOn};
+ghost use Rattle.be_plan.specs.Bounding.{HasAtMost};
 ghost use Rattle.be_plan.specs.Narrow.{AllTrueOf, KeepsTrueOf, IsIn, IsBetween, IsPair, StandsFor};
 ghost use Rattle.be_plan.specs.Narrow.{HasEnds, Allows, LeavesRest, high_of, limit, rest_true};
 
@@ -323,12 +324,16 @@ fn rest_of_both<'a>(
     left: Option<&'a Tree>,
     right: Option<&'a Tree>,
 ) -> Option<&'a Tree>
-    ensures { (s : State) (node : ℕ) →
+    ensures rest { (s : State) (node : ℕ) →
         sat s (formula tree.now) node ≡ (rest_true s (option_map formula (option_copied left.entry))
         node
         && rest_true s (option_map formula (option_copied right.entry)) node) →
         sat s (formula tree.now) node ≡ rest_true s (option_map formula (option_copied result))
         node }
+    ensures few { (most : ℕ) → HasAtMost most (Some (formula tree.now))
+        → HasAtMost most (option_map formula (option_copied left.entry))
+        → HasAtMost most (option_map formula (option_copied right.entry))
+        → HasAtMost most (option_map formula (option_copied result)) }
 {
     match (left, right) {
         (None, right) => right,
@@ -367,6 +372,8 @@ pub(crate) fn narrow_beside<'a>(
         IsIn range.old (key_bytes v n) → IsIn range.new (key_bytes v n) }
     ensures leaves { LeavesRest (formula tree.now) name.now kind range.new.low.items
         (high_of range.new) (option_map formula (option_copied result)) }
+    ensures few { HasAtMost (comparisons (formula tree.now))
+        (option_map formula (option_copied result)) }
 {
     match tree {
         Tree::Leaf(comparison) => {

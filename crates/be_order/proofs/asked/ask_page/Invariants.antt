@@ -1,8 +1,5 @@
 use Rattle.be_order.proofs.asked.ask_page.Given as goal
 
-abbrev pub ghost-rests_on_index : goal.ghost-rests_on_index
-ghost-rests_on_index g a = g.volume
-
 abbrev pub ghost-ask_parts : goal.ghost-ask_parts
 ghost-ask_parts g a = g.volume
 

@@ -7,4 +7,4 @@ ordered_source-source-requires g c = record { version = (g.volume, c.requires.1)
 pub ordered_prepared_into-answer-requires : goal.ordered_prepared_into-answer-requires
 ordered_prepared_into-answer-requires g c = λ κs within.
     let h = c.ordered_source-source.ensures.answers g.volume c.requires.1 in
-    (search rules, record { own = h.own; there = h.there; answers = h.answers; version = h.version })
+    (search rules, h)

@@ -1,27 +1,11 @@
-use Rattle.std.proofs.Common.{refl, sym}
-use Rattle.be_paged_reading.proofs.Versions.{version_since}
-use Rattle.be_paged_order.proofs.Readers.{moved, version_of}
+use Rattle.std.specs.Option.{option_copied}
+use Rattle.be_order.specs.Ordered.{cursor_bytes}
+use Rattle.be_paged_order.proofs.WalkedKeys.{numbers_walked}
 use Rattle.be_paged_order.proofs.pages.OrderedPagesOrderedSource.first_nodes.Goals as goal
 
-pub walk_keys-walked-requires : goal.walk_keys-walked-requires
-walk_keys-walked-requires g c = record { version = (c.requires.0, moved c.into_look-look.ensures.look (version_of c.requires.1 (sym c.in-Some.ensures.value))) }
-
-pub source-requires : goal.source-requires
-source-requires g c =
-    let before = moved c.into_look-look.ensures.look (version_of c.requires.1 (sym c.in-Some.ensures.value)) in
-    let since = c.walk_keys-walked.ensures.unchanged in
-    record { version = (c.requires.0, version_since _ _ _ _ c.args.self.now.page c.requires.0 since.standing since.words before) }
-
-pub returns-in_err-walked-clause-answers : goal.returns-in_err-walked-clause-answers
-returns-in_err-walked-clause-answers g c = λ volume of.
-    let before = moved c.into_look-look.ensures.look (version_of of (sym c.in-Some.ensures.value)) in
-    let since = c.walk_keys-walked.ensures.unchanged in
-    let version = version_since _ _ _ _ c.args.self.now.page volume since.standing since.words before in
-    record { own = c.source.result; there = c.replace-taken.ensures.after; answers = c.source.ensures.answers volume version; version = moved c.source.ensures.look version }
-
-pub returns-clause-answers : goal.returns-clause-answers
-returns-clause-answers g c = λ volume of.
-    let before = moved c.into_look-look.ensures.look (version_of of (sym c.in-Some.ensures.value)) in
-    let since = c.walk_keys-walked.ensures.unchanged in
-    let version = version_since _ _ _ _ c.args.self.now.page volume since.standing since.words before in
-    record { own = c.source.result; there = c.replace-taken.ensures.after; answers = c.source.ensures.answers volume version; version = moved c.source.ensures.look version }
+pub returns-clause-walked : goal.returns-clause-walked
+returns-clause-walked g c = λ walks volume of.
+    let reader = c.args.self.now.reader in
+    let keys = c.args.keys in
+    numbers_walked (g.L.Look.standing reader.look) (g.L.Look.words reader.look) reader.page volume of.version keys.keys.name.now keys.keys.low.now (option_copied keys.keys.high) keys.descending
+    (cursor_bytes keys.cursor.now) c.way_of-way.result c.way_of-way.ensures c.args.most c.args.found.now.items c.numbers_in_order.new.found.items c.in_ok-numbers_in_order.ensures.added

@@ -1,0 +1,71 @@
+use Rattle.std.proofs.Common.{ℕ, [], None, Some, sym, subst, ◌∙◌, refl}
+use Rattle.be_tree_reading.specs.Range.{AreLong}
+use Rattle.be_tree_reading.specs.Tree.{IsTree, pairs}
+use Rattle.be_value.specs.declared.values.Kind.TheVariants as kinds
+use Rattle.be_paged_reading.specs.Entry.{Entry}
+use Rattle.be_paged_reading.specs.Page.{contents_of}
+use Rattle.be_paged_reading.specs.Source.{HasNumbers, IsKnown}
+use Rattle.be_paged_reading.proofs.Stored.PageIndices.{source_since}
+use Rattle.be_paged_reading.proofs.Asking.RangeNodes.{keys_long}
+use Rattle.be_paged_reading.proofs.Asking.SourceKeys.{entry_tree}
+use Rattle.be_paged_reading.proofs.Versions.{version_since}
+use Rattle.be_paged_reading.proofs.paged_source.PagedSource.numbers_in_order.Goals as goal
+
+nowhere : Entry
+nowhere = record { name = []; kind = kinds.Cstr; root = 0 }
+
+pub known_index-requires : goal.known_index-requires
+known_index-requires g c = record { version = (c.requires.0, c.requires.1.version); known = c.requires.1.known_is }
+
+pub numbers_in_order-requires-clause-tree : goal.numbers_in_order-requires-clause-tree
+numbers_in_order-requires-clause-tree g c =
+    let self = c.args.self.now in
+    let s = g.L.Look.standing c.known_index.new.look in
+    let w = g.L.Look.words c.known_index.new.look in
+    let since = c.in-Some.ensures.unchanged in
+    let version = version_since (g.L.Look.standing self.look) s (g.L.Look.words self.look) w self.page c.requires.0 since.standing since.words c.requires.1.version in
+    subst (IsTree s w) (sym (c.in-Some.ensures.found.root nowhere)) (entry_tree s w (contents_of (w self.page)) c.in-Some.index.place nowhere version.in_hand c.in-Some.ensures.found.named.in_range)
+
+pub numbers_in_order-requires-clause-long : goal.numbers_in_order-requires-clause-long
+numbers_in_order-requires-clause-long g c =
+    let self = c.args.self.now in
+    let s = g.L.Look.standing c.known_index.new.look in
+    let w = g.L.Look.words c.known_index.new.look in
+    let since = c.in-Some.ensures.unchanged in
+    let version = version_since (g.L.Look.standing self.look) s (g.L.Look.words self.look) w self.page c.requires.0 since.standing since.words c.requires.1.version in
+    subst (λ (r : ℕ). AreLong (pairs w r)) (sym (c.in-Some.ensures.found.root nowhere))
+    (keys_long w (contents_of (w self.page)) c.requires.0 c.args.name.now c.in-Some.index.place nowhere version.spells c.in-Some.ensures.found.named)
+
+pub returns-in_default-clause-added : goal.returns-in_default-clause-added
+returns-in_default-clause-added g c =
+    let items = c.args.found.now.items in
+    subst (λ (u : ℕ → ℕ → ℕ). HasNumbers u (contents_of (u c.args.self.now.page)).entries c.args.name.now c.args.way c.args.most items items) c.in_default.ensures.unchanged.words
+    (record { index = None; found = c.in_default.ensures.found; added = tt; same = refl })
+
+pub returns-clause-added : goal.returns-clause-added
+returns-clause-added g c =
+    subst (λ (u : ℕ → ℕ → ℕ). HasNumbers u (contents_of (u c.args.self.now.page)).entries c.args.name.now c.args.way c.args.most c.args.found.now.items c.numbers_in_order.new.found.items)
+    c.in-Some.ensures.unchanged.words
+    (record { index = Some c.in-Some.index; found = c.in-Some.ensures.found; added = c.in_ok-numbers_in_order.ensures.found; same = tt })
+
+pub returns-in_default-clause-answers : goal.returns-in_default-clause-answers
+returns-in_default-clause-answers g c = λ volume of.
+    let self = c.args.self.now in
+    let since = c.in_default.ensures.unchanged in
+    source_since (g.L.Look.standing self.look) (g.L.Look.standing c.known_index.new.look) (g.L.Look.words self.look) (g.L.Look.words c.known_index.new.look) self.page self.known c.known_index.new.known self.cursor self.place self.last.0 self.last.1 volume since.standing since.words c.in_default.ensures.known of
+
+pub returns-in_err-numbers_in_order-clause-answers : goal.returns-in_err-numbers_in_order-clause-answers
+returns-in_err-numbers_in_order-clause-answers g c = λ volume of.
+    let self = c.args.self.now in
+    let first = c.in-Some.ensures.unchanged in
+    let last = c.numbers_in_order.ensures.unchanged in
+    source_since (g.L.Look.standing self.look) (g.L.Look.standing c.numbers_in_order.new.look) (g.L.Look.words self.look) (g.L.Look.words c.numbers_in_order.new.look) self.page self.known c.known_index.new.known self.cursor self.place self.last.0 self.last.1 volume
+    (last.standing ∙ first.standing) (last.words ∙ first.words) (subst (λ (u : ℕ → ℕ → ℕ). IsKnown (contents_of (u self.page)).entries c.known_index.new.known) (sym last.words) c.in-Some.ensures.known) of
+
+pub returns-clause-answers : goal.returns-clause-answers
+returns-clause-answers g c = λ volume of.
+    let self = c.args.self.now in
+    let first = c.in-Some.ensures.unchanged in
+    let last = c.numbers_in_order.ensures.unchanged in
+    source_since (g.L.Look.standing self.look) (g.L.Look.standing c.numbers_in_order.new.look) (g.L.Look.words self.look) (g.L.Look.words c.numbers_in_order.new.look) self.page self.known c.known_index.new.known self.cursor self.place self.last.0 self.last.1 volume
+    (last.standing ∙ first.standing) (last.words ∙ first.words) (subst (λ (u : ℕ → ℕ → ℕ). IsKnown (contents_of (u self.page)).entries c.known_index.new.known) (sym last.words) c.in-Some.ensures.known) of
