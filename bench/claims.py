@@ -6,8 +6,9 @@
     /usr/bin/python3 bench/claims.py --instructions           instructions a claim of one worker instead, by perf or valgrind
 
 It needs the package (PYTHONPATH=python). A claim reads a waiting job and marks it as claimed, as one: in bestore by `change`, with
-any job or with the most urgent one; in SQLite by one UPDATE with RETURNING. Jobs that were claimed are queued again between the
-rounds, so each round finds the queue as long. SQLite's connection is one for all workers, guarded by a lock.
+any job or with the most urgent one, which then loses its urgency, as in examples/python/jobs.py; in SQLite by one UPDATE with RETURNING.
+Jobs that were claimed are queued again between the rounds, so each round finds the queue as long. SQLite's connection is one for all
+workers, guarded by a lock.
 """
 
 from __future__ import annotations
@@ -34,6 +35,10 @@ WAYS = ("any_job", "urgent_job")
 Claim = Callable[[], Optional[int]]
 
 
+def urgency_of(number: int) -> int:
+    return number * 7919 % 1000
+
+
 class Bestore:
     """Jobs as nodes. `claimers` are the ways to claim one."""
 
@@ -41,33 +46,37 @@ class Bestore:
         self._store = bestore.open(16384)
         self._store.make_index("job:state", bestore.STRING)
         self._store.make_index("job:urgency", bestore.INT64)
-        for number in range(queued):
-            job = self._store.new_node()
-            self._store.apply(bestore.Batch().set(job, "job:state", "waiting").set(job, "job:urgency", number * 7919 % 1000))
+        self._urgencies = {self._store.new_node(): urgency_of(number) for number in range(queued)}
+        self.queue_again(list(self._urgencies))
 
     def any_job(self) -> Claim:
         """Claims by a pass of its own."""
-        return self._claim(lambda change, waiting: change.any(waiting, 1))
-
-    def urgent_job(self) -> Claim:
-        return self._claim(
-            lambda change, waiting: change.query_prepared(waiting, by="job:urgency", descending=True, limit=1))
-
-    def _claim(self, find: Callable[[bestore.Change, bestore.Prepared], List[int]]) -> Claim:
         user, waiting = self._store.another(), bestore.prepare("job:state==waiting")
 
         def claim(change: bestore.Change) -> Optional[int]:
-            found = find(change, waiting)
-            if not found:
-                return None
-            change.set(found[0], "job:state", "claimed")
-            return found[0]
+            for job in change.any(waiting, 1):
+                change.set(job, "job:state", "claimed")
+                return job
+            return None
+
+        return lambda: user.change(claim)
+
+    def urgent_job(self) -> Claim:
+        """The same, of a queue in which only waiting jobs have an urgency."""
+        user, waiting = self._store.another(), bestore.prepare("job:state==waiting")
+
+        def claim(change: bestore.Change) -> Optional[int]:
+            for job in change.query_prepared(waiting, by="job:urgency", descending=True, limit=1):
+                change.set(job, "job:state", "claimed")
+                change.unset(job, "job:urgency")
+                return job
+            return None
 
         return lambda: user.change(claim)
 
     def queue_again(self, jobs: List[int]) -> None:
         for job in jobs:
-            self._store.set(job, "job:state", "waiting")
+            self._store.apply(bestore.Batch().set(job, "job:state", "waiting").set(job, "job:urgency", self._urgencies[job]))
 
 
 class Sqlite:
@@ -78,7 +87,7 @@ class Sqlite:
         self._connection = sqlite3.connect(":memory:", isolation_level=None, check_same_thread=False)
         self._connection.execute("CREATE TABLE job (number INTEGER PRIMARY KEY, state TEXT, urgency INTEGER)")
         self._connection.execute("CREATE INDEX jobs ON job (state, urgency)")
-        rows = [("waiting", number * 7919 % 1000) for number in range(queued)]
+        rows = [("waiting", urgency_of(number)) for number in range(queued)]
         self._connection.executemany("INSERT INTO job (state, urgency) VALUES (?, ?)", rows)
 
     def any_job(self) -> Claim:

@@ -17,7 +17,10 @@ typedef struct row {
 
 static bes_batch batch;
 static uint64_t state = 88172645463325252u;
+static bool word_has_index;
 static bool has_word[2 * NODES + 1]; /* whether the node's word was set after its index was made */
+static bool is_gone[2 * NODES + 1];
+static uint64_t last_node;
 
 /* A number from 0 to below - 1. */
 static uint64_t below(uint64_t bound)
@@ -45,25 +48,25 @@ static void set_some(bes_pass *pass, uint64_t node)
     CHECK(bes_batch_set_uint64(&batch, node, "big", UINT64_MAX - below(3)) == BES_OK);
     CHECK(bes_batch_set_text(&batch, node, "word", text) == BES_OK);
     CHECK(bes_batch_apply(pass, &batch, 1, NULL, 0, &number) == BES_OK);
+    has_word[node] = word_has_index;
 }
 
-static void make_nodes(bes_pass *pass, uint64_t from, uint64_t to)
+static void make_node(bes_pass *pass)
 {
-    for (uint64_t node = from; node <= to; node++) {
-        uint64_t made = 0;
-        CHECK(bes_new_node(pass, &made) == BES_OK && made == node);
-        set_some(pass, node);
-        has_word[node] = node > LATE;
-    }
+    CHECK(bes_new_node(pass, &last_node) == BES_OK && last_node <= 2 * NODES);
+    set_some(pass, last_node);
 }
 
 static void fill(bes_pass *pass)
 {
     for (size_t at = 0; at < INDICES - 1; at++)
         CHECK(bes_make_index(pass, names[at], kinds[at]) == BES_OK);
-    make_nodes(pass, 1, LATE);
+    while (last_node < LATE)
+        make_node(pass);
     CHECK(bes_make_index(pass, "word", BES_STRING_TYPE) == BES_OK);
-    make_nodes(pass, LATE + 1, NODES);
+    word_has_index = true;
+    while (last_node < NODES)
+        make_node(pass);
 }
 
 static bes_name held(const char *name)
@@ -216,6 +219,68 @@ static void writes_between(bes_pass *pass)
     CHECK(bes_unpin(pass) == BES_OK && bes_release(&prepared) == BES_OK);
 }
 
+/* Some nodes get other values, one goes now and then, and another one comes. */
+static void write_some(bes_pass *pass)
+{
+    for (int write = 0; write < 3; write++) {
+        uint64_t node = 1 + below(NODES);
+        if (!is_gone[node])
+            set_some(pass, node);
+        if (is_gone[node] || last_node == 2 * NODES || below(24) != 0)
+            continue;
+        CHECK(bes_remove_node(pass, node) == BES_OK);
+        is_gone[node] = true;
+        make_node(pass);
+    }
+}
+
+/* Where the rows that come after a row begin; if there is none, at the first. */
+static size_t begin_after(const row *rows, size_t count, const row *last, bool descending)
+{
+    size_t at = 0;
+    while (last->node != 0 && at < count && (descending ? compare_reversed : compare_rows)(&rows[at], last) <= 0)
+        at++;
+    return at;
+}
+
+/* Each page is what the plain list of its own snapshot has after the cursor. */
+static void pages_between_writes(bes_pass *pass, bes_prepared *prepared, size_t index, bool descending)
+{
+    static row rows[2 * NODES], last;
+    uint64_t nodes[2 * NODES], count = 0, number = 0;
+    bes_name by = held(names[index]);
+    bes_cursor cursor = {0, 0, {0}};
+    uint32_t more = 1;
+    memset(&last, 0, sizeof last);
+    while (more) {
+        size_t room = (size_t)1 << below(8), all, at;
+        CHECK(bes_pin(pass, &number) == BES_OK);
+        all = plain(pass, prepared, index, descending, rows);
+        at = begin_after(rows, all, &last, descending);
+        CHECK(bes_ordered(pass, prepared, &by, descending, &cursor, nodes, room, &count, &more) == BES_OK);
+        CHECK(count == (all - at < room ? all - at : room) && more == (all - at > room));
+        for (size_t i = 0; i < count; i++)
+            CHECK(nodes[i] == rows[at + i].node);
+        if (count > 0)
+            last = rows[at + count - 1];
+        CHECK(bes_unpin(pass) == BES_OK);
+        write_some(pass);
+    }
+}
+
+static void random_pages(bes_pass *pass, bool is_short)
+{
+    for (size_t text = 0; text < (is_short ? 2 : sizeof texts / sizeof *texts); text++) {
+        bes_prepared prepared = BES_PREPARED_INIT;
+        prepare(&prepared, texts[text]);
+        for (size_t index = 0; index < INDICES; index++) {
+            pages_between_writes(pass, &prepared, index, false);
+            pages_between_writes(pass, &prepared, index, true);
+        }
+        CHECK(bes_release(&prepared) == BES_OK);
+    }
+}
+
 static int compare_numbers(const void *left, const void *right)
 {
     const uint64_t *a = left, *b = right;
@@ -357,7 +422,7 @@ int main(int argc, char **argv)
     bool is_short = argc > 1 && strcmp(argv[1], "short") == 0;
     bes_pass pass = BES_PASS_INIT;
     uint64_t number = 0;
-    CHECK(bes_open(1000, 2, 5000, &pass) == BES_OK);
+    CHECK(bes_open(1000, 2, 50000, &pass) == BES_OK);
     fill(&pass);
     CHECK(bes_pin(&pass, &number) == BES_OK);
     all_pages(&pass, is_short);
@@ -368,6 +433,7 @@ int main(int argc, char **argv)
     CHECK(bes_unpin(&pass) == BES_OK);
     writes_between(&pass);
     refresh_changed(&pass);
+    random_pages(&pass, is_short);
     CHECK(bes_close(&pass) == BES_OK);
     return 0;
 }

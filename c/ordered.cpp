@@ -57,11 +57,28 @@ void set(bestore::Batch &batch, Node node, const char *name, const bestore::Valu
     std::visit([&](const auto &held) { batch.set(node, name, held); }, value);
 }
 
-// Makes a node with some values.
-void write(bestore::Pass &pass, std::mt19937 &chance)
+// A store, what makes its values, and its nodes.
+struct Written {
+    bestore::Store pass;
+    std::mt19937 chance{5};
+    std::vector<Node> nodes;
+};
+
+// Makes a node with some values, or gives a node other ones, or removes it.
+void write(Written &store)
 {
+    auto &[pass, chance, nodes] = store;
     bestore::Batch batch;
-    const Node node = pass.new_node();
+    const std::size_t at = chance() % 200;
+    const bool is_new = at >= nodes.size();
+    const Node node = is_new ? pass.new_node() : nodes[at];
+    if (is_new)
+        nodes.push_back(node);
+    else if (chance() % 8 == 0) {
+        nodes.erase(nodes.begin() + std::ptrdiff_t(at));
+        pass.remove_node(node);
+        return;
+    }
     for (const auto &[name, kind] : kinds)
         if (chance() % 3 > 0)
             set(batch, node, name, value_of(kind, chance() % 5));
@@ -100,12 +117,12 @@ std::pair<std::vector<Node>, bool> cut(const Keys &keys, const Cursor &after, st
 }
 
 // All pages of a query in an order, with writes in between.
-void page_on(bestore::Pass &pass, std::mt19937 &chance, bestore::Prepared &query, const Order &order)
+void page_on(Written &store, bestore::Prepared &query, const Order &order)
 {
     Cursor after(query, order);
     for (bool more = true; more;) {
-        const std::size_t most = std::size_t{1} << chance() % 7;
-        auto pin = pass.pin();
+        const std::size_t most = std::size_t{1} << store.chance() % 7;
+        auto pin = store.pass.pin();
         const auto page = pin.page(query, after, most);
         const auto keys = plain(pin, query, order);
         CHECK(std::pair(page.nodes, page.more) == cut(keys, after, most));
@@ -117,24 +134,23 @@ void page_on(bestore::Pass &pass, std::mt19937 &chance, bestore::Prepared &query
         after = page.cursor;
         more = page.more;
         pin.unpin();
-        write(pass, chance);
+        write(store);
     }
 }
 
 void pages()
 {
-    bestore::Store pass;
-    std::mt19937 chance(5);
+    Written store;
     for (const auto &[name, kind] : kinds)
-        pass.make_index(name, kind);
-    pass.make_index("other", Kind::int64);
+        store.pass.make_index(name, kind);
+    store.pass.make_index("other", Kind::int64);
     for (int i = 0; i < 100; i++)
-        write(pass, chance);
+        write(store);
     for (const char *text : {"other>=0", "other==1", "text==\"*a*\" || u64<2", "i32<0 && text!=b", "u32==3"}) {
         bestore::Prepared query(text);
         for (const auto &[name, kind] : kinds) {
-            page_on(pass, chance, query, Order(name));
-            page_on(pass, chance, query, Order(name).descending());
+            page_on(store, query, Order(name));
+            page_on(store, query, Order(name).descending());
         }
     }
 }

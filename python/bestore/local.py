@@ -25,7 +25,7 @@ from .pages import Cursor, Page
 from .queries import Prepared, prepare
 from .store import PASSES, PAUSES, TRIES, Entry, Held, Pass, StandingBack, Status, Witness, pause_at_full
 from .values import RANGES, Kind, Typed, Value
-from .versions import Query, Version
+from .versions import Query, Row, Version
 
 _Answered = TypeVar("_Answered", bound=Tuple[Any, ...])
 
@@ -99,7 +99,10 @@ class LocalVersion(_native.Reader, Version):
             raise no_index(order.by, self.indices()) from None
         except BadCursor:
             raise after.of_other_kind(self._order_kind(order.by)) from None
-        return Page(nodes, more, Cursor.of_key(order, asked._check, kind, key))
+        return Page(nodes, more, (order, asked._check, kind, key))
+
+    def _with_columns(self, nodes: List[int], names: List[str]) -> List[Row]:
+        return self._rows(nodes, names)
 
     def _query_error(self, answer: int, carried: int, asked: Query) -> Refusal:
         """The error of a query, with what goes with it."""

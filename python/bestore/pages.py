@@ -17,6 +17,7 @@ from .errors import BadCursor, bad_cursor, decoded, encoded
 from .values import RANGES, Kind, Value
 
 _Item = TypeVar("_Item")
+_Other = TypeVar("_Other")
 
 _FORMAT = 1  # the first byte of a cursor's text
 _HEAD = struct.Struct(">BBBB")  # the format, 1 if it descends, the kind's number, and how many bytes the name has
@@ -105,15 +106,29 @@ class Cursor:
                           "cursor was made: begin without a cursor")
 
 
+_Position = Tuple[Order, int, int, bytes]
+"""What a cursor is made of once it is asked for: the arguments of `Cursor.of_key`."""
+
+
 class Page(List[_Item]):
     """Some of an answer in an order, as a list: nodes, or rows with their values."""
 
-    def __init__(self, items: Iterable[_Item], more: bool, cursor: Cursor) -> None:
+    def __init__(self, items: Iterable[_Item], more: bool, position: Union[Cursor, _Position]) -> None:
         super().__init__(items)
         self.more = more
         """Whether others come after these."""
-        self.cursor = cursor
+        self._position = position
+
+    @property
+    def cursor(self) -> Cursor:
         """The position of the last one, for the next page. Of an empty page it is where that began."""
+        if not isinstance(self._position, Cursor):
+            self._position = Cursor.of_key(*self._position)
+        return self._position
+
+    def of(self, items: Iterable[_Other]) -> Page[_Other]:
+        """The same page of other items, as of rows instead of their nodes."""
+        return Page(items, self.more, self._position)
 
 
 After = Union[Cursor, str, None]

@@ -134,7 +134,8 @@ class Version(ABC):
                 return self._page_of(prepared, order, after, limit)
         if after is None:
             after = Cursor(order, asked._check)
-        after.check_fits(order, asked._check)
+        else:
+            after.check_fits(order, asked._check)
         return self._page_after(asked, after, limit)
 
     def _page_after(self, asked: Prepared, after: Cursor, limit: Optional[int]) -> Page[int]:
@@ -358,7 +359,7 @@ class Version(ABC):
 
     def _page_of_rows(self, query: Asked, names: List[str], order: Order, after: Optional[Cursor], most: int) -> Page[Row]:
         page = self._page_of(query, order, after, most)
-        return Page(self._with_columns(page, names), page.more, page.cursor)
+        return page.of(self._with_columns(page, names))
 
     def _with_columns(self, nodes: List[int], names: List[str]) -> List[Row]:
         found = self.columns(nodes, names)

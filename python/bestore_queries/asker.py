@@ -334,12 +334,10 @@ class Asker(threading.Thread):
         self._store = store
 
     def _ask(self, session: Session, ask: Ask) -> None:
-        """Follows a query instead of the one before."""
-        if self._following is not None:
-            self._following.live.close()
-            self._following = None
+        """Follows a query instead of the one before, which may have many hits to be freed once the first of this one are reported."""
         try:
             first = self._report_first(session, ask, ask.begin)
+            self._follow_nothing()
             live = session.begin(ask.text)
             with session.user.pin() as version:
                 self._indices = version.indices()
@@ -352,6 +350,11 @@ class Asker(threading.Thread):
             self._following = _Following(ask, live)
             self._following.report_first(first)
             self._report(Accepted(ask.turn, hints))
+
+    def _follow_nothing(self) -> None:
+        if self._following is not None:
+            self._following.live.close()
+            self._following = None
 
     def _sort(self, session: Session, following: _Following, sort: Sort) -> None:
         """Reports the first hits in another order."""

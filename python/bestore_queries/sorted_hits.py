@@ -159,7 +159,10 @@ class SortedHits:
 
     def put(self, hit: Hit) -> None:
         """Puts a hit at its place. If it is there already, with its attributes as they were, it takes the place of that."""
-        old, self._gaps = self._hits.get(hit.node), None
+        old = self._hits.get(hit.node)
+        if old == hit:
+            return
+        self._gaps = None
         self._touch(hit.node, old)
         if old is not None:
             self._listed.remove(old)

@@ -31,6 +31,7 @@ BUDGET = 0.015      # seconds that the window takes for reports at a time
 BUSY_PAUSE = 5      # milliseconds to the next look for reports, if there were some
 IDLE_PAUSE = 50     # milliseconds to the next look, if there were none
 TYPING_PAUSE = 150  # milliseconds without a key before a query is asked
+FIRST_PAUSE = 0.1   # seconds that sorting waits for the first hits of an order, which the store may have at once
 LINES = 3           # below the query: what is wrong with it, and where
 
 
@@ -50,6 +51,7 @@ class Window:
         self._hints: List[bestore.Hint] = []
         self._turn, self._is_answered = 0, False
         self._awaits_first = False  # whether first hits were asked for that haven't come
+        self._sorts_at = 0.0        # when sorting no longer waits for them
         self._count: Optional[Counted] = None
         self._is_open, self._lost = False, ""
         self._openings: List[Opening] = []
@@ -197,7 +199,12 @@ class Window:
         """Looks for reports at short intervals until the first hits come, if they were asked for."""
         self._awaits_first = begin is not None
         if self._awaits_first:
+            self._sorts_at = time.monotonic() + FIRST_PAUSE
             self._look_after(BUSY_PAUSE)
+
+    def _may_sort(self) -> bool:
+        """Whether there are hits to be sorted, which would keep the thread that asks from reading the first of them."""
+        return self.hits.is_sorting and not (self._awaits_first and time.monotonic() < self._sorts_at)
 
     def _look_after(self, milliseconds: int) -> None:
         """Looks for reports next after this time."""
@@ -259,6 +266,7 @@ class Window:
     def _step(self) -> None:
         """Takes reports for a short time, and goes on as long as the window is there."""
         end, is_busy, is_changed = time.monotonic() + BUDGET, self.hits.is_sorting or self._awaits_first, False
+        awaited_first = self._awaits_first
         while time.monotonic() < end:
             try:
                 report = self._asker.reports.get_nowait()
@@ -266,7 +274,8 @@ class Window:
                 break
             self._take(report)
             is_busy = is_changed = True
-        while self.hits.is_sorting and time.monotonic() < end:
+        has_first = awaited_first and not self._awaits_first  # which is painted before anything is sorted
+        while not has_first and self._may_sort() and time.monotonic() < end:
             is_changed = self.hits.step() or is_changed
         if is_changed:
             self.list.paint()

@@ -366,6 +366,7 @@ static PyMethodDef methods[] = {
     { "_query_items", reader_query_items, METH_VARARGS, "The nodes that meet the query of items, which were encoded." },
     { "_page", reader_page, METH_VARARGS,
       "A page of a prepared query: its nodes, whether there are more, and the kind and the key of the last one." },
+    { "_rows", reader_rows, METH_VARARGS, "The nodes with their attributes of the names in a list: pairs of a node and a list of values." },
     { "_first", reader_first, METH_VARARGS, "The first nodes that meet a prepared query, from a number on." },
     { "_any", reader_any, METH_VARARGS, "Any nodes that meet a prepared query." },
     { "_count_items", reader_count_items, METH_VARARGS, "How many nodes these are." },

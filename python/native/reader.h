@@ -46,5 +46,6 @@ PyObject *reader_end_change(PyObject *self, PyObject *nothing);
 
 PyObject *reader_column(PyObject *self, PyObject *const *given, Py_ssize_t count, PyObject *names);
 PyObject *reader_columns(PyObject *self, PyObject *const *given, Py_ssize_t count, PyObject *names);
+PyObject *reader_rows(PyObject *self, PyObject *arguments);
 
 #endif

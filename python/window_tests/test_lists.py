@@ -110,6 +110,20 @@ class Sorted(unittest.TestCase):
             pass
         self.assertEqual(listed(hits), [7, 0, 1, 2, 3, 4])
 
+    def test_hit_that_is_there_already(self) -> None:
+        """It changes nothing: what is being sorted has nothing to catch up with."""
+        hits = SortedHits()
+        for node in range(3):
+            hits.put(Hit(node, {"name": str(node), "size": -node}))
+        hits.sort("size")
+        hits.put(Hit(1, {"name": "1", "size": -1}))
+        self.assertEqual(hits._sorting and hits._sorting.touched, {})
+        hits.put(Hit(1, {"name": "1", "size": 1}))
+        self.assertEqual(hits._sorting and list(hits._sorting.touched), [1])
+        while not hits.step():
+            pass
+        self.assertEqual(listed(hits), [2, 0, 1])
+
     def test_turning_back(self) -> None:
         """Who sorts by another attribute and at once by the old one again has the old order."""
         hits = SortedHits()

@@ -10,6 +10,7 @@ from typing import Dict, List
 from unittest import mock
 
 import bestore
+from bestore.pages import Order
 from bestore_queries.find import Relation
 from bestore_queries.folder import INDICES
 from bestore_queries.saved_queries import Saved, SavedQueries
@@ -22,6 +23,7 @@ if HAS_TK:
     import tkinter
     from tkinter import ttk
     from bestore_queries import theme
+    from bestore_queries.asker import First
     from bestore_queries.window import Window
 
 
@@ -47,6 +49,30 @@ class OverStore(OnDisplay):
         window = self.show(self.source, saved=self.saved)
         self.shows(window, *sorted(names, key=str.casefold))
         return window
+
+
+class FirstHits(OverStore):
+    """The first hits of an order, of which the store has an index."""
+
+    def test_sorting_waits_for_them(self) -> None:
+        """They are shown before any other is sorted."""
+        window = self.window("c", "b", "a")
+        last = next(hit for hit in map(window.hits.__getitem__, range(3)) if hit.attributes["name"] == "c")
+        size = next(it for it in window.list.columns if it.attribute == "size")
+        with mock.patch.object(window._asker, "send"), mock.patch("bestore_queries.window.FIRST_PAUSE", 1e6):
+            window.sort(size)
+            window._step()
+            self.assertEqual((window.hits.is_sorting, shown(window)), (True, ["a", "b", "c"]))
+            window._asker.reports.put(First(window._turn, Order("size"), [last]))
+            self.becomes(window, lambda: not window._awaits_first)
+        self.shows(window, "c", "b", "a")
+
+    def test_sorting_goes_on_without_them(self) -> None:
+        window = self.window("c", "b", "a")
+        size = next(it for it in window.list.columns if it.attribute == "size")
+        with mock.patch.object(window._asker, "send"), mock.patch("bestore_queries.window.FIRST_PAUSE", 0.0):
+            window.sort(size)
+            self.shows(window, "c", "b", "a")
 
 
 class Faults(OverStore):

@@ -4,21 +4,16 @@
 //! A list of several operations has `;` between them. `pick PLACE TEXT` is a query by one pick, and
 //! `free` the number of free pages, which the room alone answers.
 
-mod asking;
-mod both;
 mod costs;
 mod lines;
 mod look_tests;
 mod nodes;
 mod random_lists;
-mod same;
 mod sizes;
 mod test_looks;
-mod writing;
 
-use crate::tests::asking::read_query;
-use crate::tests::both::Both;
 use crate::tests::lines::{answer_text, nodes_text, refused, request_of, written_text};
+use be_paged_test_tools::{Both, read_query};
 use be_script_language::{Reply, Request};
 use be_test_tools::{EXAMPLES, LISTS, TWO_INDICES, beyond, list_of};
 use be_value::{Name, Refusal, word_of};

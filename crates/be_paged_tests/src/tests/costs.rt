@@ -9,13 +9,11 @@ ghost use Rattle.std.specs.Prelude.{◌≤◌, ◌<◌, ◌+◌, ◌^◌, length
 ghost use Rattle.be_volume.specs.Volume.{State};
 ghost use Rattle.be_paged_reading.specs.Version.{IsVersion};
 
-use crate::tests::asking::read_query;
-use crate::tests::both::Both;
 use crate::tests::lines::request_of;
-use crate::tests::run_lines;
-use crate::tests::sizes::{accepted, numbered};
+use crate::tests::sizes::numbered;
 use arrayvec::ArrayVec;
 use be_paged::{Cell, HeldName, Version, answer_decided, apply_into, columns, get, source};
+use be_paged_test_tools::{Both, NODES, filled, read_query};
 use be_pages::{Look, Room};
 use be_plan::{PreparedQuery, answer};
 use be_query::Query;
@@ -25,38 +23,6 @@ use be_value::{Name, Refusal, Value, word_of};
 use be_volume::{Op, Volume};
 use std::alloc::{AllocError, Global};
 use std::test::Fail;
-
-/// How many nodes of the volume have attributes. The next one is bare.
-const NODES: u64 = 300;
-
-/// The list that makes a node. Its name and its size have an index, and its kind has none. Names
-/// and sizes come in an order that is far from rising.
-fn node_text(alloc: Global, node: u64) -> Result<String, AllocError> {
-    let name = 10_000 + node.wrapping_mul(271) % NODES;
-    let size = node.wrapping_mul(577) % NODES * 10;
-    format!(in alloc;
-        "new;set {node} name CSTR {name}-document.txt;set {node} size LONG {size};set {node} kind \
-         CSTR text/plain"
-    )
-}
-
-fn make_node(alloc: Global, both: Both, node: u64) -> Result<Both, Fail> {
-    let text = match node_text(alloc, node) {
-        Err(_) => node_text(alloc, node)?,
-        Ok(text) => text,
-    };
-    accepted(both, &list_of(alloc, text.as_str())?)
-}
-
-/// The volume that each row is about.
-pub(crate) fn filled(alloc: Global) -> Result<Both, Fail> {
-    let indices = "mkindex name CSTR / mkindex size LONG => ok / ok";
-    let mut both = run_lines(alloc, Both::new(alloc, 1024)?, indices)?;
-    for node in 1..=NODES {
-        both = make_node(alloc, both, node)?;
-    }
-    run_lines(alloc, both, "new => node 301")
-}
 
 /// What a request costs.
 #[derive(Clone, Copy)]

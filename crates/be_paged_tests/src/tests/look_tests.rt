@@ -5,13 +5,10 @@ ghost use Rattle.be_pages.specs.Pages.{IsUnchanged, after_undo};
 ghost use Rattle.be_tree_reading.specs.Forest.{IsWriteStart};
 ghost use Rattle.be_paged_reading.specs.Version.{IsVersion};
 
-use crate::tests::asking::{query_both, read_query};
-use crate::tests::both::Both;
-use crate::tests::costs::filled;
 use crate::tests::lines::nodes_text;
 use crate::tests::run_lines;
 use crate::tests::test_looks::Before;
-use crate::tests::writing::{accepts, apply_pages};
+use be_paged_test_tools::{Both, accepts, apply_pages, filled, query_both, read_query};
 use be_pages::{Look, VecRoom};
 use be_test_tools::{Counted, EQUAL_VALUES, again};
 use be_value::Refusal;

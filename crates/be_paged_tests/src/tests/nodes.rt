@@ -2,8 +2,8 @@
 //! leaf has 12 pairs at most.
 //!
 //! A row is `FROM MOST => NODES`. What is refused memory is asked again, as elsewhere here.
-use crate::tests::both::Both;
 use crate::tests::sizes::numbered;
+use be_paged_test_tools::Both;
 use be_value::{Value, word_of};
 use be_volume::Op;
 use std::alloc::Global;

@@ -1,30 +1,11 @@
 //! Random lists of operations on both forms of a volume.
-use crate::tests::asking::read_query;
-use crate::tests::both::Both;
 use crate::tests::sizes::numbered;
 use arrayvec::ArrayVec;
+use be_paged_test_tools::{Both, Random, read_query};
 use be_value::{Kind, Refusal, Value, word_of};
 use be_volume::{Done, Op};
 use std::alloc::{AllocError, Global};
 use std::test::Fail;
-
-/// Numbers by xorshift.
-#[derive(Drop)]
-struct Random {
-    state: u64,
-}
-
-impl Random {
-    /// The next number below a limit.
-    fn below(&mut self, limit: u64) -> u64 {
-        let mut x = self.state;
-        x ^= x.wrapping_mul(1 << 13);
-        x ^= x >> 7;
-        x ^= x.wrapping_mul(1 << 17);
-        self.state = x;
-        if limit == 0 { 0 } else { x % limit }
-    }
-}
 
 /// What lists are made of: of the youngest nodes so many, so many names, one new node in so many
 /// that could be, and the pages of the room.
@@ -98,10 +79,10 @@ fn list_of(
     mix: &Mix,
     next: u64,
 ) -> Result<Vec<Op>, AllocError> {
-    let state = random.state;
+    let before = random.copy();
     match random_list(alloc, random, mix, next) {
         Err(_) => {
-            random.state = state;
+            *random = before;
             random_list(alloc, random, mix, next)
         }
         ops => ops,
@@ -242,9 +223,7 @@ fn is_often(seen: &[u64; 23], number: &str) -> bool {
 /// pages are full.
 #[test]
 fn random_lists(rt: HostRuntime) -> Result<(), Fail> {
-    let mut random = Random {
-        state: 88172645463325252,
-    };
+    let mut random = Random::new(88172645463325252);
     let mut seen = [0; 23];
     for i in 0..20 {
         run_mix(rt.alloc(), &mut random, &mix_of(i % 4), 500, &mut seen)?;

@@ -1,7 +1,7 @@
 //! The greatest sizes, by the plain volume and by the one over pages: a list of 64 operations is
 //! taken, 64 attributes of a node and 32 indices are taken and listed whole, and one attribute and
 //! one index more are refused.
-use crate::tests::both::Both;
+use be_paged_test_tools::Both;
 use be_test_tools::again;
 use be_value::{Kind, Name, Refusal, Value};
 use be_volume::Op;
@@ -42,15 +42,6 @@ fn index_list(alloc: Global) -> Result<Vec<Op>, Refusal> {
     Ok(ops)
 }
 
-/// Writes a list, which has to be accepted.
-pub(crate) fn accepted(both: Both, ops: &[Op]) -> Result<Both, Fail> {
-    let (both, answer) = both.write(ops)?;
-    if answer?.len() != ops.len() {
-        return Err(Fail::new("another number of answers"));
-    }
-    Ok(both)
-}
-
 /// Fails unless a write of one operation is refused so.
 fn refused(both: Both, op: Op, refusal: Refusal) -> Result<(), Fail> {
     let (_both, answer) = both.write(&[op])?;
@@ -65,7 +56,7 @@ fn with_list(alloc: Global, ops: &[Op], count: usize) -> Result<Both, Fail> {
     if ops.len() != count {
         return Err(Fail::new("another number of operations"));
     }
-    accepted(Both::new(alloc, 64)?, ops)
+    Both::new(alloc, 64)?.accepted(ops)
 }
 
 /// Fails unless both forms list that many attributes of node 1.
@@ -87,7 +78,7 @@ fn lists_indices(alloc: Global, both: &mut Both, count: usize) -> Result<(), Fai
 /// Both forms with a node of 64 attributes, 63 of which came by the list that made it.
 fn with_attributes(alloc: Global, ops: &[Op]) -> Result<Both, Fail> {
     let both = with_list(alloc, ops, 64)?;
-    accepted(both, &[sized(63)?])
+    both.accepted(&[sized(63)?])
 }
 
 #[test]

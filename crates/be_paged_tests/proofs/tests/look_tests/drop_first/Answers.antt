@@ -8,7 +8,7 @@ use Rattle.be_volume.specs.Volume.{State, steps}
 use Rattle.be_volume.specs.declared.ops.Op.TheVariants.{Drop}
 use Rattle.be_paged_reading.specs.Version.{IsVersion}
 use Rattle.be_paged.proofs.Standing.{version_stands}
-use Rattle.be_paged_tests.proofs.Since.{one_made}
+use Rattle.be_paged_test_tools.proofs.Since.{one_made}
 use Rattle.be_paged_tests.proofs.tests.look_tests.drop_first.Goals as goal
 
 pub returns-in_ok-accepts-in-Ok-clause-before : goal.returns-in_ok-accepts-in-Ok-clause-before

@@ -1,4 +1,4 @@
-use Rattle.be_paged_tests.proofs.Since.{stands_since}
+use Rattle.be_paged_test_tools.proofs.Since.{stands_since}
 use Rattle.be_paged_tests.proofs.tests.look_tests.expect_counting.Goals as goal
 
 pub invariant_of-result : goal.invariant_of-result

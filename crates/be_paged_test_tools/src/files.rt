@@ -1,0 +1,37 @@
+//! A volume of three hundred nodes with two indices, for tests of what requests cost.
+use crate::Both;
+use be_test_tools::list_of;
+use std::alloc::{AllocError, Global};
+use std::test::Fail;
+
+/// How many nodes of the volume have attributes. The next one is bare.
+pub const NODES: u64 = 300;
+
+/// The list that makes a node. Its name and its size have an index, and its kind has none. Names
+/// and sizes come in an order that is far from rising.
+fn node_text(alloc: Global, node: u64) -> Result<String, AllocError> {
+    let name = 10_000 + node.wrapping_mul(271) % NODES;
+    let size = node.wrapping_mul(577) % NODES * 10;
+    format!(in alloc;
+        "new;set {node} name CSTR {name}-document.txt;set {node} size LONG {size};set {node} kind \
+         CSTR text/plain"
+    )
+}
+
+fn make_node(alloc: Global, both: Both, node: u64) -> Result<Both, Fail> {
+    let text = match node_text(alloc, node) {
+        Err(_) => node_text(alloc, node)?,
+        Ok(text) => text,
+    };
+    both.accepted(&list_of(alloc, text.as_str())?)
+}
+
+/// Both forms of the volume, the one in a room of 1,024 pages. They are made alike each time.
+pub fn filled(alloc: Global) -> Result<Both, Fail> {
+    let indices = list_of(alloc, "mkindex name CSTR;mkindex size LONG")?;
+    let mut both = Both::new(alloc, 1024)?.accepted(&indices)?;
+    for node in 1..=NODES {
+        both = make_node(alloc, both, node)?;
+    }
+    both.accepted(&list_of(alloc, "new")?)
+}

@@ -1,0 +1,14 @@
+//! Whether two answers are one.
+use be_value::Refusal;
+
+/// Whether two lists are one, or the refusals in their place.
+pub fn same_lists<T: PartialEq>(
+    one: &Result<Vec<T>, Refusal>,
+    other: &Result<Vec<T>, Refusal>,
+) -> bool {
+    match (one, other) {
+        (Ok(one), Ok(other)) => one.as_slice() == other.as_slice(),
+        (Err(one), Err(other)) => one == other,
+        _ => false,
+    }
+}
