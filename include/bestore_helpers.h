@@ -1,7 +1,7 @@
 /* Helpers over the calls of bestore.h. Include bestore.h, which includes this file.
  *
- * They are inline functions, and no symbols of the library. A helper that names no errors has those of the call that it makes. Names
- * that end with _ are for these headers alone. */
+ * They are inline functions, not symbols of the library. A helper whose comment names no errors has those of the call that it makes.
+ * Names that end in _ are only for these headers. */
 #include "bestore.h" /* which includes this file once more, and then nothing here is left */
 
 #ifndef BESTORE_HELPERS_H
@@ -15,7 +15,7 @@
 extern "C" {
 #endif
 
-/* What is known of an error. */
+/* What is known about an error. */
 typedef struct bes_meaning_ {
     uint32_t error;
     uint32_t error_class;
@@ -45,9 +45,9 @@ static const bes_meaning_ bes_meanings_[] = {
       "remove one first" },
     { BES_NOT_INDEXABLE, BES_CLASS_MINE, "BES_NOT_INDEXABLE",
       "an index can't have this kind; "
-      "it can have a kind of texts or integers, but not of MIME types or raw bytes" },
+      "it takes texts or integers, but not MIME types or raw bytes" },
     { BES_COMMITS_SPENT, BES_CLASS_FULL, "BES_COMMITS_SPENT",
-      "the journal is at the limit that the store was opened with; "
+      "the journal has reached the limit that the store was opened with; "
       "copy the state into a new store" },
     { BES_NO_MEMORY, BES_CLASS_FULL, "BES_NO_MEMORY",
       "out of memory; "
@@ -149,15 +149,15 @@ static inline const char *bes_strerror(uint32_t error)
     return meaning != NULL ? meaning->text : "an error of a later version of the library";
 }
 
-/* The name of an error, as "BES_BUSY". An unknown number is "BES_?". */
+/* The name of an error, such as "BES_BUSY". An unknown number is "BES_?". */
 static inline const char *bes_error_name(uint32_t error)
 {
     const bes_meaning_ *meaning = bes_meaning_of_(error);
     return meaning != NULL ? meaning->name : "BES_?";
 }
 
-/* What a program can do about an error: BES_CLASS_RETRY, BES_CLASS_MINE, BES_CLASS_FULL or BES_CLASS_GONE. That of BES_OK is
- * BES_CLASS_NONE. An unknown number is BES_CLASS_MINE, since nothing says that the same call may succeed later. */
+/* What a program can do about an error: BES_CLASS_RETRY, BES_CLASS_MINE, BES_CLASS_FULL or BES_CLASS_GONE. BES_OK has
+ * BES_CLASS_NONE. An unknown number has BES_CLASS_MINE, since nothing says that the same call may succeed later. */
 static inline uint32_t bes_class(uint32_t error)
 {
     const bes_meaning_ *meaning = bes_meaning_of_(error);
@@ -172,28 +172,28 @@ static inline void bes_forget(bes_pass *pass)
     pass->at = NULL;
 }
 
-/* As bes_forget, for a prepared query. */
+/* Like bes_forget, for a prepared query. */
 static inline void bes_forget_prepared(bes_prepared *prepared)
 {
     prepared->live = false;
     prepared->at = NULL;
 }
 
-/* As bes_forget, for a place. */
+/* Like bes_forget, for a place. */
 static inline void bes_forget_place(bes_place *place)
 {
     place->live = false;
     place->at = NULL;
 }
 
-/* As bes_forget, for a witness. */
+/* Like bes_forget, for a witness. */
 static inline void bes_forget_witness(bes_witness *witness)
 {
     witness->live = false;
     witness->at = NULL;
 }
 
-/* As bes_forget, for a draft. */
+/* Like bes_forget, for a draft. */
 static inline void bes_forget_draft(bes_draft *draft)
 {
     draft->live = false;
@@ -203,7 +203,7 @@ static inline void bes_forget_draft(bes_draft *draft)
 /* A batch with room for 64 operations of any kind. It starts cleared: by BES_BATCH_INIT, which sets all its 23 KB to zero, or by
  * bes_batch_clear, which sets two words. Fill it by the helpers below, apply it, and clear it for the next one.
  * BES_BAD_COUNT: the batch has 64 operations. BES_NAME_LENGTH, BES_DATA_LENGTH: the name has more than 63 bytes, the value more
- * than 255. The batch stays as it was. All else that is wrong shows when it is applied. */
+ * than 255. The batch stays as it was. Any other error shows when it is applied. */
 typedef struct bes_batch {
     size_t count;
     size_t used;
@@ -219,7 +219,7 @@ static inline void bes_batch_clear(bes_batch *batch)
     batch->used = 0;
 }
 
-/* Adds an operation, whose name has any bytes. */
+/* Adds an operation, whose name may have any bytes. */
 static inline uint32_t bes_batch_add_bytes(bes_batch *batch, uint32_t kind, uint64_t node, const void *name, size_t name_length,
                                            uint32_t code, uint64_t number, const void *value, size_t value_length)
 {
@@ -315,7 +315,7 @@ static inline uint32_t bes_batch_remove_index(bes_batch *batch, const char *name
 }
 
 /* Lets other threads run `turns` times. Returns how many times they may run before the next try: twice as many, up to 1,024. If two
- * passes write in turn, each waits for what the other has just written; so one that comes in vain lets the other write on. */
+ * passes write in turn, each waits for what the other has just written; so one that tries in vain lets the other go on writing. */
 static inline unsigned bes_stand_back(unsigned turns)
 {
     for (unsigned i = 0; i < turns; i++)
@@ -323,7 +323,7 @@ static inline unsigned bes_stand_back(unsigned turns)
     return turns < 1024 ? 2 * turns : turns;
 }
 
-/* How many tries the helpers below make that take no number of tries. On an idle machine they last some seconds. */
+/* How many tries the helpers below make if they take no number of tries. On an idle machine these last a few seconds. */
 #ifndef BES_TRIES
 #define BES_TRIES 10000u
 #endif
@@ -333,11 +333,11 @@ static inline unsigned bes_stand_back(unsigned turns)
 #define BES_FULL_SECONDS 2
 #endif
 
-/* What bes_again knows of the tries so far. */
+/* What bes_again knows about the tries so far. */
 typedef struct bes_retry {
-    uint32_t left;     /* how many further tries there may be */
+    uint32_t left;     /* how many more tries are allowed */
     unsigned turns;    /* as bes_stand_back takes them */
-    time_t full_since; /* when BES_FULL came first, or 0 */
+    time_t full_since; /* when BES_FULL first came, or 0 */
 } bes_retry;
 
 /* Whether a write that returned BES_FULL with this number may succeed later: another pass has an older snapshot pinned, or had it until
@@ -386,7 +386,7 @@ static inline uint32_t bes_apply_or_retry(bes_pass *pass, const bes_operation *o
     return error;
 }
 
-/* The same of bes_apply_if. BES_CONFLICT isn't tried again: what was read is no longer current. */
+/* The same for bes_apply_if. BES_CONFLICT isn't tried again: what was read is no longer current. */
 static inline uint32_t bes_apply_if_or_retry(bes_pass *pass, uint64_t expected, const bes_operation *operations,
                                              size_t operations_count, const uint8_t *bytes, size_t bytes_count, uint32_t retries,
                                              uint64_t *made, size_t made_room, uint64_t *number)
@@ -399,7 +399,7 @@ static inline uint32_t bes_apply_if_or_retry(bes_pass *pass, uint64_t expected, 
     return error;
 }
 
-/* Applies the batch as bes_apply_or_retry does, with this many tries in all, and one at least. */
+/* Applies the batch as bes_apply_or_retry does, with this many tries in all, and at least one. */
 static inline uint32_t bes_batch_apply(bes_pass *pass, const bes_batch *batch, unsigned tries, uint64_t *made,
                                        size_t made_room, uint64_t *number)
 {
@@ -407,7 +407,7 @@ static inline uint32_t bes_batch_apply(bes_pass *pass, const bes_batch *batch, u
                               made_room, number);
 }
 
-/* Applies the batch as bes_apply_if_or_retry does, with this many tries in all, and one at least. */
+/* Applies the batch as bes_apply_if_or_retry does, with this many tries in all, and at least one. */
 static inline uint32_t bes_batch_apply_if(bes_pass *pass, uint64_t expected, const bes_batch *batch, unsigned tries,
                                           uint64_t *made, size_t made_room, uint64_t *number)
 {
@@ -416,11 +416,11 @@ static inline uint32_t bes_batch_apply_if(bes_pass *pass, uint64_t expected, con
 }
 
 /* What bes_change runs. It reads the snapshot to which the pass is pinned, and adds operations to the batch, which is empty. The
- * nodes that it makes get the numbers next, next + 1 and so on. It may run several times, so it keeps no other result than the last
- * one in *with. It returns BES_OK, or the error with which bes_change ends. */
+ * nodes that it makes get the numbers next, next + 1 and so on. It may run several times, so it should keep only its last result in
+ * *with. It returns BES_OK, or the error with which bes_change ends. */
 typedef uint32_t bes_changer(bes_pass *pass, bes_batch *batch, uint64_t next, void *with);
 
-/* Writes a batch as a change on the snapshot to which the pass is pinned. Of an operation that isn't added number is the index. */
+/* Writes a batch as a change on the snapshot to which the pass is pinned. If an operation isn't added, number is its index. */
 static inline uint32_t bes_change_write_(bes_pass *pass, const bes_batch *batch, uint64_t *number)
 {
     bes_draft draft = BES_DRAFT_INIT;
@@ -456,7 +456,7 @@ static inline uint32_t bes_change_once_(bes_pass *pass, bes_changer *changer, vo
 }
 
 /* Reads and writes as one: pins the current snapshot, runs the changer, applies its batch if no other transaction came between, and
- * unpins. If one came, or as bes_again says, it begins again, up to `attempts` times in all and once at least. An empty batch writes
+ * unpins. If one did, or if bes_again says so, it begins again, up to `attempts` times in all, and at least once. An empty batch writes
  * nothing.
  * [in] pass      a pass that isn't pinned
  * [out] number   the commit number; for an empty batch the snapshot's number
@@ -476,7 +476,7 @@ static inline uint32_t bes_change(bes_pass *pass, uint32_t attempts, bes_changer
     }
 }
 
-/* Replaces the batch by the next operations that make the pinned snapshot again, for bes_batch_apply of a pass of another store. The
+/* Replaces the batch with the next operations that make the pinned snapshot again, for bes_batch_apply of a pass of another store. The
  * batch is empty after the last of them, and after an error, which is one of bes_state. */
 static inline uint32_t bes_batch_state(bes_pass *pass, bes_place *place, bes_batch *batch)
 {
@@ -487,7 +487,7 @@ static inline uint32_t bes_batch_state(bes_pass *pass, bes_place *place, bes_bat
     return error;
 }
 
-/* Replaces the batch by an entry of the journal, as bes_journal_from has it, with BES_TRIES tries at BES_BUSY. The batch is empty
+/* Replaces the batch with an entry of the journal, as bes_journal_from returns it, with BES_TRIES tries at BES_BUSY. The batch is empty
  * if there is no such entry yet, and after an error.
  * [in] from      the entry's index, from 0
  * [out] by       the pass that wrote it
@@ -520,7 +520,7 @@ static inline void bes_put_bytes_(bes_sink_ *sink, const uint8_t *bytes, size_t 
             sink->bytes[sink->count] = bytes[i];
 }
 
-/* The low `length` bytes of a number, the lowest first. */
+/* The low `length` bytes of a number, lowest first. */
 static inline void bes_put_number_(bes_sink_ *sink, uint64_t number, size_t length)
 {
     for (size_t i = 0; i < length; i++, number >>= 8) {
@@ -577,7 +577,7 @@ static inline bool bes_is_code_(uint32_t code)
     }
 }
 
-/* Why the format of bes_batch_to_bytes doesn't hold an operation, or BES_OK. */
+/* Why the format of bes_batch_to_bytes can't hold an operation, or BES_OK. */
 static inline uint32_t bes_unwritable_(const bes_operation *it, size_t parts_count)
 {
     if (it->name_at > parts_count || it->name_length > parts_count - it->name_at || it->value_at > parts_count ||
@@ -611,8 +611,8 @@ static inline void bes_put_operation_(bes_sink_ *sink, const bes_operation *it, 
     }
 }
 
-/* As bes_batch_to_bytes, for operations as bes_apply takes them. BES_BAD_COUNT also if there are more than 64. BES_NAME_LENGTH,
- * BES_DATA_LENGTH: a name has more than 63 bytes, a text or raw value more than 255. */
+/* Like bes_batch_to_bytes, for operations in the form that bes_apply takes. BES_BAD_COUNT also if there are more than 64.
+ * BES_NAME_LENGTH, BES_DATA_LENGTH: a name has more than 63 bytes, a text or raw value more than 255. */
 static inline uint32_t bes_operations_to_bytes(const bes_operation *operations, size_t operations_count, const uint8_t *parts,
                                                size_t parts_count, uint8_t *bytes, size_t bytes_room, uint64_t *count)
 {
@@ -647,14 +647,14 @@ static inline uint32_t bes_batch_to_bytes(const bes_batch *batch, uint8_t *bytes
     return bes_operations_to_bytes(batch->operations, batch->count, batch->bytes, batch->used, bytes, bytes_room, count);
 }
 
-/* Bytes that are read, and how many were. */
+/* Bytes that are being read, and how many have been. */
 typedef struct bes_source_ {
     const uint8_t *bytes;
     size_t length;
     size_t at;
 } bes_source_;
 
-/* Reads a number of `length` bytes, the lowest first, if it isn't cut off. */
+/* Reads a number of `length` bytes, lowest first, unless it is cut off. */
 static inline bool bes_take_number_(bes_source_ *source, size_t length, uint64_t *number)
 {
     if (source->length - source->at < length)
@@ -666,7 +666,7 @@ static inline bool bes_take_number_(bes_source_ *source, size_t length, uint64_t
     return true;
 }
 
-/* Reads a length of one byte, and returns where as many bytes begin, or NULL if they are cut off. */
+/* Reads a length of one byte, and returns where that many bytes begin, or NULL if they are cut off. */
 static inline const uint8_t *bes_take_part_(bes_source_ *source, uint64_t *length)
 {
     const uint8_t *part;
@@ -680,7 +680,7 @@ static inline const uint8_t *bes_take_part_(bes_source_ *source, uint64_t *lengt
     return part;
 }
 
-/* Reads an operation into the batch. After an error the source is at the part that has it. */
+/* Reads an operation into the batch. After an error the source is at the part that is wrong. */
 static inline uint32_t bes_take_operation_(bes_source_ *source, bes_batch *batch)
 {
     uint64_t kind = 0, node = 0, code = 0, number = 0, name_length = 0, value_length = 0;
@@ -716,7 +716,7 @@ static inline uint32_t bes_take_operation_(bes_source_ *source, bes_batch *batch
                                (size_t)value_length);
 }
 
-/* Replaces the batch by the one that bes_batch_to_bytes wrote as these bytes. After an error the batch is empty.
+/* Replaces the batch with the one that bes_batch_to_bytes wrote as these bytes. After an error the batch is empty.
  * [out] place    the byte offset of the error, otherwise 0
  * BES_BAD_PART: another beginning or format version; a part that is cut off, at its first byte; bytes after the end.
  * BES_BAD_COUNT, BES_NO_OPERATION, BES_NAME_LENGTH (more than 63), BES_NO_KIND: the offset is that of the number. Anything else that
@@ -749,7 +749,7 @@ static inline uint32_t bes_batch_from_bytes(bes_batch *batch, const uint8_t *byt
     return error;
 }
 
-/* Makes 1 to 64 nodes as one transaction, and writes their numbers. They are this caller's: no other pass gets them. */
+/* Makes 1 to 64 nodes as one transaction, and writes their numbers. They belong to this caller: no other pass gets them. */
 static inline uint32_t bes_new_nodes(bes_pass *pass, size_t count, uint64_t *nodes)
 {
     bes_operation operations[64];
@@ -867,7 +867,7 @@ static inline uint32_t bes_find(bes_pass *pass, const char *text, uint64_t *node
     return bes_query(pass, (const uint8_t *)text, strlen(text), nodes, nodes_room, count);
 }
 
-/* How many nodes meet the query, with none listed. The errors and the cost are those of bes_query. */
+/* Counts the nodes that meet the query, without listing them. The errors and the cost are those of bes_query. */
 static inline uint32_t bes_count(bes_pass *pass, const char *text, uint64_t *count)
 {
     uint64_t none = 0;

@@ -1,7 +1,7 @@
 /* Helpers over indices and texts: comparisons of a query, indices that they need, escapes, UTF-8, a caret under an error, and positions in
  * an index. Include bestore.h, which includes this file.
  *
- * What a query's text says, the library reads: bes_query_comparisons lists its comparisons. */
+ * The library itself reads the text of a query: bes_query_comparisons lists its comparisons. */
 #include "bestore.h" /* which includes this file once more, and then nothing here is left */
 
 #ifndef BESTORE_TEXT_H
@@ -27,7 +27,7 @@ typedef struct bes_comparison {
 /* The most comparisons of a query, and the most bytes of their plain names and values. */
 enum { BES_COMPARISONS = 256, BES_COMPARISONS_BYTES = 64 * 256 + 4 * 4096 };
 
-/* The comparisons of a query, from left to right. It has 55 KB. */
+/* The comparisons of a query, from left to right. The list takes 55 KB. */
 typedef struct bes_comparison_list {
     bes_counts counts; /* operations: how many comparisons there are */
     bes_compared comparisons[BES_COMPARISONS];
@@ -53,7 +53,7 @@ static inline void bes_read_compared_(const bes_compared *it, bes_comparison *re
     read->value_length = (size_t)(it->value_end - it->value_at);
 }
 
-/* The first of the listed comparisons that begins at an offset or after it, or NULL. */
+/* The first listed comparison that begins at or after an offset, or NULL. */
 static inline const bes_compared *bes_compared_from_(const bes_comparison_list *list, size_t at)
 {
     for (uint64_t i = 0; i < list->counts.operations; i++)
@@ -102,7 +102,7 @@ static inline const bes_operation *bes_index_named(const bes_index_list *list, c
     return NULL;
 }
 
-/* The index of the name of a listed comparison, or NULL. */
+/* The index of a listed comparison's name, or NULL. */
 static inline const bes_operation *bes_index_of(const bes_index_list *list, const bes_comparison_list *comparisons,
                                                 const bes_compared *comparison)
 {
@@ -129,8 +129,8 @@ static inline uint32_t bes_uncovered(bes_pass *pass, const char *text, size_t le
     return error;
 }
 
-/* Whether no node meets a listed comparison, because of the kind of the index that its name has: of integers for size>1.5, or of those
- * without a sign for size<0. */
+/* Whether no node meets a listed comparison, because of the kind of its name's index: any integer kind for size>1.5, an unsigned one
+ * for size<0. */
 static inline bool bes_is_never_true(const bes_index_list *list, const bes_comparison_list *comparisons, const bes_compared *comparison)
 {
     const bes_operation *index = bes_index_of(list, comparisons, comparison);
@@ -148,7 +148,7 @@ static inline bool bes_is_never_true(const bes_index_list *list, const bes_compa
     }
 }
 
-/* Finds the next comparison that bes_is_never_true. Use it as bes_next_comparison. */
+/* Finds the next comparison for which bes_is_never_true holds. Use it like bes_next_comparison. */
 static inline bool bes_next_never_true(const bes_index_list *list, const char *text, size_t length, size_t *at,
                                        bes_comparison *found)
 {
@@ -202,7 +202,7 @@ typedef struct bes_reindexing_ {
     uint64_t count;
 } bes_reindexing_;
 
-/* Sets again the attributes of up to 64 nodes. */
+/* Sets the attributes of up to 64 nodes again. */
 static inline uint32_t bes_reindex_some_(bes_pass *pass, bes_batch *batch, uint64_t next, void *with)
 {
     bes_reindexing_ *it = (bes_reindexing_ *)with;
@@ -224,11 +224,11 @@ static inline uint32_t bes_reindex_some_(bes_pass *pass, bes_batch *batch, uint6
     return error;
 }
 
-/* Sets again each attribute of this name that has the kind of its index. The index holds then also those that were set before it was
- * made. Each up to 64 nodes are a bes_change of their own, which loses no newer value.
+/* Sets each attribute of this name again, if it has the kind of its index. The index then also holds those that were set before it
+ * was made. Up to 64 nodes at a time are a bes_change of their own, which loses no newer value.
  * [in] pass      a pass that isn't pinned
  * [in] attempts  how many attempts each change has
- * [out] count    how many attributes were set again, also before an error
+ * [out] count    how many attributes were set again, even if an error followed
  * BES_NO_INDEX, and the errors of bes_pin, bes_indices and bes_change. */
 static inline uint32_t bes_reindex(bes_pass *pass, const char *name, uint32_t attempts, uint64_t *count)
 {
@@ -255,7 +255,7 @@ static inline uint32_t bes_reindex(bes_pass *pass, const char *name, uint32_t at
     return error;
 }
 
-/* A call of the library that writes a text made of another one. */
+/* A call of the library that writes a text made from another one. */
 typedef uint32_t bes_made_text_(const uint8_t *text, size_t length, uint8_t *bytes, size_t room, uint64_t *count);
 
 static inline size_t bes_put_text_(bes_made_text_ *call, const char *text, char *out, size_t room)
@@ -270,7 +270,7 @@ static inline size_t bes_put_text_(bes_made_text_ *call, const char *text, char 
 }
 
 /* Writes a text so that it stands for itself in a query: as a name, a value or a part of a pattern, in quotes or not. Quotes
- * are right for every text, also an empty one. So [draft].txt becomes \[draft].txt.
+ * work for every text, even an empty one. So [draft].txt becomes \[draft].txt.
  * [out] out      the text and a zero byte, cut to `room` bytes; twice the text's length and 1 suffice
  * Returns how many bytes it has with enough room, without the zero byte; 0 if the text isn't valid UTF-8. */
 static inline size_t bes_escape(const char *text, char *out, size_t room)
@@ -278,7 +278,7 @@ static inline size_t bes_escape(const char *text, char *out, size_t room)
     return bes_put_text_(bes_escape_bytes, text, out, room);
 }
 
-/* As bes_escape, and each letter matches in either case, as BQuery builds it: draft becomes [dD][rR][aA][fF][tT]. The result is
+/* Like bes_escape, but each letter matches in either case, as a BQuery does it: draft becomes [dD][rR][aA][fF][tT]. The result is
  * a pattern, for == and !=.
  * [out] out      12 times the text's length and 1 suffice */
 static inline size_t bes_any_case(const char *text, char *out, size_t room)
@@ -286,7 +286,7 @@ static inline size_t bes_any_case(const char *text, char *out, size_t room)
     return bes_put_text_(bes_any_case_bytes, text, out, room);
 }
 
-/* How many bytes the character of UTF-8 at the front of a text has, or 0 if no character begins there. A zero byte is none. */
+/* How many bytes the character of UTF-8 at the front of a text has, or 0 if no character begins there. A zero byte isn't one. */
 static inline size_t bes_character_(const char *text, size_t length)
 {
     unsigned char first = length > 0 ? (unsigned char)text[0] : 0, second = length > 1 ? (unsigned char)text[1] : 0;
@@ -302,9 +302,9 @@ static inline size_t bes_character_(const char *text, size_t length)
     return count;
 }
 
-/* Makes a text of any bytes, as a file's name or a mail's header, that the library takes: each byte that is no character of UTF-8
- * becomes a ?, and a text that is too long is cut after a whole character.
- * [out] out      the text and a zero byte, `room` bytes at most: 256 for a value, 64 for a name
+/* Turns any bytes, such as a file's name or a mail's header, into a text that the library takes: each byte that isn't part of a
+ * UTF-8 character becomes a ?, and a text that is too long is cut after a whole character.
+ * [out] out      the text and a zero byte, at most `room` bytes: 256 for a value, 64 for a name
  * Returns how many bytes it has, without the zero byte. */
 static inline size_t bes_to_utf8(const char *text, size_t length, char *out, size_t room)
 {
@@ -323,7 +323,7 @@ static inline size_t bes_to_utf8(const char *text, size_t length, char *out, siz
     return at;
 }
 
-/* How many columns the characters of UTF-8 take before a byte offset, one for each. */
+/* How many columns the UTF-8 characters before a byte offset take, one each. */
 static inline size_t bes_columns_(const char *text, size_t bytes)
 {
     size_t columns = 0;
@@ -332,8 +332,8 @@ static inline size_t bes_columns_(const char *text, size_t bytes)
     return columns;
 }
 
-/* Prints a query's text, and on the next line a caret under the character at a byte offset. Of a text with several lines it prints
- * the one with that byte. Control characters are printed as blanks. Returns what ferror does. */
+/* Prints a query's text, and on the next line a caret under the character at a byte offset. If the text has several lines, it
+ * prints the one with that byte. Control characters are printed as blanks. Returns what ferror does. */
 static inline int bes_print_caret(FILE *file, const char *text, uint64_t byte)
 {
     size_t length = strlen(text), at = byte < length ? (size_t)byte : length, begin = at, end = at;
@@ -347,14 +347,14 @@ static inline int bes_print_caret(FILE *file, const char *text, uint64_t byte)
     return ferror(file);
 }
 
-/* How many bytes a number of this type code has in a key of an index, or 0 if its values are no numbers. */
+/* How many bytes a number of this type code has in a key of an index, or 0 if its values aren't numbers. */
 static inline size_t bes_key_size_(uint32_t code)
 {
     bool is_short = code == BES_INT32_TYPE || code == BES_UINT32_TYPE;
     return !bes_is_number_code(code) ? 0 : is_short ? 4 : 8;
 }
 
-/* What is added to a number in a key of an index, so that the bytes are in the order of the numbers. */
+/* What is added to a number in an index key, so that the order of the bytes is that of the numbers. */
 static inline uint64_t bes_key_shift_(uint32_t code)
 {
     return code == BES_INT32_TYPE ? (uint64_t)1 << 31 : code == BES_INT64_TYPE ? (uint64_t)1 << 63 : 0;
@@ -375,7 +375,7 @@ static inline uint64_t bes_take_high_first_(const uint8_t *bytes, size_t length)
     return number;
 }
 
-/* Why no key of an index has this value, or BES_OK. */
+/* Why no index key can have this value, or BES_OK. */
 static inline uint32_t bes_unkeyable_(const bes_attribute *value, const void *bytes)
 {
     uint64_t shifted = value->number + bes_key_shift_(value->code);
@@ -386,8 +386,8 @@ static inline uint32_t bes_unkeyable_(const bes_attribute *value, const void *by
     return bes_key_size_(value->code) == 4 && shifted > UINT32_MAX ? BES_NO_VALUE : BES_OK;
 }
 
-/* Makes the position at which a value and a node are in the order of an index, so that bes_ordered goes on after it: with node 0 from
- * all nodes of the value on, or in the reverse order after them.
+/* Makes the position at which a value and a node are in the order of an index, so that bes_ordered goes on after it: with node 0 it
+ * is before all nodes with the value, or after them in the reverse order.
  * [in] value     the value, as bes_get writes it
  * [in] bytes     the bytes of a text
  * BES_NOT_INDEXABLE, BES_DATA_LENGTH, BES_HAS_NUL, BES_NO_VALUE (the number doesn't fit its type). The cursor stays as it was. */
@@ -412,7 +412,7 @@ static inline uint32_t bes_cursor_at(const bes_attribute *value, const void *byt
  * [out] value    the value, as bes_get writes it
  * [out] bytes    the bytes of a text, if there is room for all
  * [out] node     the node
- * BES_BAD_CURSOR: it is the beginning, or a position in no index. */
+ * BES_BAD_CURSOR: it is the beginning, or isn't a position in any index. */
 static inline uint32_t bes_cursor_value(const bes_cursor *cursor, bes_attribute *value, uint8_t *bytes, size_t bytes_room,
                                         uint64_t *node)
 {
