@@ -31,7 +31,7 @@ def fill(store, first, last):
 
 
 def filled(store, nodes):
-    """Makes an index, and so many nodes."""
+    """Makes an index, and this many nodes."""
     store.make_index("k", bestore.INT64)
     fill(store, 1, nodes)
 
@@ -359,7 +359,7 @@ with bestore.open(64, 1, 100) as store:
                 self.assertGreater(refused, 50)
 
     def test_nothing_is_left(self):
-        """What a call makes is gone after it, also after an error."""
+        """What a call makes is gone after it, even after an error."""
         with bestore.open(256, 1) as store, bestore.prepare("k > 0") as query:
             filled(store, 100)
 

@@ -1,4 +1,4 @@
-"""Changes of a store in this process: the library collects their operations, and reads attributes as these leave them."""
+"""Changes to a store in this process: the library collects their operations, and reads attributes as these leave them."""
 
 from __future__ import annotations
 

@@ -53,7 +53,7 @@ class PreparedQuery(HandleOwner, Prepared):
         self._known_check: Optional[int] = None  # of cursors
 
     def close(self) -> None:
-        """Gives the query up, if it is still there."""
+        """Releases the query, if it is still there."""
         self._give_up(calls.bes_release)
         self._seen = None
 
@@ -83,7 +83,7 @@ class PreparedQuery(HandleOwner, Prepared):
 
 
 def prepare(text: str) -> PreparedQuery:
-    """As `queries.prepare`."""
+    """Like `queries.prepare`."""
     prepared, taken, place = PreparedQuery(text), encoded_query(text), ctypes.c_uint64()
     answer = calls.bes_prepare(taken, len(taken), prepared._pointer, ctypes.byref(place))
     check(answer, place.value, text)
@@ -92,7 +92,7 @@ def prepare(text: str) -> PreparedQuery:
 
 
 def prepare_items(*items: Item) -> PreparedQuery:
-    """As `queries.prepare_items`."""
+    """Like `queries.prepare_items`."""
     prepared, place = PreparedQuery(), ctypes.c_uint64()
     taken, texts = encode_items(items)
     answer = calls.bes_prepare_items(taken, len(items), texts, len(texts), prepared._pointer, ctypes.byref(place))

@@ -1,4 +1,4 @@
-"""Refreshes of a query in a version that the library knows nothing of."""
+"""Refreshes of a query in a version that the library doesn't know."""
 
 from __future__ import annotations
 
@@ -10,8 +10,8 @@ if TYPE_CHECKING:
 
 
 def refreshed(prepared: Prepared, version: Version) -> Tuple[List[int], List[int]]:
-    """Which nodes came and which went since a query was refreshed last, by all that it finds in this version. Python keeps these
-    nodes, and not the library."""
+    """Which nodes came and which went since a query was last refreshed, found by comparing whole answers. Python keeps these
+    nodes, not the library."""
     prepared._check_process()
     with prepared._refreshing:
         found = set(version._nodes_of(prepared))
@@ -23,6 +23,6 @@ def refreshed(prepared: Prepared, version: Version) -> Tuple[List[int], List[int
 
 
 def _in_library(prepared: Prepared) -> Set[int]:
-    """The nodes that the library has from the last refresh, which then was in a store of this process."""
+    """The nodes that the library kept at the last refresh, if that was in a store of this process."""
     from .local import seen_in_library
     return seen_in_library(prepared)

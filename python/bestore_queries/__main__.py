@@ -14,7 +14,7 @@ from .own_server import CannotStart
 from .sources import FolderSource, ServerSource, Source
 
 def parser() -> argparse.ArgumentParser:
-    """What the command line may have."""
+    """What the command line may contain."""
     made = argparse.ArgumentParser(
         prog="bestore-queries",
         description="A window that finds files by their attributes, and follows them while they come and go.",
@@ -38,7 +38,7 @@ def source_of(options: argparse.Namespace) -> Source:
 
 
 def main(words: Optional[List[str]] = None) -> int:
-    """Shows the window, up to its end."""
+    """Shows the window until it is closed."""
     options = parser().parse_args(words)
     try:
         import tkinter

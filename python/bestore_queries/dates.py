@@ -25,7 +25,7 @@ _NAMED = re.compile(r"(?:(\d{1,2})\.? )?([a-z]{3,9})\.?(?: (\d{1,2})(?!\d),?)?(?
 
 
 class NotADate(ValueError):
-    """A text that is no date."""
+    """A text that isn't a date."""
 
     def __init__(self, text: str, reason: Optional[str] = None) -> None:
         super().__init__(text, reason)
@@ -43,7 +43,7 @@ class Span(NamedTuple):
 
 
 class _Moment(NamedTuple):
-    """A time, and the part of the calendar that it means, as "day"."""
+    """A time, and the part of the calendar that it means, such as "day"."""
 
     at: datetime
     unit: str
@@ -75,7 +75,7 @@ def _moment(words: str, now: datetime) -> Optional[_Moment]:
 
 
 def _with_time(words: str, now: datetime) -> Optional[_Moment]:
-    """A day, and a time of it: today's if no day is named."""
+    """A day and a time on it: today if no day is named."""
     found = _TIME.search(words)
     if found is None:
         return None
@@ -88,7 +88,7 @@ def _with_time(words: str, now: datetime) -> Optional[_Moment]:
 
 
 def _start_of(unit: str, at: datetime) -> datetime:
-    """The beginning of the part of the calendar in which a time is."""
+    """The beginning of the part of the calendar that a time is in."""
     if unit == "week":
         at -= timedelta(days=at.weekday())
     fields = {"second": 5, "minute": 4, "hour": 3, "day": 2, "week": 2, "month": 1, "year": 0}[unit]
@@ -98,7 +98,7 @@ def _start_of(unit: str, at: datetime) -> datetime:
 
 
 def _moved(at: datetime, unit: str, count: int) -> datetime:
-    """A time so many units later. A day that the month doesn't have is its last one."""
+    """A time this many units later. A day beyond the end of the month becomes its last day."""
     if unit in ("month", "year"):
         months = at.year * 12 + at.month - 1 + count * (12 if unit == "year" else 1)
         year, month = divmod(months, 12)

@@ -2,7 +2,7 @@
 
     PYTHONPATH=python:python/window_tests python3 python/window_tests/test_sixty_thousand.py --print
 
-prints the longest time of each phase, and after `--nodes 83000` those of so many nodes; it expects a tenth of a second at most, so it
+prints the longest time of each phase, and after `--nodes 83000` those of this many nodes; it expects a tenth of a second at most, so it
 wants a machine with nothing else to do. Among other tests the bound is a second, since the loop then waits for a processor.
 """
 
