@@ -1,4 +1,4 @@
-//! What the crate `bestore` needs besides: the forms in which the library for C takes and returns things. Other programs have no use
+//! What else the crate `bestore` needs: the forms in which the library for C takes and returns things. Other programs have no use
 //! for it.
 
 pub use crate::batch::narrow;
@@ -25,7 +25,7 @@ pub struct RawOperation {
     pub name_at: u32,
     /// How many bytes it has.
     pub name_length: u32,
-    /// At which byte a value begins that isn't an integer.
+    /// At which byte the value begins, unless it is an integer.
     pub value_at: u32,
     /// How many bytes it has.
     pub value_length: u32,

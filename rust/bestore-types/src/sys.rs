@@ -1,4 +1,4 @@
-//! The numbers of `bestore.h`, as the crate `bestore-sys` has them too.
+//! The numbers of `bestore.h`, which the crate `bestore-sys` has too.
 
 macro_rules! constants {
     ($($name:ident = $value:expr;)*) => {

@@ -20,7 +20,7 @@ pub enum Form {
 pub struct Compared {
     /// The name of the attribute.
     pub name: String,
-    /// `==`, `!=`, `<`, `<=`, `>` or `>=`, as the text has it.
+    /// `==`, `!=`, `<`, `<=`, `>` or `>=`, as written in the text.
     pub operator: &'static str,
     /// What is compared with.
     pub value: String,
@@ -30,7 +30,7 @@ pub struct Compared {
     pub offset: usize,
     /// How many bytes it has.
     pub length: usize,
-    /// Whether a `!` turns it.
+    /// Whether a `!` negates it.
     pub is_negated: bool,
     /// The kinds of indices under which no node meets it, such as those of integers for `size>1.5`.
     pub never: Vec<Kind>,
@@ -47,9 +47,9 @@ pub struct Compared {
 /// ```
 ///
 /// # Errors
-/// [`Error::Query`](crate::Error::Query): the text is no query. [`Error::OutOfMemory`](crate::Error::OutOfMemory).
+/// [`Error::Query`](crate::Error::Query): the text isn't a query. [`Error::OutOfMemory`](crate::Error::OutOfMemory).
 pub fn compared(query: &str) -> Result<Vec<Compared>> {
-    // The canonical text has the same comparisons in the same order, and no `!`, which would turn their operators.
+    // The canonical text has the same comparisons in the same order, and no `!`, which would change their operators.
     let canonical = Prepared::new(query)?.text()?;
     let both = comparisons(query).into_iter().zip(comparisons(&canonical));
     Ok(both.map(|(asked, canonical)| compare(asked, &canonical)).collect())
@@ -75,7 +75,7 @@ fn compare(asked: Comparison<'_>, canonical: &Comparison<'_>) -> Compared {
     }
 }
 
-/// The comparisons of a query that are never true, by the kinds of the indices, of which `kind_of` returns that of a name.
+/// The comparisons of a query that are never true, given the kinds of the indices: `kind_of` returns the kind of a name's index.
 ///
 /// ```
 /// use bestore::{hints, Kind};
@@ -86,7 +86,7 @@ fn compare(asked: Comparison<'_>, canonical: &Comparison<'_>) -> Compared {
 /// ```
 ///
 /// # Errors
-/// As [`compared`].
+/// Those of [`compared`].
 pub fn hints(query: &str, kind_of: impl Fn(&str) -> Option<Kind>) -> Result<Vec<Hint>> {
     let hint = |one: Compared| {
         let kind = kind_of(&one.name).filter(|kind| one.never.contains(kind))?;

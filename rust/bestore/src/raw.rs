@@ -4,10 +4,10 @@
 //! - a pointer to a handle is one of `Handle`, which keeps the handle at one address until it closes it;
 //! - a handle takes one call at a time: `Handle` isn't `Sync`, and no call of the library calls back;
 //! - a slice has a pointer that isn't null, even with a length of 0;
-//! - of a list the library writes as many items as it counts, up to the room that it is given;
+//! - the library writes as many items of a list as it counts, up to the room that it is given;
 //! - a `RawOperation` has the layout of a `bes_operation`;
 //! - a pass and a witness have the number of their store, and are joined only if it is the same;
-//! - a `Live` has the number of the store of its last refresh, and is refreshed by what changed only in that one.
+//! - a `Live` has the number of the store of its last refresh, and only in that one is it refreshed by what changed.
 #![allow(unsafe_code)]
 #![deny(unsafe_op_in_unsafe_fn)]
 
@@ -77,7 +77,7 @@ impl Birthplace {
         Self(FORKS.load(Ordering::Relaxed))
     }
 
-    /// Whether this process is that one, and no forked child of it.
+    /// Whether this process is that one, and not a forked child of it.
     pub(crate) fn is_here(self) -> bool {
         FORKS.load(Ordering::Relaxed) == self.0
     }
@@ -94,7 +94,7 @@ impl Birthplace {
     }
 }
 
-/// A handle of C, with how it begins and how it is closed.
+/// A handle of C, how it begins, and how it is closed.
 trait CloseHandle: Sized {
     const CLOSED: Self;
 
@@ -124,9 +124,9 @@ impl CloseHandle for bes_draft {
     const CLOSED: Self = Self::INIT;
 
     unsafe fn close(at: *mut Self) {
-        // With a pass that is closed the call closes just the draft, whatever its own pass does.
+        // With a closed pass the call closes only the draft, whatever the draft's own pass is doing.
         let mut none = bes_pass::INIT;
-        // SAFETY: as the trait asks; the pass is of this call alone.
+        // SAFETY: as the trait asks; only this call uses the pass.
         unsafe { sys::bes_abandon_change(&mut none, at) };
     }
 }
@@ -168,7 +168,7 @@ impl<T: CloseHandle> Drop for Handle<T> {
     }
 }
 
-/// All that a call has which counts what there is and writes what there is room for. It is asked again with more room.
+/// Everything that a call returns, if it counts what there is and writes as much as fits. It is called again with more room.
 fn whole<T>(mut room: usize, mut call: impl FnMut(*mut T, usize, &mut u64) -> u32) -> Answer<Vec<T>>
 where
     T: Copy,
@@ -257,9 +257,9 @@ fn found(room: &Cell<usize>, call: impl FnMut(*mut u64, usize, &mut u64) -> u32)
     Ok(nodes)
 }
 
-/// Up to `most` nodes, from a call that writes as many as it counts. There is room for no more than `all`, which is all there can be.
+/// Up to `most` nodes, from a call that writes as many as it counts. Makes room for at most `all`, which is how many there can be.
 fn some(all: u64, most: usize, call: impl FnOnce(*mut u64, usize, &mut u64) -> u32) -> Answer<Vec<u64>> {
-    // Room for one at least, so that a page of a store without nodes is empty, and no error.
+    // Room for at least one, so that a page of a store without nodes is empty, and not an error.
     let room = usize::try_from(all).unwrap_or(usize::MAX).max(1).min(most);
     let mut nodes = Vec::with_capacity(room);
     let mut count = 0;
@@ -290,7 +290,7 @@ impl RawPass {
         }
     }
 
-    /// The number of the store, which no other one of this process has.
+    /// The number of the store, which no other store of this process has.
     pub(crate) fn store(&self) -> u64 {
         self.store
     }
@@ -309,7 +309,7 @@ impl RawPass {
         check(code, 0).map(|()| other)
     }
 
-    /// A number that a call of the pass alone writes.
+    /// A number that is written by a call that takes only the pass.
     fn number_by(&self, call: unsafe extern "C" fn(*mut bes_pass, *mut u64) -> u32) -> Answer<u64> {
         let mut number = 0;
         // SAFETY: as the module says, and `number` outlives the call.
@@ -359,7 +359,7 @@ impl RawPass {
         check(unsafe { sys::bes_unpin(self.handle.get()?) }, 0)
     }
 
-    /// Writes the list, on a journal of the expected length if one is given. Returns the commit number.
+    /// Writes the list, if a length is expected only on a journal of that length. Returns the commit number.
     pub(crate) fn apply(&self, expected: Option<u64>, list: &List, made: &mut [u64]) -> Answer<u64> {
         let mut number = 0;
         // SAFETY: as the module says.
@@ -376,7 +376,7 @@ impl RawPass {
         check(code, 0).map(|()| (draft, next))
     }
 
-    /// Writes the draft, and closes it, also after an error.
+    /// Writes the draft, and closes it, even after an error.
     pub(crate) fn end_change(&self, draft: &RawDraft) -> Answer<u64> {
         let mut number = 0;
         // SAFETY: as the module says; the draft is one of this pass, since a change has both.
@@ -435,7 +435,7 @@ impl RawPass {
     /// How many nodes the query finds.
     pub(crate) fn count(&self, text: &str) -> Answer<u64> {
         let (pass, mut count) = (self.handle.get()?, 0);
-        // SAFETY: as the module says; there is no room, so that nothing is written but the count.
+        // SAFETY: as the module says; there is no room, so only the count is written.
         let code = unsafe {
             sys::bes_query(
                 pass,
@@ -451,7 +451,7 @@ impl RawPass {
 
     pub(crate) fn count_prepared(&self, prepared: &RawPrepared) -> Answer<u64> {
         let (pass, prepared, mut count) = (self.handle.get()?, prepared.0.get()?, 0);
-        // SAFETY: as the module says; there is no room, so that nothing is written but the count.
+        // SAFETY: as the module says; there is no room, so only the count is written.
         let code = unsafe { sys::bes_query_prepared(pass, prepared, NonNull::dangling().as_ptr(), 0, &mut count) };
         check(code, count).map(|()| count)
     }
@@ -630,7 +630,7 @@ impl RawPass {
         })
     }
 
-    /// The entry with this index and the pass that wrote it. It has no operations if the journal ends before.
+    /// The entry with this index, and the pass that wrote it. It has no operations if the journal is shorter.
     pub(crate) fn entry(&self, from: u64) -> Answer<(u64, List)> {
         let pass = self.handle.get()?;
         let (mut by, mut number) = (0, 0);
@@ -706,7 +706,7 @@ impl RawPrepared {
 #[derive(Debug)]
 pub(crate) struct RawDraft(Handle<bes_draft>);
 
-/// An operation by its parts.
+/// An operation, in parts.
 pub(crate) struct Parts<'a> {
     pub(crate) kind: u32,
     pub(crate) node: u64,
@@ -717,7 +717,7 @@ pub(crate) struct Parts<'a> {
 }
 
 impl RawDraft {
-    /// Takes values of any kind from now on.
+    /// From now on, takes values of any kind.
     pub(crate) fn any_kind(&self) -> Answer<()> {
         // SAFETY: as the module says.
         check(unsafe { sys::bes_change_any_kind(self.0.get()?) }, 0)
@@ -745,7 +745,7 @@ impl RawDraft {
     }
 }
 
-/// A length as the library takes it. What is longer is refused there.
+/// A length in the form that the library takes, which refuses anything longer.
 fn length_of(bytes: &[u8]) -> u32 {
     u32::try_from(bytes.len()).unwrap_or(u32::MAX)
 }
@@ -757,7 +757,7 @@ pub(crate) struct RawWitness {
     store: u64,
 }
 
-/// A place in the operations that make a snapshot again.
+/// A place in the operations that rebuild a snapshot.
 #[derive(Debug)]
 pub(crate) struct RawPlace(Handle<bes_place>);
 
@@ -767,7 +767,7 @@ impl RawPlace {
     }
 }
 
-/// The cursor as the library takes it.
+/// The cursor in the form that the library takes.
 pub(crate) fn cursor_of(cursor: &Cursor) -> bes_cursor {
     let mut raw = bes_cursor::BEGINNING;
     if let Some((kind, key)) = cursor.key() {
@@ -792,7 +792,7 @@ pub(crate) fn any_case(text: &str) -> Answer<Vec<u8>> {
     })
 }
 
-/// The version of the library that runs, as `BES_VERSION_NUMBER` of its header.
+/// The version of the running library, as the number `BES_VERSION_NUMBER` of its header.
 pub(crate) fn version() -> u32 {
     // SAFETY: the call takes nothing.
     unsafe { sys::bes_version() }

@@ -5,7 +5,7 @@ use crate::{Error, Limits, Pass, Result};
 use bestore_types::MOST_PASSES;
 use std::sync::{Arc, Mutex, MutexGuard, PoisonError};
 
-/// A store in memory. Clones are the same store, and each thread may make its pass from one.
+/// A store in memory. Clones are the same store; each thread can make its pass from one.
 ///
 /// The memory of the store is freed with the last clone and the last pass.
 #[derive(Clone, Debug)]
@@ -33,13 +33,13 @@ impl Store {
     /// Takes a pass, which goes back to the store when it is dropped.
     ///
     /// # Errors
-    /// [`Error::NoPass`] if as many are open as [`Limits::passes`] says; [`Error::OutOfMemory`]; [`Error::Forked`].
+    /// [`Error::NoPass`] if as many are open as [`Limits::passes`] allows; [`Error::OutOfMemory`]; [`Error::Forked`].
     pub fn pass(&self) -> Result<Pass> {
         Ok(Pass::new(self.own()?.raw().another()?))
     }
 
-    /// Closes the store by its last clone, when no pass is open, and returns the whole journal as text, a line for each entry. Of each
-    /// pass it has just the writes that its calls have committed, at their commit numbers.
+    /// Closes the store by its last clone, when no pass is open, and returns the whole journal as text, a line for each entry. For
+    /// each pass it has exactly the writes that its calls have committed, at their commit numbers.
     ///
     /// # Errors
     /// [`Error::InUse`]: another clone or a pass is open. [`Error::OutOfMemory`], [`Error::Forked`]. The store is returned with the
@@ -64,7 +64,7 @@ impl Store {
         Ok(self.birthplace.check()?)
     }
 
-    /// The pass of the store itself, from which the others are made.
+    /// The store's own pass, from which the others are made.
     pub(crate) fn own(&self) -> Result<MutexGuard<'_, Pass>> {
         self.check()?;
         Ok(self.own.lock().unwrap_or_else(PoisonError::into_inner))

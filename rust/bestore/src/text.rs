@@ -1,4 +1,4 @@
-//! Texts of queries: what they compare, and patterns for texts in any case.
+//! Query texts: what they compare, and patterns for texts in any case.
 
 use crate::raw;
 

@@ -1,4 +1,4 @@
-//! The answers to `query`: counted, by the nodes' numbers, in the order of an index, or any nodes.
+//! The answers to `query`: a count, nodes by number, nodes in the order of an index, or any nodes.
 
 use crate::failure::Failure;
 use crate::page::{commits, rows_of, Room};
@@ -10,16 +10,16 @@ use std::collections::VecDeque;
 /// How many queries of a connection stay parsed.
 const KEPT: usize = 4;
 
-/// The queries that a connection has asked last, the last one first.
+/// The last queries of a connection, the latest first.
 #[derive(Debug, Default)]
 pub struct Queries(VecDeque<Parsed>);
 
-/// A query that was parsed.
+/// A parsed query.
 #[derive(Debug)]
 struct Parsed {
     text: String,
     prepared: Prepared,
-    /// What the page that comes next by number counts, so that the pages of an answer are counted once.
+    /// The count for the next page by number, so that an answer's pages are counted only once.
     next: Option<Count>,
 }
 
@@ -86,7 +86,7 @@ impl Queries {
     }
 }
 
-/// An error if parameters are given that don't go together. It says what would be right.
+/// An error if the given parameters don't go together. It says what would be right.
 fn check_together(query: &wire::Query<'_>) -> Result<(), Failure> {
     let by_number = query.from != 0 || query.uncounted;
     let wrong = match (&query.by, query.any) {
@@ -136,7 +136,7 @@ fn most_of(name: &str, nodes: u64) -> Result<usize, Failure> {
 }
 
 impl Parsed {
-    /// Asks. At an error of the query it is that of the text, which says where in the text it is.
+    /// Asks the query. An error is that of the query's text, which says where in the text it is.
     fn ask<T>(
         &self,
         snapshot: &ShelfSnapshot<'_>,
@@ -188,7 +188,7 @@ impl Parsed {
         Ok(hits)
     }
 
-    /// The first so many nodes from this number on, or all of them.
+    /// The first this many nodes from this number on, or all of them.
     fn first(&self, snapshot: &ShelfSnapshot<'_>, from: u64, most: Option<usize>) -> Result<Vec<u64>, Failure> {
         if let Some(most) = most {
             return self.ask(snapshot, |prepared| snapshot.first_prepared(prepared, from, most));
@@ -198,8 +198,8 @@ impl Parsed {
         Ok(found)
     }
 
-    /// How many nodes the query finds from a number on, where a page has so many of them and the next one begins at `more`. It may
-    /// be known from the whole answer.
+    /// How many nodes the query finds from a number on, given that a page has this many of them and the next one begins at `more`.
+    /// It may be known from the whole answer.
     fn count_of_page(
         &mut self,
         snapshot: &ShelfSnapshot<'_>,

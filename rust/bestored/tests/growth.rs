@@ -1,4 +1,4 @@
-//! The file of a server that writes for long: the state is written anew by itself.
+//! The file of a server that writes for long: the state is rewritten by itself.
 
 use crate::common::{wait_until, Folder, Server};
 use bestore::Batch;
@@ -52,7 +52,7 @@ fn the_file_stays_small_and_has_everything() {
         client.apply(&batch).unwrap();
     }
     client.call::<Nothing>(Command::Flush(Nothing {})).unwrap();
-    wait_until("the state was written anew", || bytes(&mut client) < MOST_BYTES);
+    wait_until("the state was rewritten", || bytes(&mut client) < MOST_BYTES);
     server.kill();
 
     assert!(fs::metadata(folder.join("file")).unwrap().len() < MOST_BYTES);

@@ -27,7 +27,7 @@ macro_rules! parameters_with_texts {
     )*};
 }
 
-/// Reads a parameter that may be left out. `null` isn't the same as leaving it out.
+/// Reads an optional parameter. `null` isn't the same as leaving it out.
 fn given<'de, T: Deserialize<'de>, D: Deserializer<'de>>(from: D) -> Result<Option<T>, D::Error> {
     T::deserialize(from).map(Some)
 }
@@ -41,7 +41,7 @@ parameters! {
         /// The version of the protocol that the client speaks.
         #[serde(default, deserialize_with = "given", skip_serializing_if = "Option::is_none")]
         pub protocol: Option<u64>,
-        /// Whether the client asks a few things and goes, so that it gets a place when all others are taken.
+        /// Whether the client asks a few things and leaves, so that it gets a place even when all others are taken.
         #[serde(default, skip_serializing_if = "std::ops::Not::not")]
         pub visit: bool,
     }
@@ -57,10 +57,10 @@ parameters! {
         /// The volume that is written.
         #[serde(default, deserialize_with = "given", skip_serializing_if = "Option::is_none")]
         pub volume: Option<u32>,
-        /// By which the batch can be sent again: it is written once.
+        /// Lets the batch be sent again: it is written only once.
         #[serde(default, deserialize_with = "given", skip_serializing_if = "Option::is_none")]
         pub token: Option<Token>,
-        /// The run of the server whose commit numbers `expected` has.
+        /// The run of the server that `expected` belongs to.
         #[serde(default, deserialize_with = "given", skip_serializing_if = "Option::is_none")]
         pub run: Option<String>,
     }
@@ -105,7 +105,7 @@ parameters! {
         /// The entry of the log that the server has to have.
         #[serde(default, deserialize_with = "given", skip_serializing_if = "Option::is_none")]
         pub entry: Option<u64>,
-        /// For how many milliseconds it is waited for.
+        /// How many milliseconds to wait for it.
         #[serde(default, deserialize_with = "given", skip_serializing_if = "Option::is_none")]
         pub within: Option<u64>,
     }
@@ -122,7 +122,7 @@ parameters! {
 
     /// Of `kick`.
     Kick {
-        /// The number of the client, as `clients` says it.
+        /// The number of the client, from the reply to `clients`.
         pub client: u64,
     }
 
@@ -130,7 +130,7 @@ parameters! {
     Reach {
         /// How many entries the journal has to have.
         pub commit: Numbers,
-        /// How many milliseconds may pass.
+        /// How many milliseconds to wait.
         #[serde(default, deserialize_with = "given", skip_serializing_if = "Option::is_none")]
         pub within: Option<u64>,
     }
@@ -192,7 +192,7 @@ parameters_with_texts! {
         /// The query.
         #[serde(borrow)]
         pub query: Cow<'a, str>,
-        /// The attributes of each node that the reply has.
+        /// The attributes that the reply has for each node.
         #[serde(borrow, default, deserialize_with = "given", skip_serializing_if = "Option::is_none")]
         pub columns: Option<Columns<'a>>,
         /// The most nodes.
@@ -201,22 +201,22 @@ parameters_with_texts! {
         /// The lowest node.
         #[serde(default)]
         pub from: u64,
-        /// Whether only the number of nodes is asked for.
+        /// Whether only the number of nodes is wanted.
         #[serde(default)]
         pub count: bool,
         /// Whether the reply has no `count`, which takes the whole answer.
         #[serde(default, skip_serializing_if = "std::ops::Not::not")]
         pub uncounted: bool,
-        /// The index in whose order the nodes come, those without a value there left out.
+        /// The index in whose order the nodes come; those without a value there are left out.
         #[serde(borrow, default, deserialize_with = "given", skip_serializing_if = "Option::is_none")]
         pub by: Option<Cow<'a, str>>,
         /// Whether the greatest values come first.
         #[serde(default, skip_serializing_if = "std::ops::Not::not")]
         pub descending: bool,
-        /// The cursor of the page before.
+        /// The cursor of the previous page.
         #[serde(borrow, default, deserialize_with = "given", skip_serializing_if = "Option::is_none")]
         pub after: Option<Cow<'a, str>>,
-        /// How many nodes are asked for, whichever they are.
+        /// How many nodes are wanted, whichever they are.
         #[serde(default, deserialize_with = "given", skip_serializing_if = "Option::is_none")]
         pub any: Option<u64>,
     }
@@ -230,7 +230,7 @@ parameters_with_texts! {
 
     /// Of `watch`.
     Watch {
-        /// The query, if the nodes that it finds are watched.
+        /// The query, if its nodes are to be watched.
         #[serde(borrow, default, deserialize_with = "given", skip_serializing_if = "Option::is_none")]
         pub query: Option<Cow<'a, str>>,
     }
@@ -291,7 +291,7 @@ impl<'de: 'a, 'a> Deserialize<'de> for Columns<'a> {
     }
 }
 
-/// Parameters, which are an object: a list of their values in order would be read too otherwise.
+/// Parameters, which must be an object: otherwise a list of their values in order would be read too.
 struct Object<T>(T);
 
 impl<'de, T: Deserialize<'de>> Deserialize<'de> for Object<T> {
@@ -377,7 +377,7 @@ commands! {
     Text(QueryText<'a>) = "text";
     /// Begins a live query.
     Watch(Watch<'a>) = "watch";
-    /// Asks it now, and returns what changed.
+    /// Runs it now, and returns what changed.
     Refresh(Watching) = "refresh";
     /// Ends it.
     Unwatch(Watching) = "unwatch";
@@ -385,7 +385,7 @@ commands! {
     Status(Nothing) = "status";
     /// Entries of the journal.
     Journal(JournalFrom) = "journal";
-    /// The batches that make the snapshot again.
+    /// The batches that rebuild the snapshot.
     State(From) = "state";
     /// Copies the snapshot, so that `state` reads it without a pin.
     Collect(Nothing) = "collect";
@@ -393,11 +393,11 @@ commands! {
     Reach(Reach) = "reach";
     /// Waits for the file.
     Flush(Nothing) = "flush";
-    /// Writes the state into the file anew.
+    /// Rewrites the state in the file.
     Compact(Nothing) = "compact";
-    /// What the server does in the log that machines share. Waits for an entry.
+    /// What the server is doing in the log that machines share. Waits for an entry.
     Log(OfLog) = "log";
-    /// What goes on in the server.
+    /// What the server is doing.
     Info(Nothing) = "info";
     /// Who is connected.
     Clients(Nothing) = "clients";
@@ -463,7 +463,7 @@ impl<'de> Visitor<'de> for RequestVisitor {
     }
 }
 
-/// The `id` of a line that is no request, if it can be read.
+/// The `id` of a line that isn't a request, if it can be read.
 #[must_use]
 pub fn id_of(line: &[u8]) -> Option<u64> {
     struct Id;
