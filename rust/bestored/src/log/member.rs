@@ -430,7 +430,10 @@ impl Member {
         let shared = shared.clone();
         let writing = thread::Builder::new().name("log-state".into()).spawn(move || {
             if let Err(failure) = shared.kept.compact() {
-                eprintln!("bestored: the state of the log couldn't be written: {}", failure.0.message);
+                eprintln!(
+                    "bestored: the state of the log couldn't be written: {}",
+                    failure.0.message
+                );
             }
         });
         if let Err(error) = writing {
