@@ -323,7 +323,7 @@ uint32_t bes_move(bes_pass *pass, bes_pass *other);
  * Cost: a step for each of those passes; for the last handle the time to free all pages and the journal. */
 uint32_t bes_close(bes_pass *pass);
 
-/* Closes the store by its last handle, and writes the whole journal as text, as bes_journal does. For each pass the text has
+/* Closes the store through its last handle, and writes the whole journal as text, as bes_journal does. For each pass the text has
  * exactly the transactions that the pass's calls have committed, at their commit numbers. If bytes_room is less than count, nothing is
  * written, and the handle stays open: call again with more room. The handle may be pinned.
  * [in,out] pass  the last open handle of the store, which is closed
@@ -440,7 +440,7 @@ uint32_t bes_change_any_kind(bes_draft *draft);
  * [in] bytes     the bytes that contain its name and value
  * [out] node     for BES_NEW_NODE the number of the node that it makes, which later operations may name; otherwise 0
  * BES_CLOSED. BES_BAD_PART and the errors after it of bes_apply, if the operation is invalid.
- * BES_WRONG_KIND: it sets an attribute, and the index of its name takes another kind, as the operations before it leave the index.
+ * BES_WRONG_KIND: it sets an attribute, and after the earlier operations the index of its name takes another kind.
  * node is that kind's type code. A name without an index takes any kind. There is no such error after bes_change_any_kind.
  * BES_BAD_COUNT: the draft has 64 operations. BES_NO_MEMORY.
  * The store's own errors, such as BES_NO_NODE, come from bes_end_change.
@@ -577,7 +577,7 @@ uint32_t bes_found(bes_prepared *prepared, uint64_t from, uint64_t *nodes, size_
  * [out] count    how many nodes it has
  * [out] more     1 if others come after them, otherwise 0
  * BES_CLOSED (of pass, then of prepared), BES_NOT_PINNED, BES_NO_ROOM (nodes_room is 0), BES_NO_INDEX (the snapshot has no index by),
- * BES_BAD_CURSOR (it is of another kind than the index, or its key doesn't have 8 to 264 bytes), BES_NOT_COVERED, BES_NO_MEMORY.
+ * BES_BAD_CURSOR (its kind isn't the index's, or its key doesn't have 8 to 264 bytes), BES_NOT_COVERED, BES_NO_MEMORY.
  * count is 0 then, and nodes, more and cursor stay as they were. After all but BES_CLOSED the handle keeps no result.
  * Cost: if comparisons with this attribute alone decide the query, a descent of a tree and a walk over the page's keys. Otherwise the
  * index is walked from the cursor, and the query asked of each node, with a descent for each; once fewer than about one in 32 passes,
@@ -762,7 +762,7 @@ typedef struct bes_compared {
     uint64_t plain_value_at; /* the value in the bytes, without backslashes; for a pattern, its canonical text */
     uint64_t plain_end;
     uint32_t kind;           /* BES_ITEM_EQ .. BES_ITEM_GE, with each ! around the comparison applied */
-    uint32_t kind_in_text;   /* the same as the text has it; different from kind inside an odd number of ! */
+    uint32_t kind_in_text;   /* the same, as written in the text; different from kind inside an odd number of ! */
     uint32_t form;           /* a bes_form */
     bool is_never_int32;     /* whether no value in an index of this kind makes it true */
     bool is_never_int64;

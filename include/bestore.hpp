@@ -9,8 +9,8 @@
 //     for (bestore::Node found : pin.query("MAIL:from==ann"))
 //         std::cout << found << '\n';
 //
-// What bestore.h says of each call holds here too: its errors, its cost, threads. A call that returns an error there throws a Refusal
-// here, which has the number that goes with the error. Nothing has changed then.
+// What bestore.h says about each call also holds here: its errors, its cost, threads. A call that returns an error there throws a
+// Refusal here, which has the number that goes with the error. Nothing has changed then.
 // Store, Pass, Pin, State, Prepared, Live and Witness can be moved and not copied. A Pin has to go before its pass, and a State before its Pin;
 // the pass may be moved meanwhile. Each thread has a Pass of its own, and an object takes one call at a time.
 // In a forked child the objects of the parent are dead: their calls throw BES_CLOSED, and their ends do nothing.
@@ -39,7 +39,7 @@ public:
     // Makes a node, and returns its number.
     Node create() { return add({BES_NEW_NODE}); }
 
-    // From here on, takes values of any kind. Before this call, a value of another kind than its name's index throws KindMismatch.
+    // From here on, takes values of any kind. Before this call, a value whose kind isn't that of its name's index throws KindMismatch.
     Change &any_kind() noexcept
     {
         bes_change_any_kind(&draft_);
@@ -298,8 +298,8 @@ public:
         });
     }
 
-    // Closes the store by its last pass, which is then closed, and returns the whole journal as text. Throws BES_IN_USE if another pass
-    // is open; the pass is as it was then.
+    // Closes the store through its last pass, which is then closed, and returns the whole journal as text. Throws BES_IN_USE if another
+    // pass is open; the pass is as it was then.
     std::string finish()
     {
         return detail::whole<std::string>(1 << 16, detail::Place::none, [&](char *text, std::size_t room, std::uint64_t *count) {

@@ -315,7 +315,7 @@ static inline uint32_t bes_batch_remove_index(bes_batch *batch, const char *name
 }
 
 /* Lets other threads run `turns` times. Returns how many times they may run before the next try: twice as many, up to 1,024. If two
- * passes write in turn, each waits for what the other has just written; so one that tries in vain lets the other go on writing. */
+ * passes write in turn, each waits for what the other has just written; so one whose try fails lets the other go on writing. */
 static inline unsigned bes_stand_back(unsigned turns)
 {
     for (unsigned i = 0; i < turns; i++)

@@ -35,7 +35,7 @@ inline unsigned generation()
 // Whether what was made at this generation belongs to this process.
 inline bool is_ours(unsigned made_in) noexcept { return made_in == forks.load(std::memory_order_relaxed); }
 
-// A handle of the library, which stays in its place when the object that has it is moved, and is closed with that object.
+// A handle of the library. It stays in place when the object that owns it is moved, and is closed with that object.
 template <class T, std::uint32_t (*close)(T *)> class Handle {
 public:
     Handle() : handle_(nullptr, Closes{generation()}) { handle_.reset(new T()); }
@@ -293,7 +293,7 @@ public:
 
     // Returns what refresh() does, but calls bes_refresh_changed, which reads what was written since the last refresh, and checks
     // only those nodes. That takes less time if the answer has 96 nodes or more and few were written; writes of other passes are
-    // BES_BUSY meanwhile. Otherwise, or in another store than at the last refresh, it asks the whole query.
+    // BES_BUSY meanwhile. Otherwise, or if the last refresh was in another store, it asks the whole query.
     Updates refresh_changed(Snapshot &snapshot);
 
 private:
@@ -470,7 +470,8 @@ public:
     template <class T> std::optional<T> get(Node node, const Attribute<T> &attribute) { return get<T>(node, attribute.name()); }
 
     // The attributes of these names of many nodes: for each name a list with the value of each node, empty if it has none. Takes one
-    // search in a tree for a node whose attributes of these names follow one another. In a change it takes a search for each value.
+    // search in a tree for each node, if its attributes of these names are next to each other. In a change it takes a search for each
+    // value.
     std::vector<std::vector<std::optional<Value>>> columns(const std::vector<Node> &nodes, const std::vector<std::string_view> &names)
     {
         std::vector<std::vector<std::optional<Value>>> columns(names.size(), std::vector<std::optional<Value>>(nodes.size()));
@@ -625,7 +626,7 @@ private:
 
     std::uint64_t number_ = 0;
     std::unique_ptr<bes_pass, detail::Unpins> pass_;
-    std::uint64_t store_;        // which store it is of
+    std::uint64_t store_;        // which store it belongs to
     bes_draft *draft_ = nullptr; // of a change
 };
 

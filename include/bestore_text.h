@@ -278,7 +278,7 @@ static inline size_t bes_escape(const char *text, char *out, size_t room)
     return bes_put_text_(bes_escape_bytes, text, out, room);
 }
 
-/* Like bes_escape, but each letter matches in either case, as a BQuery does it: draft becomes [dD][rR][aA][fF][tT]. The result is
+/* Like bes_escape, but each letter matches in either case, like in a BQuery: draft becomes [dD][rR][aA][fF][tT]. The result is
  * a pattern, for == and !=.
  * [out] out      12 times the text's length and 1 suffice */
 static inline size_t bes_any_case(const char *text, char *out, size_t room)

@@ -13,7 +13,7 @@ namespace bestore {
 struct Comparison {
     std::string name;
     query_op op;
-    std::string value;  // as the query has it, with its backslashes
+    std::string value;  // as written in the query, with its backslashes
     std::size_t offset; // of its first byte in the text
     std::size_t length; // how many bytes it has there
 };

@@ -26,7 +26,7 @@ namespace detail {
 // What the number that goes with an error counts: bytes of a query's text, bytes of a batch, items or operations.
 enum class Place { none, byte, batch_byte, item, operation };
 
-// Whether the error comes with a place, in a call that has such places.
+// Whether this error comes with a place, in a call that can report such places.
 inline bool has_place(std::uint32_t error, Place place)
 {
     switch (error) {
@@ -55,7 +55,7 @@ inline bool has_place(std::uint32_t error, Place place)
 
 } // namespace detail
 
-// What a program can do about an error, as bestore.h has it.
+// What a program can do about an error, as in bestore.h.
 enum class ErrorClass : std::uint32_t {
     none = BES_CLASS_NONE,
     retry = BES_CLASS_RETRY,
@@ -185,7 +185,7 @@ using Raw = std::vector<std::uint8_t>;
 // A value of an attribute.
 using Value = std::variant<std::string, std::int32_t, std::int64_t, std::uint32_t, std::uint64_t, Mime, Raw>;
 
-// An attribute of a node, as it is listed.
+// An attribute of a node, in a list.
 struct NamedValue {
     std::string name;
     Value value;
@@ -422,7 +422,7 @@ enum class Action : std::uint32_t {
 // An operation of a batch, read back.
 struct Operation {
     Action action;
-    Node node;                  // of new_node: the node that it made if the batch is of the journal, or was made by a Change
+    Node node;                  // for new_node: the node that it made, if the batch comes from the journal or from a Change
     std::string name;           // empty if the operation has none
     std::optional<Kind> kind;   // of the value or the index
     std::optional<Value> value; // of set

@@ -34,8 +34,8 @@ class ConnectedChange(Change):
         return self._batch
 
     def _collecting(self, node: Optional[int] = None) -> Batch:
-        """The batch, for one more operation, on this node if one is given. `OtherVolume` if the node is in another volume
-        than the earlier operations."""
+        """The batch, for one more operation, on this node if one is given. Raises `OtherVolume` if the node isn't in the
+        volume of the earlier operations."""
         if not self._snapshot._is_pinned:
             raise NotPinned()
         if len(self._batch) >= MOST_OPERATIONS:

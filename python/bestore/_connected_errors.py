@@ -81,7 +81,7 @@ class TimedOut(BrokenConnection, TimeoutError):
 
 
 class ProtocolError(BrokenConnection):
-    """The server sent a line that isn't of the protocol, or speaks another version of it."""
+    """The server sent a line that doesn't follow the protocol, or speaks another version of it."""
 
 
 class LineTooLong(ServerError):

@@ -139,7 +139,7 @@ class Connection:
         elif isinstance(error, OSError):
             reason = f"the connection failed: {error}"
         else:
-            failed, reason = ProtocolError, f"the server sent a line that isn't of the protocol: {error}"
+            failed, reason = ProtocolError, f"the server sent a line that doesn't follow the protocol: {error}"
         self.drop(reason)
         raise failed(self.path, reason, may_be_done) from (None if reason == _CLOSED or failed is TimedOut else error)
 

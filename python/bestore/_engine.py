@@ -1,5 +1,5 @@
-"""What needs the extension and the library: handles, and batches that are built faster. A store in this process imports it; a client of
-a server doesn't."""
+"""The parts that need the extension and the library: handles, and batches that are built faster. A store in this process imports it; a
+client of a server doesn't."""
 
 from __future__ import annotations
 
@@ -39,7 +39,7 @@ class NativeBatch(_native.Batch, Batch):
 
     @property
     def _operations(self) -> List[Operation]:
-        """The operations, as the library takes them."""
+        """The operations, in the form that the library takes."""
         return list((Operation * len(self)).from_buffer_copy(self._raw))
 
 

@@ -14,7 +14,7 @@ if TYPE_CHECKING:
 
 
 class LocalChange(Change):
-    """A change on a version, by which attributes are read as the collected operations leave them."""
+    """A change on a version. It reads attributes as the collected operations leave them."""
 
     _snapshot: LocalVersion
 

@@ -106,7 +106,7 @@ class Fewer(SavedError):
 
 
 class SqliteError(SavedError):
-    """Another error of SQLite, which is the `__cause__`."""
+    """Another SQLite error, which is the `__cause__`."""
 
     error_class = ErrorClass.GONE
 
@@ -232,7 +232,7 @@ def _code(error: sqlite3.Error) -> Optional[int]:
 
 
 def of_sqlite(path: str, error: sqlite3.Error) -> SavedError:
-    """The file's error for an error of SQLite."""
+    """The file's error for an SQLite error."""
     code = _code(error)
     if code in (_BUSY, _LOCKED):
         return Held(path)

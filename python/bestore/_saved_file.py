@@ -1,4 +1,4 @@
-"""The file of a store: a database of SQLite with the last state and the entries since. docs/KEPT.md has the format."""
+"""The file of a store: an SQLite database with the last state and the entries since then. docs/KEPT.md has the format."""
 
 from __future__ import annotations
 

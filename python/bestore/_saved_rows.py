@@ -12,7 +12,7 @@ from .local import LocalPass
 from .operations import BEGINNING, MAKE_INDEX, MOST_OPERATIONS, NEW, REMOVE, REMOVE_INDEX, SET, UNSET, Batch
 from .values import KIND_OF, RANGES
 
-_RAW = struct.Struct("=2I2Q4I")  # an operation as the library has it
+_RAW = struct.Struct("=2I2Q4I")  # an operation in the library's form
 _NODE, _NODE_LENGTH, _CODE_NUMBER = struct.Struct("<Q"), struct.Struct("<QB"), struct.Struct("<IQ")
 _MORE = bytes(_CODE_NUMBER.size)  # after a batch, so that its last value can be read as a number
 _NUMBERS, _CODES = frozenset(map(int, RANGES)), frozenset(KIND_OF)

@@ -28,7 +28,7 @@ class ShelfChange(Change):
         self.volume = volume
         """The volume that is written, once it is known."""
         self._within: Optional[Change] = None
-        self._early: List[Callable[[Change], None]] = []  # what is done about indices before the volume is known
+        self._early: List[Callable[[Change], None]] = []  # operations on indices before the volume is known
 
     @property
     def _count(self) -> int:

@@ -86,7 +86,7 @@ def operations_of(batch: Batch) -> List[List[object]]:
     return written
 
 
-# What reads a reply raises ValueError, KeyError, TypeError or an `Error` if the reply isn't as the protocol has it.
+# The functions that read a reply raise ValueError, KeyError, TypeError or an `Error` if the reply doesn't follow the protocol.
 
 
 def read_value(value: object) -> Typed:

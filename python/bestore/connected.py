@@ -67,7 +67,7 @@ TIMEOUT = 60.0
 _AGAIN = 0.05  # seconds after which a write is repeated
 _WORDS = 512  # of a page
 _MOST_WAITED = 30.0  # seconds that the server waits by itself
-_MOST_NODES = 1 << 14  # of such a request, which then is no line that is too long
+_MOST_NODES = 1 << 14  # of such a request, so that its line isn't too long
 
 
 class Server(NamedTuple):
@@ -325,7 +325,7 @@ class ConnectedPass(LockOwner, ThreadPass):
             raise Disconnected(self.path, "the server was restarted")
 
     def _connect(self) -> None:
-        """Connects, and learns what the server says of itself."""
+        """Connects, and asks the server about itself."""
         connection = Connection(self._socket_path, self._timeout, partial(_take_push, self._watches))
         with self._lock:
             self._connection, self._has_pin = connection, False

@@ -63,7 +63,7 @@ class NoVolume(Error):
 
 
 class OtherVolume(Error, ValueError):
-    """An operation names a node of another volume than the one that is written. A write is in one volume."""
+    """An operation names a node that isn't in the volume that is written. Each write is in one volume."""
 
     def __init__(self, volume: int, operation: Optional[int]) -> None:
         super().__init__(volume, operation)
@@ -73,7 +73,7 @@ class OtherVolume(Error, ValueError):
         """The operation, from 0."""
 
     def __str__(self) -> str:
-        return (f"a node is in another volume than {self.volume}, which is written (operation {self.operation}, counted from 0); "
+        return (f"a node isn't in volume {self.volume}, which is written (operation {self.operation}, counted from 0); "
                 "a batch has nodes of one volume")
 
 

@@ -276,7 +276,7 @@ BEGINNING = b"BEB\x01"
 _WITH_NODE, _WITH_NAME, _WITH_CODE = (NEW, REMOVE, SET, UNSET), (SET, UNSET, MAKE_INDEX, REMOVE_INDEX), (SET, MAKE_INDEX)
 _KIND_NODE, _CODE, _CODE_NUMBER = struct.Struct("<BQ"), struct.Struct("<I"), struct.Struct("<IQ")
 _BYTES = [bytes([byte]) for byte in range(256)]
-_RAW = struct.Struct("=2I2Q4I")  # an operation as the library has it
+_RAW = struct.Struct("=2I2Q4I")  # an operation in the library's form
 
 
 class _Reader:
@@ -304,7 +304,7 @@ class _Reader:
         if self._data[:3] != BEGINNING[:3]:
             raise BadBytes(0, "they don't begin with BEB")
         if self._data[3:4] != BEGINNING[3:]:
-            raise BadBytes(3, "the format has another version than 1")
+            raise BadBytes(3, "the format has a version other than 1")
         self._at = len(BEGINNING)
 
     def read_count(self) -> int:

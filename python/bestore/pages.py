@@ -92,10 +92,10 @@ class Cursor:
     def check_fits(self, order: Order, check: int) -> None:
         """Raises `BadCursor` if it belongs to another order or another query."""
         if self.order != order:
-            raise bad_cursor(f"the cursor is of the order by {self.order}, and this page is in the "
+            raise bad_cursor(f"the cursor belongs to the order by {self.order}, but this page is in the "
                              f"order by {order}: keep the order, or begin without a cursor")
         if self.check != check:
-            raise bad_cursor("the cursor is of another query: ask the query that it came from, "
+            raise bad_cursor("the cursor belongs to another query: ask the query that it came from, "
                              "or begin without a cursor")
 
     def of_other_kind(self, kind: Kind) -> BadCursor:

@@ -1,4 +1,4 @@
-"""Stores that are kept in a file of SQLite.
+"""Stores that are kept in an SQLite file.
 
     from bestore import saved
 

@@ -253,8 +253,8 @@ def _of_volume(volume: int) -> Iterator[None]:
 
 
 def _position_in(volume: int, after: Cursor) -> Cursor:
-    """The position in a volume of a shelf's cursor. Of the nodes with the cursor's value those of lower volumes come before it in the
-    ascending order, and those of higher volumes after it. No node has the number 2^64 - 1 or 0."""
+    """The position in a volume of a shelf's cursor. Among the nodes with the cursor's value, those of lower volumes come before it in
+    the ascending order, and those of higher volumes after it. No node has the number 2^64 - 1 or 0."""
     if after.node is None:
         return after
     own, number = divmod(after.node, NUMBERS)

@@ -163,7 +163,7 @@ class Pass(Owner, ABC):
 
     @abstractmethod
     def finish(self) -> str:
-        """Closes the store by its last pass, which is then closed, and returns the whole journal, as `journal` does. For each
+        """Closes the store through its last pass, which is then closed, and returns the whole journal, as `journal` does. For each
         pass it has exactly the writes that its calls have committed, at their commit numbers. Raises `InUse` if another pass is
         open, and so always for a kept store, which has a pass of its own; or `NoMemory`. The pass is as it was after either."""
 

@@ -62,7 +62,7 @@ class Int32(Integer):
 
 
 class Int64(Integer):
-    """An integer of 64 bits with a sign, as a plain int is."""
+    """An integer of 64 bits with a sign, like a plain int."""
 
     kind = Kind.INT64
 
@@ -153,5 +153,5 @@ def typed_value(code: int, number: int, value: bytes) -> Typed:
 
 
 def kind_mismatch(name: str, kind: int, index_kind: int) -> WrongKind:
-    """The error of an attribute whose value has another kind than the index of its name; both kinds are given as codes."""
+    """The error of an attribute whose kind isn't that of its name's index; both kinds are given as codes."""
     return wrong_kind(name, Kind(kind).name, Kind(index_kind).name)

@@ -174,7 +174,7 @@ class Version(ABC):
                 raise TypeError("start is a number of a node, and an order goes on from a cursor: after=page.cursor")
             return self._page_of(asked, Order(by, bool(descending)), cursor_of(after), limit)
         if descending or after is not None:
-            raise TypeError('an order needs the name of an index, as by="size"')
+            raise TypeError('an order needs the name of an index, such as by="size"')
         if limit is None and start <= 0:
             return self._nodes_of(asked)
         return self._first_of(asked, max(operator.index(start), 0), 2**64 if limit is None else limit)
@@ -283,8 +283,8 @@ class Version(ABC):
 
     @abstractmethod
     def indices(self) -> Dict[str, Kind]:
-        """The indices: a dict of names and kinds, by ascending names. With several volumes those that each one has, with one
-        kind."""
+        """The indices: a dict of names and kinds, by ascending names. With several volumes, those that every volume has,
+        with the same kind."""
 
     def partial_indices(self) -> Dict[str, List[int]]:
         """The indices that some volumes lack, or have with another kind: a dict from names to the volumes that have them."""
@@ -350,7 +350,7 @@ class Version(ABC):
                 raise no_room(most)
             return self._page_of_rows(query, list(names), Order(by, bool(descending)), cursor_of(after), most)
         if descending or after is not None:
-            raise TypeError('an order needs the name of an index, as by="size"')
+            raise TypeError('an order needs the name of an index, such as by="size"')
         if most < 0:
             raise ValueError(f"{most} rows are asked for")
         return self._rows_of(query, list(names), max(operator.index(first), 0), most)

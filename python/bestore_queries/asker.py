@@ -130,7 +130,7 @@ class Counted(NamedTuple):
 
 
 class Written(NamedTuple):
-    """A report: the write is done, or why it isn't."""
+    """A report: the write has been made, or why it hasn't."""
 
     write: Write
     fault: Optional[str]

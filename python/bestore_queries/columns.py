@@ -170,7 +170,7 @@ def _typed_text(text: str) -> str:
     except UnicodeEncodeError:
         raise NotAValue("the text has half of a character") from None
     if length > 255:
-        raise NotAValue(f"the text has {length} bytes, and 255 is the most")
+        raise NotAValue(f"the text has {length} bytes; the limit is 255")
     return text
 
 

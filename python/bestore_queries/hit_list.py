@@ -289,7 +289,7 @@ class HitList(tk.Frame):
 
     def _open(self) -> str:
         if len(self.selection) > MOST_OPENED:
-            self._actions.warn(f"{len(self.selection):,} files are selected, and {MOST_OPENED} is the most to open at a time")
+            self._actions.warn(f"{len(self.selection):,} files are selected, and at most {MOST_OPENED} can be opened at a time")
         else:
             hits = [self._hits.get(node) for node in self.selection.nodes]
             self._actions.open([hit for hit in hits if hit is not None])

@@ -154,7 +154,7 @@ def fault_of(error: bestore.Error, query: TypedQuery, indices: Mapping[str, best
     if isinstance(error, bestore.NotCovered):
         return _not_covered(error, query, indices)
     return Fault({
-        bestore.TooLong: "the query is too long: 4,096 bytes are the most", bestore.TooMany: "more than 256 comparisons",
+        bestore.TooLong: "the query is too long: the limit is 4,096 bytes", bestore.TooMany: "more than 256 comparisons",
         bestore.TooDeep: "more than 64 ( or ! within one another",
     }.get(type(error), error.summary), _place(error, query))
 

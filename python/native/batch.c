@@ -1,4 +1,4 @@
-/* Batches: operations, and the bytes of their names and values, as the library takes them. */
+/* Batches: operations, and the bytes of their names and values, in the form that the library takes. */
 #include "native.h"
 
 #include <string.h>

@@ -25,7 +25,7 @@ static uint32_t begin_draft(Reader *reader, Handle *user)
     return answer;
 }
 
-/* An operation that is to be collected, with the bytes of its name and value, and what the library returns for it. */
+/* An operation to collect, with the bytes of its name and value, and what the library returns for it. */
 typedef struct Collected {
     bes_operation operation;
     const uint8_t *name, *value;

@@ -82,7 +82,7 @@ typedef struct Known {
     PyObject *typed;         /* a class of pairs */
     PyObject *batch;         /* the class */
     PyObject *user;          /* the class of passes whose writes need nothing else */
-    PyObject *wrong_kind;    /* makes the error of a value of another kind than its index */
+    PyObject *wrong_kind;    /* makes the error of a value whose kind isn't its index's */
     PyObject *kinds[KINDS];  /* by the order of kind_index */
 } Known;
 

@@ -20,7 +20,7 @@ PyObject *refused_at(uint32_t answer, uint64_t carried, const char *listed)
     return raise_refusal(Py_BuildValue("(IKOz)", answer, (unsigned long long)carried, Py_None, listed));
 }
 
-/* Raises the error of an attribute whose value has another kind than the index of its name. */
+/* Raises the error of an attribute whose kind isn't that of its name's index. */
 PyObject *refused_kind(PyObject *name, uint32_t kind, uint32_t index_kind)
 {
     PyObject *error = PyObject_CallFunction(known.wrong_kind, "OII", name, kind, index_kind);

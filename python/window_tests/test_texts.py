@@ -117,7 +117,7 @@ class Typed(LocalTime):
              28),
             ("size==1 ||" * 256 + "size==1", "more than 256 comparisons", None),
             ("(" * 65, "more than 64 ( or ! within one another", None),
-            ("size==1" + " " * 5000, "the query is too long: 4,096 bytes are the most", None),
+            ("size==1" + " " * 5000, "the query is too long: the limit is 4,096 bytes", None),
             ("name==\udcff", "half of a character can't be part of a query", 6),
         ]:
             self.assertEqual(self.fault(typed), (message, column), typed)

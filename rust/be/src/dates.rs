@@ -144,7 +144,7 @@ struct Moment {
     unit: Unit,
 }
 
-/// A moment, if the words have this form, or why there is none.
+/// A moment, if the words have this form, or the reason why they don't give one.
 type Read = Result<Option<Moment>, Option<&'static str>>;
 
 /// The time that a typed date means, by this clock: a date is the whole day, a month the whole month, a time of day a minute.

@@ -206,7 +206,7 @@ fn value_fault(kind: &str) -> String {
     }
 }
 
-/// Prints on standard error. There is nothing to be done if that fails.
+/// Prints on standard error. If that fails, nothing can be done about it.
 pub fn complain(text: &str) {
     let _ = writeln!(io::stderr(), "be: {text}");
 }

@@ -54,7 +54,7 @@ impl Output {
         }
     }
 
-    /// The name as it is printed.
+    /// The printed form of the name.
     pub fn name<'a>(&self, name: &'a str) -> Cow<'a, str> {
         match self.escapes {
             true => escaped(name).into(),
@@ -62,7 +62,7 @@ impl Output {
         }
     }
 
-    /// The value as it is printed: a text, digits, or bytes.
+    /// The printed form of the value: a text, digits, or bytes.
     pub fn value(&self, value: &Value) -> Vec<u8> {
         match value.as_bytes() {
             Some(bytes) if !self.escapes => bytes.to_vec(),
@@ -117,7 +117,7 @@ impl Output {
         self.line(&path)
     }
 
-    /// The path as it is printed.
+    /// The printed form of the path.
     pub fn path_bytes(&self, path: &Path) -> Vec<u8> {
         let bytes = path.as_os_str().as_bytes();
         match (self.escapes, path.to_str()) {

@@ -70,8 +70,8 @@ impl Client {
     /// If an attribute is set, this asks the server which indices there are, which takes one more request.
     ///
     /// # Errors
-    /// Those of the closure; [`Error::KindMismatch`], if an index takes another kind than that of an attribute of its name, unless the
-    /// closure has called [`any_kind`](Change::any_kind); [`Error::Refused`].
+    /// Those of the closure; [`Error::KindMismatch`], if an attribute's kind isn't that of its name's index, unless the closure has
+    /// called [`any_kind`](Change::any_kind); [`Error::Refused`].
     pub fn change<T>(&mut self, mut change: impl FnMut(&mut Change<'_>) -> Result<T>) -> Result<T> {
         let mut left = 1_000_u32;
         let until = self.repeats_until().filter(|_| !self.is_pinned);

@@ -114,7 +114,7 @@ fn pushed(line: &[u8]) -> Result<Push> {
     match (read.watch, read.id, read.error) {
         (None, None, Some(refusal)) => Err(Error::Refused(refusal)),
         (Some(_), ..) => serde_json::from_slice(line).map_err(bad),
-        _ => Err(bad("the reply is of no request")),
+        _ => Err(bad("the reply belongs to no request")),
     }
 }
 
@@ -263,7 +263,7 @@ impl Client {
         match (line.ok, line.error) {
             (_, Some(refusal)) => Ok(Some(Err(Error::Refused(refusal)))),
             (Some(ok), None) if line.id == Some(id) => Ok(Some(Ok(serde_json::from_str(ok.get()).map_err(bad)?))),
-            _ => Err(bad("the reply is of another request")),
+            _ => Err(bad("the reply belongs to another request")),
         }
     }
 

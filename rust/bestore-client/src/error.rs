@@ -19,7 +19,7 @@ pub enum Error {
     Io(io::Error),
     /// The server closed the connection. A write may have been made or not.
     Closed,
-    /// The server sent a line that isn't of the protocol.
+    /// The server sent a line that doesn't follow the protocol.
     BadLine(String),
     /// The server didn't reply within this time, and the connection is closed. A write may have been made or not.
     TimedOut(Duration),
@@ -88,7 +88,7 @@ impl fmt::Display for Error {
             Error::Refused(refusal) => refusal.fmt(f),
             Error::Io(error) => write!(f, "the connection to the server: {error}"),
             Error::Closed => f.write_str("the server closed the connection"),
-            Error::BadLine(why) => write!(f, "the server sent a line that isn't of the protocol: {why}"),
+            Error::BadLine(why) => write!(f, "the server sent a line that doesn't follow the protocol: {why}"),
             Error::TimedOut(time) => write!(
                 f,
                 "the server didn't reply within {time:?}; whether a write was made is not known"

@@ -126,7 +126,7 @@ impl Batch {
         self.len() >= OPERATIONS
     }
 
-    /// Gives the batch a token, a text of the caller's choice by which the batch can be recognised later. It changes
+    /// Gives the batch a token, a text of the caller's choice that identifies the batch later. It changes
     /// neither the operations, nor [`to_bytes`](Self::to_bytes), nor `==`.
     pub fn set_token(&mut self, token: &str) -> &mut Self {
         self.token = Some(token.into());

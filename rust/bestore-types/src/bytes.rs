@@ -137,7 +137,7 @@ impl<'a> Reader<'a> {
                 return self.bad(
                     1,
                     if is_version {
-                        "the batch is of another version of the format; version 1 can be read"
+                        "the batch has another version of the format; version 1 can be read"
                     } else {
                         "the bytes don't begin with BEB, as those of a batch do"
                     },

@@ -179,11 +179,11 @@ impl fmt::Display for CursorFault {
             CursorFault::Text => f.write_str("this text isn't a cursor: it is cut off or changed"),
             CursorFault::OtherOrder { cursor, page } => write!(
                 f,
-                "the cursor is of the order by {cursor}, and this page is in the order by {page}: \
+                "the cursor belongs to the order by {cursor}, but this page is in the order by {page}: \
                  keep the order, or begin without a cursor"
             ),
             CursorFault::OtherQuery => f.write_str(
-                "the cursor is of another query: ask the query that it came from, or begin without a cursor",
+                "the cursor belongs to another query: ask the query that it came from, or begin without a cursor",
             ),
             CursorFault::OtherKind { name, cursor, index } => write!(
                 f,

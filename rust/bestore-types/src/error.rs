@@ -103,7 +103,7 @@ pub enum Error {
         /// How many there are.
         volumes: u32,
     },
-    /// An operation names a node of another volume than the one that is written.
+    /// An operation names a node that isn't in the volume that is written.
     OtherVolume {
         /// The volume that is written.
         volume: u32,
@@ -308,7 +308,7 @@ impl Error {
                 write!(f, "there is no volume {volume}; there are {volumes}, counted from 0")
             }
             Error::OtherVolume { volume, operation } => {
-                write!(f, "a node is in another volume than {volume}, which is written")?;
+                write!(f, "a node isn't in volume {volume}, which is written")?;
                 at_operation(f, operation)?;
                 f.write_str("; a batch has nodes of one volume")
             }

@@ -79,7 +79,7 @@ kinds! {
 }
 
 impl Kind {
-    /// The least value of an index of this kind. `None` if its values aren't integers.
+    /// The lowest value of an index of this kind. `None` if its values aren't integers.
     #[must_use]
     pub fn least(self) -> Option<i64> {
         match self {

@@ -59,7 +59,7 @@
 //!
 //! # Features
 //!
-//! - `saved`: the module `saved`, a store whose writes are kept in a file of SQLite.
+//! - `saved`: the module `saved`, a store whose writes are kept in an SQLite file.
 #![warn(missing_docs, missing_debug_implementations, rust_2018_idioms)]
 #![deny(unsafe_code)]
 

@@ -36,8 +36,8 @@ impl Snapshot<'_> {
     /// A page of a later snapshot goes on where the last one ended, whatever was written in between.
     ///
     /// # Errors
-    /// [`Error::NoOrder`]: there is no such index. [`Error::BadCursor`]: the cursor is of another order or query, or the index has
-    /// another kind now. [`Error::NoRoom`]: `most` is 0. Otherwise as [`query`](Self::query).
+    /// [`Error::NoOrder`]: there is no such index. [`Error::BadCursor`]: the cursor belongs to another order or query, or the
+    /// index has another kind now. [`Error::NoRoom`]: `most` is 0. Otherwise as [`query`](Self::query).
     pub fn page(&self, prepared: &Prepared, order: &Order, after: Option<&Cursor>, most: usize) -> Result<Page> {
         let check = prepared.check()?;
         let after = begin(order, check, after, most)?;

@@ -143,7 +143,7 @@ impl Live {
 
     /// Returns what [`refresh`](Self::refresh) does. It checks only the nodes that were written since the last refresh, and takes
     /// less time if the answer has 96 nodes or more and few were written. It reads the journal's entries since then, and
-    /// other passes get [`Error::Busy`] meanwhile. Otherwise, or in another store than at the last refresh, it asks the whole query.
+    /// other passes get [`Error::Busy`] meanwhile. Otherwise, or if the last refresh was in another store, it asks the whole query.
     ///
     /// # Errors
     /// Those of `refresh`.

@@ -159,7 +159,7 @@ impl<T: CloseHandle> Handle<T> {
 impl<T: CloseHandle> Drop for Handle<T> {
     fn drop(&mut self) {
         if self.birthplace.is_here() {
-            // SAFETY: `at` is of a box that was leaked by `new`, and nothing uses it any more.
+            // SAFETY: `at` comes from a box that `new` leaked, and nothing uses it any more.
             unsafe {
                 T::close(self.at.as_ptr());
                 drop(Box::from_raw(self.at.as_ptr()));
@@ -335,7 +335,7 @@ impl RawPass {
         check(code, 0).map(|()| witness)
     }
 
-    /// Joins a witness, if it is of the same store.
+    /// Joins a witness, if it belongs to the same store.
     pub(crate) fn join(&self, witness: &mut RawWitness) -> Answer<Option<u64>> {
         let mut seen = 0;
         if witness.store != self.store {

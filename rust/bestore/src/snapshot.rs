@@ -200,8 +200,8 @@ impl<'a> Snapshot<'a> {
     }
 
     /// Several attributes of many nodes: for each name a list with each node's value, or `None` if it has none. It
-    /// takes one search in a tree for a node whose attributes of these names follow one another, and less time than a
-    /// [`Snapshot::get`] for each.
+    /// takes one search in a tree for each node, if its attributes of these names are next to each other, and less
+    /// time than a [`Snapshot::get`] for each.
     ///
     /// # Errors
     /// [`Error::NameLength`], [`Error::HasNul`], [`Error::BadCount`] if there are more than 2^32 values, [`Error::Forked`].

@@ -38,7 +38,7 @@ impl Store {
         Ok(Pass::new(self.own()?.raw().another()?))
     }
 
-    /// Closes the store by its last clone, when no pass is open, and returns the whole journal as text, a line for each entry. For
+    /// Closes the store through its last clone, when no pass is open, and returns the whole journal as text, a line for each entry. For
     /// each pass it has exactly the writes that its calls have committed, at their commit numbers.
     ///
     /// # Errors

@@ -45,7 +45,7 @@ impl Comparing {
 pub(crate) struct Comparison<'a> {
     pub name: String,
     pub operator: Comparing,
-    /// As the text has it, without its quotes.
+    /// As written in the text, without its quotes.
     pub value: &'a str,
     /// The bytes at which the comparison begins and ends.
     pub offset: usize,

@@ -202,7 +202,7 @@ impl Kept {
         }
     }
 
-    /// Refuses a write for which there is no room, or which another server has to make.
+    /// Refuses a write if there is no room for it, or if another server has to make it.
     pub fn check_write(&self) -> Result<(), Failure> {
         let trouble = match self {
             Kept::File(files) => files.disk.trouble(),

@@ -724,7 +724,7 @@ fn what_is_no_log_is_refused() {
     for (change, why) in [
         (
             "UPDATE bestore_log SET log = 'another'",
-            "the database has another log than before",
+            "the database has a different log from before",
         ),
         (
             "UPDATE bestore_log SET last = 1",

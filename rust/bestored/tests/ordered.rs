@@ -144,7 +144,7 @@ fn a_cursor_of_another_page_is_refused() {
     let fault = |why: &str| format!(r#""name":"BadCursor","number":78,"message":"{why}","class":"mine""#);
     let other_order = |order: &str| {
         fault(&format!(
-            r#"the cursor is of the order by \"size\" ascending, and this page is in the order by {order}: {}"#,
+            r#"the cursor belongs to the order by \"size\" ascending, but this page is in the order by {order}: {}"#,
             "keep the order, or begin without a cursor"
         ))
     };
@@ -164,7 +164,7 @@ fn a_cursor_of_another_page_is_refused() {
     ];
     check_errors(&mut talk, &errors);
     let other = format!(r#""query":{{"query":"size>1","by":"size","after":"{cursor}"}}"#);
-    let why = "the cursor is of another query: ask the query that it came from, or begin without a cursor";
+    let why = "the cursor belongs to another query: ask the query that it came from, or begin without a cursor";
     talk.check(&other, &format!(r#""error":{{{}}}"#, fault(why)));
 }
 

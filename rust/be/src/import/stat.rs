@@ -79,7 +79,7 @@ impl fmt::Display for Identity {
     }
 }
 
-/// What lstat(2) says of a file.
+/// What lstat(2) says about a file.
 #[derive(Clone, Copy, Debug, PartialEq, Eq)]
 pub struct Stat {
     pub identity: Identity,

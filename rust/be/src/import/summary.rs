@@ -117,7 +117,7 @@ impl Summary {
         }
     }
 
-    /// Whether each file is in the store as it is.
+    /// Whether each file is in the store, up to date.
     pub fn is_whole(&self) -> bool {
         self.left == 0 && self.unread.is_empty() && self.refused.is_empty()
     }

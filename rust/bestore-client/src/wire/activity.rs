@@ -1,7 +1,7 @@
 //! Replies that describe what the server is doing.
 
 replies! {
-    /// Of `info`.
+    /// The reply to `info`.
     Info {
         /// The version of the server.
         pub server: String,
@@ -95,7 +95,7 @@ replies! {
         pub lag: u64,
     }
 
-    /// Of `clients`.
+    /// The reply to `clients`.
     Clients {
         /// The clients, by ascending numbers.
         pub clients: Vec<ClientInfo>,

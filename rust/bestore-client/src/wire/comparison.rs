@@ -53,7 +53,7 @@ impl Comparison {
     }
 }
 
-/// Of `text`.
+/// The reply to `text`.
 #[derive(Clone, Debug, Default, PartialEq, Eq, Serialize, Deserialize)]
 pub struct Comparisons {
     /// The comparisons, from left to right.

@@ -6,7 +6,7 @@ use std::collections::BTreeMap;
 use std::fmt;
 
 replies! {
-    /// Of `hello`.
+    /// The reply to `hello`.
     Hello {
         /// The version of the protocol.
         pub protocol: u64,
@@ -46,7 +46,7 @@ replies! {
         pub watches: u64,
     }
 
-    /// Of `batch`.
+    /// The reply to `batch`.
     Written {
         /// The volume that was written, if there are several.
         #[serde(default, skip_serializing_if = "Option::is_none")]
@@ -66,7 +66,7 @@ replies! {
         pub repeated: bool,
     }
 
-    /// Of `log`.
+    /// The reply to `log`.
     LogStatus {
         /// `leader` or `follower`.
         pub role: String,
@@ -84,7 +84,7 @@ replies! {
         pub trouble: Option<String>,
     }
 
-    /// A snapshot, and the number that the next node will have: of `pin` and `next`.
+    /// The reply to `pin` and `next`: a snapshot, and the number of the next node.
     Next {
         /// The snapshot.
         pub commit: u64,
@@ -98,7 +98,7 @@ replies! {
         pub nexts: Vec<u64>,
     }
 
-    /// Of `query`.
+    /// The reply to `query`.
     Hits {
         /// The snapshot.
         pub commit: u64,
@@ -119,7 +119,7 @@ replies! {
         pub more: Option<u64>,
     }
 
-    /// Of `query` in the order of an index, or for any nodes.
+    /// The reply to `query` in the order of an index, or for any nodes.
     Page {
         /// The snapshot.
         pub commit: u64,
@@ -139,7 +139,7 @@ replies! {
         pub cursor: Option<String>,
     }
 
-    /// Of `get`.
+    /// The reply to `get`.
     Value {
         /// The snapshot.
         pub commit: u64,
@@ -150,7 +150,7 @@ replies! {
         pub value: Option<Json>,
     }
 
-    /// Of `columns`.
+    /// The reply to `columns`.
     Rows {
         /// The snapshot.
         pub commit: u64,
@@ -161,7 +161,7 @@ replies! {
         pub rows: Vec<Vec<Option<Json>>>,
     }
 
-    /// Of `attributes`.
+    /// The reply to `attributes`.
     Attributes {
         /// The snapshot.
         pub commit: u64,
@@ -172,7 +172,7 @@ replies! {
         pub attributes: BTreeMap<String, Json>,
     }
 
-    /// Of `indices`.
+    /// The reply to `indices`.
     Indices {
         /// The snapshot.
         pub commit: u64,
@@ -186,7 +186,7 @@ replies! {
         pub partial: BTreeMap<String, Vec<u32>>,
     }
 
-    /// Of `nodes`.
+    /// The reply to `nodes`.
     Nodes {
         /// The snapshot.
         pub commit: u64,
@@ -200,7 +200,7 @@ replies! {
         pub more: Option<u64>,
     }
 
-    /// Of `explain`.
+    /// The reply to `explain`.
     Explained {
         /// The snapshot.
         pub commit: u64,
@@ -211,7 +211,7 @@ replies! {
         pub text: String,
     }
 
-    /// Of `watch`.
+    /// The reply to `watch`.
     Watched {
         /// The number of the watch.
         pub watch: u64,
@@ -228,7 +228,7 @@ replies! {
         pub more: bool,
     }
 
-    /// Of `status`.
+    /// The reply to `status`.
     Status {
         /// All pages.
         pub pages: u64,
@@ -281,7 +281,7 @@ replies! {
         pub volume: Option<u32>,
     }
 
-    /// Of `journal`.
+    /// The reply to `journal`.
     Journal {
         /// How many entries the journal has.
         pub length: u64,
@@ -302,7 +302,7 @@ replies! {
         pub operations: Operations,
     }
 
-    /// Of `state`.
+    /// The reply to `state`.
     State {
         /// The snapshot.
         pub commit: u64,

@@ -36,7 +36,7 @@ parameters! {
     /// The parameters of a command that has none.
     Nothing {}
 
-    /// Of `hello`.
+    /// The parameters of `hello`.
     Greeting {
         /// The version of the protocol that the client speaks.
         #[serde(default, deserialize_with = "given", skip_serializing_if = "Option::is_none")]
@@ -46,7 +46,7 @@ parameters! {
         pub visit: bool,
     }
 
-    /// Of `batch`.
+    /// The parameters of `batch`.
     Write {
         /// The operations.
         #[serde(with = "asked_operations")]
@@ -65,13 +65,13 @@ parameters! {
         pub run: Option<String>,
     }
 
-    /// Of `attributes`.
+    /// The parameters of `attributes`.
     Node {
         /// The node.
         pub node: u64,
     }
 
-    /// Of `nodes`.
+    /// The parameters of `nodes`.
     NodesFrom {
         /// The lowest node.
         #[serde(default)]
@@ -81,13 +81,13 @@ parameters! {
         pub limit: Option<u64>,
     }
 
-    /// Of `unwatch` and `refresh`.
+    /// The parameters of `unwatch` and `refresh`.
     Watching {
         /// The number of the watch.
         pub watch: u64,
     }
 
-    /// Of `journal`.
+    /// The parameters of `journal`.
     JournalFrom {
         /// The index of the first entry.
         #[serde(default)]
@@ -100,7 +100,7 @@ parameters! {
         pub volume: Option<u32>,
     }
 
-    /// Of `log`.
+    /// The parameters of `log`.
     OfLog {
         /// The entry of the log that the server has to have.
         #[serde(default, deserialize_with = "given", skip_serializing_if = "Option::is_none")]
@@ -110,7 +110,7 @@ parameters! {
         pub within: Option<u64>,
     }
 
-    /// Of `state`.
+    /// The parameters of `state`.
     From {
         /// The index of the first batch.
         #[serde(default)]
@@ -120,13 +120,13 @@ parameters! {
         pub volume: Option<u32>,
     }
 
-    /// Of `kick`.
+    /// The parameters of `kick`.
     Kick {
         /// The number of the client, from the reply to `clients`.
         pub client: u64,
     }
 
-    /// Of `reach`.
+    /// The parameters of `reach`.
     Reach {
         /// How many entries the journal has to have.
         pub commit: Numbers,
@@ -187,7 +187,7 @@ impl<'de> Visitor<'de> for NumbersVisitor {
 }
 
 parameters_with_texts! {
-    /// Of `query`.
+    /// The parameters of `query`.
     Query {
         /// The query.
         #[serde(borrow)]
@@ -221,21 +221,21 @@ parameters_with_texts! {
         pub any: Option<u64>,
     }
 
-    /// Of `explain` and `text`.
+    /// The parameters of `explain` and `text`.
     QueryText {
         /// The query.
         #[serde(borrow)]
         pub query: Cow<'a, str>,
     }
 
-    /// Of `watch`.
+    /// The parameters of `watch`.
     Watch {
         /// The query, if its nodes are to be watched.
         #[serde(borrow, default, deserialize_with = "given", skip_serializing_if = "Option::is_none")]
         pub query: Option<Cow<'a, str>>,
     }
 
-    /// Of `get`.
+    /// The parameters of `get`.
     Get {
         /// The node.
         pub node: u64,
@@ -244,7 +244,7 @@ parameters_with_texts! {
         pub name: Cow<'a, str>,
     }
 
-    /// Of `columns`.
+    /// The parameters of `columns`.
     ColumnsOf {
         /// The nodes.
         pub nodes: Vec<u64>,

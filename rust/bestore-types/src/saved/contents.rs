@@ -50,7 +50,7 @@ fn batch(place: Place, bytes: &[u8]) -> Result<Batch> {
 ///
 /// # Errors
 /// [`Error::Foreign`], [`Error::Newer`], [`Error::Held`], [`Error::Damaged`], [`Error::CutOff`], [`Error::Differs`],
-/// [`Error::Sqlite`]: of a folder in [`Error::OfVolume`]. [`Error::Folder`], [`Error::NoFile`].
+/// [`Error::Sqlite`]; for a folder these are in [`Error::OfVolume`]. [`Error::Folder`], [`Error::NoFile`].
 pub fn read(path: impl AsRef<Path>) -> Result<Vec<Contents>> {
     read_until(path, &BTreeMap::new())
 }

@@ -16,7 +16,7 @@ pub enum Place {
     Token(u64),
     /// What the file says about its state.
     About,
-    /// The pages of SQLite.
+    /// SQLite's pages.
     Structure,
 }
 
@@ -36,7 +36,7 @@ impl fmt::Display for Place {
             Place::State(index) => write!(f, "batch {index} of the state"),
             Place::Entry(number) => write!(f, "entry {number}"),
             Place::Token(number) => write!(f, "the token of entry {number}"),
-            Place::About => f.write_str("what the file says of its state"),
+            Place::About => f.write_str("what the file says about its state"),
             Place::Structure => f.write_str("the structure of SQLite's pages"),
         }
     }
@@ -120,7 +120,7 @@ pub enum Error {
         /// The store's error.
         error: crate::Error,
     },
-    /// An error of SQLite.
+    /// An SQLite error.
     Sqlite {
         /// The file.
         path: PathBuf,

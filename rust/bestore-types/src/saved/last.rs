@@ -50,7 +50,7 @@ impl LastEntry {
         (text == line(id, number)).then_some(number)
     }
 
-    /// Begins with this entry. `None`: the number can't be kept, as on a full disk.
+    /// Begins with this entry. `None`: the number can't be kept, for example because the disk is full.
     pub(super) fn begin(path: &Path, id: u64, number: u64) -> Option<Self> {
         let (path, wal) = (beside(path, "-last"), beside(path, "-wal"));
         let file = OpenOptions::new()

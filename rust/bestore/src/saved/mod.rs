@@ -1,6 +1,6 @@
 //! Stores whose writes are kept in a file.
 //!
-//! The store is in memory, and each accepted transaction goes into a file of SQLite before its call returns. Opening the file
+//! The store is in memory, and each accepted transaction goes into an SQLite file before its call returns. Opening the file
 //! rebuilds the store.
 //!
 //! ```
@@ -25,8 +25,8 @@
 //! A write that has returned is in the file, even after `kill -9`. A snapshot may show a write before that. The file's
 //! format, and everything that is promised, are in `docs/KEPT.md` of the repository.
 //!
-//! When a commit fails, as on a full disk, the writes that are waiting for it return [`NotSaved`](crate::Error::NotSaved), and later
-//! ones [`Stopped`](crate::Error::Stopped). Reads go on.
+//! When a commit fails, such as on a full disk, the writes that are waiting for it return [`NotSaved`](crate::Error::NotSaved), and
+//! later ones [`Stopped`](crate::Error::Stopped). Reads go on.
 //!
 //! Opening and [`Saved::compact`] rewrite the state, so the file doesn't grow for ever.
 

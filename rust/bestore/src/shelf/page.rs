@@ -21,8 +21,8 @@ impl<'a> ShelfSnapshot<'a> {
     /// as much as a page of each volume.
     ///
     /// # Errors
-    /// Those of [`Snapshot::page`], with the volume. [`Error::NoOrder`] for the first volume that lacks the index, or has it with
-    /// another kind than the first one.
+    /// Those of [`Snapshot::page`], with the volume. [`Error::NoOrder`] for the first volume that lacks the index, or whose index
+    /// has a different kind from the first volume's.
     pub fn page(&self, prepared: &Prepared, order: &Order, after: Option<&Cursor>, most: usize) -> Result<Page> {
         if let [only] = self.volumes() {
             return only.page(prepared, order, after, most);
@@ -44,7 +44,7 @@ impl<'a> ShelfSnapshot<'a> {
         })
     }
 
-    /// An error if the volumes don't have the index with one kind.
+    /// An error unless all volumes have the index, with the same kind.
     fn check_kinds(&self, order: &Order) -> Result<()> {
         let mut first = None;
         for (volume, snapshot) in (0..).zip(self.volumes()) {
@@ -212,8 +212,8 @@ fn keyed_in(volume: u32, number: u64, value: Value) -> Option<Keyed> {
     Some(Keyed { key, value, node })
 }
 
-/// The position in a volume of a shelf's cursor. Of the nodes with the cursor's value those of lower volumes come before it in the
-/// ascending order, and those of higher volumes after it.
+/// The position in a volume of a shelf's cursor. Among the nodes with the cursor's value, those of lower volumes come before it in
+/// the ascending order, and those of higher volumes after it.
 fn of_volume(after: &Cursor, volume: u32) -> Cursor {
     match after.node().map(Node::from) {
         None => after.clone(),

@@ -134,7 +134,7 @@ impl<'a> ShelfSnapshot<'a> {
         counts.sum()
     }
 
-    /// The comparisons of a query that are never true, by the indices that each volume has with one kind.
+    /// The comparisons of a query that are never true, judging by the indices that every volume has with the same kind.
     ///
     /// # Errors
     /// Those of [`Snapshot::hints`].
@@ -208,14 +208,14 @@ impl<'a> ShelfSnapshot<'a> {
         Ok(indices)
     }
 
-    /// The kind of an index that each volume has with one kind.
+    /// The kind of an index, if every volume has it with the same kind.
     fn common_kind(&self, volumes: &[(u32, Kind)]) -> Option<Kind> {
         let (_, kind) = volumes[0];
         let is_common = volumes.len() == self.volumes.len() && volumes.iter().all(|(_, other)| *other == kind);
         is_common.then_some(kind)
     }
 
-    /// The indices that each volume has with one kind, by ascending names.
+    /// The indices that every volume has with the same kind, by ascending names.
     ///
     /// # Errors
     /// Those of [`Snapshot::indices`].

@@ -114,7 +114,7 @@ impl fmt::Display for Error {
             Error::Database(error) => write!(f, "the database of the log: {}", Shown(error)),
             Error::Slow(time) => write!(f, "the database of the log didn't reply within {} s", time.as_secs()),
             Error::NoLog => f.write_str("the database has no log; --log makes one"),
-            Error::Foreign => f.write_str("the database has tables of the log's names that are of another program"),
+            Error::Foreign => f.write_str("the database has tables with the log's names that belong to another program"),
             Error::Newer { format, known } => {
                 write!(f, "the log has format {format}, and format {known} is the one known here")
             }
@@ -124,7 +124,7 @@ impl fmt::Display for Error {
                 f,
                 "{leader} leads the log now; {unsaved} writes of this server, none of them confirmed, may be missing there"
             ),
-            Error::Replaced => f.write_str("the database has another log than before"),
+            Error::Replaced => f.write_str("the database has a different log from before"),
             Error::Length { known, found } => {
                 write!(f, "the log has {found} entries, and {known} of them are known here")
             }
