@@ -229,8 +229,8 @@ def _load() -> ctypes.CDLL:
         _check_age(path, loaded)
     except OSError as error:
         raise ImportError(
-            f"bestore can't load its library: {error}. Run `make` in c/ of the repository, and import bestore from python/ "
-            f"there or install its wheel (`make wheel`); or name {SONAME} by the variable BESTORE_LIBRARY.", path=path) from error
+            f"bestore can't load its library: {error}. Install the Debian package libbestore0 or bestore's wheel, or run `make -C c` "
+            f"at the top of the repository; the variable BESTORE_LIBRARY can name another {SONAME}.", path=path) from error
     for name, arguments in _arguments().items():
         call = getattr(loaded, name)
         call.argtypes, call.restype = arguments, ctypes.c_uint32
