@@ -3,9 +3,9 @@
  * Link with libbestore.a or -lbestore (pkg-config bestore), and with -lpthread for your own threads.
  *
  * HANDLES. A bes_pass is a session: one thread's handle on a store. It writes, pins a snapshot and reads it. A bes_prepared is a
- * parsed query. It belongs to no store, and any pass may ask it. A bes_place is a position in the list of operations that make a
- * snapshot again. A bes_witness is what a pass has seen, for a pass of the same store in another thread. A bes_draft is a change: the
- * operations that a pass will write on what it has read. You own the memory of a handle. Start it with BES_PASS_INIT,
+ * parsed query. It belongs to no store, and any pass may ask it. A bes_place is a position in the list of operations that
+ * rebuild a snapshot. A bes_witness is what a pass has seen, for a pass of the same store in another thread. A bes_draft is a change:
+ * the operations that a pass will write on what it has read. You own the memory of a handle. Start it with BES_PASS_INIT,
  * BES_PREPARED_INIT, BES_PLACE_INIT, BES_WITNESS_INIT or BES_DRAFT_INIT, which are zero bytes. Never copy it or change its
  * fields; move it with bes_move, bes_move_prepared, bes_move_place, bes_move_witness or bes_move_draft. Close it with bes_close,
  * bes_release, bes_leave, bes_dismiss, or bes_end_change or bes_abandon_change. The store is freed with its last open pass.
@@ -190,7 +190,7 @@ enum {
     /* surface.toml: end */
 };
 
-/* An operation. Its name, and the bytes of its value, are parts of the bytes that go with all operations of a batch. A field that
+/* An operation. Its name and the bytes of its value lie within the bytes that all operations of a batch share. A field that
  * the operation doesn't use may have any value, but both parts must lie within the bytes: leave them 0. */
 typedef struct bes_operation {
     uint32_t kind;         /* BES_NEW_NODE .. BES_REMOVE_INDEX */
@@ -225,7 +225,7 @@ enum {
     /* surface.toml: end */
 };
 
-/* An item of a predicate. Its bytes are a part of those that go with all items. A field that it doesn't use is as in an
+/* An item of a predicate. Its bytes lie within those that all items share. A field that it doesn't use is as in an
  * operation. */
 typedef struct bes_item {
     uint32_t kind;
@@ -572,7 +572,7 @@ uint32_t bes_found(bes_prepared *prepared, uint64_t from, uint64_t *nodes, size_
  * [in] by        the name of the index, checked by bes_check_name
  * [in] descending  0: ascending; any other number: reversed
  * [in,out] cursor  where the page begins; then the position of its last node. It stays as it was if the page is empty. All zero
- *                before the first page. A cursor goes with an index of its kind, and with either direction.
+ *                before the first page. A cursor fits any index of its kind, in either direction.
  * [out] nodes    the page, at most nodes_room nodes
  * [out] count    how many nodes it has
  * [out] more     1 if others come after them, otherwise 0
@@ -688,7 +688,7 @@ uint32_t bes_columns(bes_pass *pass, const uint64_t *nodes, size_t nodes_count, 
 /* Lists a node's attributes in the pinned snapshot by ascending names, as the operations that set them.
  * [out] counts   how many operations and bytes there are; if that is more than the room, call again with more room
  * [out] operations  the first of them; at most operations_room, and 64 suffice
- * [out] bytes    the first bytes that their names and values are parts of; at most bytes_room, and 64 * (63 + 255) suffice
+ * [out] bytes    the first of the bytes that contain their names and values; at most bytes_room, and 64 * (63 + 255) suffice
  * BES_CLOSED, BES_NOT_PINNED, BES_NO_NODE, BES_NO_MEMORY.
  * Cost: a descent of a tree, a walk over the node's attributes, and memory for the list. */
 uint32_t bes_attributes(bes_pass *pass, uint64_t node, bes_counts *counts, bes_operation *operations, size_t operations_room,
@@ -701,7 +701,7 @@ uint32_t bes_attributes(bes_pass *pass, uint64_t node, bes_counts *counts, bes_o
 uint32_t bes_indices(bes_pass *pass, bes_counts *counts, bes_operation *operations, size_t operations_room, uint8_t *bytes,
                      size_t bytes_room);
 
-/* Lists the next operations that make the pinned snapshot again on an empty store: its next node number, its nodes with their
+/* Lists the next operations that rebuild the pinned snapshot on an empty store: its next node number, its nodes with their
  * attributes, its indices with what they hold. Each list is a batch for bes_apply. An empty list is the end.
  * [in,out] place where the list begins; a closed place begins at the first operation, and is opened. It belongs to one pin: for
  *                another pin use another place. If a list didn't fit, the next call returns it again; otherwise the list after it.

@@ -476,7 +476,7 @@ static inline uint32_t bes_change(bes_pass *pass, uint32_t attempts, bes_changer
     }
 }
 
-/* Replaces the batch with the next operations that make the pinned snapshot again, for bes_batch_apply of a pass of another store. The
+/* Replaces the batch with the next operations that rebuild the pinned snapshot, for bes_batch_apply of a pass of another store. The
  * batch is empty after the last of them, and after an error, which is one of bes_state. */
 static inline uint32_t bes_batch_state(bes_pass *pass, bes_place *place, bes_batch *batch)
 {
@@ -749,7 +749,7 @@ static inline uint32_t bes_batch_from_bytes(bes_batch *batch, const uint8_t *byt
     return error;
 }
 
-/* Makes 1 to 64 nodes as one transaction, and writes their numbers. They belong to this caller: no other pass gets them. */
+/* Makes 1 to 64 nodes in one transaction, and writes their numbers. They belong to this caller: no other pass gets them. */
 static inline uint32_t bes_new_nodes(bes_pass *pass, size_t count, uint64_t *nodes)
 {
     bes_operation operations[64];

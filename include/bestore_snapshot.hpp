@@ -302,7 +302,7 @@ private:
     std::optional<std::uint64_t> store_; // that of the last refresh
 };
 
-// The operations that make a snapshot again on an empty store, as batches of 1 to 64, each for one write. Iterate over them once.
+// The operations that rebuild a snapshot on an empty store, as batches of 1 to 64, each for one write. Iterate over them once.
 //
 //     for (const bestore::Batch &batch : pin.state())
 //         other.apply(batch);
@@ -469,7 +469,7 @@ public:
     }
     template <class T> std::optional<T> get(Node node, const Attribute<T> &attribute) { return get<T>(node, attribute.name()); }
 
-    // The attributes of these names of many nodes: for each name a list with the value of each node, empty if it has none. Takes one
+    // Several attributes of many nodes: for each name a list with each node's value, empty if it has none. Takes one
     // search in a tree for each node, if its attributes of these names are next to each other. In a change it takes a search for each
     // value.
     std::vector<std::vector<std::optional<Value>>> columns(const std::vector<Node> &nodes, const std::vector<std::string_view> &names)
@@ -649,7 +649,7 @@ public:
     // Unpins, as the destructor does.
     void unpin() noexcept { release(); }
 
-    // The operations that make the snapshot again on an empty store.
+    // The operations that rebuild the snapshot on an empty store.
     [[nodiscard]] State state() { return State(handle()); }
 
 private:

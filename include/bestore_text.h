@@ -193,7 +193,7 @@ static inline uint32_t bes_pairs(bes_pass *pass, const char *name, uint64_t *cou
     return bes_query_items(pass, items, 3, bytes, 1 + index->name_length, &none, 0, count);
 }
 
-/* What bes_reindex_some_ does: the index, and the nodes from which on. */
+/* The state of bes_reindex_some_: the index, and where it is among the nodes. */
 typedef struct bes_reindexing_ {
     const char *name;
     uint32_t code;

@@ -215,7 +215,7 @@ class Parts(unittest.TestCase):
                 for ask in (lambda **given: version.query("size>0", **given), lambda **given: version.query("size>0", by="size", **given)):
                     with self.assertRaises(bestore.NoRoom) as raised:
                         ask(limit=limit)
-                    self.assertEqual(str(raised.exception), f"a page has at least one node, and {limit} are asked for; ask for one or more")
+                    self.assertEqual(str(raised.exception), f"a page has at least one node, and {limit} were asked for; ask for one or more")
                 self.assertRaises(bestore.NoRoom, version.any, "size>0", limit)
             self.assertRaises(bestore.NoRoom, version.rows, "size>0", [], by="size", most=0)
             self.assertRaises(ValueError, version.query, "size>0", limit=0)

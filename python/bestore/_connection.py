@@ -28,7 +28,7 @@ _CLOSING = ("LineTooLong", "Timeout")  # errors after which the server closes th
 
 
 def _limited(timeout: Optional[float]) -> Optional[float]:
-    """A time that the system's calls take."""
+    """A time in the form that system calls accept."""
     return None if timeout is None or timeout > _LONGEST else timeout
 
 

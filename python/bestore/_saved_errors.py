@@ -184,7 +184,7 @@ class CutOff(SavedError):
         self.last = last
         """The last entry that it has."""
         self.had = had
-        """The last entry that it has had."""
+        """The last entry that it once had."""
 
     @property
     def summary(self) -> str:

@@ -411,7 +411,7 @@ class NoRoom(Refusal, ValueError, number=ErrorNumber.NO_ROOM):
 
     @property
     def _what(self) -> str:
-        return self.meaning if self.limit is None else f"{self.meaning}, and {self.limit} are asked for"
+        return self.meaning if self.limit is None else f"{self.meaning}, and {self.limit} were asked for"
 
 
 class WrongKind(Refusal, TypeError, number=ErrorNumber.WRONG_KIND):

@@ -12,9 +12,9 @@ from .values import KIND_OF, RANGES, Kind, Value, decode_value, encode_value, pl
 
 NEW, REMOVE, SET, UNSET, MAKE_INDEX, REMOVE_INDEX = range(6)
 MOST_OPERATIONS = 64
-"""How many operations a write has at most."""
+"""The most operations of a write."""
 BYTES_OF_A_BATCH = MOST_OPERATIONS * (63 + 255)
-"""How many bytes their names and values have at most."""
+"""The most bytes of their names and values."""
 
 
 @dataclass(frozen=True)

@@ -7,7 +7,7 @@
         store.set(letter, "MAIL:from", "ann")
 
 The store is in memory, and each accepted write is in the file before its call returns: after `kill -9` too, and after a
-power failure if the disk keeps what it has confirmed. Opening the file makes the store again. It repeats each write,
+power failure if the disk keeps what it has confirmed. Opening the file rebuilds the store. It repeats each write,
 and refuses a file if the outcome differs. Only one store at a time can have a file open. docs/KEPT.md has what is promised, and the
 format, which the crate for Rust shares.
 
@@ -218,7 +218,7 @@ class _Saver:
                 self._close(file)
 
     def _close(self, file: File) -> None:
-        """Closes the file, and ends the thread that saves."""
+        """Closes the file, and ends the saving thread."""
         try:
             file.close()
         finally:
@@ -320,7 +320,7 @@ class Saved(SavedPass):
 
 def open(path: Union[str, bytes, "os.PathLike[Any]"], pages: int = 4096, passes: int = PASSES, commits: int = 2**32 - 1,
          every: Optional[float] = None) -> Saved:
-    """Opens the file, or makes it, and makes the store again. The limits are those of `bestore.open`, except that there
+    """Opens or makes the file, and rebuilds the store. The limits are those of `bestore.open`, except that there
     are up to 63 `passes`. The journal begins with what the file has, so `commits` has to leave room for that.
 
     With `every` a write returns at once, and is in the file this many seconds later. `flush` and `close` save it earlier.

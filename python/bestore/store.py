@@ -373,7 +373,7 @@ class Pass(Owner, ABC):
     def new_nodes(self, count: int) -> List[int]:
         """Makes this many nodes, and returns their numbers. Each write makes up to 64 of them."""
         if count < 0:
-            raise ValueError(f"{count} nodes are asked for")
+            raise ValueError(f"can't make {count} nodes; ask for 0 or more")
         made: List[int] = []
         while len(made) < count:
             batch = Batch()

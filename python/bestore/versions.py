@@ -171,7 +171,7 @@ class Version(ABC):
             raise no_room(limit)
         if by is not None:
             if start:
-                raise TypeError("start is a number of a node, and an order goes on from a cursor: after=page.cursor")
+                raise TypeError("start is the number of a node; an order continues from a cursor: after=page.cursor")
             return self._page_of(asked, Order(by, bool(descending)), cursor_of(after), limit)
         if descending or after is not None:
             raise TypeError('an order needs the name of an index, such as by="size"')
@@ -345,14 +345,14 @@ class Version(ABC):
         `Page` of rows, whose nodes are those of `query` with `by`, `descending` and `after`."""
         if by is not None:
             if first:
-                raise TypeError("first is a number of a node, and an order goes on from a cursor: after=page.cursor")
+                raise TypeError("first is the number of a node; an order continues from a cursor: after=page.cursor")
             if operator.index(most) < 1:
                 raise no_room(most)
             return self._page_of_rows(query, list(names), Order(by, bool(descending)), cursor_of(after), most)
         if descending or after is not None:
             raise TypeError('an order needs the name of an index, such as by="size"')
         if most < 0:
-            raise ValueError(f"{most} rows are asked for")
+            raise ValueError(f"can't return {most} rows; ask for 0 or more")
         return self._rows_of(query, list(names), max(operator.index(first), 0), most)
 
     def _rows_of(self, query: Asked, names: List[str], first: int, most: int) -> List[Row]:
@@ -376,7 +376,7 @@ class Version(ABC):
     def nodes(self, first: int = 0, most: int = 1024) -> List[int]:
         """The nodes from a number on, ascending, whatever attributes they have, up to `most` of them."""
         if most < 0:
-            raise ValueError(f"{most} nodes are asked for")
+            raise ValueError(f"can't return {most} nodes; ask for 0 or more")
         first = max(operator.index(first), 0)
         found: List[int] = []
         while first < 2**64:

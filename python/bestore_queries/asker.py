@@ -240,7 +240,7 @@ class _Requests:
             return ask
 
     def take_sort(self) -> Optional[Sort]:
-        """Takes the order whose first hits are asked for."""
+        """Takes the order whose first hits are wanted."""
         with self._came:
             sort, self._sort = self._sort, None
             return sort
@@ -385,7 +385,7 @@ class Asker(threading.Thread):
             with session.user.pin() as version:
                 reports = self._follow(session, following, version)
         except bestore.Expired:
-            return  # the server took the snapshot back: the next step has another
+            return  # the server took the snapshot back: the next step gets a new one
         except bestore.BrokenConnection:
             raise
         except bestore.Error as error:

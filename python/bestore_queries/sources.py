@@ -189,7 +189,7 @@ class FolderSource(Source):
         if reader.fault is not None:
             return Condition(f"The folder is no longer followed: {reader.fault}", True)
         if reader.is_gone:
-            return Condition(f"The folder {self._folder} can't be read: what is shown is what it had", True)
+            return Condition(f"The folder {self._folder} can't be read; the list shows what was in it", True)
         if reader.left_out:
             return Condition(
                 f"The store is full: {len(reader):,} files are in, and {reader.left_out:,} aren't. Open the window again, and it "

@@ -99,7 +99,7 @@ struct Reader<'a> {
 }
 
 impl<'a> Reader<'a> {
-    /// The error at the byte that is this far before the next one.
+    /// The error at the byte this far before the next one.
     fn bad<T>(&self, back: usize, why: &'static str) -> Result<T> {
         Err(Error::BadBatch {
             offset: self.at - back,

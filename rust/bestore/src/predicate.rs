@@ -64,13 +64,13 @@ impl Attribute {
         eq by BES_ITEM_EQ;
         /// The attribute exists, and doesn't match the pattern.
         ne by BES_ITEM_NE;
-        /// The attribute is less.
+        /// The attribute is less than the value.
         lt by BES_ITEM_LT;
-        /// The attribute is less or equal.
+        /// The attribute is less than or equal to the value.
         le by BES_ITEM_LE;
-        /// The attribute is greater.
+        /// The attribute is greater than the value.
         gt by BES_ITEM_GT;
-        /// The attribute is greater or equal.
+        /// The attribute is greater than or equal to the value.
         ge by BES_ITEM_GE;
         /// The attribute contains the text, which isn't a pattern.
         contains by BES_ITEM_CONTAINS;

@@ -170,7 +170,7 @@ impl Live {
         }
     }
 
-    /// The query, to ask it without a refresh.
+    /// The query, for asking it without a refresh.
     #[must_use]
     pub fn prepared(&self) -> &Prepared {
         &self.prepared

@@ -235,7 +235,7 @@ unsafe fn apply(pass: *mut bes_pass, expected: Option<u64>, list: &List, made: &
     let (operations, count) = (list.operations.as_ptr().cast(), list.operations.len());
     let (bytes, length) = (list.bytes.as_ptr(), list.bytes.len());
     let (nodes, room) = (made.as_mut_ptr(), made.len());
-    // SAFETY: the slices are three, and outlive the call.
+    // SAFETY: these are three different slices, and they outlive the call.
     unsafe {
         match expected {
             None => sys::bes_apply(pass, operations, count, bytes, length, nodes, room, number),
@@ -304,7 +304,7 @@ impl RawPass {
 
     pub(crate) fn another(&self) -> Answer<Self> {
         let other = Self::new(self.store);
-        // SAFETY: as the module says; the handles are two.
+        // SAFETY: as the module says; these are two different handles.
         let code = unsafe { sys::bes_another(self.handle.get()?, other.handle.get()?) };
         check(code, 0).map(|()| other)
     }
@@ -371,7 +371,7 @@ impl RawPass {
     pub(crate) fn begin_change(&self) -> Answer<(RawDraft, u64)> {
         let draft = RawDraft(Handle::new());
         let (mut number, mut next) = (0, 0);
-        // SAFETY: as the module says; the handles are two.
+        // SAFETY: as the module says; these are two different handles.
         let code = unsafe { sys::bes_begin_change(self.handle.get()?, draft.0.get()?, &mut number, &mut next) };
         check(code, 0).map(|()| (draft, next))
     }
@@ -603,7 +603,7 @@ impl RawPass {
         })
     }
 
-    /// The next list of the operations that make the snapshot again.
+    /// The next list of the operations that rebuild the snapshot.
     pub(crate) fn state(&self, place: &RawPlace) -> Answer<List> {
         let (pass, place) = (self.handle.get()?, place.0.get()?);
         listed((OPERATIONS, BYTES), |counts, operations, room, bytes, bytes_room| {

@@ -82,7 +82,7 @@ impl Failure {
         match volumes {
             1 => Self::bad_request("the server has one volume, so a commit number is one integer, not a list"),
             _ => Self::bad_request(&format!(
-                "the server has {volumes} volumes, so commit numbers are a list with that of each"
+                "the server has {volumes} volumes, so commit numbers are a list, one for each"
             )),
         }
     }

@@ -184,7 +184,7 @@ fn better(rules: &mut HashMap<String, Rule>, key: String, rule: Rule) {
     }
 }
 
-/// The rules whose endings the name has.
+/// The rules whose endings match the name.
 fn endings<'a: 'n, 'n>(rules: &'a HashMap<String, Rule>, name: &'n str) -> impl Iterator<Item = &'a Rule> + 'n {
     let places = name.char_indices().map(|(at, _)| at);
     places.filter_map(move |at| rules.get(&name[at..]))

@@ -167,7 +167,7 @@ impl<'de> Visitor<'de> for NumbersVisitor {
     type Value = Numbers;
 
     fn expecting(&self, f: &mut fmt::Formatter<'_>) -> fmt::Result {
-        f.write_str("a commit number, or a list with that of each volume")
+        f.write_str("a commit number, or a list with one for each volume")
     }
 
     fn visit_u64<E: de::Error>(self, number: u64) -> Result<Numbers, E> {

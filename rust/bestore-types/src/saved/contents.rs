@@ -1,4 +1,4 @@
-//! What a file has, read without a store.
+//! The contents of a file, read without a store.
 
 use super::file::File;
 use super::{count, files_of, About, Error, Place, Result};

@@ -269,8 +269,8 @@ impl ShelfPass {
     }
 
     /// Waits up to this time until the journal of each volume has at least this many entries; volumes without a number aren't waited
-    /// for. Snapshots that the pass then pins have them. Returns whether the entries came in time. It asks each volume for its status
-    /// every 2 milliseconds.
+    /// for. Snapshots that the pass pins after that include them. Returns whether the entries came in time. It asks each volume for its
+    /// status every 2 milliseconds.
     ///
     /// # Errors
     /// [`Error::NoVolume`]: there are more numbers than volumes; otherwise as [`Pass::status`].
