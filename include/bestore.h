@@ -30,7 +30,7 @@
  *
  * SNAPSHOTS. The journal is the commit log: all accepted transactions, numbered from 1. A read needs a pin. It reads the snapshot
  * that was current when the pass was pinned, whatever is written meanwhile. The snapshot's number is the commit number of the last
- * transaction in it. It includes all that the pass has written or seen. A pin keeps the pages of its snapshot from being used
+ * transaction in it. It includes everything that the pass has written or seen. A pin keeps the pages of its snapshot from being used
  * again, so unpin soon. If a thread never returns its handle, its snapshot stays pinned.
  */
 #ifndef BESTORE_H
@@ -225,8 +225,8 @@ enum {
     /* surface.toml: end */
 };
 
-/* An item of a predicate. Its bytes lie within those that all items share. A field that it doesn't use is as in an
- * operation. */
+/* An item of a predicate. Its bytes lie within those that all items share. The fields that it doesn't use follow
+ * the same rule as those of an operation. */
 typedef struct bes_item {
     uint32_t kind;
     uint32_t at;
@@ -301,8 +301,8 @@ uint32_t bes_open(uint64_t pages, uint64_t passes, uint64_t commits, bes_pass *p
 
 /* Opens another handle, for another pass of the same store. Unused passes stay with the handle of bes_open, which hands them out
  * in descending order, down to 0. If none is left there, the new handle gets a pass that bes_close gave back, with its number and what
- * it has seen. The new pass meets that of the handle: both have then seen what either had, so the new one sees all that this one has
- * written.
+ * it has seen. The new pass meets that of the handle: both have then seen what either had, so the new one sees everything that this one
+ * has written.
  * [in,out] pass  any open handle of the store; only that of bes_open has passes that were never used
  * [out] other    a closed handle, which is opened
  * BES_CLOSED (of pass), BES_OPEN (of other), BES_NO_PASS or BES_NO_MEMORY. No pass is lost.
@@ -354,8 +354,8 @@ uint32_t bes_meet(bes_pass *pass, uint64_t *seen);
 uint32_t bes_witness_of(bes_pass *pass, bes_witness *witness);
 
 /* Joins a witness, pinned or not: the pass and the witness have then both seen what either had. So each later snapshot of the pass
- * includes all that the witness's pass had seen, and each later commit number of the pass is greater than those. A pin stays where it
- * is. The witness stays open: it may be handed on, and joined again.
+ * includes everything that the witness's pass had seen, and each later commit number of the pass is greater than those. A pin stays
+ * where it is. The witness stays open: it may be handed on, and joined again.
  * [in,out] witness  a witness from a pass of the same store. The library can't check that: with a witness from another store the
  *                behaviour is undefined.
  * [out] seen     how many transactions both have now seen
@@ -489,14 +489,14 @@ uint32_t bes_abandon_change(bes_pass *pass, bes_draft *draft);
 uint32_t bes_move_draft(bes_draft *draft, bes_draft *other);
 
 /* Asks a query in the pinned snapshot.
- * [in] text      the query; bestore's QUERIES.md has the language
+ * [in] text      the query; bestore's QUERIES.md describes the language
  * [out] nodes    the first nodes that meet it, ascending; at most nodes_room
  * [out] count    how many nodes meet it; if that is more than the room, ask again with more room
  * BES_CLOSED, BES_NOT_UTF8, BES_TOO_LONG.
  * BES_SYNTAX, BES_BAD_PATTERN, BES_TOO_MANY, BES_TOO_DEEP: the first from the left. For BES_SYNTAX and BES_BAD_PATTERN, count is
  * the byte offset in the text.
  * BES_NOT_PINNED.
- * BES_NOT_COVERED: no index can answer the query. bes_uncovered finds the first name without one. BES_NO_MEMORY, also while the text is
+ * BES_NOT_COVERED: no index can answer the query. bes_uncovered finds the first name without one. BES_NO_MEMORY, even while the text is
  * parsed.
  * Cost: the time to parse the text; a descent of a tree for each chosen comparison, and a walk over the range of keys that it leaves;
  * look-ups of other names at each key, if the range doesn't decide the query. Memory for the plan and the whole result. */
@@ -510,7 +510,7 @@ uint32_t bes_query(bes_pass *pass, const uint8_t *text, size_t text_length, uint
  * BES_BAD_PART, BES_NOT_UTF8, BES_NAME_LENGTH, BES_HAS_NUL, BES_NO_ITEM: count is the index of the first invalid item.
  * BES_BAD_RPN, BES_BAD_PATTERN: count is the index of the item at which the items stop forming a query, or items_count if that
  * shows only at their end. BES_TOO_MANY, BES_TOO_DEEP.
- * BES_NOT_PINNED, BES_NOT_COVERED. BES_NO_MEMORY, also while the query is built. */
+ * BES_NOT_PINNED, BES_NOT_COVERED. BES_NO_MEMORY, even while the query is built. */
 uint32_t bes_query_items(bes_pass *pass, const bes_item *items, size_t items_count, const uint8_t *bytes, size_t bytes_count,
                          uint64_t *nodes, size_t nodes_room, uint64_t *count);
 
@@ -585,8 +585,8 @@ uint32_t bes_found(bes_prepared *prepared, uint64_t from, uint64_t *nodes, size_
 uint32_t bes_ordered(bes_pass *pass, bes_prepared *prepared, const bes_name *by, uint32_t descending, bes_cursor *cursor,
                      uint64_t *nodes, size_t nodes_room, uint64_t *count, uint32_t *more);
 
-/* Asks a prepared query in the pinned snapshot for the first nodes of its answer from a number on, ascending. To go on, ask from the
- * number after the last. The handle keeps them for bes_found.
+/* Asks a prepared query in the pinned snapshot for the first nodes of its answer from a number on, ascending. To continue, ask from
+ * the number after the last one. The handle keeps them for bes_found.
  * [in] from      the number
  * [out] nodes    the nodes; at most nodes_room of them
  * [out] count    how many were written. If that is less than the room, there are no more.
@@ -784,7 +784,7 @@ enum bes_form {
  *                each byte of the text suffice
  * [out] place    after an error in the text its byte, as in bes_prepare; otherwise 0
  * BES_NOT_UTF8, and the errors of a text that isn't a query, as in bes_query: BES_TOO_LONG, BES_SYNTAX, BES_BAD_PATTERN, BES_TOO_MANY,
- * BES_TOO_DEEP. BES_NO_MEMORY. After an error counts, compared and bytes are as they were.
+ * BES_TOO_DEEP. BES_NO_MEMORY. After an error, counts, compared and bytes are unchanged.
  * Cost: the time to parse the text twice, and memory for the query and the list. */
 uint32_t bes_query_comparisons(const uint8_t *text, size_t text_length, bes_counts *counts, bes_compared *compared,
                                size_t compared_room, uint8_t *bytes, size_t bytes_room, uint64_t *place);

@@ -10,9 +10,9 @@
 //         std::cout << found << '\n';
 //
 // What bestore.h says about each call also holds here: its errors, its cost, threads. A call that returns an error there throws a
-// Refusal here, which has the number that goes with the error. Nothing has changed then.
-// Store, Pass, Pin, State, Prepared, Live and Witness can be moved and not copied. A Pin has to go before its pass, and a State before its Pin;
-// the pass may be moved meanwhile. Each thread has a Pass of its own, and an object takes one call at a time.
+// Refusal here, which carries the number that comes with the error. Nothing has changed then.
+// Store, Pass, Pin, State, Prepared, Live and Witness can be moved but not copied. A Pin has to be destroyed before its pass, and a
+// State before its Pin; the pass may be moved meanwhile. Each thread has a Pass of its own, and an object takes one call at a time.
 // In a forked child the objects of the parent are dead: their calls throw BES_CLOSED, and their ends do nothing.
 #ifndef BESTORE_HPP
 #define BESTORE_HPP
@@ -89,7 +89,7 @@ private:
     }
 
     // Writes the operations if no other transaction came after the snapshot, and unpins. Returns the error, and the commit number or
-    // what goes with the error.
+    // the error's number.
     std::uint32_t commit(std::uint64_t *number)
     {
         const auto error = bes_end_change(handle(), &draft_, number);
@@ -206,9 +206,9 @@ public:
         return witness;
     }
 
-    // Joins a witness: the pass and the witness have then both seen what either had. So each later snapshot of the pass includes all that
-    // the witness's pass had seen, and each later commit number of the pass is greater than those. Returns how many transactions both
-    // have seen. Throws std::invalid_argument if the witness is from another store.
+    // Joins a witness: the pass and the witness have then both seen what either had. So each later snapshot of the pass includes
+    // everything that the witness's pass had seen, and each later commit number of the pass is greater than those. Returns how many
+    // transactions both have seen. Throws std::invalid_argument if the witness is from another store.
     std::uint64_t join(Witness &witness)
     {
         std::uint64_t seen = 0;

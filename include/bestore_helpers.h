@@ -373,7 +373,7 @@ static inline bool bes_again(bes_pass *pass, uint32_t error, uint64_t number, be
 }
 
 /* Writes as bes_apply does, and tries again as bes_again says, up to `retries` times after the first. With 0 retries it is
- * bes_apply. */
+ * the same as bes_apply. */
 static inline uint32_t bes_apply_or_retry(bes_pass *pass, const bes_operation *operations, size_t operations_count,
                                           const uint8_t *bytes, size_t bytes_count, uint32_t retries, uint64_t *made,
                                           size_t made_room, uint64_t *number)
@@ -611,7 +611,7 @@ static inline void bes_put_operation_(bes_sink_ *sink, const bes_operation *it, 
     }
 }
 
-/* Like bes_batch_to_bytes, for operations in the form that bes_apply takes. BES_BAD_COUNT also if there are more than 64.
+/* Like bes_batch_to_bytes, for operations in the form that bes_apply takes. BES_BAD_COUNT if there are more than 64, too.
  * BES_NAME_LENGTH, BES_DATA_LENGTH: a name has more than 63 bytes, a text or raw value more than 255. */
 static inline uint32_t bes_operations_to_bytes(const bes_operation *operations, size_t operations_count, const uint8_t *parts,
                                                size_t parts_count, uint8_t *bytes, size_t bytes_room, uint64_t *count)
@@ -635,7 +635,7 @@ static inline uint32_t bes_operations_to_bytes(const bes_operation *operations, 
     return BES_OK;
 }
 
-/* The most bytes that bes_batch_to_bytes writes. */
+/* The maximum number of bytes that bes_batch_to_bytes writes. */
 #define BES_BATCH_BYTES (5 + 64 * (1 + 8 + 1 + 63 + 4 + 1 + 255))
 
 /* Writes a batch as bytes, to be kept or sent, in the format that KEPT.md of bestore describes. bes_batch_from_bytes reads them.
@@ -761,8 +761,8 @@ static inline uint32_t bes_new_nodes(bes_pass *pass, size_t count, uint64_t *nod
     return bes_apply_or_retry(pass, operations, count, &none, 0, BES_TRIES > 0 ? BES_TRIES - 1 : 0, nodes, count, &number);
 }
 
-/* The helpers below write one operation as a transaction of its own, as bes_batch_apply with BES_TRIES tries. They don't return what
- * goes with an error. */
+/* The helpers below write one operation as a transaction of its own, as bes_batch_apply with BES_TRIES tries. They don't return an
+ * error's details. */
 static inline uint32_t bes_apply_one(bes_pass *pass, uint32_t kind, uint64_t node, const char *name, uint32_t code,
                                      uint64_t number, const void *value, size_t value_length, uint64_t *made)
 {

@@ -218,7 +218,7 @@ private:
     bool is_descending_ = false;
 };
 
-// A position in the answer of a query in an order: that of the last node of a page. The next page has what comes after it, also in a
+// A position in the ordered answer of a query: the position of a page's last node. The next page begins right after it, even in a
 // later snapshot, whatever was written in between.
 class Cursor {
 public:

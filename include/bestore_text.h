@@ -24,7 +24,7 @@ typedef struct bes_comparison {
     size_t value_length;
 } bes_comparison;
 
-/* The most comparisons of a query, and the most bytes of their plain names and values. */
+/* The maximum number of comparisons in a query, and of bytes in their plain names and values. */
 enum { BES_COMPARISONS = 256, BES_COMPARISONS_BYTES = 64 * 256 + 4 * 4096 };
 
 /* The comparisons of a query, from left to right. The list takes 55 KB. */

@@ -292,7 +292,7 @@ inline Value value_of(std::uint32_t code, std::uint64_t number, std::string_view
 
 } // namespace detail
 
-// A value on its way in, which refers to what the caller has: a text, a Mime, a Raw, a Value or an integer. The type of an integer
+// A value that is passed in, and refers to what the caller has: a text, a Mime, a Raw, a Value or an integer. The type of an integer
 // says whether it has 32 or 64 bits, and a sign; if a kind is given, it has that kind, and BES_NO_VALUE is thrown if it doesn't fit.
 class Input {
 public:

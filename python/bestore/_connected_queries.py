@@ -77,8 +77,8 @@ class QueriedVersion(Version):
         return nodes
 
     def _part(self, first: int, limit: int, had: int) -> JSON:
-        """The parameters of a page from a number on, after this many nodes have been read. Without a limit the reply has what a
-        line holds."""
+        """The parameters of a page from a number on, after this many nodes have been read. Without a limit, the reply has as
+        many as fit on a line."""
         parameters: JSON = {"from": first} if first else {}
         if limit < _ALL:
             parameters["limit"] = min(limit - had, _MOST_OF_A_PAGE)

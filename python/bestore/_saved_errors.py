@@ -81,7 +81,7 @@ class DiskFull(SavedError):
 
 
 class NoFile(SavedError):
-    """The file of a volume is missing, but that of a later one is there."""
+    """The file of a volume is missing, but the file of a later one is there."""
 
     @property
     def summary(self) -> str:

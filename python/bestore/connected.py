@@ -88,7 +88,7 @@ class Server(NamedTuple):
     watches: int
     """How many watches a pass may have."""
     volumes: int = 1
-    """How many volumes there are. `pages` and `commits` are for each one."""
+    """How many volumes there are. `pages` and `commits` are per volume."""
     features: Tuple[str, ...] = ()
     """What the server accepts that older ones don't, such as the parameter `by` of a query. If it doesn't accept that one, pages in an
     order are cut from the whole answer here."""
@@ -567,7 +567,7 @@ class ConnectedPass(LockOwner, ThreadPass):
         self._ask("flush", {}, lambda ok: None)
 
     def compact(self) -> None:
-        """Writes the current snapshot into the server's file, instead of the state and the entries that it contains. Errors
+        """Writes the current snapshot into the server's file, replacing the state and the entries there. Errors
         are those of `flush`."""
         self._ask("compact", {}, lambda ok: None)
 
@@ -614,7 +614,7 @@ class ConnectedWatch(Watch):
         self._created: Set[int] = set()
         self._removed: Set[int] = set()
         self._is_partial = self._is_new = False  # whether a push of the same commit is missing, and something is to be returned
-        self._last = 0  # the commit to which all that was received leads
+        self._last = 0  # the commit to which everything received so far leads
         self._error: Optional[Error] = None  # what has ended the watch
         self._number: Optional[int] = None
         parameters = {} if query is None else {"query": query}

@@ -1,4 +1,4 @@
-"""The errors of the package. Each error number of bestore.h has a class of its own, which carries what goes with it."""
+"""The errors of the package. Each error number of bestore.h has a class of its own, which carries its details."""
 
 from __future__ import annotations
 
@@ -148,7 +148,7 @@ class Refusal(Error):
     def __init__(self, carried: Optional[int] = None, query: Optional[str] = None, listed: Optional[str] = None) -> None:
         super().__init__(carried, query, listed)
         self.query = query
-        """The text of the query, if it was asked by a text."""
+        """The text of the query, if it was asked as text."""
         self.pass_number: Optional[int] = None
         """For `Busy`: the number of the pass that is writing."""
         self.least: Optional[int] = None
@@ -164,11 +164,11 @@ class Refusal(Error):
         self._carry(carried, listed)
 
     def _carry(self, carried: Optional[int], listed: Optional[str]) -> None:
-        """Stores what goes with the error. `listed` says what the call takes a list of: "item" or "operation"."""
+        """Stores the error's details. `listed` says what the call takes a list of: "item" or "operation"."""
 
     @property
     def _what(self) -> str:
-        """What was wrong, with what is known about it."""
+        """What was wrong, with its details."""
         return self.meaning
 
     @property
@@ -186,7 +186,7 @@ class Refusal(Error):
 
 
 def refusal(number: int, carried: Optional[int] = None, query: Optional[str] = None, listed: Optional[str] = None) -> Refusal:
-    """The error with this number, with what goes with it, the query's text, and what the call takes a list of."""
+    """The error with this number, from its details, the query's text, and what the call takes a list of."""
     found = Refusal._classes.get(number)
     if found is not None:
         return found(carried, query, listed)

@@ -101,7 +101,7 @@ class LocalVersion(_native.Reader, Version):
         return Page(nodes, more, Cursor.of_key(order, asked._check, kind, key))
 
     def _query_error(self, answer: int, carried: int, asked: Query) -> Refusal:
-        """The error of a query, with what goes with it."""
+        """The error of a query, with its details."""
         if answer == ErrorNumber.NOT_COVERED:
             return self._not_covered(asked)
         if isinstance(asked, str):

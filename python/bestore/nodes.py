@@ -11,7 +11,7 @@ from .values import plain
 NUMBERS = 10**14
 """How many numbers a volume has. A power of ten, so that people can read the volume in a node's digits."""
 MOST_VOLUMES = 64
-"""The most volumes. A node is thus below 2^53, which JSON keeps exactly."""
+"""The maximum number of volumes. A node is thus below 2^53, which JSON keeps exactly."""
 
 
 def volume_of(node: int) -> int:

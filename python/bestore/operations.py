@@ -12,9 +12,9 @@ from .values import KIND_OF, RANGES, Kind, Value, decode_value, encode_value, pl
 
 NEW, REMOVE, SET, UNSET, MAKE_INDEX, REMOVE_INDEX = range(6)
 MOST_OPERATIONS = 64
-"""The most operations of a write."""
+"""The maximum number of operations in a write."""
 BYTES_OF_A_BATCH = MOST_OPERATIONS * (63 + 255)
-"""The most bytes of their names and values."""
+"""The maximum number of bytes in their names and values."""
 
 
 @dataclass(frozen=True)
@@ -34,7 +34,7 @@ class RemoveNode:
 
 @dataclass(frozen=True)
 class SetAttribute:
-    """Sets a node's attribute. The kind None is that of the value, as `Batch.set` takes it."""
+    """Sets a node's attribute. The kind None stands for the value's own kind, as `Batch.set` takes it."""
 
     node: int
     name: str
@@ -102,11 +102,11 @@ class Batch:
     def __reduce__(self) -> Tuple[Callable[..., Batch], Tuple[Type[Batch], bytes, bytes]]:
         kind = type(self)
         if kind.__module__.startswith(f"{__package__}."):
-            kind = Batch  # whatever it is made as where it is read
+            kind = Batch  # the process that reads it chooses between the plain and the native class
         return _copied, (kind, self._raw, self._bytes)
 
     def _add_encoded(self: _Self, kind: int, node: int, name: bytes, code: int, number: int, value: bytes, /) -> _Self:
-        """Adds an operation by its parts."""
+        """Adds an operation from its parts."""
         self._list.append((kind, code, _node(node), number, name, value))
         return self
 

@@ -46,7 +46,7 @@ def check_of(text: str) -> int:
 
 @dataclass(frozen=True)
 class Cursor:
-    """A position in the answer of a query in an order: that of the last node of a page. The next page has what comes after it,
+    """A position in the ordered answer of a query: the position of a page's last node. The next page begins right after it,
     even in a later version, whatever was written in between. `str` turns it into a short text, and `parse` reads that."""
 
     order: Order

@@ -50,8 +50,8 @@ __all__ = [
 
 _ENDING = ".bestore"  # of the name of a volume's file
 
-_MOST_ROWS = 1024  # how many entries a commit has at most
-_TRIES = 2**63 - 1  # for as long as other passes write: an entry that can't be read would end all saving
+_MOST_ROWS = 1024  # the maximum number of entries in a commit
+_TRIES = 2**63 - 1  # as long as other passes write: an entry that can't be read would end all saving
 
 
 class _Reader:

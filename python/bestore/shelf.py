@@ -244,7 +244,7 @@ class ShelfVersion(Version):
 
 @contextmanager
 def _of_volume(volume: int) -> Iterator[None]:
-    """Adds the volume to the error that it needs another index."""
+    """Adds the volume to the error that says that another index is needed."""
     try:
         yield
     except (NotCovered, NoIndex) as error:

@@ -180,8 +180,8 @@ class Pass(Owner, ABC):
     @abstractmethod
     def join(self, witness: Witness) -> int:
         """Joins a witness: the pass and the witness have then both seen what either had. So each later version of the pass
-        includes all that the witness's pass had seen, and each later commit number of the pass is greater than those. Returns how
-        many entries of the journal both have seen. Raises `OtherStore` if the witness belongs to another store."""
+        includes everything that the witness's pass had seen, and each later commit number of the pass is greater than those. Returns
+        how many entries of the journal both have seen. Raises `OtherStore` if the witness belongs to another store."""
 
     @abstractmethod
     def pin(self) -> Version:

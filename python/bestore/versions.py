@@ -107,7 +107,7 @@ class Version(ABC):
 
     @abstractmethod
     def _listed(self, node: int) -> Dict[str, Typed]:
-        """A node's attributes with their kinds, by ascending names. `NoNode` if it isn't there."""
+        """A node's attributes with their kinds, by ascending names. Raises `NoNode` if there is no such node."""
 
     @abstractmethod
     def _nodes_from(self, first: int, room: int) -> List[int]:
@@ -275,7 +275,7 @@ class Version(ABC):
 
     def attributes(self, node: int, kinds: bool = False) -> Union[Dict[str, Value], Dict[str, Typed]]:
         """A node's attributes: a dict of names and values, or with `kinds` of names and `Typed` values with their
-        kinds, by ascending names. `NoNode` if it isn't there."""
+        kinds, by ascending names. Raises `NoNode` if there is no such node."""
         listed = self._listed(node)
         if kinds:
             return listed

@@ -24,7 +24,7 @@ def parser() -> argparse.ArgumentParser:
     where.add_argument("--socket", metavar="PATH", help="the socket of the server whose store is asked")
     where.add_argument("--folder", metavar="FOLDER", help="read this folder, or Maildir, into a store of the window's own")
     made.add_argument("--geometry", default="940x560", metavar="WxH", help="the size in pixels, and the place as +X+Y after it")
-    made.add_argument("query", nargs="?", metavar="QUERY", help="the query that is asked first; docs/QUERIES.md has its language")
+    made.add_argument("query", nargs="?", metavar="QUERY", help="the query that is asked first; docs/QUERIES.md describes the language")
     return made
 
 

@@ -144,7 +144,7 @@ class NotWritten(Exception):
 
 
 class _Following:
-    """A followed query: its hits, those that are still to be read, and the snapshot that this is up to."""
+    """A followed query: its hits, those that are still to be read, and the snapshot up to which they are known."""
 
     def __init__(self, ask: Ask, live: LiveAnswer) -> None:
         self.ask, self.live = ask, live

@@ -14,8 +14,8 @@ _DAYS = "monday tuesday wednesday thursday friday saturday sunday".split()
 _UNITS = ("second", "minute", "hour", "day", "week", "month", "year")
 _REASONS = {
     "day is out of range for month": "that month doesn't have so many days", "month must be in 1..12": "a year has 12 months",
-    "hour must be in 0..23": "a day has the hours 0 to 23", "minute must be in 0..59": "an hour has the minutes 0 to 59",
-    "second must be in 0..59": "a minute has the seconds 0 to 59",
+    "hour must be in 0..23": "hours go from 0 to 23", "minute must be in 0..59": "minutes go from 0 to 59",
+    "second must be in 0..59": "seconds go from 0 to 59",
 }
 _TIME = re.compile(r"(?:^|[ t]|\bat )(\d{1,2}):(\d{2})(?::(\d{2}))?$", re.ASCII)
 _AGO = re.compile(r"(\d{1,9}|an?|one) (second|minute|hour|day|week|month|year)s? ago", re.ASCII)

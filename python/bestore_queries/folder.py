@@ -60,7 +60,7 @@ class Waiting(NamedTuple):
 
     @property
     def operations(self) -> int:
-        """The most operations that it takes."""
+        """The maximum number of operations that it takes."""
         return len(self.values) + 1
 
 
@@ -117,7 +117,7 @@ class FolderReader(threading.Thread):
             try:
                 self._read_file(entry)
             except OSError:
-                gone.add(entry.path)  # it went meanwhile, or may not be read
+                gone.add(entry.path)  # it disappeared meanwhile, or may not be read
         for path in gone & self._known.keys():
             self._wait(Waiting(path, {}, None))
         self._write()

@@ -44,7 +44,7 @@ class HitList(tk.Frame):
         self._room, self._row_height = 1, row_height(self)  # how many rows there is room for
         self._clicked: Optional[Column] = None
         self._edit_later = ""
-        # It asks for no rows, so its requested height is that of its headings and edges.
+        # It asks for no rows, so its requested height is just its headings and edges.
         self.tree = ttk.Treeview(self, selectmode="none", height=0, xscrollcommand=self._scrolled_sideways)
         self.tree.tag_configure("stripe", background=STRIPE)
         self.tree.tag_configure("selected", background=MARKED)

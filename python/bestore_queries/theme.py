@@ -59,7 +59,7 @@ class Icons:
 
 
 def row_height(widget: tk.Misc) -> int:
-    """The height of a list row in pixels: that of its letters or icon, plus some space."""
+    """The height of a list row in pixels: the height of its letters or icon, plus some space."""
     return max(tkinter.font.nametofont("TkDefaultFont", widget).metrics("linespace"), ICON_HEIGHT) + 4
 
 

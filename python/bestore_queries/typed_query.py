@@ -197,7 +197,7 @@ def _ends_comparison(before: List[_Token]) -> bool:
 
 
 def _open_quote(typed: str) -> bool:
-    """Whether a quoted text without an end begins after the last token."""
+    """Whether an unclosed quoted text begins after the last token."""
     found = _tokens(typed)
     return typed[found[-1].end if found else 0:].strip()[:1] in ('"', "'")
 

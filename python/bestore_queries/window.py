@@ -112,7 +112,7 @@ class Window:
         self.message.bind("<Configure>", lambda _: self._tell_query())
 
     def close(self) -> None:
-        """Ends the window, and what belongs to it."""
+        """Closes the window and everything that belongs to it."""
         if not self._is_ended:
             self.end()
             self.root.destroy()

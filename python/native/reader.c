@@ -221,8 +221,8 @@ static PyObject *reader_unpin(PyObject *self, PyObject *nothing)
     Py_RETURN_NONE;
 }
 
-/* Unpins for a reader that is being destroyed. Python may collect it anywhere, even while this thread is using another pass. So a
- * thread that is using this one isn't waited for: it unpins after its call. */
+/* Unpins for a reader that is being destroyed. Python may collect it anywhere, even while this thread is using another pass. So
+ * this doesn't wait for a thread that is using this one: that thread unpins after its call. */
 static void give_pin_up(Reader *reader)
 {
     Handle *user = reader->user;
@@ -359,7 +359,7 @@ static PyMethodDef methods[] = {
       "first all of its nodes come. Refresh a query in versions of one store, or of another that its state was\n"
       "carried on to: nodes are compared by their numbers. After an error the query is as it was." },
     { "_refresh_changed", reader_refresh_changed, METH_O,
-      "The same, by what was written since the last refresh, which must have been in this store." },
+      "The same, from what was written since the last refresh, which must have been in this store." },
     { "unpin", reader_unpin, METH_NOARGS, "unpin($self, /)\n--\n\nUnpins the version, if it is still pinned." },
     { "_read", METHOD(reader_read), "A node's attribute with its kind. Raises `NoAttribute` if there is none." },
     { "_value", METHOD(reader_value), "A node's attribute. Raises `NoAttribute` if there is none." },

@@ -221,9 +221,9 @@ fn time_of_day(text: &str) -> Result<Option<(NaiveTime, Unit)>, Option<&'static 
         _ => return Ok(None),
     };
     let wrong = match () {
-        () if hour > 23 => "a day has the hours 0 to 23",
-        () if minute > 59 => "an hour has the minutes 0 to 59",
-        () => "a minute has the seconds 0 to 59",
+        () if hour > 23 => "hours go from 0 to 23",
+        () if minute > 59 => "minutes go from 0 to 59",
+        () => "seconds go from 0 to 59",
     };
     let time = NaiveTime::from_hms_opt(hour, minute, second).ok_or(Some(wrong))?;
     Ok(Some((time, unit)))
@@ -450,7 +450,7 @@ pub mod tests {
         NaiveDateTime::parse_from_str(text, "%Y-%m-%d %H:%M:%S").unwrap()
     }
 
-    /// An hour, and from the last Sunday of March to that of October two.
+    /// One hour, and two from the last Sunday of March to the last one of October.
     fn ahead_in_berlin(seconds: i64) -> i64 {
         let year = NaiveDateTime::from_timestamp_opt(seconds, 0).unwrap().year();
         let turned = |month: u32| {
@@ -522,8 +522,8 @@ pub mod tests {
             ("1/2/2024", "two meanings"),
             ("soon", "such as"),
             ("", "such as"),
-            ("25:00", "a day has the hours 0 to 23"),
-            ("9:60", "an hour has the minutes"),
+            ("25:00", "hours go from 0 to 23"),
+            ("9:60", "minutes go from"),
             ("0000-01-01", "out of the calendar"),
             ("9999", "out of the calendar"),
             ("9999999 years ago", "out of the calendar"),

@@ -13,7 +13,7 @@ use std::fs;
 use std::os::unix::ffi::OsStringExt;
 use std::path::{Path, PathBuf};
 
-/// The most folders that a path goes through: more would be a cycle, made by another program.
+/// The maximum number of folders in a path: more would be a cycle, made by another program.
 const DEPTH: usize = 4_096;
 
 /// The attributes that paths are made from.

@@ -10,7 +10,7 @@ use std::collections::BTreeMap;
 /// How often a write is tried again if another client is writing.
 const TRIES: u32 = 100;
 
-/// The most operations of a batch.
+/// The maximum number of operations in a batch.
 const OPERATIONS: usize = 64;
 
 /// How many snapshots a read is tried on.

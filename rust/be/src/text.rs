@@ -2,7 +2,7 @@
 
 use unicode_width::UnicodeWidthChar;
 
-/// The most columns of a query that an error shows.
+/// The maximum number of columns of a query that an error shows.
 const WIDTH: usize = 72;
 
 /// The text with escapes for whatever a terminal would obey or hide: control characters and direction marks. Backslashes

@@ -15,7 +15,7 @@ use std::os::unix::net::UnixStream;
 use std::path::Path;
 use std::time::{Duration, Instant};
 
-/// The most bytes of a line of the server.
+/// The maximum number of bytes in a line from the server.
 const LINE: usize = 2 << 20;
 
 /// How long a command waits on the server by default, and at most.
@@ -56,7 +56,7 @@ pub struct Query<'a> {
     pub text: &'a str,
     /// The attributes of each node that are wanted.
     pub columns: &'a [&'a str],
-    /// The most nodes.
+    /// The maximum number of nodes.
     pub limit: Option<u64>,
     /// The lowest node.
     pub from: u64,

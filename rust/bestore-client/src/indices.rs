@@ -5,7 +5,7 @@ use crate::{Client, Error, Result};
 use bestore_types::{all_in, Hint, Kind, Node, Value};
 use std::collections::BTreeMap;
 
-/// The most operations of a batch, and how many nodes are asked for before the first reply is read.
+/// The maximum number of operations in a batch, and of requests for nodes before the first reply is read.
 const OPERATIONS: usize = 64;
 
 /// How many of these ascending nodes can be in one batch: those in the volume of the first one.

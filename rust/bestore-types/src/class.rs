@@ -53,7 +53,7 @@ impl fmt::Display for Class {
     }
 }
 
-/// What is known about an error of the library.
+/// An error of the library, with its details.
 #[derive(Debug)]
 pub struct Meaning {
     /// The error's number in `bestore.h`.

@@ -57,7 +57,7 @@ impl fmt::Display for Order {
     }
 }
 
-/// A position in the answer of a query in an order: that of the last node of a [`Page`](crate::Page). The next page has what comes
+/// A position in the ordered answer of a query: the position of a [`Page`](crate::Page)'s last node. The next page begins right
 /// after it, even in a later snapshot, whatever was written in between.
 ///
 /// It prints as a short text, which [`str::parse`] reads, so it can be kept or sent elsewhere.
@@ -147,11 +147,11 @@ impl Cursor {
     }
 }
 
-/// Why no page can go on from a cursor.
+/// Why a page can't continue from a cursor.
 #[non_exhaustive]
 #[derive(Clone, Debug, PartialEq, Eq)]
 pub enum CursorFault {
-    /// The text isn't that of a cursor.
+    /// The text isn't a cursor's.
     Text,
     /// The cursor belongs to another order.
     OtherOrder {
@@ -200,7 +200,7 @@ impl fmt::Display for CursorFault {
 /// The first byte of a cursor's text.
 const FORMAT: u8 = 1;
 
-/// The most bytes that a cursor's text stands for: those of the longest name and of the longest key.
+/// The maximum number of bytes that a cursor's text stands for: with the longest name and the longest key.
 const LONGEST: usize = 4 + 63 + 4 + 264 + 4;
 
 /// The number of a kind in a cursor's text, which is its place in [`Kind::ALL`], from 1.

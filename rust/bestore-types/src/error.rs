@@ -7,7 +7,7 @@ use std::fmt;
 /// The result of a call of this crate.
 pub type Result<T> = std::result::Result<T, Error>;
 
-/// Why a call did nothing, with what is known about it.
+/// Why a call did nothing, with details.
 #[non_exhaustive]
 #[derive(Debug)]
 pub enum Error {

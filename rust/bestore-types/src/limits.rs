@@ -1,9 +1,9 @@
 //! How large a store may grow.
 
-/// The most passes of a store, not counting its own.
+/// The maximum number of passes of a store, not counting its own.
 pub const MOST_PASSES: u64 = 63;
 
-/// The most volumes of a shelf.
+/// The maximum number of volumes in a shelf.
 pub const MOST_VOLUMES: u32 = 64;
 
 /// How large a store may grow.

@@ -6,7 +6,7 @@ pub use crate::class::{Meaning, MEANINGS};
 pub use crate::cursor::{crc32, encode_key};
 pub use crate::node::{extend, fits};
 
-/// The most operations of a batch.
+/// The maximum number of operations in a batch.
 pub const OPERATIONS: usize = 64;
 
 /// An operation, with the layout of `bes_operation` in `bestore.h`.

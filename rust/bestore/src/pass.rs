@@ -563,7 +563,7 @@ impl Pass {
     }
 
     /// Joins a witness: the pass and the witness have then both seen what either had. So each later snapshot of the pass includes
-    /// all that the witness's pass had seen, and each later commit number of the pass is greater than those. Returns how many
+    /// everything that the witness's pass had seen, and each later commit number of the pass is greater than those. Returns how many
     /// entries of the journal both have seen.
     ///
     /// # Errors

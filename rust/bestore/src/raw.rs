@@ -27,7 +27,7 @@ use sys::{
 /// The code of a call in a forked child, which no call of the library returns.
 pub(crate) const FORKED: u32 = u32::MAX;
 
-/// The most bytes of the names and values of a batch.
+/// The maximum number of bytes in the names and values of a batch.
 const BYTES: usize = OPERATIONS * (63 + 255);
 
 /// A code that isn't `BES_OK`, and the number that goes with it.
@@ -257,7 +257,7 @@ fn found(room: &Cell<usize>, call: impl FnMut(*mut u64, usize, &mut u64) -> u32)
     Ok(nodes)
 }
 
-/// Up to `most` nodes, from a call that writes as many as it counts. Makes room for at most `all`, which is how many there can be.
+/// Up to `most` nodes, from a call that counts them and writes as many as fit. Makes room for at most `all`, since there can't be more.
 fn some(all: u64, most: usize, call: impl FnOnce(*mut u64, usize, &mut u64) -> u32) -> Answer<Vec<u64>> {
     // Room for at least one, so that a page of a store without nodes is empty, and not an error.
     let room = usize::try_from(all).unwrap_or(usize::MAX).max(1).min(most);

@@ -20,7 +20,7 @@ use std::io::{self, Write};
 use std::sync::Arc;
 use std::time::Instant;
 
-/// The most live queries of one connection.
+/// The maximum number of live queries on one connection.
 pub const WATCHES: usize = 32;
 
 /// What the server can do beyond the first version of the protocol.

@@ -15,7 +15,7 @@ use std::os::unix::net::UnixStream;
 use std::sync::Arc;
 use std::time::{Duration, Instant};
 
-/// How long a visitor may stay, which is a client that came when all places were taken.
+/// How long a visitor may stay. A visitor is a client that came when all places were taken.
 const VISIT: Duration = Duration::from_secs(2);
 
 /// How long a visitor may take from a reply to its next request.

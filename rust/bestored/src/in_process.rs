@@ -61,7 +61,7 @@ pub fn replies_to(lines: &[u8], volumes: u32) -> Result<Vec<u8>, Box<dyn Error>>
     })?)
 }
 
-/// Sends the lines, which the socket has room for, and reads what comes back.
+/// Sends the lines, for which the socket has room, and reads the replies.
 fn talk(mut client: UnixStream, lines: &[u8]) -> io::Result<Vec<u8>> {
     client.write_all(lines)?;
     client.shutdown(Shutdown::Write)?;

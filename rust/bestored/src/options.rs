@@ -6,7 +6,7 @@ use clap::{value_parser, Arg, ArgAction, ArgGroup, Command};
 use std::path::PathBuf;
 use std::time::Duration;
 
-/// The most passes of a store.
+/// The maximum number of passes of a store.
 const MOST_PASSES: u64 = 63;
 
 /// Passes of the store for the server's own use: for live queries, and for clients that come when all places are taken.

@@ -119,7 +119,7 @@ pub fn with_mask<T>(mask: libc::mode_t, make: impl FnOnce() -> T) -> T {
 #[derive(Debug)]
 pub struct Process(libc::pid_t);
 
-/// Makes a process that goes on from here like this one: it gets `None`. To be called while there is only one thread.
+/// Forks: the child, which continues from here like this process, gets `None`. Call it while there is only one thread.
 pub fn fork() -> io::Result<Option<Process>> {
     // SAFETY: there is no other thread, so nothing in the program is in use by anyone else.
     let number = check(unsafe { libc::fork() })?;

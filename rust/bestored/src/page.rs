@@ -32,7 +32,7 @@ impl Room {
     }
 }
 
-/// The values of the columns for each node, as far as there is room.
+/// The values of the columns for each node, for as many nodes as there is room for.
 pub fn rows_of(
     snapshot: &ShelfSnapshot<'_>,
     nodes: &[u64],

@@ -90,9 +90,9 @@ impl Queries {
 fn check_together(query: &wire::Query<'_>) -> Result<(), Failure> {
     let by_number = query.from != 0 || query.uncounted;
     let wrong = match (&query.by, query.any) {
-        (Some(_), Some(_)) => "`any` goes without `by`, since any nodes have no order",
+        (Some(_), Some(_)) => "`any` can't be used with `by`, since the nodes that it finds have no order",
         (Some(_), None) if query.count => {
-            "`count` goes without `by`: a comparison finds the nodes with a value in the index"
+            "`count` can't be used with `by`: a comparison finds the nodes with a value in the index"
         }
         (Some(_), None) if by_number => "`from` and `uncounted` go without `by`, whose pages go on `after` a cursor",
         (None, _) if query.descending => "`descending` goes with `by`, the name of an index",
@@ -136,7 +136,7 @@ fn most_of(name: &str, nodes: u64) -> Result<usize, Failure> {
 }
 
 impl Parsed {
-    /// Asks the query. An error is that of the query's text, which says where in the text it is.
+    /// Asks the query. An error is about the query's text, and says where in the text it is.
     fn ask<T>(
         &self,
         snapshot: &ShelfSnapshot<'_>,

@@ -38,7 +38,7 @@ const FOR_VISIT: Duration = Duration::from_secs(10);
 /// How often to try again for a pass that isn't free.
 const AGAIN: Duration = Duration::from_millis(5);
 
-/// The most bytes of a first request that asks for that place.
+/// The maximum number of bytes in a first request that asks for that place.
 const GREETING: usize = 256;
 
 /// How often to report, at most, that there is no place.
@@ -209,7 +209,7 @@ fn talk(shared: &Shared, client: &Client, stream: Arc<UnixStream>, pass: &mut Sh
     let _ = Connection::new(shared, client, stream, is_visit).run(pass);
 }
 
-/// Whether the client's first request says that it asks a few things and leaves.
+/// Whether the client's first request says that it will ask a few things and leave.
 fn is_visit(stream: &UnixStream) -> bool {
     let mut bytes = [0; GREETING];
     let length = os::look_ahead(stream, &mut bytes).unwrap_or(0);

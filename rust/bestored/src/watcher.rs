@@ -15,7 +15,7 @@ use std::sync::{Arc, Condvar, Mutex, MutexGuard, PoisonError};
 use std::thread;
 use std::time::{Duration, Instant};
 
-/// The most nodes on a line.
+/// The maximum number of nodes on a line.
 pub const NODES: usize = wire::NODES;
 
 /// How often to try lines again that a client doesn't take.

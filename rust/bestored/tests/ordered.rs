@@ -116,10 +116,10 @@ fn what_a_page_can_not_be() {
         (r#""any":18446744073709551615"#, count("any", "18446744073709551615")),
         (r#""any":1,"limit":1"#, bad("`any` goes only with `columns`: it is a number of nodes")),
         (r#""any":1,"uncounted":true"#, bad("`any` goes only with `columns`: it is a number of nodes")),
-        (r#""by":"size","any":1"#, bad("`any` goes without `by`, since any nodes have no order")),
+        (r#""by":"size","any":1"#, bad("`any` can't be used with `by`, since the nodes that it finds have no order")),
         (
             r#""by":"size","count":true"#,
-            bad("`count` goes without `by`: a comparison finds the nodes with a value in the index"),
+            bad("`count` can't be used with `by`: a comparison finds the nodes with a value in the index"),
         ),
         (
             r#""by":"size","from":1"#,

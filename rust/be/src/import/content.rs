@@ -60,10 +60,10 @@ pub const INDICES: [(&str, Kind); 9] = [
     ("MAIL:status", Kind::Text),
 ];
 
-/// The most attributes of a node.
+/// The maximum number of attributes of a node.
 const MOST: usize = 64;
 
-/// The most bytes of a value, and of a name.
+/// The maximum number of bytes in a value, and in a name.
 const VALUE: usize = 255;
 const NAME_LENGTH: usize = 63;
 

@@ -13,7 +13,7 @@ const HEAD: &[u8] = b"MIME-Magic\0\n";
 /// According to the specification, a file without control characters in its first bytes, this many, is text.
 const TEXT: usize = 128;
 
-/// The most steps from a type to one above it. More would be a ring.
+/// The maximum number of steps from a type to one above it. More would be a ring.
 const STEPS: usize = 16;
 
 /// The type above all texts.

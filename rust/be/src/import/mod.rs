@@ -38,7 +38,7 @@ use types::Types;
 use volume::Volume;
 use walk::Walk;
 
-/// The most bytes of an imported folder's path, which has to fit into a value.
+/// The maximum number of bytes in an imported folder's path, which has to fit into a value.
 const ROOT: usize = 255;
 
 /// How often, at most, the folder is read until no file is missing. In a folder that keeps changing, some may be missing each time.

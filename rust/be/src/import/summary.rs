@@ -9,7 +9,7 @@ use bestore_client::{Error, ErrorName};
 use serde::Serialize;
 use std::path::{Path, PathBuf};
 
-/// The most pages of a store.
+/// The maximum number of pages in a store.
 const MOST_PAGES: u64 = 16_384;
 
 /// How many paths are printed for each fault.

@@ -19,7 +19,7 @@ use std::thread;
 /// How many files are read and written at a time.
 const SLICE: usize = 8_192;
 
-/// The most operations of a batch.
+/// The maximum number of operations in a batch.
 const OPERATIONS: usize = 64;
 
 /// About how many entries of the store's trees a page has.
@@ -129,7 +129,7 @@ impl Import<'_> {
     }
 
     /// Refuses a folder that isn't the same one as before and is empty, such as one whose disk isn't mounted. The nodes of its
-    /// files, with what users have set, would be removed.
+    /// files, and everything users have set on them, would be removed.
     fn refuse_another(&self, found: &[Found], known: &[(PathBuf, Known)]) -> Result<(), Failure> {
         let was = known.iter().find(|(path, _)| self.is_root(path));
         match (was, found) {

@@ -12,10 +12,10 @@ use std::sync::{Arc, Mutex, MutexGuard};
 use std::thread;
 use std::time::Duration;
 
-/// The most operations of a batch.
+/// The maximum number of operations in a batch.
 const OPERATIONS: usize = 64;
 
-/// The most connections, which the volumes share: a server has up to 62.
+/// The maximum number of connections, which the volumes share: a server has up to 62.
 const CONNECTIONS: u32 = 8;
 
 /// How many batches are written before the volume is asked again how full it is.

@@ -11,7 +11,7 @@ use std::path::{Path, PathBuf};
 /// How the names of kept stores' files end.
 const STORES: [&[u8]; 4] = [b".bestore", b".bestore-wal", b".bestore-shm", b".bestore-journal"];
 
-/// A file with what the file system says about it.
+/// A file, and what the file system says about it.
 #[derive(Clone, Debug)]
 pub struct Found {
     pub path: PathBuf,

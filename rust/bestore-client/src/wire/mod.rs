@@ -48,10 +48,10 @@ pub const PROTOCOL: u64 = 1;
 /// The parameters of `query` that the first servers of this protocol refuse. A server's `features` name those that it accepts.
 pub const QUERY_FEATURES: [&str; 3] = ["by", "any", "uncounted"];
 
-/// The most nodes on a line.
+/// The maximum number of nodes on a line.
 pub const NODES: usize = 50_000;
 
-/// The most bytes of a request, including the end of its line.
+/// The maximum number of bytes in a request, including the end of its line.
 pub const LINE: usize = 1 << 20;
 
 /// The greatest integer that is written as a JSON number. Some JSON readers round greater ones.

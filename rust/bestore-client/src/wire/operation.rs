@@ -153,7 +153,7 @@ impl<'de> Visitor<'de> for OneOperation<'_> {
             }
             _ => {
                 return Err(de::Error::custom(
-                    "no operation has this name; they are new, remove, set, unset, index and unindex",
+                    "no operation has this name; the operations are new, remove, set, unset, index and unindex",
                 ))
             }
         }

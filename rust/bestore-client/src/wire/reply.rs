@@ -347,7 +347,7 @@ replies! {
         pub error: Option<Refusal>,
     }
 
-    /// Why a request did nothing, with what is known about it.
+    /// Why a request did nothing, with details.
     Refusal {
         /// The name of the error.
         pub name: ErrorName,

@@ -76,7 +76,7 @@ parameters! {
         /// The lowest node.
         #[serde(default)]
         pub from: u64,
-        /// The most nodes.
+        /// The maximum number of nodes.
         #[serde(default, deserialize_with = "given", skip_serializing_if = "Option::is_none")]
         pub limit: Option<u64>,
     }
@@ -92,7 +92,7 @@ parameters! {
         /// The index of the first entry.
         #[serde(default)]
         pub from: u64,
-        /// The most entries.
+        /// The maximum number of entries.
         #[serde(default, deserialize_with = "given", skip_serializing_if = "Option::is_none")]
         pub limit: Option<u64>,
         /// The volume, if there are several.
@@ -136,7 +136,7 @@ parameters! {
     }
 }
 
-/// The most numbers of a list.
+/// The maximum length of a list of numbers.
 const NUMBERS: usize = 64;
 
 /// A commit number, or that of each volume.
@@ -195,7 +195,7 @@ parameters_with_texts! {
         /// The attributes that the reply has for each node.
         #[serde(borrow, default, deserialize_with = "given", skip_serializing_if = "Option::is_none")]
         pub columns: Option<Columns<'a>>,
-        /// The most nodes.
+        /// The maximum number of nodes.
         #[serde(default, deserialize_with = "given", skip_serializing_if = "Option::is_none")]
         pub limit: Option<u64>,
         /// The lowest node.
@@ -216,7 +216,7 @@ parameters_with_texts! {
         /// The cursor of the previous page.
         #[serde(borrow, default, deserialize_with = "given", skip_serializing_if = "Option::is_none")]
         pub after: Option<Cow<'a, str>>,
-        /// How many nodes are wanted, whichever they are.
+        /// How many nodes are wanted; any of them will do.
         #[serde(default, deserialize_with = "given", skip_serializing_if = "Option::is_none")]
         pub any: Option<u64>,
     }

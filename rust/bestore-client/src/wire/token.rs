@@ -3,7 +3,7 @@
 use serde::de::{self, Deserialize, Deserializer};
 use serde::Serialize;
 
-/// The most bytes of a token.
+/// The maximum number of bytes in a token.
 const MOST: usize = 64;
 
 /// A text of 1 to 64 bytes that lets a batch be sent again. The client chooses a different one for each batch.

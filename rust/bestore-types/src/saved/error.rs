@@ -92,7 +92,7 @@ pub enum Error {
         path: PathBuf,
         /// The last entry that it has.
         last: u64,
-        /// The last entry that it has had.
+        /// The last entry that it ever had.
         had: u64,
     },
     /// There is no such entry to read up to.

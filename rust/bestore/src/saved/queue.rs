@@ -61,7 +61,7 @@ impl Line {
 #[derive(Debug)]
 struct Shared {
     line: Mutex<Line>,
-    /// Something waits to be saved, or the end has come.
+    /// Something waits to be saved, or the queue is closing.
     work: Condvar,
     /// Something was saved, or saving has failed.
     done: Condvar,

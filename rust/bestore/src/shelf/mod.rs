@@ -31,7 +31,7 @@
 //! snapshot. Across volumes there is no order:
 //!
 //! - A [`ShelfSnapshot`] has a snapshot of each volume, which are pinned one after another. It may have a later write to one
-//!   volume, and not an earlier one to another. It has all that its pass has written or seen.
+//!   volume, and not an earlier one to another. It has everything that its pass has written or seen.
 //! - A batch is in one volume. A [change](ShelfPass::change) writes one volume, only if nothing else was written there. What it
 //!   read from other volumes may have changed meanwhile.
 //! - Indices are made in one volume after another. A query that one volume can't answer is refused, so no answer is partial.

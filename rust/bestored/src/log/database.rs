@@ -19,7 +19,7 @@ const FORMAT: i32 = 1;
 /// How long a call may take. PostgreSQL gives up on a statement a little sooner.
 const LIMIT: Duration = Duration::from_secs(8);
 
-/// The most entries that are read at once.
+/// The maximum number of entries that are read at once.
 pub const ENTRIES: usize = 500;
 
 /// How many entries before the state stay in the log, for followers that are a little late.

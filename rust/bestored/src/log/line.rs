@@ -232,7 +232,7 @@ impl Line {
         }
     }
 
-    /// Waits until all that was written before the call is in the log.
+    /// Waits until everything written before the call is in the log.
     pub fn flush(&self) -> Result<(), Refused> {
         let state = self.lock();
         let number = state.written;
