@@ -37,7 +37,7 @@ class NoServer(ServerError, ConnectionError):
 
     @property
     def summary(self) -> str:
-        return f"no server can be reached: {self.reason}; start it by `bestored --background`"
+        return f"no server can be reached: {self.reason}; start it with `bestored --background`"
 
 
 class OtherUser(ServerError, PermissionError):
