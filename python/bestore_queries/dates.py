@@ -103,7 +103,7 @@ def _moved(at: datetime, unit: str, count: int) -> datetime:
         months = at.year * 12 + at.month - 1 + count * (12 if unit == "year" else 1)
         year, month = divmod(months, 12)
         if not 1 <= year <= 9999:
-            raise ValueError("it is out of the calendar")
+            raise ValueError("it is outside the calendar")
         return at.replace(year=year, month=month + 1, day=min(at.day, calendar.monthrange(year, month + 1)[1]))
     return at + timedelta(**{f"{unit}s": count})
 

@@ -62,7 +62,7 @@ class Dates(LocalTime):
         for text, reason in [
             ("2024-13-01", "a year has 12 months"), ("2023-02-29", "that month doesn't have"), ("1/2/2024", "two meanings"),
             ("soon", "such as"),
-            ("", "such as"), ("25:00", "hours go from"), ("9999999 years ago", "out of the calendar"),
+            ("", "such as"), ("25:00", "hours go from"), ("9999999 years ago", "outside the calendar"),
             ("999999999 days ago", "isn't a date"),
             ("m", "such as"), ("yesterday yesterday", "such as"), ("٣ days ago", "such as"), ("2024-01-01 2024", "such as"),
         ]:

@@ -32,7 +32,7 @@ const DAYS: [&str; 7] = [
 ];
 const YEARS: RangeInclusive<i32> = 1..=9999;
 
-const NO_YEAR: &str = "it is out of the calendar";
+const NO_YEAR: &str = "it is outside the calendar";
 const NO_MONTH: &str = "a year has 12 months";
 const NO_DAY: &str = "that month doesn't have so many days";
 
@@ -524,9 +524,9 @@ pub mod tests {
             ("", "such as"),
             ("25:00", "hours go from 0 to 23"),
             ("9:60", "minutes go from"),
-            ("0000-01-01", "out of the calendar"),
-            ("9999", "out of the calendar"),
-            ("9999999 years ago", "out of the calendar"),
+            ("0000-01-01", "outside the calendar"),
+            ("9999", "outside the calendar"),
+            ("9999999 years ago", "outside the calendar"),
             ("999999999 days ago", "isn't a date"),
             ("m", "such as"),
             ("yesterday yesterday", "such as"),

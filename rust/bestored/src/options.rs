@@ -101,7 +101,7 @@ fn command() -> Command {
         .arg(url("follow", &["keep", "volumes"]).help("Follows such a log, and leads once nobody does"))
         .group(ArgGroup::new("database").args(["log", "follow"]))
         .arg(path("passfile", "FILE").requires("database").help(
-            "The password for PostgreSQL, in a line as of .pgpass; otherwise $PGPASSWORD, $PGPASSFILE or ~/.pgpass",
+            "The password for PostgreSQL, in a line as in .pgpass; otherwise $PGPASSWORD, $PGPASSFILE or ~/.pgpass",
         ))
         .arg(
             Arg::new("volumes")

@@ -94,11 +94,13 @@ fn check_together(query: &wire::Query<'_>) -> Result<(), Failure> {
         (Some(_), None) if query.count => {
             "`count` can't be used with `by`: a comparison finds the nodes with a value in the index"
         }
-        (Some(_), None) if by_number => "`from` and `uncounted` go without `by`, whose pages go on `after` a cursor",
-        (None, _) if query.descending => "`descending` goes with `by`, the name of an index",
-        (None, _) if query.after.is_some() => "`after` goes with `by`, the name of the index whose cursor it is",
+        (Some(_), None) if by_number => {
+            "`from` and `uncounted` can't be used with `by`, whose pages continue `after` a cursor"
+        }
+        (None, _) if query.descending => "`descending` needs `by`, the name of an index",
+        (None, _) if query.after.is_some() => "`after` needs `by`, the name of the index whose cursor it is",
         (None, Some(_)) if query.count || by_number || query.limit.is_some() => {
-            "`any` goes only with `columns`: it is a number of nodes"
+            "`any` can be used only with `columns`: it is a number of nodes"
         }
         _ => return Ok(()),
     };

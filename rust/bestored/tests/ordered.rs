@@ -114,8 +114,8 @@ fn what_a_page_can_not_be() {
         (r#""by":"size","limit":50001"#, count("limit", "50001")),
         (r#""any":0"#, count("any", "0")),
         (r#""any":18446744073709551615"#, count("any", "18446744073709551615")),
-        (r#""any":1,"limit":1"#, bad("`any` goes only with `columns`: it is a number of nodes")),
-        (r#""any":1,"uncounted":true"#, bad("`any` goes only with `columns`: it is a number of nodes")),
+        (r#""any":1,"limit":1"#, bad("`any` can be used only with `columns`: it is a number of nodes")),
+        (r#""any":1,"uncounted":true"#, bad("`any` can be used only with `columns`: it is a number of nodes")),
         (r#""by":"size","any":1"#, bad("`any` can't be used with `by`, since the nodes that it finds have no order")),
         (
             r#""by":"size","count":true"#,
@@ -123,10 +123,10 @@ fn what_a_page_can_not_be() {
         ),
         (
             r#""by":"size","from":1"#,
-            bad("`from` and `uncounted` go without `by`, whose pages go on `after` a cursor"),
+            bad("`from` and `uncounted` can't be used with `by`, whose pages continue `after` a cursor"),
         ),
-        (r#""descending":true"#, bad("`descending` goes with `by`, the name of an index")),
-        (r#""after":"AQ""#, bad("`after` goes with `by`, the name of the index whose cursor it is")),
+        (r#""descending":true"#, bad("`descending` needs `by`, the name of an index")),
+        (r#""after":"AQ""#, bad("`after` needs `by`, the name of the index whose cursor it is")),
         (
             r#""by":"kind""#,
             r#""name":"NoIndex","number":6,"message":"an order needs an index, but there is none named \"kind\"","class":"mine","missing":"kind""#.into(),
