@@ -18,7 +18,6 @@ import os
 import sqlite3
 import sys
 import threading
-import time
 from typing import Callable, Dict, List, Optional, Union
 
 sys.path[:0] = [os.path.join(os.path.dirname(os.path.abspath(__file__)), folder) for folder in ("../python", "script")]
@@ -26,6 +25,7 @@ sys.path[:0] = [os.path.join(os.path.dirname(os.path.abspath(__file__)), folder)
 import bestore
 
 from instructions import instructions_a_call
+from timing import seconds_of
 
 CLAIMS = 400
 """How many jobs are claimed in a round."""
@@ -115,7 +115,7 @@ STORES: Dict[str, Callable[[int], Union[Bestore, Sqlite]]] = {"bestore": Bestore
 
 
 def work(claim: Claim, count: int, begin: threading.Barrier, claimed: List[int]) -> None:
-    """Claims so many jobs, once all workers are there."""
+    """Claims this many jobs, once all workers are there."""
     begin.wait()
     for _ in range(count):
         job = claim()
@@ -125,17 +125,11 @@ def work(claim: Claim, count: int, begin: threading.Barrier, claimed: List[int])
 
 
 def rate(claims: List[Claim], queue_again: Callable[[List[int]], None]) -> float:
-    """How many jobs these workers claim in a second."""
+    """How many jobs these workers claim per second."""
     begin = threading.Barrier(len(claims) + 1)
     claimed: List[List[int]] = [[] for _ in claims]
     workers = [threading.Thread(target=work, args=(claim, CLAIMS // len(claims), begin, jobs)) for claim, jobs in zip(claims, claimed)]
-    for worker in workers:
-        worker.start()
-    begin.wait()
-    begun = time.perf_counter()
-    for worker in workers:
-        worker.join()
-    taken = time.perf_counter() - begun
+    taken = seconds_of(workers, begin)
     jobs = [job for some in claimed for job in some]
     if len(set(jobs)) != CLAIMS:
         sys.exit(f"{len(jobs)} claims of {len(set(jobs))} jobs, and not of {CLAIMS}")

@@ -18,6 +18,7 @@ sys.path.insert(0, os.path.join(os.path.dirname(os.path.abspath(__file__)), ".."
 
 import bestore  # noqa: E402
 from bestore import saved  # noqa: E402
+from timing import seconds_of
 
 FILES = 15_000
 ROW = len(bestore.Batch().set(1, "size", 1).to_bytes())
@@ -27,7 +28,7 @@ Write = Callable[[int], object]
 
 
 def rate(writes: List[Write], seconds: float) -> float:
-    """How many writes a second so many threads make. Each calls its function again and again for this time."""
+    """How many writes these threads make per second. Each keeps calling its function for this time."""
     counts, start = [0] * len(writes), threading.Barrier(len(writes) + 1)
 
     def work(writer: int, write: Write) -> None:
@@ -38,14 +39,8 @@ def rate(writes: List[Write], seconds: float) -> float:
             count += 1
             write(count)
         counts[writer] = count
-    running = [threading.Thread(target=work, args=pair) for pair in enumerate(writes)]
-    for thread in running:
-        thread.start()
-    start.wait()
-    before = time.perf_counter()
-    for thread in running:
-        thread.join()
-    return sum(counts) / (time.perf_counter() - before)
+    taken = seconds_of([threading.Thread(target=work, args=pair) for pair in enumerate(writes)], start)
+    return sum(counts) / taken
 
 
 def kept(path: str, writers: int, seconds: float) -> float:

@@ -30,7 +30,7 @@ static Kind kind_named(const std::string &name)
     throw std::invalid_argument(name);
 }
 
-// LONG64 is a text of so many bytes.
+// LONG64 is a text of this many bytes.
 static std::string text_of(const std::string &word)
 {
     return word.compare(0, 4, "LONG") == 0 ? std::string(std::stoul(word.substr(4)), 'x') : word;

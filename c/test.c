@@ -796,7 +796,7 @@ static void spent(void)
     CHECK(bes_new_node(&pass, &node) == BES_OK && node == 1);
     CHECK(bes_new_node(&pass, &node) == BES_COMMITS_SPENT && node == 1);
     CHECK(bes_close(&pass) == BES_OK);
-    CHECK(strcmp(bes_strerror(BES_COMMITS_SPENT), "the journal is at the limit that the store was opened with; "
+    CHECK(strcmp(bes_strerror(BES_COMMITS_SPENT), "the journal has reached the limit that the store was opened with; "
                                                   "copy the state into a new store") == 0);
     CHECK(strcmp(bes_strerror(BES_BAD_PART), "a name or a value isn't within the bytes that go with the list") == 0);
     CHECK(strcmp(bes_strerror(63), "an error of a later version of the library") == 0);

@@ -3,11 +3,11 @@
  * Link with libbestore.a or -lbestore (pkg-config bestore), and with -lpthread for your own threads.
  *
  * HANDLES. A bes_pass is a session: one thread's handle on a store. It writes, pins a snapshot and reads it. A bes_prepared is a
- * parsed query. It belongs to no store, and any pass may ask it. A bes_place is a position in the list of operations that make a
- * snapshot again. A bes_witness is what a pass has seen, for a pass of the same store in another thread. A bes_draft is a change: the
- * operations that a pass will write on what it has read. You own the memory of a handle. Start it with BES_PASS_INIT,
- * BES_PREPARED_INIT, BES_PLACE_INIT, BES_WITNESS_INIT or BES_DRAFT_INIT, which are zero bytes. Never copy it and never change its
- * fields: bes_move, bes_move_prepared, bes_move_place, bes_move_witness and bes_move_draft move it. Close it with bes_close,
+ * parsed query. It belongs to no store, and any pass may ask it. A bes_place is a position in the list of operations that
+ * rebuild a snapshot. A bes_witness is what a pass has seen, for a pass of the same store in another thread. A bes_draft is a change:
+ * the operations that a pass will write on what it has read. You own the memory of a handle. Start it with BES_PASS_INIT,
+ * BES_PREPARED_INIT, BES_PLACE_INIT, BES_WITNESS_INIT or BES_DRAFT_INIT, which are zero bytes. Never copy it or change its
+ * fields; move it with bes_move, bes_move_prepared, bes_move_place, bes_move_witness or bes_move_draft. Close it with bes_close,
  * bes_release, bes_leave, bes_dismiss, or bes_end_change or bes_abandon_change. The store is freed with its last open pass.
  *
  * THREADS. Give each thread a pass of its own. Calls on different passes run at the same time, and none waits for another. A pass,
@@ -19,19 +19,19 @@
  *
  * FORK. A forked child has a copy of the store, and what it writes there nobody else sees. If another thread was in a call at the
  * fork, the copy may be locked or half written. So a child calls nothing here with a handle that its parent opened. It clears each
- * by bes_forget, bes_forget_prepared, bes_forget_place, bes_forget_witness or bes_forget_draft, which free nothing, and may then open
+ * with bes_forget, bes_forget_prepared, bes_forget_place, bes_forget_witness or bes_forget_draft, which free nothing, and may then open
  * a store of its own.
  *
  * ERRORS. Each call returns BES_OK or the number of an error. A call's comment lists its errors in the order in which the call
- * looks for them; if two hold, the first is returned. After an error the store, the handles and your memory are as they were, if
- * the comment names no exception, but for the parameter number, count, seen or place. The error sets it to the value that the comment names, or to 0. What the
- * pass has seen of the journal may have grown. Pointers must be valid and may not overlap. A length of 0 needs a pointer that isn't
- * null as well, for instance to any variable.
+ * looks for them; if two hold, the first is returned. After an error the store, the handles and your memory are as they were, unless
+ * the comment says otherwise. Only the parameter number, count, seen or place changes: the error sets it to the value that the comment
+ * names, or to 0. What the pass has seen of the journal may have grown. Pointers must be valid and may not overlap. Even with a length
+ * of 0 a pointer must not be null; it may point to any variable.
  *
  * SNAPSHOTS. The journal is the commit log: all accepted transactions, numbered from 1. A read needs a pin. It reads the snapshot
  * that was current when the pass was pinned, whatever is written meanwhile. The snapshot's number is the commit number of the last
- * transaction in it. It includes all that the pass has written or seen. A pin keeps the pages of its snapshot from being used
- * again, so unpin soon. What a thread has pinned that never comes back stays pinned.
+ * transaction in it. It includes everything that the pass has written or seen. A pin keeps the pages of its snapshot from being used
+ * again, so unpin soon. If a thread never returns its handle, its snapshot stays pinned.
  */
 #ifndef BESTORE_H
 #define BESTORE_H
@@ -50,7 +50,7 @@ extern "C" {
 #define BES_VERSION "0.4.0"
 #define BES_VERSION_NUMBER (BES_VERSION_MAJOR * 1000000 + BES_VERSION_MINOR * 1000 + BES_VERSION_PATCH)
 
-/* Both fields are the library's. */
+/* Both fields belong to the library. */
 typedef struct bes_pass {
     bool live;
     void *at;
@@ -58,7 +58,7 @@ typedef struct bes_pass {
 
 #define BES_PASS_INIT { false, NULL }
 
-/* Both fields are the library's. */
+/* Both fields belong to the library. */
 typedef struct bes_prepared {
     bool live;
     void *at;
@@ -66,7 +66,7 @@ typedef struct bes_prepared {
 
 #define BES_PREPARED_INIT { false, NULL }
 
-/* Both fields are the library's. */
+/* Both fields belong to the library. */
 typedef struct bes_place {
     bool live;
     void *at;
@@ -74,7 +74,7 @@ typedef struct bes_place {
 
 #define BES_PLACE_INIT { false, NULL }
 
-/* Both fields are the library's. */
+/* Both fields belong to the library. */
 typedef struct bes_witness {
     bool live;
     void *at;
@@ -82,7 +82,7 @@ typedef struct bes_witness {
 
 #define BES_WITNESS_INIT { false, NULL }
 
-/* Both fields are the library's. */
+/* Both fields belong to the library. */
 typedef struct bes_draft {
     bool live;
     void *at;
@@ -102,10 +102,10 @@ enum {
     BES_INDEX_EXISTS = 5,     /* there is already an index of this name */
     BES_NO_INDEX = 6,         /* there is no index of this name */
     BES_TOO_MANY_INDICES = 7, /* the store has 32 indices, the most it can have; remove one first */
-    BES_NOT_INDEXABLE = 8,    /* an index can't have this kind; it can have a kind of texts or
-                               * integers, but not of MIME types or raw bytes */
-    BES_COMMITS_SPENT = 9,    /* the journal is at the limit that the store was opened with; copy
-                               * the state into a new store */
+    BES_NOT_INDEXABLE = 8,    /* an index can't have this kind; it takes texts or integers, but
+                               * not MIME types or raw bytes */
+    BES_COMMITS_SPENT = 9,    /* the journal has reached the limit that the store was opened
+                               * with; copy the state into a new store */
     BES_NO_MEMORY = 10,       /* out of memory; free some and call again */
     BES_FULL = 11,            /* no page is free; unpin old snapshots, remove nodes, or open a
                                * store with more pages */
@@ -167,8 +167,8 @@ enum {
 enum {
     /* surface.toml: classes */
     BES_CLASS_NONE = 0,  /* of BES_OK */
-    BES_CLASS_RETRY = 1, /* another pass, client or write was in the way: call again, after a
-                          * conflict with what is read anew */
+    BES_CLASS_RETRY = 1, /* another pass, client or write was in the way: call again, and read
+                          * again first after a conflict */
     BES_CLASS_MINE = 2,  /* the call isn't valid here: it fails again until the program or its
                           * input changes */
     BES_CLASS_FULL = 3,  /* there is no room: free some, or open a larger store */
@@ -190,7 +190,7 @@ enum {
     /* surface.toml: end */
 };
 
-/* An operation. Its name, and the bytes of its value, are parts of the bytes that go with all operations of a batch. A field that
+/* An operation. Its name and the bytes of its value lie within the bytes that all operations of a batch share. A field that
  * the operation doesn't use may have any value, but both parts must lie within the bytes: leave them 0. */
 typedef struct bes_operation {
     uint32_t kind;         /* BES_NEW_NODE .. BES_REMOVE_INDEX */
@@ -225,8 +225,8 @@ enum {
     /* surface.toml: end */
 };
 
-/* An item of a predicate. Its bytes are a part of those that go with all items. A field that it doesn't use is as in an
- * operation. */
+/* An item of a predicate. Its bytes lie within those that all items share. The fields that it doesn't use follow
+ * the same rule as those of an operation. */
 typedef struct bes_item {
     uint32_t kind;
     uint32_t at;
@@ -234,26 +234,26 @@ typedef struct bes_item {
     uint64_t number;
 } bes_item;
 
-/* What bes_get writes of a value. */
+/* What bes_get writes about a value. */
 typedef struct bes_attribute {
     uint32_t code;    /* the type code */
-    uint64_t length;  /* of a text or a raw value: how many bytes it has */
-    uint64_t number;  /* of a number: the value; (int64_t)number of a signed one */
+    uint64_t length;  /* for a text or a raw value: how many bytes it has */
+    uint64_t number;  /* for a number: the value; (int64_t)number if it is signed */
 } bes_attribute;
 
-/* A name that was checked once, for the calls that take it again and again. bes_check_name makes it. It may be copied, and any
+/* A name that has been checked once, for calls that use it again and again. bes_check_name makes it. It may be copied, and any
  * thread may use it with any store. Other bytes in it do no harm: they name no attribute, so a read finds none. */
 typedef struct bes_name {
     uint64_t length;   /* how many of the bytes are the name's */
     uint8_t bytes[64];
 } bes_name;
 
-/* What bes_columns writes of a node's attribute. If it isn't there, all but the error and the offset is 0. */
+/* What bes_columns writes about a node's attribute. If there is no such attribute, everything but the error and the offset is 0. */
 typedef struct bes_cell {
     uint32_t error;   /* BES_OK, BES_NO_ATTRIBUTE, or BES_NO_NODE */
     uint32_t code;    /* the type code */
-    uint64_t number;  /* of a number: the value; (int64_t)number of a signed one */
-    uint64_t offset;  /* of a text or a raw value: where in the bytes it begins */
+    uint64_t number;  /* for a number: the value; (int64_t)number if it is signed */
+    uint64_t offset;  /* for a text or a raw value: where in the bytes it begins */
     uint64_t length;  /* and how many bytes it has */
 } bes_cell;
 
@@ -275,7 +275,7 @@ typedef struct bes_updates {
     uint64_t removed;
 } bes_updates;
 
-/* A position in an order, which bes_ordered leaves: that of the last node of a page. All zero is the beginning. It may be copied
+/* A position in an order, as bes_ordered leaves it: that of a page's last node. All zeros is the beginning. It may be copied
  * and kept, and points to nothing. */
 typedef struct bes_cursor {
     uint32_t kind;     /* the type code of the index's kind; 0 at the beginning */
@@ -296,35 +296,36 @@ typedef struct bes_counts {
  * [in] commits   how many transactions its journal may have, 1 to 2^32 - 1
  * [out] pass     a closed handle, which is opened
  * BES_OPEN, BES_BAD_LIMITS, BES_NO_MEMORY.
- * Cost: the memory of all pages, taken here. */
+ * Cost: the memory for all pages, allocated here. */
 uint32_t bes_open(uint64_t pages, uint64_t passes, uint64_t commits, bes_pass *pass);
 
-/* Opens another handle, for another pass of the same store. Passes that were never used wait with the handle of bes_open, which
- * hands them out downwards to 0. If none waits there, it is a pass that bes_close gave back, with its number and what it has seen.
- * The new pass meets that of the handle: both have then seen what either had, so the new one sees all that this one has written.
+/* Opens another handle, for another pass of the same store. Unused passes stay with the handle of bes_open, which hands them out
+ * in descending order, down to 0. If none is left there, the new handle gets a pass that bes_close gave back, with its number and what
+ * it has seen. The new pass meets that of the handle: both have then seen what either had, so the new one sees everything that this one
+ * has written.
  * [in,out] pass  any open handle of the store; only that of bes_open has passes that were never used
  * [out] other    a closed handle, which is opened
  * BES_CLOSED (of pass), BES_OPEN (of other), BES_NO_PASS or BES_NO_MEMORY. No pass is lost.
- * Cost: some memory, three steps, and a look at each pass if none waits. */
+ * Cost: some memory, three steps, and a look at each pass if none is left. */
 uint32_t bes_another(bes_pass *pass, bes_pass *other);
 
-/* Moves what the handle holds into other, with the pin, and closes it.
+/* Moves what the handle holds, including its pin, into other, and closes the handle.
  * [in,out] pass  the handle that is closed
  * [out] other    a closed handle, which is opened
  * BES_CLOSED (of pass), BES_OPEN (of other).
  * Cost: constant.
- * Threads: a pass that one thread has done with waits in memory of yours, pinned, until another thread takes it. */
+ * Threads: when one thread has finished with a pass, the pass can stay pinned in your memory until another thread takes it. */
 uint32_t bes_move(bes_pass *pass, bes_pass *other);
 
-/* Closes the handle and unpins it. The pass goes back to the store, with all passes that wait with the handle. bes_another hands them
- * out again, through any handle of the store. The last open handle frees the store.
+/* Closes the handle and unpins it. The pass goes back to the store, along with all passes that the handle still has to hand out.
+ * bes_another hands them out again, through any handle of the store. The last open handle frees the store.
  * BES_CLOSED.
- * Cost: a step for each pass that waits; for the last handle the time to free all pages and the journal. */
+ * Cost: a step for each of those passes; for the last handle the time to free all pages and the journal. */
 uint32_t bes_close(bes_pass *pass);
 
-/* Closes the store by its last handle, and writes the whole journal as text, as bes_journal does. Of each pass it has just the
- * transactions that calls of the pass have committed, at their commit numbers. If bytes_room is less than count, nothing is written, and
- * the handle stays open: call again with more room. The handle may be pinned.
+/* Closes the store through its last handle, and writes the whole journal as text, as bes_journal does. For each pass the text has
+ * exactly the transactions that the pass's calls have committed, at their commit numbers. If bytes_room is less than count, nothing is
+ * written, and the handle stays open: call again with more room. The handle may be pinned.
  * [in,out] pass  the last open handle of the store, which is closed
  * [out] bytes    the text. No zero byte follows it.
  * [out] count    how many bytes it has
@@ -332,7 +333,7 @@ uint32_t bes_close(bes_pass *pass);
  * Cost: time and memory for the whole text, and the time to free all pages. */
 uint32_t bes_finish(bes_pass *pass, uint8_t *bytes, size_t bytes_room, uint64_t *count);
 
-/* Writes the pass's number, as the journal, BES_BUSY and bes_status have it.
+/* Writes the pass's number, which the journal, BES_BUSY and bes_status use.
  * [out] number   the number, 0 to passes - 1
  * BES_CLOSED.
  * Cost: constant. */
@@ -341,11 +342,11 @@ uint32_t bes_number(bes_pass *pass, uint64_t *number);
 /* Meets a pass that bes_close gave back: both have then seen what either had. So what one thread has seen reaches another if each
  * meets that pass in turn.
  * [out] seen     how many transactions both have now seen
- * BES_CLOSED, BES_NO_PASS (none was given back, or another thread is at it).
+ * BES_CLOSED, BES_NO_PASS (none has been given back, or another thread is meeting it).
  * Cost: three steps, and a look at each pass. */
 uint32_t bes_meet(bes_pass *pass, uint64_t *seen);
 
-/* Opens a witness of all transactions that the pass has seen so far, its own among them. Hand it to another thread, whose pass joins
+/* Opens a witness of all transactions that the pass has seen so far, including its own. Hand it to another thread, whose pass joins
  * it. Needs no pin. A witness holds no part of the store and keeps no page.
  * [out] witness  a closed handle, which is opened
  * BES_CLOSED (of pass), BES_OPEN (of witness), BES_NO_MEMORY.
@@ -353,8 +354,8 @@ uint32_t bes_meet(bes_pass *pass, uint64_t *seen);
 uint32_t bes_witness_of(bes_pass *pass, bes_witness *witness);
 
 /* Joins a witness, pinned or not: the pass and the witness have then both seen what either had. So each later snapshot of the pass
- * includes all that the witness's pass had seen, and each later commit number of the pass is greater than those. A pin stays where it
- * is. The witness stays open: it may be handed on, and joined again.
+ * includes everything that the witness's pass had seen, and each later commit number of the pass is greater than those. A pin stays
+ * where it is. The witness stays open: it may be handed on, and joined again.
  * [in,out] witness  a witness from a pass of the same store. The library can't check that: with a witness from another store the
  *                behaviour is undefined.
  * [out] seen     how many transactions both have now seen
@@ -382,7 +383,7 @@ uint32_t bes_unpin(bes_pass *pass);
 
 /* Writes a batch of 1 to 64 operations as one transaction: all of them, in their order, or none. A pin stays where it is.
  * [in] operations  the operations, operations_count of them
- * [in] bytes     the bytes that their names and values are parts of
+ * [in] bytes     the bytes that contain their names and values
  * [out] made     for each operation the node that it made, or 0; at most made_room
  * [out] number   the commit number
  * BES_CLOSED, BES_BAD_COUNT, BES_NO_MEMORY.
@@ -390,21 +391,21 @@ uint32_t bes_unpin(bes_pass *pass);
  * value BES_NOT_UTF8, BES_DATA_LENGTH, BES_HAS_NUL or BES_NO_VALUE: an operation is invalid, and number is the index of the first.
  * BES_BUSY: another pass is writing, and number is that pass. Call again; bes_apply_or_retry does.
  * BES_NO_NODE, BES_NO_ATTRIBUTE, BES_TOO_MANY_ATTRS, BES_INDEX_EXISTS, BES_NO_INDEX, BES_TOO_MANY_INDICES, BES_NOT_INDEXABLE: the
- * first operation that the store refuses refuses the batch.
+ * batch is refused with the error of the first operation that the store refuses.
  * BES_COMMITS_SPENT, BES_NO_MEMORY.
  * BES_FULL: no page is free, and number is the oldest version that a pass may still read; bes_status names the pass that holds it.
- * If that is an older snapshot, the write succeeds once it is unpinned; bes_apply_or_retry tries again for a time. Otherwise the
+ * If that is an older snapshot, the write succeeds once it is unpinned; bes_apply_or_retry keeps trying for a while. Otherwise the
  * store has no room for the batch: write a smaller one, remove nodes a few at a time, or carry the state on to a larger store.
- * Cost: memory for the operations and for their entry in the journal, and new pages on the way to each change of a tree. If no page
+ * Cost: memory for the operations and for their entry in the journal, and new pages along the path to each change in a tree. If no page
  * is free, or a page was retired since the last scan (32, if that had to leave pages to readers), it scans: a look at each pass, and
  * work for each page that becomes free. At BES_BUSY it is one step, and the memory for the operations. */
 uint32_t bes_apply(bes_pass *pass, const bes_operation *operations, size_t operations_count, const uint8_t *bytes,
                    size_t bytes_count, uint64_t *made, size_t made_room, uint64_t *number);
 
-/* As bes_apply, if the journal has exactly `expected` entries. A pass that is pinned to snapshot n, and calls with expected = n,
- * writes on exactly what it has read. bes_change does that, and begins again after BES_CONFLICT.
+/* Like bes_apply, but only if the journal has exactly `expected` entries. A pass that is pinned to snapshot n, and calls with expected
+ * = n, writes on exactly what it has read. bes_change does that, and begins again after BES_CONFLICT.
  * [in] expected  how many transactions the journal must have
- * BES_CONFLICT: comes after BES_BUSY and before all that the store refuses. number is the length that the journal has. Otherwise
+ * BES_CONFLICT: comes after BES_BUSY and before the store's own errors. number is the journal's length. Otherwise
  * errors, parameters and cost are those of bes_apply; at BES_CONFLICT the cost is that of BES_BUSY. */
 uint32_t bes_apply_if(bes_pass *pass, uint64_t expected, const bes_operation *operations, size_t operations_count,
                       const uint8_t *bytes, size_t bytes_count, uint64_t *made, size_t made_room, uint64_t *number);
@@ -430,25 +431,25 @@ uint32_t bes_next(bes_pass *pass, uint64_t *node);
  * Cost: that of bes_pin if the pass isn't pinned, two reads of a page, and memory for the draft and the list of indices. */
 uint32_t bes_begin_change(bes_pass *pass, bes_draft *draft, uint64_t *number, uint64_t *next);
 
-/* The draft takes values of any kind from here on. At first it refuses one that the index of its name doesn't take: the store would
- * keep the attribute, and no query of that name would find the node. BES_CLOSED. */
+/* From here on the draft takes values of any kind. Before this call it refuses one that the index of its name doesn't take: the store
+ * would keep the attribute, and no query of that name would find the node. BES_CLOSED. */
 uint32_t bes_change_any_kind(bes_draft *draft);
 
 /* Adds an operation to the draft. Nothing is written yet. An error adds nothing.
  * [in] operation the operation
- * [in] bytes     the bytes that its name and value are parts of
+ * [in] bytes     the bytes that contain its name and value
  * [out] node     for BES_NEW_NODE the number of the node that it makes, which later operations may name; otherwise 0
  * BES_CLOSED. BES_BAD_PART and the errors after it of bes_apply, if the operation is invalid.
- * BES_WRONG_KIND: it sets an attribute, and the index of its name takes another kind, as the operations before it leave the index.
- * node is that kind's type code. A name without an index takes any kind. It doesn't come after bes_change_any_kind.
+ * BES_WRONG_KIND: it sets an attribute, and after the earlier operations the index of its name takes another kind.
+ * node is that kind's type code. A name without an index takes any kind. There is no such error after bes_change_any_kind.
  * BES_BAD_COUNT: the draft has 64 operations. BES_NO_MEMORY.
- * What the store refuses, as BES_NO_NODE, shows in bes_end_change.
+ * The store's own errors, such as BES_NO_NODE, come from bes_end_change.
  * Cost: memory for the operation, and for BES_SET a look at the operations before it and at the list of indices. */
 uint32_t bes_change_add(bes_draft *draft, const bes_operation *operation, const uint8_t *bytes, size_t bytes_count,
                         uint64_t *node);
 
 /* Reads a node's attribute as the draft's operations leave it: by the last of them that sets or removes it or makes or removes its
- * node, and otherwise in the snapshot. If the store would refuse the operations, what it returns says nothing.
+ * node, and otherwise in the snapshot. If the store would refuse the operations, the result means nothing.
  * [in] name      the name, name_length bytes
  * [out] attribute, bytes  as in bes_get
  * BES_CLOSED (of pass, then of draft), BES_NOT_UTF8, BES_NAME_LENGTH, BES_HAS_NUL, BES_NOT_PINNED (the pass isn't pinned to the
@@ -465,19 +466,19 @@ uint32_t bes_change_batch(bes_draft *draft, bes_counts *counts, bes_operation *o
                           size_t bytes_room);
 
 /* Ends a change: writes the draft's operations as one transaction, if no other came since its snapshot. It unpins the pass if
- * bes_begin_change pinned it, and closes the draft, both also after an error. A draft without operations writes nothing.
+ * bes_begin_change pinned it, and closes the draft, even after an error. A draft without operations writes nothing.
  * [out] number   the commit number; for a draft without operations the snapshot's number. The new nodes have the numbers that
  *                bes_change_add gave.
  * BES_CLOSED (of pass, then of draft), BES_NOT_PINNED (the pass isn't pinned to the draft's snapshot, and its pin stays).
  * BES_BUSY: another pass is writing, and number is that pass. BES_CONFLICT: another transaction came, and number is the length that the
- * journal has. Begin anew after both: bes_again and bes_stand_back say when.
- * What the store refuses, from BES_NO_NODE on, as in bes_apply. At BES_FULL, too, begin anew once other passes have unpinned.
+ * journal has. Begin again after either: bes_again and bes_stand_back say when.
+ * The store's own errors, from BES_NO_NODE on, are those of bes_apply. At BES_FULL, too, begin again once other passes have unpinned.
  * After an error nothing is written.
  * Cost: that of bes_apply; at BES_CONFLICT that of BES_BUSY. */
 uint32_t bes_end_change(bes_pass *pass, bes_draft *draft, uint64_t *number);
 
-/* Ends a change without writing: unpins the pass if bes_begin_change pinned it, and it is still pinned to that snapshot, and closes the
- * draft. If the pass is closed, it closes just the draft.
+/* Ends a change without writing: closes the draft, and unpins the pass if bes_begin_change pinned it and it is still pinned to that
+ * snapshot. If the pass is closed, only the draft is closed.
  * BES_CLOSED (of pass, then of draft).
  * Cost: one step. */
 uint32_t bes_abandon_change(bes_pass *pass, bes_draft *draft);
@@ -488,14 +489,14 @@ uint32_t bes_abandon_change(bes_pass *pass, bes_draft *draft);
 uint32_t bes_move_draft(bes_draft *draft, bes_draft *other);
 
 /* Asks a query in the pinned snapshot.
- * [in] text      the query; bestore's QUERIES.md has the language
+ * [in] text      the query; bestore's QUERIES.md describes the language
  * [out] nodes    the first nodes that meet it, ascending; at most nodes_room
  * [out] count    how many nodes meet it; if that is more than the room, ask again with more room
  * BES_CLOSED, BES_NOT_UTF8, BES_TOO_LONG.
- * BES_SYNTAX, BES_BAD_PATTERN, BES_TOO_MANY, BES_TOO_DEEP: the first from the left. Of BES_SYNTAX and BES_BAD_PATTERN count is the
- * byte offset in the text.
+ * BES_SYNTAX, BES_BAD_PATTERN, BES_TOO_MANY, BES_TOO_DEEP: the first from the left. For BES_SYNTAX and BES_BAD_PATTERN, count is
+ * the byte offset in the text.
  * BES_NOT_PINNED.
- * BES_NOT_COVERED: the query rests on no index. bes_uncovered finds the first name without one. BES_NO_MEMORY, also while the text is
+ * BES_NOT_COVERED: no index can answer the query. bes_uncovered finds the first name without one. BES_NO_MEMORY, even while the text is
  * parsed.
  * Cost: the time to parse the text; a descent of a tree for each chosen comparison, and a walk over the range of keys that it leaves;
  * look-ups of other names at each key, if the range doesn't decide the query. Memory for the plan and the whole result. */
@@ -504,12 +505,12 @@ uint32_t bes_query(bes_pass *pass, const uint8_t *text, size_t text_length, uint
 
 /* Like bes_query, but the query is built from items in reverse Polish order. Nothing is parsed.
  * [in] items     the items, items_count of them
- * [in] bytes     the bytes that their names and texts are parts of
+ * [in] bytes     the bytes that contain their names and texts
  * BES_CLOSED.
  * BES_BAD_PART, BES_NOT_UTF8, BES_NAME_LENGTH, BES_HAS_NUL, BES_NO_ITEM: count is the index of the first invalid item.
- * BES_BAD_RPN, BES_BAD_PATTERN: count is the index of the item at which the items build no query, or items_count if that shows at
- * their end. BES_TOO_MANY, BES_TOO_DEEP.
- * BES_NOT_PINNED, BES_NOT_COVERED. BES_NO_MEMORY, also while the query is built. */
+ * BES_BAD_RPN, BES_BAD_PATTERN: count is the index of the item at which the items stop forming a query, or items_count if that
+ * shows only at their end. BES_TOO_MANY, BES_TOO_DEEP.
+ * BES_NOT_PINNED, BES_NOT_COVERED. BES_NO_MEMORY, even while the query is built. */
 uint32_t bes_query_items(bes_pass *pass, const bes_item *items, size_t items_count, const uint8_t *bytes, size_t bytes_count,
                          uint64_t *nodes, size_t nodes_room, uint64_t *count);
 
@@ -521,8 +522,8 @@ uint32_t bes_query_items(bes_pass *pass, const bes_item *items, size_t items_cou
  * Cost: the time to parse the text, and memory until bes_release. */
 uint32_t bes_prepare(const uint8_t *text, size_t text_length, bes_prepared *prepared, uint64_t *place);
 
-/* Builds a query of items, and opens the handle with it. Otherwise as bes_prepare.
- * [out] place    the index of the item, as count of bes_query_items, otherwise 0
+/* Builds a query from items, and opens the handle with it. Otherwise like bes_prepare.
+ * [out] place    the index of the item, like count in bes_query_items, otherwise 0
  * BES_OPEN, then the errors of bes_query_items that concern the items. */
 uint32_t bes_prepare_items(const bes_item *items, size_t items_count, const uint8_t *bytes, size_t bytes_count,
                            bes_prepared *prepared, uint64_t *place);
@@ -530,7 +531,7 @@ uint32_t bes_prepare_items(const bes_item *items, size_t items_count, const uint
 /* Closes the handle, and frees the query and its result. BES_CLOSED. */
 uint32_t bes_release(bes_prepared *prepared);
 
-/* Moves a prepared query into other, with what it found, and closes its handle.
+/* Moves a prepared query into other, along with its result, and closes its handle.
  * [out] other    a closed handle, which is opened
  * BES_CLOSED (of prepared), BES_OPEN (of other). */
 uint32_t bes_move_prepared(bes_prepared *prepared, bes_prepared *other);
@@ -543,40 +544,40 @@ uint32_t bes_move_prepared(bes_prepared *prepared, bes_prepared *other);
  * Cost: memory for the text. */
 uint32_t bes_prepared_text(bes_prepared *prepared, uint8_t *bytes, size_t bytes_room, uint64_t *count);
 
-/* As bes_query, for a prepared query: nothing is parsed. The handle keeps the result for bes_found until it is asked again. What the
- * last refresh found stays.
+/* Like bes_query, for a prepared query: nothing is parsed. The handle keeps the result for bes_found until the query is asked again.
+ * The result of the last refresh stays.
  * BES_CLOSED (of pass, then of prepared), BES_NOT_PINNED, BES_NOT_COVERED, BES_NO_MEMORY. After the last three the handle keeps no
  * result.
  * Cost: that of bes_query without parsing. If all comparisons are on one attribute and none is under ||, the range of keys that they
- * leave is made once, and most queries cost one descent of a tree and a walk over that range. Memory for the result stays with the
- * handle, and is used again. */
+ * leave is made once, and most queries cost one descent of a tree and a walk over that range. The handle keeps the memory for the
+ * result, and uses it again. */
 uint32_t bes_query_prepared(bes_pass *pass, bes_prepared *prepared, uint64_t *nodes, size_t nodes_room, uint64_t *count);
 
-/* Writes the nodes that the handle's last bes_query_prepared found, from an index on. So a result for which there was no room is read
+/* Writes the nodes that the handle's last bes_query_prepared found, from an index on. So you can read a result that didn't fit
  * without asking again, and a long one in parts. Needs no pin.
  * [in] from      the index of the first node to write, from 0
  * [out] nodes    the nodes, ascending; at most nodes_room
- * [out] count    how many nodes the whole result has; 0 before the first asking, and after one that returned an error
+ * [out] count    how many nodes the whole result has; 0 before the query was first asked, and after an error
  * BES_CLOSED.
  * Cost: the time to copy them. */
 uint32_t bes_found(bes_prepared *prepared, uint64_t from, uint64_t *nodes, size_t nodes_room, uint64_t *count);
 
 /* Asks a prepared query in the pinned snapshot for a page of its answer in the order of an index: by the value of one attribute, and
- * of one value by node, rising or exactly the reverse. A page has the first nodes_room nodes after the cursor. A node that has no
- * value in this index is in no page: bes_query_prepared finds it, too. The handle keeps the page for bes_found.
+ * by node where values are equal, ascending or exactly reversed. A page has the first nodes_room nodes after the cursor. A node that
+ * has no value in this index isn't on any page, but bes_query_prepared finds it. The handle keeps the page for bes_found.
  *
- * A cursor is a position and no count. If the pass is pinned again between two pages, the second goes on in the new snapshot from
- * where the first ended, whatever was written in between. A node that has since got a value before the cursor isn't met any more, and
- * one that was met, and whose value is now after the cursor, comes again. Within one snapshot each node comes once.
+ * A cursor is a position, not a count. If the pass is pinned again between two pages, the second goes on in the new snapshot from
+ * where the first ended, whatever was written in between. A node whose value has since moved to before the cursor is missed, and one
+ * that was returned, and whose value is now after the cursor, comes again. Within one snapshot each node comes once.
  * [in] by        the name of the index, checked by bes_check_name
- * [in] descending  0: rising; any other number: the reverse
+ * [in] descending  0: ascending; any other number: reversed
  * [in,out] cursor  where the page begins; then the position of its last node. It stays as it was if the page is empty. All zero
- *                before the first page. A cursor goes with an index of its kind, and with either direction.
- * [out] nodes    the page, nodes_room nodes at most
+ *                before the first page. A cursor fits any index of its kind, in either direction.
+ * [out] nodes    the page, at most nodes_room nodes
  * [out] count    how many nodes it has
  * [out] more     1 if others come after them, otherwise 0
  * BES_CLOSED (of pass, then of prepared), BES_NOT_PINNED, BES_NO_ROOM (nodes_room is 0), BES_NO_INDEX (the snapshot has no index by),
- * BES_BAD_CURSOR (it is of another kind than the index, or its key doesn't have 8 to 264 bytes), BES_NOT_COVERED, BES_NO_MEMORY.
+ * BES_BAD_CURSOR (its kind isn't the index's, or its key doesn't have 8 to 264 bytes), BES_NOT_COVERED, BES_NO_MEMORY.
  * count is 0 then, and nodes, more and cursor stay as they were. After all but BES_CLOSED the handle keeps no result.
  * Cost: if comparisons with this attribute alone decide the query, a descent of a tree and a walk over the page's keys. Otherwise the
  * index is walked from the cursor, and the query asked of each node, with a descent for each; once fewer than about one in 32 passes,
@@ -584,10 +585,10 @@ uint32_t bes_found(bes_prepared *prepared, uint64_t from, uint64_t *nodes, size_
 uint32_t bes_ordered(bes_pass *pass, bes_prepared *prepared, const bes_name *by, uint32_t descending, bes_cursor *cursor,
                      uint64_t *nodes, size_t nodes_room, uint64_t *count, uint32_t *more);
 
-/* Asks a prepared query in the pinned snapshot for the first nodes of its answer from a number on, ascending. To go on, ask from the
- * number after the last. The handle keeps them for bes_found.
+/* Asks a prepared query in the pinned snapshot for the first nodes of its answer from a number on, ascending. To continue, ask from
+ * the number after the last one. The handle keeps them for bes_found.
  * [in] from      the number
- * [out] nodes    the nodes; nodes_room of them at most
+ * [out] nodes    the nodes; at most nodes_room of them
  * [out] count    how many were written. If that is less than the room, there are no more.
  * BES_CLOSED (of pass, then of prepared), BES_NOT_PINNED, BES_NO_ROOM (nodes_room is 0), BES_NOT_COVERED, BES_NO_MEMORY. After all but
  * BES_CLOSED the handle keeps no result.
@@ -610,16 +611,16 @@ uint32_t bes_any(bes_pass *pass, bes_prepared *prepared, uint64_t *nodes, size_t
  * Cost: that of bes_query_prepared, and a walk over both results. Memory for the nodes that came and went. */
 uint32_t bes_refresh(bes_pass *pass, bes_prepared *prepared, bes_updates *updates);
 
-/* As bes_refresh, by what was written since the last refresh: it reads the journal's entries since then, and asks the query only of
- * the nodes that they name. Use it for a large result of which little changes. It asks the whole query, as bes_refresh does, if the
+/* Like bes_refresh, but it reads the journal's entries since the last refresh, and checks only the nodes that they name. Use it for
+ * a large result that changes little. It asks the whole query, as bes_refresh does, if the
  * last result has fewer than 96 nodes, another pass is writing, the snapshot is older than that of the last refresh, an index was
  * made or removed since then, or many nodes were written: more than 4 and one for each 32 of the last result, or more than 64.
  * [in,out] prepared  a query whose last refresh, if there was one, was in this store. The library can't test that: with one of
  *                another store the behaviour is undefined.
  * [out] updates  how many nodes came and how many went
  * BES_CLOSED (of pass, then of prepared), BES_NOT_PINNED, BES_NOT_COVERED, BES_NO_MEMORY. The query keeps its last result.
- * Cost: a step for each entry since the last refresh, and of each node that they name a look-up for each comparison, for which it
- * keeps the writers' lock: writes of other passes return BES_BUSY meanwhile. Otherwise that of bes_refresh. */
+ * Cost: a step for each entry since the last refresh, and for each node that the entries name a look-up for each comparison. It
+ * holds the writers' lock for that, so writes of other passes return BES_BUSY meanwhile. Otherwise that of bes_refresh. */
 uint32_t bes_refresh_changed(bes_pass *pass, bes_prepared *prepared, bes_updates *updates);
 
 /* Writes the nodes that came at the last refresh, and those that went, each ascending. Needs no pin.
@@ -629,7 +630,7 @@ uint32_t bes_refresh_changed(bes_pass *pass, bes_prepared *prepared, bes_updates
  * Cost: the time to copy them. */
 uint32_t bes_changes(bes_prepared *prepared, uint64_t *created, size_t created_room, uint64_t *removed, size_t removed_room);
 
-/* Explains a query: writes the comparisons whose indices are read, joined by " || ", and the cost, as in "size"<"0" score 3.
+/* Explains a query: writes the comparisons whose indices are read, joined by " || ", and the cost, such as "size"<"0" score 3.
  * [out] bytes    the first bytes of that text; at most bytes_room. No zero byte follows them.
  * [out] count    how many bytes it has
  * The errors are those of bes_query.
@@ -638,7 +639,7 @@ uint32_t bes_explain(bes_pass *pass, const uint8_t *text, size_t text_length, ui
 
 /* Lists the nodes of the pinned snapshot from a number on, ascending, whatever attributes they have.
  * [in] from      the number
- * [out] nodes    the nodes; nodes_room of them at most
+ * [out] nodes    the nodes; at most nodes_room of them
  * [out] count    how many were written. If that is less than the room, there are no more; otherwise the next list begins after the
  *                last of these.
  * BES_CLOSED, BES_NOT_PINNED, BES_NO_MEMORY.
@@ -673,21 +674,21 @@ uint32_t bes_get_named(bes_pass *pass, uint64_t node, const bes_name *name, bes_
 /* Reads the attributes of many nodes in the pinned snapshot: what each node has at each name. The bytes of all texts and raw values
  * are put end to end, in the order of the cells.
  * [in] nodes     the nodes, nodes_count of them, in any order
- * [in] names     the names, names_count of them. By ascending bytes they cost least.
- * [out] cells    the cells of the first node, one for each name, then those of the second, and so on; at most cells_room. A node
- *                that isn't there and an attribute that it hasn't are no errors of the call: the cell has the number.
+ * [in] names     the names, names_count of them. They cost least in ascending order of bytes.
+ * [out] cells    the cells of the first node, one for each name, then those of the second, and so on; at most cells_room. A
+ *                missing node or attribute doesn't fail the call: the cell has the error's number.
  * [out] bytes    the first bytes; at most bytes_room
  * [out] bytes_count  how many bytes there are; if that is more than the room, call again with more room
  * BES_CLOSED, BES_NOT_PINNED, BES_BAD_COUNT (more than 2^32 cells). Then cells and bytes stay as they were, and bytes_count is 0.
- * Cost: one descent of a tree for a node whose attributes of these names follow one another; one more for each name that it hasn't,
- * and for each after which another attribute comes. No memory. */
+ * Cost: one descent of a tree for a node whose attributes of these names follow one another; one more for each name that it lacks,
+ * and for each that another attribute follows. No memory. */
 uint32_t bes_columns(bes_pass *pass, const uint64_t *nodes, size_t nodes_count, const bes_name *names, size_t names_count,
                      bes_cell *cells, size_t cells_room, uint8_t *bytes, size_t bytes_room, uint64_t *bytes_count);
 
 /* Lists a node's attributes in the pinned snapshot by ascending names, as the operations that set them.
  * [out] counts   how many operations and bytes there are; if that is more than the room, call again with more room
  * [out] operations  the first of them; at most operations_room, and 64 suffice
- * [out] bytes    the first bytes that their names and values are parts of; at most bytes_room, and 64 * (63 + 255) suffice
+ * [out] bytes    the first of the bytes that contain their names and values; at most bytes_room, and 64 * (63 + 255) suffice
  * BES_CLOSED, BES_NOT_PINNED, BES_NO_NODE, BES_NO_MEMORY.
  * Cost: a descent of a tree, a walk over the node's attributes, and memory for the list. */
 uint32_t bes_attributes(bes_pass *pass, uint64_t node, bes_counts *counts, bes_operation *operations, size_t operations_room,
@@ -700,10 +701,10 @@ uint32_t bes_attributes(bes_pass *pass, uint64_t node, bes_counts *counts, bes_o
 uint32_t bes_indices(bes_pass *pass, bes_counts *counts, bes_operation *operations, size_t operations_room, uint8_t *bytes,
                      size_t bytes_room);
 
-/* Lists the next operations that make the pinned snapshot again on an empty store: its next node number, its nodes with their
+/* Lists the next operations that rebuild the pinned snapshot on an empty store: its next node number, its nodes with their
  * attributes, its indices with what they hold. Each list is a batch for bes_apply. An empty list is the end.
- * [in,out] place where the list begins; a closed place begins at the first operation, and is opened. It goes with one pin: at
- *                another pin use another place. If a list had no room, the next call returns it again; otherwise the list after it.
+ * [in,out] place where the list begins; a closed place begins at the first operation, and is opened. It belongs to one pin: for
+ *                another pin use another place. If a list didn't fit, the next call returns it again; otherwise the list after it.
  * [out] counts, operations, bytes  as in bes_attributes; 64 operations and 64 * (63 + 255) bytes suffice
  * BES_CLOSED (of pass), BES_NO_MEMORY, BES_NOT_PINNED. Nothing is skipped; the place may have been opened.
  * Cost: for each node in the list a walk over its attributes, and for each of these two descents of a tree. Memory for the list,
@@ -719,16 +720,16 @@ uint32_t bes_leave(bes_place *place);
  * BES_CLOSED (of place), BES_OPEN (of other). */
 uint32_t bes_move_place(bes_place *place, bes_place *other);
 
-/* Writes the journal as text, pinned or not. Each transaction has a line, as 2 by 0 set 1 "size" LONG 5 -> ok: its commit number, the
- * pass that wrote it, its operations and their outcomes. The journal only grows, so the text of a later call begins with this.
+/* Writes the journal as text, pinned or not. Each transaction has a line, such as 2 by 0 set 1 "size" LONG 5 -> ok: its commit number,
+ * the pass that wrote it, its operations and their outcomes. The journal only grows, so the text of a later call begins with this.
  * [out] bytes    the first bytes of the text; at most bytes_room. No zero byte follows them.
  * [out] count    how many bytes it has
  * BES_CLOSED. BES_BUSY: another pass is writing, and count is that pass. BES_NO_MEMORY.
  * Cost: time and memory for the whole text. Writes of other passes return BES_BUSY meanwhile. */
 uint32_t bes_journal(bes_pass *pass, uint8_t *bytes, size_t bytes_room, uint64_t *count);
 
-/* Reads one entry of the journal, pinned or not. It is a batch as bes_apply takes it; BES_NEW_NODE has the node that it made in node.
- * bes_batch_entry calls it.
+/* Reads one entry of the journal, pinned or not. It is a batch in the form that bes_apply takes; BES_NEW_NODE has the node that it made
+ * in node. bes_batch_entry calls it.
  * [in] from      the entry's index, from 0: the entry with commit number from + 1
  * [out] by       the number of the pass that wrote it
  * [out] counts   how many operations and bytes it has; 0 operations if from is not less than the journal's length
@@ -740,14 +741,14 @@ uint32_t bes_journal_from(bes_pass *pass, uint64_t from, uint64_t *by, bes_count
                           size_t operations_room, uint8_t *bytes, size_t bytes_room, uint64_t *number);
 
 /* Writes how full the store is and which pass holds the oldest version, pinned or not. It first frees the pages that no pass may read.
- * So a program sees BES_FULL and BES_COMMITS_SPENT before they come, and whose pin keeps pages.
+ * So a program can see BES_FULL and BES_COMMITS_SPENT coming, and whose pin holds pages.
  * [out] usage    the figures
  * [out] number   0
  * BES_CLOSED. BES_BUSY: another pass is writing, and number is that pass.
  * Cost: a look at each pass and each page. Writes of other passes return BES_BUSY meanwhile. */
 uint32_t bes_status(bes_pass *pass, bes_usage *usage, uint64_t *number);
 
-/* What a query's text compares, and what is put into one. These calls take no pass, and any thread may make them.
+/* Calls about the text of a query: what it compares, and how to put a text into one. They take no pass, and any thread may make them.
  *
  * A comparison of a query's text. Offsets are in bytes: of the text, or of the bytes that bes_query_comparisons writes. */
 typedef struct bes_compared {
@@ -758,12 +759,12 @@ typedef struct bes_compared {
     uint64_t value_at;       /* the value in the text, likewise */
     uint64_t value_end;
     uint64_t plain_name_at;  /* the name in the bytes, without backslashes; it ends where the plain value begins */
-    uint64_t plain_value_at; /* the value in the bytes, without backslashes; of a pattern its canonical text */
+    uint64_t plain_value_at; /* the value in the bytes, without backslashes; for a pattern, its canonical text */
     uint64_t plain_end;
-    uint32_t kind;           /* BES_ITEM_EQ .. BES_ITEM_GE, as each ! round the comparison turns it */
-    uint32_t kind_in_text;   /* the same as the text has it; it differs from kind inside an odd number of ! */
+    uint32_t kind;           /* BES_ITEM_EQ .. BES_ITEM_GE, with each ! around the comparison applied */
+    uint32_t kind_in_text;   /* the same, as written in the text; different from kind inside an odd number of ! */
     uint32_t form;           /* a bes_form */
-    bool is_never_int32;     /* whether no value of an index of this kind makes it true */
+    bool is_never_int32;     /* whether no value in an index of this kind makes it true */
     bool is_never_int64;
     bool is_never_uint32;
     bool is_never_uint64;
@@ -783,9 +784,9 @@ enum bes_form {
  * [out] compared the first comparisons; at most compared_room
  * [out] bytes    the first of the bytes with plain names and values; at most bytes_room. 64 bytes for each comparison and 4 for
  *                each byte of the text suffice
- * [out] place    after an error of the text its byte, as in bes_prepare; otherwise 0
+ * [out] place    after an error in the text its byte, as in bes_prepare; otherwise 0
  * BES_NOT_UTF8, and the errors of a text that isn't a query, as in bes_query: BES_TOO_LONG, BES_SYNTAX, BES_BAD_PATTERN, BES_TOO_MANY,
- * BES_TOO_DEEP. BES_NO_MEMORY. After an error counts, compared and bytes are as they were.
+ * BES_TOO_DEEP. BES_NO_MEMORY. After an error, counts, compared and bytes are unchanged.
  * Cost: the time to parse the text twice, and memory for the query and the list. */
 uint32_t bes_query_comparisons(const uint8_t *text, size_t text_length, bes_counts *counts, bes_compared *compared,
                                size_t compared_room, uint8_t *bytes, size_t bytes_room, uint64_t *place);
@@ -794,18 +795,18 @@ uint32_t bes_query_comparisons(const uint8_t *text, size_t text_length, bes_coun
  * unless it is empty, without. bes_escape calls it.
  * [out] bytes    the first bytes; at most bytes_room. No zero byte follows them. Twice the text's length suffices
  * [out] count    how many bytes there are; 0 after an error
- * BES_NOT_UTF8, BES_NO_MEMORY. A text with a zero byte is in no query. */
+ * BES_NOT_UTF8, BES_NO_MEMORY. No query can contain a text with a zero byte. */
 uint32_t bes_escape_bytes(const uint8_t *text, size_t text_length, uint8_t *bytes, size_t bytes_room, uint64_t *count);
 
-/* Writes a pattern, for == and !=, that matches the texts which are equal to this one by Unicode's simple case folding, character by
- * character, and no other text: draft becomes [dD][rR][aA][fF][tT]. It can be put where bes_escape_bytes' text can. bes_any_case
+/* Writes a pattern, for == and !=, that matches exactly the texts that equal this one by Unicode's simple case folding, character by
+ * character: draft becomes [dD][rR][aA][fF][tT]. It can be used wherever the text of bes_escape_bytes can. bes_any_case
  * calls it.
  * [out] bytes, count  as in bes_escape_bytes. 12 times the text's length suffices
  * BES_NOT_UTF8, BES_NO_MEMORY.
  * Cost: a search in a table of 3,134 pairs for each character. */
 uint32_t bes_any_case_bytes(const uint8_t *text, size_t text_length, uint8_t *bytes, size_t bytes_room, uint64_t *count);
 
-/* The version of the library that runs. BES_VERSION_NUMBER is the version of this header; a program that loads the library at its
+/* The version of the running library. BES_VERSION_NUMBER is the version of this header; a program that loads the library at its
  * start compares the two. */
 uint32_t bes_version(void);
 

@@ -9,10 +9,10 @@
 //     for (bestore::Node found : pin.query("MAIL:from==ann"))
 //         std::cout << found << '\n';
 //
-// What bestore.h says of each call holds here too: its errors, its cost, threads. A call that returns an error there throws a Refusal
-// here, which has the number that goes with the error. Nothing has changed then.
-// Store, Pass, Pin, State, Prepared, Live and Witness can be moved and not copied. A Pin has to go before its pass, and a State before its Pin;
-// the pass may be moved meanwhile. Each thread has a Pass of its own, and an object takes one call at a time.
+// What bestore.h says about each call also holds here: its errors, its cost, threads. A call that returns an error there throws a
+// Refusal here, which carries the number that comes with the error. Nothing has changed then.
+// Store, Pass, Pin, State, Prepared, Live and Witness can be moved but not copied. A Pin has to be destroyed before its pass, and a
+// State before its Pin; the pass may be moved meanwhile. Each thread has a Pass of its own, and an object takes one call at a time.
 // In a forked child the objects of the parent are dead: their calls throw BES_CLOSED, and their ends do nothing.
 #ifndef BESTORE_HPP
 #define BESTORE_HPP
@@ -24,7 +24,7 @@
 namespace bestore {
 
 // What Pass::change hands to its function: a pinned snapshot, and the operations of the transaction that will follow on it, up to 64.
-// get() sees what the change has set and removed so far; all else reads the snapshot alone. A call that throws adds no operation.
+// get() sees what the change has set and removed so far; everything else reads only the snapshot. A call that throws adds no operation.
 class Change : public Snapshot, public detail::Writes<Change> {
 public:
     Change(const Change &) = delete;
@@ -39,7 +39,7 @@ public:
     // Makes a node, and returns its number.
     Node create() { return add({BES_NEW_NODE}); }
 
-    // Takes values of any kind from here on. At first a value of another kind than the index of its name throws KindMismatch.
+    // From here on, takes values of any kind. Before this call, a value whose kind isn't that of its name's index throws KindMismatch.
     Change &any_kind() noexcept
     {
         bes_change_any_kind(&draft_);
@@ -89,7 +89,7 @@ private:
     }
 
     // Writes the operations if no other transaction came after the snapshot, and unpins. Returns the error, and the commit number or
-    // what goes with the error.
+    // the error's number.
     std::uint32_t commit(std::uint64_t *number)
     {
         const auto error = bes_end_change(handle(), &draft_, number);
@@ -104,7 +104,7 @@ private:
     std::uint64_t size_ = 0;
 };
 
-// What a change returns whose function returns something: the commit number, and that.
+// What a change returns if its function returns something: the commit number, and that result.
 template <class T> struct Changed {
     std::uint64_t number;
     T value;
@@ -117,8 +117,8 @@ struct Entry {
     Batch batch;
 };
 
-// The entries of the journal from an index on, up to the end that it has when that is reached. Go over them once, while the pass is
-// open. A loop over them later goes on with what was written since.
+// The entries of the journal from an index on, up to its end at the time the loop gets there. Iterate over them once, while the
+// pass is open. A later loop goes on with what has been written since.
 class Entries {
 public:
     using Iterator = detail::Iterator<Entries, Entry>;
@@ -155,7 +155,7 @@ private:
 
 // How full a store is.
 struct Status {
-    // The oldest version that a pass has published, and the pass with the lowest number that has. It is pinned to that version or a
+    // The oldest version that a pass has published, and the lowest-numbered pass that has done so. It is pinned to that version or a
     // later one, or is about to be.
     struct Held {
         std::uint64_t version;
@@ -173,7 +173,7 @@ struct Status {
 // A session: one thread's handle on a store.
 class Pass : public detail::Writes<Pass> {
 public:
-    // Its number, as the journal and errors have it.
+    // Its number, which the journal and errors use.
     std::uint64_t number() const
     {
         std::uint64_t number = 0;
@@ -181,8 +181,8 @@ public:
         return number;
     }
 
-    // A pass of the same store, for another thread. Passes that were never used wait with the Store; one that was closed is
-    // handed out by each.
+    // A pass of the same store, for another thread. Unused passes stay with the Store; any pass hands out one that was
+    // closed.
     Pass another()
     {
         Pass other(store_);
@@ -198,7 +198,7 @@ public:
         return seen;
     }
 
-    // A witness of all transactions that the pass has seen so far, its own among them. Move it to another thread, whose pass joins it.
+    // A witness of all transactions that the pass has seen so far, including its own. Move it to another thread, whose pass joins it.
     Witness witness()
     {
         Witness witness(store_);
@@ -206,21 +206,21 @@ public:
         return witness;
     }
 
-    // Joins a witness: the pass and the witness have then both seen what either had. So each later snapshot of the pass includes all that
-    // the witness's pass had seen, and each later commit number of the pass is greater than those. Returns how many transactions both
-    // have seen. Throws std::invalid_argument if the witness is from another store.
+    // Joins a witness: the pass and the witness have then both seen what either had. So each later snapshot of the pass includes
+    // everything that the witness's pass had seen, and each later commit number of the pass is greater than those. Returns how many
+    // transactions both have seen. Throws std::invalid_argument if the witness is from another store.
     std::uint64_t join(Witness &witness)
     {
         std::uint64_t seen = 0;
         if (witness.store_ != store_)
-            throw std::invalid_argument("the witness is of another store");
+            throw std::invalid_argument("the witness belongs to another store");
         detail::check(bes_join(handle(), witness.handle(), &seen));
         return seen;
     }
 
     // Reads and writes as one. Pins the current snapshot, runs f on a Change, and writes its operations as one transaction if no other
-    // came between. If one came, it unpins and runs f again, on a new snapshot; and so if the store is busy, or full while bes_again
-    // waits. So f may run several times, up to `attempts`, and must leave nothing behind but its Change and what it returns.
+    // came between. If one came, it unpins and runs f again, on a new snapshot; and likewise if the store is busy, or full while
+    // bes_again waits. So f may run several times, up to `attempts`, and must leave nothing behind but its Change and what it returns.
     //
     //     const auto [number, letter] = store.change([](bestore::Change &change) {
     //         const auto letter = change.create();
@@ -251,7 +251,7 @@ public:
         }
     }
 
-    // Writes all operations or none. Tries again as bes_apply_or_retry does, with this many tries in all and one at least.
+    // Writes all operations or none. Tries again as bes_apply_or_retry does, with this many tries in all and at least one.
     Written apply(const Batch &batch, std::uint32_t tries = BES_TRIES)
     {
         return written(batch, tries, [&](auto... list) { return bes_apply(handle(), list...); });
@@ -266,7 +266,7 @@ public:
     // Makes a node.
     Node new_node() { return apply(Batch().new_node()).made.front(); }
 
-    // Makes 1 to 64 nodes in one write. Their numbers are this caller's alone, so that later batches may name them.
+    // Makes 1 to 64 nodes in one write. No other pass gets these numbers, so later batches may name them.
     std::vector<Node> new_nodes(std::size_t count)
     {
         Batch batch;
@@ -275,8 +275,8 @@ public:
         return apply(batch).made;
     }
 
-    // Sets again each attribute of this name that has the kind of its index, as bes_reindex does: the index holds then also those that
-    // were set before it was made. Returns how many these were.
+    // Sets each attribute of this name again, if it has the kind of its index, as bes_reindex does: the index then also holds those
+    // that were set before it was made. Returns how many were set.
     std::uint64_t reindex(std::string_view name, std::uint32_t attempts = BES_TRIES)
     {
         std::uint64_t count = 0;
@@ -298,8 +298,8 @@ public:
         });
     }
 
-    // Closes the store by its last pass, which is then closed, and returns the whole journal as text. Throws BES_IN_USE if another pass
-    // is open; the pass is as it was then.
+    // Closes the store through its last pass, which is then closed, and returns the whole journal as text. Throws BES_IN_USE if another
+    // pass is open; the pass is as it was then.
     std::string finish()
     {
         return detail::whole<std::string>(1 << 16, detail::Place::none, [&](char *text, std::size_t room, std::uint64_t *count) {
@@ -329,7 +329,7 @@ public:
     // Pins the current snapshot. A pass has one pin at a time.
     [[nodiscard]] Pin pin() & { return Pin(handle(), store_); }
 
-    // Closes the pass, as its end does: it goes back to the store, and `another` may hand it out again.
+    // Closes the pass, as the destructor does: it goes back to the store, and `another` may hand it out again.
     void close() noexcept { handle_.reset(); }
 
 protected:
@@ -359,7 +359,7 @@ private:
         return written;
     }
 
-    // The number of the change, if it is written. None if it is to be run again; the pass has stood back then.
+    // The commit number, if the change is written. None if it has to be run again; the pass has then stood back.
     std::optional<std::uint64_t> committed(Change &change, bes_retry &retry)
     {
         std::uint64_t number = 0;
@@ -376,7 +376,7 @@ private:
     }
 
     detail::Handle<bes_pass, bes_close> handle_;
-    std::uint64_t store_; // which store it is of
+    std::uint64_t store_; // which store it belongs to
 };
 
 namespace detail {
@@ -388,12 +388,12 @@ inline std::atomic<std::uint64_t> stores{0};
 
 // How large a store may grow.
 struct Limits {
-    std::uint64_t pages = 4096;         // of 4 KiB, taken at once: 8 to 16,384
-    std::uint64_t passes = 63;          // 1 to 64. One takes about 90 bytes, and a write 13 instructions more, of 12,000 or so
+    std::uint64_t pages = 4096;         // of 4 KiB, all allocated at the start: 8 to 16,384
+    std::uint64_t passes = 63;          // 1 to 64. Each takes about 90 bytes, and adds 13 instructions to a write's 12,000 or so
     std::uint64_t commits = UINT32_MAX; // transactions: 1 to 2^32 - 1
 };
 
-// A new store, as its first pass. The store goes with its last pass.
+// A new store, as its first pass. The store is freed with its last pass.
 class Store : public Pass {
 public:
     explicit Store(const Limits &limits = {}) : Pass(detail::stores++)
@@ -406,7 +406,7 @@ inline Updates Live::refresh(Snapshot &snapshot) { return refreshed(snapshot, be
 
 inline Updates Live::refresh_changed(Snapshot &snapshot)
 {
-    // The library can't test that the last refresh was in this store, as it requires.
+    // The library requires the last refresh to have been in this store, and can't check that.
     return refreshed(snapshot, store_ == snapshot.store_ ? bes_refresh_changed : bes_refresh);
 }
 

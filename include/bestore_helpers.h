@@ -36,28 +36,28 @@ static inline void bes_forget(bes_pass *pass)
     pass->at = NULL;
 }
 
-/* As bes_forget, for a prepared query. */
+/* Like bes_forget, for a prepared query. */
 static inline void bes_forget_prepared(bes_prepared *prepared)
 {
     prepared->live = false;
     prepared->at = NULL;
 }
 
-/* As bes_forget, for a place. */
+/* Like bes_forget, for a place. */
 static inline void bes_forget_place(bes_place *place)
 {
     place->live = false;
     place->at = NULL;
 }
 
-/* As bes_forget, for a witness. */
+/* Like bes_forget, for a witness. */
 static inline void bes_forget_witness(bes_witness *witness)
 {
     witness->live = false;
     witness->at = NULL;
 }
 
-/* As bes_forget, for a draft. */
+/* Like bes_forget, for a draft. */
 static inline void bes_forget_draft(bes_draft *draft)
 {
     draft->live = false;
@@ -67,7 +67,7 @@ static inline void bes_forget_draft(bes_draft *draft)
 /* A batch with room for 64 operations of any kind. It starts cleared: by BES_BATCH_INIT, which sets all its 23 KB to zero, or by
  * bes_batch_clear, which sets two words. Fill it by the helpers below, apply it, and clear it for the next one.
  * BES_BAD_COUNT: the batch has 64 operations. BES_NAME_LENGTH, BES_DATA_LENGTH: the name has more than 63 bytes, the value more
- * than 255. The batch stays as it was. All else that is wrong shows when it is applied. */
+ * than 255. The batch stays as it was. Any other error shows when it is applied. */
 typedef struct bes_batch {
     size_t count;
     size_t used;
@@ -190,7 +190,7 @@ static inline uint32_t bes_batch_remove_index(bes_batch *batch, const char *name
 }
 
 /* Lets other threads run `turns` times. Returns how many times they may run before the next try: twice as many, up to 1,024. If two
- * passes write in turn, each waits for what the other has just written; so one that comes in vain lets the other write on. */
+ * passes write in turn, each waits for what the other has just written; so one whose try fails lets the other go on writing. */
 static inline unsigned bes_stand_back(unsigned turns)
 {
     for (unsigned i = 0; i < turns; i++)
@@ -198,7 +198,7 @@ static inline unsigned bes_stand_back(unsigned turns)
     return turns < 1024 ? 2 * turns : turns;
 }
 
-/* How many tries the helpers below make that take no number of tries. On an idle machine they last some seconds. */
+/* How many tries the helpers below make if they take no number of tries. On an idle machine these last a few seconds. */
 #ifndef BES_TRIES
 #define BES_TRIES 10000u
 #endif
@@ -208,11 +208,11 @@ static inline unsigned bes_stand_back(unsigned turns)
 #define BES_FULL_SECONDS 2
 #endif
 
-/* What bes_again knows of the tries so far. */
+/* What bes_again knows about the tries so far. */
 typedef struct bes_retry {
-    uint32_t left;     /* how many further tries there may be */
+    uint32_t left;     /* how many more tries are allowed */
     unsigned turns;    /* as bes_stand_back takes them */
-    time_t full_since; /* when BES_FULL came first, or 0 */
+    time_t full_since; /* when BES_FULL first came, or 0 */
 } bes_retry;
 
 /* Whether a write that returned BES_FULL with this number may succeed later: another pass has an older snapshot pinned, or had it until
@@ -248,7 +248,7 @@ static inline bool bes_again(bes_pass *pass, uint32_t error, uint64_t number, be
 }
 
 /* Writes as bes_apply does, and tries again as bes_again says, up to `retries` times after the first. With 0 retries it is
- * bes_apply. */
+ * the same as bes_apply. */
 static inline uint32_t bes_apply_or_retry(bes_pass *pass, const bes_operation *operations, size_t operations_count,
                                           const uint8_t *bytes, size_t bytes_count, uint32_t retries, uint64_t *made,
                                           size_t made_room, uint64_t *number)
@@ -261,7 +261,7 @@ static inline uint32_t bes_apply_or_retry(bes_pass *pass, const bes_operation *o
     return error;
 }
 
-/* The same of bes_apply_if. BES_CONFLICT isn't tried again: what was read is no longer current. */
+/* The same for bes_apply_if. BES_CONFLICT isn't tried again: what was read is no longer current. */
 static inline uint32_t bes_apply_if_or_retry(bes_pass *pass, uint64_t expected, const bes_operation *operations,
                                              size_t operations_count, const uint8_t *bytes, size_t bytes_count, uint32_t retries,
                                              uint64_t *made, size_t made_room, uint64_t *number)
@@ -274,7 +274,7 @@ static inline uint32_t bes_apply_if_or_retry(bes_pass *pass, uint64_t expected, 
     return error;
 }
 
-/* Applies the batch as bes_apply_or_retry does, with this many tries in all, and one at least. */
+/* Applies the batch as bes_apply_or_retry does, with this many tries in all, and at least one. */
 static inline uint32_t bes_batch_apply(bes_pass *pass, const bes_batch *batch, unsigned tries, uint64_t *made,
                                        size_t made_room, uint64_t *number)
 {
@@ -282,7 +282,7 @@ static inline uint32_t bes_batch_apply(bes_pass *pass, const bes_batch *batch, u
                               made_room, number);
 }
 
-/* Applies the batch as bes_apply_if_or_retry does, with this many tries in all, and one at least. */
+/* Applies the batch as bes_apply_if_or_retry does, with this many tries in all, and at least one. */
 static inline uint32_t bes_batch_apply_if(bes_pass *pass, uint64_t expected, const bes_batch *batch, unsigned tries,
                                           uint64_t *made, size_t made_room, uint64_t *number)
 {
@@ -291,11 +291,11 @@ static inline uint32_t bes_batch_apply_if(bes_pass *pass, uint64_t expected, con
 }
 
 /* What bes_change runs. It reads the snapshot to which the pass is pinned, and adds operations to the batch, which is empty. The
- * nodes that it makes get the numbers next, next + 1 and so on. It may run several times, so it keeps no other result than the last
- * one in *with. It returns BES_OK, or the error with which bes_change ends. */
+ * nodes that it makes get the numbers next, next + 1 and so on. It may run several times, so it should keep only its last result in
+ * *with. It returns BES_OK, or the error with which bes_change ends. */
 typedef uint32_t bes_changer(bes_pass *pass, bes_batch *batch, uint64_t next, void *with);
 
-/* Writes a batch as a change on the snapshot to which the pass is pinned. Of an operation that isn't added number is the index. */
+/* Writes a batch as a change on the snapshot to which the pass is pinned. If an operation isn't added, number is its index. */
 static inline uint32_t bes_change_write_(bes_pass *pass, const bes_batch *batch, uint64_t *number)
 {
     bes_draft draft = BES_DRAFT_INIT;
@@ -331,7 +331,7 @@ static inline uint32_t bes_change_once_(bes_pass *pass, bes_changer *changer, vo
 }
 
 /* Reads and writes as one: pins the current snapshot, runs the changer, applies its batch if no other transaction came between, and
- * unpins. If one came, or as bes_again says, it begins again, up to `attempts` times in all and once at least. An empty batch writes
+ * unpins. If one did, or if bes_again says so, it begins again, up to `attempts` times in all, and at least once. An empty batch writes
  * nothing.
  * [in] pass      a pass that isn't pinned
  * [out] number   the commit number; for an empty batch the snapshot's number
@@ -351,7 +351,7 @@ static inline uint32_t bes_change(bes_pass *pass, uint32_t attempts, bes_changer
     }
 }
 
-/* Replaces the batch by the next operations that make the pinned snapshot again, for bes_batch_apply of a pass of another store. The
+/* Replaces the batch with the next operations that rebuild the pinned snapshot, for bes_batch_apply of a pass of another store. The
  * batch is empty after the last of them, and after an error, which is one of bes_state. */
 static inline uint32_t bes_batch_state(bes_pass *pass, bes_place *place, bes_batch *batch)
 {
@@ -362,7 +362,7 @@ static inline uint32_t bes_batch_state(bes_pass *pass, bes_place *place, bes_bat
     return error;
 }
 
-/* Replaces the batch by an entry of the journal, as bes_journal_from has it, with BES_TRIES tries at BES_BUSY. The batch is empty
+/* Replaces the batch with an entry of the journal, as bes_journal_from returns it, with BES_TRIES tries at BES_BUSY. The batch is empty
  * if there is no such entry yet, and after an error.
  * [in] from      the entry's index, from 0
  * [out] by       the pass that wrote it
@@ -392,7 +392,7 @@ uint32_t bes_operations_to_bytes(const bes_operation *operations, size_t operati
 uint32_t bes_operations_from_bytes(const uint8_t *bytes, size_t length, bes_counts *counts, bes_operation *operations,
                                    size_t operations_room, uint8_t *parts, size_t parts_room, uint64_t *place);
 
-/* The most bytes that bes_batch_to_bytes writes. */
+/* The maximum number of bytes that bes_batch_to_bytes writes. */
 #define BES_BATCH_BYTES (5 + 64 * (1 + 8 + 1 + 63 + 4 + 1 + 255))
 
 /* Writes a batch as bytes, to be kept or sent, in the format that KEPT.md of bestore describes. bes_batch_from_bytes reads them.
@@ -418,7 +418,7 @@ static inline uint32_t bes_batch_from_bytes(bes_batch *batch, const uint8_t *byt
     return error;
 }
 
-/* Makes 1 to 64 nodes as one transaction, and writes their numbers. They are this caller's: no other pass gets them. */
+/* Makes 1 to 64 nodes in one transaction, and writes their numbers. They belong to this caller: no other pass gets them. */
 static inline uint32_t bes_new_nodes(bes_pass *pass, size_t count, uint64_t *nodes)
 {
     bes_operation operations[64];
@@ -515,7 +515,7 @@ static inline uint32_t bes_find(bes_pass *pass, const char *text, uint64_t *node
     return bes_query(pass, (const uint8_t *)text, strlen(text), nodes, nodes_room, count);
 }
 
-/* How many nodes meet the query, with none listed. The errors and the cost are those of bes_query. */
+/* Counts the nodes that meet the query, without listing them. The errors and the cost are those of bes_query. */
 static inline uint32_t bes_count(bes_pass *pass, const char *text, uint64_t *count)
 {
     uint64_t none = 0;

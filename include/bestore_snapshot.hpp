@@ -32,10 +32,10 @@ inline unsigned generation()
     return forks;
 }
 
-// Whether what was made at this generation is of this process.
+// Whether what was made at this generation belongs to this process.
 inline bool is_ours(unsigned made_in) noexcept { return made_in == forks.load(std::memory_order_relaxed); }
 
-// A handle of the library, which stays in its place when the object that has it is moved, and is closed with that object.
+// A handle of the library. It stays in place when the object that owns it is moved, and is closed with that object.
 template <class T, std::uint32_t (*close)(T *)> class Handle {
 public:
     Handle() : handle_(nullptr, Closes{generation()}) { handle_.reset(new T()); }
@@ -75,7 +75,7 @@ struct Unpins {
     }
 };
 
-// All that a call writes which counts what there is, and writes as much as there is room for. It is called again with more room.
+// Everything that a call has to write, if it counts what there is and writes as much as fits. It is called again with more room.
 template <class List, class Call> List whole(std::size_t room, Place place, Call call)
 {
     for (;;) {
@@ -91,7 +91,7 @@ template <class List, class Call> List whole(std::size_t room, Place place, Call
     }
 }
 
-// The error of a call that is made again as bes_again says, up to this many times in all and once at least. The call writes what goes
+// The error of a call that is made again as bes_again says, up to this many times in all and at least once. The call writes what goes
 // with its error to the number.
 template <class Call> std::uint32_t tried(bes_pass *pass, std::uint32_t tries, const std::uint64_t &number, Call call)
 {
@@ -102,7 +102,7 @@ template <class Call> std::uint32_t tried(bes_pass *pass, std::uint32_t tries, c
     return error;
 }
 
-// Goes once over what a source reads item by item.
+// Goes over a source's items once, reading them one by one.
 template <class Source, class Item> class Iterator {
 public:
     using iterator_category = std::input_iterator_tag;
@@ -131,7 +131,7 @@ private:
 
 } // namespace detail
 
-// A query that was parsed once. It belongs to no store, and any snapshot may be asked it.
+// A query that is parsed once. It belongs to no store, and can be asked in any snapshot.
 class Prepared {
 public:
     explicit Prepared(std::string_view text)
@@ -179,10 +179,10 @@ private:
     bes_witness *handle() const { return handle_.get(); }
 
     detail::Handle<bes_witness, bes_dismiss> handle_;
-    std::uint64_t store_; // as that of a pass
+    std::uint64_t store_; // as for a pass
 };
 
-// Which nodes came into the result of a live query and which went, each ascending.
+// Which nodes joined a live query's result and which left it, both ascending.
 struct Updates {
     std::vector<Node> created;
     std::vector<Node> removed;
@@ -218,7 +218,7 @@ private:
     bool is_descending_ = false;
 };
 
-// A position in the answer of a query in an order: that of the last node of a page. The next page has what comes after it, also in a
+// A position in the ordered answer of a query: the position of a page's last node. The next page begins right after it, even in a
 // later snapshot, whatever was written in between.
 class Cursor {
 public:
@@ -252,11 +252,11 @@ private:
 struct Page {
     std::vector<Node> nodes;
     bool more;     // whether others come after these
-    Cursor cursor; // the position of the last one; of an empty page it is where that began
+    Cursor cursor; // the position of the last one; for an empty page, where it began
 };
 
-// The nodes that a query finds, in an order: Snapshot::ordered makes it, and it asks for page after page. Go over it once. The query and
-// the snapshot have to stay as long.
+// The nodes that a query finds, in an order: Snapshot::ordered makes it, and it asks for page after page. Go over it once. The query
+// and the snapshot have to outlive it.
 //
 //     for (bestore::Node node : pin.ordered(query, bestore::Order("MAIL:when").descending()))
 class Ordered {
@@ -288,12 +288,12 @@ public:
     using Prepared::Prepared;
 
     // Asks the query in the snapshot, and returns what changed. Use snapshots of one store, or of another that its state was carried
-    // on to. It asks the whole query and takes no lock, so no write of another pass is BES_BUSY because of it.
+    // on to. It asks the whole query and takes no lock, so it doesn't make another pass's write BES_BUSY.
     Updates refresh(Snapshot &snapshot);
 
-    // What refresh() returns, by bes_refresh_changed: it reads what was written since the last refresh, and asks the query only of
-    // those nodes. That takes less time if the answer has 96 nodes or more and few were written; writes of other passes are BES_BUSY
-    // meanwhile. Otherwise, and in another store than at the last refresh, it asks the whole query.
+    // Returns what refresh() does, but calls bes_refresh_changed, which reads what was written since the last refresh, and checks
+    // only those nodes. That takes less time if the answer has 96 nodes or more and few were written; writes of other passes are
+    // BES_BUSY meanwhile. Otherwise, or if the last refresh was in another store, it asks the whole query.
     Updates refresh_changed(Snapshot &snapshot);
 
 private:
@@ -302,7 +302,7 @@ private:
     std::optional<std::uint64_t> store_; // that of the last refresh
 };
 
-// The operations that make a snapshot again on an empty store, as batches of 1 to 64, each for one write. Go over them once.
+// The operations that rebuild a snapshot on an empty store, as batches of 1 to 64, each for one write. Iterate over them once.
 //
 //     for (const bestore::Batch &batch : pin.state())
 //         other.apply(batch);
@@ -360,7 +360,7 @@ public:
     // BES_NO_ROOM if `most` is 0.
     Page page(Prepared &query, const Order &order, std::size_t most) { return page(query, Cursor(query, order), most); }
 
-    // The next page: those after a cursor, in its order. Throws BES_BAD_CURSOR also if it is of another query.
+    // The next page: those after a cursor, in its order. Also throws BES_BAD_CURSOR if it belongs to another query.
     Page page(Prepared &query, const Cursor &after, std::size_t most)
     {
         if (after.query_ != query.text())
@@ -376,7 +376,7 @@ public:
         return page;
     }
 
-    // All of them, asked for page after page.
+    // All of them, read page by page.
     Ordered ordered(Prepared &query, const Order &order) { return ordered(query, Cursor(query, order)); }
     Ordered ordered(Prepared &query, const Cursor &after) { return Ordered(*this, query, after); }
 
@@ -386,18 +386,18 @@ public:
         return part(most, [&](auto... nodes) { return bes_first(handle(), query.handle(), from, nodes...); });
     }
 
-    // Any `most` nodes that meet the query, or all if there are fewer, in no order. Throws BES_NO_ROOM if `most` is 0.
+    // Any `most` nodes that meet the query, or all if there are fewer, in no particular order. Throws BES_NO_ROOM if `most` is 0.
     std::vector<Node> any(Prepared &query, std::size_t most)
     {
         return part(most, [&](auto... nodes) { return bes_any(handle(), query.handle(), nodes...); });
     }
 
-    // How many nodes meet the query, with none listed.
+    // How many nodes meet the query, without listing them.
     std::uint64_t count(std::string_view text) { return counted(text, detail::Place::byte); }
     std::uint64_t count(const Predicate &predicate) { return counted(predicate, detail::Place::item); }
     std::uint64_t count(Prepared &prepared) { return counted(prepared, detail::Place::none); }
 
-    // The nodes from a number on, ascending, whatever attributes they have; `most` of them at most.
+    // The nodes from a number on, ascending, whatever attributes they have; at most `most` of them.
     std::vector<Node> nodes(Node from = 0, std::size_t most = SIZE_MAX)
     {
         std::vector<Node> all;
@@ -470,8 +470,9 @@ public:
     }
     template <class T> std::optional<T> get(Node node, const Attribute<T> &attribute) { return get<T>(node, attribute.name()); }
 
-    // The attributes of these names of many nodes: for each name a list with the value of each node, empty if it has none. Takes one
-    // search in a tree for a node whose attributes of these names follow one another. In a change it takes a search for each value.
+    // Several attributes of many nodes: for each name a list with each node's value, empty if it has none. Takes one
+    // search in a tree for each node, if its attributes of these names are next to each other. In a change it takes a search for each
+    // value.
     std::vector<std::vector<std::optional<Value>>> columns(const std::vector<Node> &nodes, const std::vector<std::string_view> &names)
     {
         std::vector<std::vector<std::optional<Value>>> columns(names.size(), std::vector<std::optional<Value>>(nodes.size()));
@@ -575,7 +576,7 @@ private:
         return bes_query_prepared(handle(), prepared.handle(), nodes, room, count);
     }
 
-    // How many of the nodes that are wanted there may be, and one at least if one is wanted.
+    // How many of the wanted nodes there can be, and at least one if any is wanted.
     std::size_t room(std::size_t most)
     {
         Node next = 0;
@@ -616,7 +617,7 @@ private:
         return count;
     }
 
-    // The error; for BES_NOT_COVERED also the place of the comparison without an index.
+    // The error; for BES_NOT_COVERED with the place of the comparison without an index.
     std::uint32_t located(std::uint32_t error, std::string_view text, std::uint64_t *place)
     {
         if (error == BES_NOT_COVERED)
@@ -626,7 +627,7 @@ private:
 
     std::uint64_t number_ = 0;
     std::unique_ptr<bes_pass, detail::Unpins> pass_;
-    std::uint64_t store_;        // which store it is of
+    std::uint64_t store_;        // which store it belongs to
     bes_draft *draft_ = nullptr; // of a change
 };
 
@@ -643,13 +644,13 @@ inline Ordered::Iterator Ordered::begin()
     return Iterator(this);
 }
 
-// A pinned snapshot, until it ends.
+// A pinned snapshot, for as long as the object lives.
 class Pin : public Snapshot {
 public:
-    // Unpins, as its end does.
+    // Unpins, as the destructor does.
     void unpin() noexcept { release(); }
 
-    // The operations that make the snapshot again on an empty store.
+    // The operations that rebuild the snapshot on an empty store.
     [[nodiscard]] State state() { return State(handle()); }
 
 private:

@@ -1,7 +1,7 @@
 /* Helpers over indices and texts: comparisons of a query, indices that they need, escapes, UTF-8, a caret under an error, and positions in
  * an index. Include bestore.h, which includes this file.
  *
- * What a query's text says, the library reads: bes_query_comparisons lists its comparisons. */
+ * The library itself reads the text of a query: bes_query_comparisons lists its comparisons. */
 #include "bestore.h" /* which includes this file once more, and then nothing here is left */
 
 #ifndef BESTORE_TEXT_H
@@ -24,10 +24,10 @@ typedef struct bes_comparison {
     size_t value_length;
 } bes_comparison;
 
-/* The most comparisons of a query, and the most bytes of their plain names and values. */
+/* The maximum number of comparisons in a query, and of bytes in their plain names and values. */
 enum { BES_COMPARISONS = 256, BES_COMPARISONS_BYTES = 64 * 256 + 4 * 4096 };
 
-/* The comparisons of a query, from left to right. It has 55 KB. */
+/* The comparisons of a query, from left to right. The list takes 55 KB. */
 typedef struct bes_comparison_list {
     bes_counts counts; /* operations: how many comparisons there are */
     bes_compared comparisons[BES_COMPARISONS];
@@ -72,7 +72,7 @@ static inline const bes_operation *bes_index_named(const bes_index_list *list, c
     return NULL;
 }
 
-/* The index of the name of a listed comparison, or NULL. */
+/* The index of a listed comparison's name, or NULL. */
 static inline const bes_operation *bes_index_of(const bes_index_list *list, const bes_comparison_list *comparisons,
                                                 const bes_compared *comparison)
 {
@@ -86,8 +86,8 @@ static inline const bes_operation *bes_index_of(const bes_index_list *list, cons
  * The errors and the cost are those of bes_indices and bes_query_comparisons. */
 uint32_t bes_uncovered(bes_pass *pass, const char *text, size_t length, size_t *at);
 
-/* Whether no node meets a listed comparison, because of the kind of the index that its name has: of integers for size>1.5, or of those
- * without a sign for size<0. */
+/* Whether no node meets a listed comparison, because of the kind of its name's index: any integer kind for size>1.5, an unsigned one
+ * for size<0. */
 static inline bool bes_is_never_true(const bes_index_list *list, const bes_comparison_list *comparisons, const bes_compared *comparison)
 {
     const bes_operation *index = bes_index_of(list, comparisons, comparison);
@@ -114,28 +114,28 @@ bool bes_next_never_true(const bes_index_list *list, const char *text, size_t le
  * BES_NO_INDEX, and the errors and cost of bes_query_items: a walk over the whole index, and memory for its nodes. */
 uint32_t bes_pairs(bes_pass *pass, const char *name, uint64_t *count);
 
-/* Sets again each attribute of this name that has the kind of its index. The index holds then also those that were set before it was
- * made. Each up to 64 nodes are a bes_change of their own, which loses no newer value.
+/* Sets each attribute of this name again, if it has the kind of its index. The index then also holds those that were set before it
+ * was made. Up to 64 nodes at a time are a bes_change of their own, which loses no newer value.
  * [in] pass      a pass that isn't pinned
  * [in] attempts  how many attempts each change has
- * [out] count    how many attributes were set again, also before an error
+ * [out] count    how many attributes were set again, even if an error followed
  * BES_NO_INDEX, and the errors of bes_pin, bes_indices and bes_change. */
 uint32_t bes_reindex(bes_pass *pass, const char *name, uint32_t attempts, uint64_t *count);
 
 /* Writes a text so that it stands for itself in a query: as a name, a value or a part of a pattern, in quotes or not. Quotes
- * are right for every text, also an empty one. So [draft].txt becomes \[draft].txt.
+ * work for every text, even an empty one. So [draft].txt becomes \[draft].txt.
  * [out] out      the text and a zero byte, cut to `room` bytes; twice the text's length and 1 suffice
  * Returns how many bytes it has with enough room, without the zero byte; 0 if the text isn't valid UTF-8. */
 size_t bes_escape(const char *text, char *out, size_t room);
 
-/* As bes_escape, and each letter matches in either case, as BQuery builds it: draft becomes [dD][rR][aA][fF][tT]. The result is
+/* Like bes_escape, but each letter matches in either case, like in a BQuery: draft becomes [dD][rR][aA][fF][tT]. The result is
  * a pattern, for == and !=.
  * [out] out      12 times the text's length and 1 suffice */
 size_t bes_any_case(const char *text, char *out, size_t room);
 
-/* Makes a text of any bytes, as a file's name or a mail's header, that the library takes: each byte that is no character of UTF-8
- * becomes a ?, and a text that is too long is cut after a whole character.
- * [out] out      the text and a zero byte, `room` bytes at most: 256 for a value, 64 for a name
+/* Turns any bytes, such as a file's name or a mail's header, into a text that the library takes: each byte that isn't part of a
+ * UTF-8 character becomes a ?, and a text that is too long is cut after a whole character.
+ * [out] out      the text and a zero byte, at most `room` bytes: 256 for a value, 64 for a name
  * Returns how many bytes it has, without the zero byte. */
 size_t bes_to_utf8(const char *text, size_t length, char *out, size_t room);
 
@@ -143,8 +143,8 @@ size_t bes_to_utf8(const char *text, size_t length, char *out, size_t room);
  * the one with that byte. Control characters are printed as blanks. Returns what ferror does. */
 int bes_print_caret(FILE *file, const char *text, uint64_t byte);
 
-/* Makes the position at which a value and a node are in the order of an index, so that bes_ordered goes on after it: with node 0 from
- * all nodes of the value on, or in the reverse order after them.
+/* Makes the position at which a value and a node are in the order of an index, so that bes_ordered goes on after it: with node 0 it
+ * is before all nodes with the value, or after them in the reverse order.
  * [in] value     the value, as bes_get writes it
  * [in] bytes     the bytes of a text
  * BES_NOT_INDEXABLE, BES_DATA_LENGTH, BES_HAS_NUL, BES_NO_VALUE (the number doesn't fit its type). The cursor stays as it was. */

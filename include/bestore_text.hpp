@@ -13,7 +13,7 @@ namespace bestore {
 struct Comparison {
     std::string name;
     query_op op;
-    std::string value;  // as the query has it, with its backslashes
+    std::string value;  // as written in the query, with its backslashes
     std::size_t offset; // of its first byte in the text
     std::size_t length; // how many bytes it has there
 };
@@ -37,7 +37,7 @@ inline std::unique_ptr<bes_comparison_list> listed_comparisons(std::string_view 
     return list;
 }
 
-// The text that a call of the library makes of another, which has up to so many times its bytes.
+// The text that a call of the library makes from another one; it has up to this many times the bytes.
 template <class Call> std::string made_text(std::string_view text, std::size_t times, Call call)
 {
     std::string made(times * text.size(), '\0');
@@ -50,7 +50,7 @@ template <class Call> std::string made_text(std::string_view text, std::size_t t
 
 } // namespace detail
 
-// The comparisons of a query, in their order. Throws what a text that isn't one is refused with.
+// The comparisons of a query, in their order. Throws the error of a text that isn't a query.
 inline std::vector<Comparison> comparisons_of(std::string_view text)
 {
     const auto list = detail::listed_comparisons(text);
@@ -60,7 +60,7 @@ inline std::vector<Comparison> comparisons_of(std::string_view text)
     return comparisons;
 }
 
-// The names of such a query, each once, as they come.
+// The names of such a query, each once, in their order.
 inline std::vector<std::string> names_of(std::string_view text)
 {
     std::vector<std::string> names;
@@ -73,10 +73,10 @@ inline std::vector<std::string> names_of(std::string_view text)
 // A text that stands for itself in a query, as bes_escape writes it. Throws BES_NOT_UTF8.
 inline std::string escape(std::string_view text) { return detail::made_text(text, 2, bes_escape_bytes); }
 
-// As escape, and each letter matches in either case, by Unicode's simple case folding. The result is a pattern, for == and !=.
+// Like escape, but each letter matches in either case, by Unicode's simple case folding. The result is a pattern, for == and !=.
 inline std::string any_case(std::string_view text) { return detail::made_text(text, 12, bes_any_case_bytes); }
 
-// A text of any bytes, as a file's name, made one that the library takes, as bes_to_utf8 does: `most` bytes at most.
+// Turns any bytes, such as a file's name, into a text that the library takes, as bes_to_utf8 does: at most `most` bytes.
 inline std::string to_utf8(std::string_view text, std::size_t most = 255)
 {
     std::string valid(most + 1, '\0');
@@ -84,8 +84,8 @@ inline std::string to_utf8(std::string_view text, std::size_t most = 255)
     return valid;
 }
 
-// A query's text, and on the next line a caret under the character at a byte offset. Of a text with several lines it is the one with
-// that byte. Control characters become blanks.
+// A query's text, and on the next line a caret under the character at a byte offset. If the text has several lines, it is the one
+// with that byte. Control characters become blanks.
 inline std::string caret(std::string_view text, std::uint64_t offset)
 {
     const auto at = static_cast<std::size_t>(std::min<std::uint64_t>(offset, text.size()));

@@ -26,7 +26,7 @@ namespace detail {
 // What the number that goes with an error counts: bytes of a query's text, bytes of a batch, items or operations.
 enum class Place { none, byte, batch_byte, item, operation };
 
-// Whether a place goes with the error, in a call that has such places.
+// Whether this error comes with a place, in a call that can report such places.
 inline bool has_place(std::uint32_t error, Place place)
 {
     switch (error) {
@@ -55,7 +55,7 @@ inline bool has_place(std::uint32_t error, Place place)
 
 } // namespace detail
 
-// What a program can do about an error, as bestore.h has it.
+// What a program can do about an error, as in bestore.h.
 enum class ErrorClass : std::uint32_t {
     none = BES_CLASS_NONE,
     retry = BES_CLASS_RETRY,
@@ -64,7 +64,7 @@ enum class ErrorClass : std::uint32_t {
     gone = BES_CLASS_GONE
 };
 
-// An error of a call, which has changed nothing.
+// An error of a call. The call has changed nothing.
 class Refusal : public std::runtime_error {
 public:
     explicit Refusal(std::uint32_t number, std::uint64_t carried = 0, detail::Place place = detail::Place::none)
@@ -75,29 +75,29 @@ public:
     // The error as bestore.h lists it.
     std::uint32_t number() const noexcept { return number_; }
 
-    // Its name there, as "BES_BUSY".
+    // Its name there, such as "BES_BUSY".
     const char *name() const noexcept { return bes_error_name(number_); }
 
     // What a program can do about it.
     ErrorClass error_class() const noexcept { return static_cast<ErrorClass>(bes_class(number_)); }
 
-    // Of BES_BUSY: the pass that is writing.
+    // For BES_BUSY: the pass that is writing.
     std::optional<std::uint64_t> pass_number() const noexcept { return carried_if(number_ == BES_BUSY); }
 
-    // Of BES_FULL: the oldest version that a pass may still read.
+    // For BES_FULL: the oldest version that a pass may still read.
     std::optional<std::uint64_t> least() const noexcept { return carried_if(number_ == BES_FULL); }
 
-    // Of BES_CONFLICT: the length of the journal.
+    // For BES_CONFLICT: the length of the journal.
     std::optional<std::uint64_t> length() const noexcept { return carried_if(number_ == BES_CONFLICT); }
 
-    // The byte, from 0, at which a query's text has the error, or the bytes of a batch. Of BES_NOT_COVERED: the first comparison
+    // The byte, from 0, at which a query's text or a batch's bytes are wrong. For BES_NOT_COVERED: that of the first comparison
     // whose name has no index.
     std::optional<std::uint64_t> offset() const noexcept
     {
         return carried_if(is_at(detail::Place::byte) || place_ == detail::Place::batch_byte);
     }
 
-    // The item of a Predicate, from 0, that is invalid or at which it builds no query.
+    // The item of a Predicate, from 0, that is invalid or at which it stops forming a query.
     std::optional<std::uint64_t> item() const noexcept { return carried_if(is_at(detail::Place::item)); }
 
     // The operation of a Batch, from 0, that is invalid.
@@ -129,7 +129,7 @@ enum class Kind : std::uint32_t {
     // surface.toml: end
 };
 
-// The name of a kind, as "int64".
+// The name of a kind, such as "int64".
 inline const char *kind_name(Kind kind)
 {
     switch (kind) {
@@ -185,7 +185,7 @@ using Raw = std::vector<std::uint8_t>;
 // A value of an attribute.
 using Value = std::variant<std::string, std::int32_t, std::int64_t, std::uint32_t, std::uint64_t, Mime, Raw>;
 
-// An attribute of a node, as it is listed.
+// An attribute of a node, in a list.
 struct NamedValue {
     std::string name;
     Value value;
@@ -198,14 +198,14 @@ struct Index {
 
 namespace detail {
 
-// Throws the error of a call, with the number that the call wrote, and what that counts.
+// Throws the error of a call, with the number that the call wrote and what that number counts.
 inline void check(std::uint32_t error, std::uint64_t carried = 0, Place place = Place::none)
 {
     if (error != BES_OK)
         throw Refusal(error, carried, place);
 }
 
-// The library wants a pointer that isn't null, also to nothing.
+// The library needs a pointer that isn't null, even to no bytes.
 inline const std::uint8_t *bytes_of(std::string_view text)
 {
     return reinterpret_cast<const std::uint8_t *>(text.empty() ? "" : text.data());
@@ -249,7 +249,7 @@ template <class T> constexpr Kind kind_of()
         return kind_of_integer<T>();
 }
 
-// Whether a number is one of T.
+// Whether T holds a number.
 template <class T, class U> constexpr bool fits(U number)
 {
     if constexpr (std::is_signed_v<U>) {
@@ -259,7 +259,7 @@ template <class T, class U> constexpr bool fits(U number)
     return static_cast<std::uint64_t>(number) <= static_cast<std::uint64_t>(std::numeric_limits<T>::max());
 }
 
-// A number as bestore.h has it in an operation, if the kind holds it.
+// A number in the form that an operation of bestore.h has, if the kind holds it.
 template <class U> std::uint64_t number_of(Kind kind, U number)
 {
     const bool is_held = (kind == Kind::int32 && fits<std::int32_t>(number)) || (kind == Kind::int64 && fits<std::int64_t>(number)) ||
@@ -292,8 +292,8 @@ inline Value value_of(std::uint32_t code, std::uint64_t number, std::string_view
 
 } // namespace detail
 
-// A value on its way in, which refers to what the caller has: a text, a Mime, a Raw, a Value or an integer. The type of an integer
-// says whether it has 32 or 64 bits, and a sign; with a kind given it is of that kind, and BES_NO_VALUE is thrown if it doesn't fit.
+// A value that is passed in, and refers to what the caller has: a text, a Mime, a Raw, a Value or an integer. The type of an integer
+// says whether it has 32 or 64 bits, and a sign; if a kind is given, it has that kind, and BES_NO_VALUE is thrown if it doesn't fit.
 class Input {
 public:
     Input(std::string_view text) : Input(Kind::string, 0, text) {}
@@ -338,7 +338,7 @@ public:
 
     const std::string &name() const noexcept { return name_; }
 
-    // The value as one of T. An integer that T doesn't hold throws BES_NO_VALUE.
+    // The value as a T. An integer that T doesn't hold throws BES_NO_VALUE.
     template <class U> static Input input(const U &value)
     {
         if constexpr (detail::is_integer<T>) {
@@ -422,7 +422,7 @@ enum class Action : std::uint32_t {
 // An operation of a batch, read back.
 struct Operation {
     Action action;
-    Node node;                  // of new_node: the node that it made if the batch is of the journal, or was made by a Change
+    Node node;                  // for new_node: the node that it made, if the batch comes from the journal or from a Change
     std::string name;           // empty if the operation has none
     std::optional<Kind> kind;   // of the value or the index
     std::optional<Value> value; // of set
@@ -466,7 +466,7 @@ public:
         return bytes;
     }
 
-    // The batch that to_bytes wrote. Of an error offset() is the byte.
+    // The batch that to_bytes wrote. After an error, offset() is the byte.
     static Batch from_bytes(const Raw &bytes)
     {
         bes_batch read;

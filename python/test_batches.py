@@ -76,7 +76,7 @@ class Bytes(unittest.TestCase):
         whole = bestore.Batch([bestore.SetAttribute(1, "ab", 5, bestore.INT32)]).to_bytes()
         for data, offset, reason in [
             (b"", 0, "don't begin with BEB"), (b"BEC" + whole[3:], 0, "don't begin with BEB"),
-            (b"BEB\x02" + whole[4:], 3, "another version"), (whole[:4], 4, "is cut off"),
+            (b"BEB\x02" + whole[4:], 3, "a version other than 1"), (whole[:4], 4, "is cut off"),
             (whole[:4] + b"\0", 4, "this one 0"), (whole[:4] + b"\x41" + whole[5:], 4, "this one 65"),
             (whole[:5] + b"\6" + whole[6:], 5, "no operation has the number 6"),
             (whole[:17] + b"\0" + whole[18:], 17, "no kind has the type code"),

@@ -549,7 +549,7 @@ class Library(unittest.TestCase):
         environment = dict(os.environ, BESTORE_LIBRARY="/nowhere/libbestore.so.0", PYTHONPATH=os.pathsep.join(sys.path))
         said = subprocess.run([sys.executable, "-c", "import bestore; bestore.open()"], env=environment, stderr=subprocess.PIPE, check=False)
         self.assertIn(b"ImportError: bestore can't load its library: /nowhere/libbestore.so.0", said.stderr)
-        self.assertIn(b"Run `make` in c/", said.stderr)
+        self.assertIn(b"run `make -C c`", said.stderr)
 
     def test_version(self):
         self.assertEqual(bestore._library.dotted(bestore._library.calls.bes_version()), bestore.__version__)

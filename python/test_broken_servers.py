@@ -119,7 +119,7 @@ class Broken(unittest.TestCase):
                      b'{"id":2,"ok":{"commit":1e999,"nodes":[1]}}\n', b'{"watch":"a"}\n', b'{"id":null}\n', b"{" * (3 << 20)):
             fault = self.fault(bestore.Pass.new_node, [junk])
             self.assertEqual((type(fault), fault.may_be_done), (bestore.ProtocolError, True), junk[:40])
-            self.assertIn("isn't of the protocol", str(fault))
+            self.assertIn("doesn't follow the protocol", str(fault))
 
     def test_values(self):
         for value in ("1.5", "[]", "{}", "true", '{"int32":"x"}', '{"date":1}', '{"raw":"A"}', '{"int32":1,"int64":1}'):

@@ -22,7 +22,7 @@ def cases():
 
 
 def value_of(kind, text):
-    """A value of this kind, from its text. LONG64 is a text of so many bytes."""
+    """A value of this kind, from its text. LONG64 is a text of this many bytes."""
     if text.startswith("LONG"):
         text = "x" * int(text[4:])
     if kind in ("STRING", "MIME"):

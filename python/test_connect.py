@@ -252,7 +252,7 @@ class Reading(WithServer):
             self.assertEqual(version.columns([1], ["size"]), [[None]])
 
     def test_rows(self):
-        """They are the same as in a store of this process, also if they come in several replies."""
+        """They are the same as in a store of this process, even if they come in several replies."""
         names = ["b", "a", "none"]
 
         def rows(store):

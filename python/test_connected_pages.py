@@ -136,13 +136,13 @@ class WrongPages(OfFour):
         with self.store.pin() as version:
             cursor = version.query('text=="*"', by="int64", limit=1).cursor
         for asked, reason in [
-                ({"by": "int64", "descending": True}, 'and this page is in the order by "int64" descending'),
-                ({"by": "text"}, 'and this page is in the order by "text" ascending'),
+                ({"by": "int64", "descending": True}, 'but this page is in the order by "int64" descending'),
+                ({"by": "text"}, 'but this page is in the order by "text" ascending'),
                 ({"by": "int64", "after": str(cursor)[:-1]}, "isn't a cursor: it is cut off or changed"),
                 ({"by": "int64", "after": ""}, "isn't a cursor: it is cut off or changed")]:
             error = self.wrong(BadCursor, **{"after": cursor, **asked})
             self.assertIn(reason, str(error))
-        with self.store.pin() as version, self.assertRaisesRegex(BadCursor, "of another query"):
+        with self.store.pin() as version, self.assertRaisesRegex(BadCursor, "to another query"):
             version.query('text=="a*"', by="int64", after=cursor)
 
     def test_index_of_another_kind(self):

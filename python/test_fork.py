@@ -9,6 +9,8 @@ import warnings
 
 import bestore
 
+from busy_passes import used_by_a_thread
+
 
 @unittest.skipUnless(hasattr(os, "fork"), "there is no fork")
 class Forks(unittest.TestCase):
@@ -90,23 +92,12 @@ class Forks(unittest.TestCase):
     def test_lock_of_a_thread_that_is_not_there(self):
         """A thread of the parent is in a call as the child is forked. The child doesn't wait for it."""
         with bestore.open(64, 1, 100) as store:
-            begun, ended = threading.Event(), threading.Event()
-
-            def call(handle):
-                begun.set()
-                ended.wait(20)
-                return 0
-            running = threading.Thread(target=store._call, args=(call,))
-            running.start()
-            begun.wait()
-
             def work():
                 with self.assertRaises(bestore.Forked):
                     store.new_node()
                 store.close()
-            self.in_child(work)
-            ended.set()
-            running.join()
+            with used_by_a_thread(store):
+                self.in_child(work)
 
     def test_store_of_the_child(self):
         with bestore.open(64, 1, 100) as store:

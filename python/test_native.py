@@ -14,6 +14,7 @@ import unittest
 
 import bestore
 import bestore._library  # which a store of this process loads
+from busy_passes import used_by_a_thread
 
 try:
     import _testcapi
@@ -31,7 +32,7 @@ def fill(store, first, last):
 
 
 def filled(store, nodes):
-    """Makes an index, and so many nodes."""
+    """Makes an index, and this many nodes."""
     store.make_index("k", bestore.INT64)
     fill(store, 1, nodes)
 
@@ -257,29 +258,18 @@ class Guards(unittest.TestCase):
             del version
 
     def test_interrupted_wait(self):
-        """A signal ends the wait for a thread that is at the pass."""
+        """A signal ends the wait for a thread that is using the pass."""
+        def interrupt(number, frame):
+            raise KeyboardInterrupt
         with bestore.open(64, 1, 100) as store:
-            begun, ended = threading.Event(), threading.Event()
-
-            def call(handle):
-                begun.set()
-                ended.wait(20)
-                return 0
-
-            def interrupt(number, frame):
-                raise KeyboardInterrupt
-            running = threading.Thread(target=store._call, args=(call,))
-            running.start()
-            begun.wait()
-            before = signal.signal(signal.SIGALRM, interrupt)
-            try:
-                signal.setitimer(signal.ITIMER_REAL, 0.05)
-                with self.assertRaises(KeyboardInterrupt):
-                    store.new_node()
-            finally:
-                signal.signal(signal.SIGALRM, before)
-            ended.set()
-            running.join()
+            with used_by_a_thread(store):
+                before = signal.signal(signal.SIGALRM, interrupt)
+                try:
+                    signal.setitimer(signal.ITIMER_REAL, 0.05)
+                    with self.assertRaises(KeyboardInterrupt):
+                        store.new_node()
+                finally:
+                    signal.signal(signal.SIGALRM, before)
             self.assertEqual(store.new_node(), 1)
 
     def test_unpinned_while_nodes_are_read(self):
@@ -359,7 +349,7 @@ with bestore.open(64, 1, 100) as store:
                 self.assertGreater(refused, 50)
 
     def test_nothing_is_left(self):
-        """What a call makes is gone after it, also after an error."""
+        """What a call makes is gone after it, even after an error."""
         with bestore.open(256, 1) as store, bestore.prepare("k > 0") as query:
             filled(store, 100)
 

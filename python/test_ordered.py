@@ -215,7 +215,7 @@ class Parts(unittest.TestCase):
                 for ask in (lambda **given: version.query("size>0", **given), lambda **given: version.query("size>0", by="size", **given)):
                     with self.assertRaises(bestore.NoRoom) as raised:
                         ask(limit=limit)
-                    self.assertEqual(str(raised.exception), f"a page has at least one node, and {limit} are asked for; ask for one or more")
+                    self.assertEqual(str(raised.exception), f"a page has at least one node, and {limit} were asked for; ask for one or more")
                 self.assertRaises(bestore.NoRoom, version.any, "size>0", limit)
             self.assertRaises(bestore.NoRoom, version.rows, "size>0", [], by="size", most=0)
             self.assertRaises(ValueError, version.query, "size>0", limit=0)
@@ -234,11 +234,11 @@ class Parts(unittest.TestCase):
         with self.store.pin() as version:
             cursor = version.query("size>0", by="size", limit=1).cursor
             refusals = {
-                'the cursor is of the order by "size" ascending, and this page is in the order by "when" ascending: '
+                'the cursor belongs to the order by "size" ascending, but this page is in the order by "when" ascending: '
                 "keep the order, or begin without a cursor": ("size>0", {"by": "when"}),
-                'the cursor is of the order by "size" ascending, and this page is in the order by "size" descending: '
+                'the cursor belongs to the order by "size" ascending, but this page is in the order by "size" descending: '
                 "keep the order, or begin without a cursor": ("size>0", {"by": "size", "descending": True}),
-                "the cursor is of another query: ask the query that it came from, or begin without a cursor":
+                "the cursor belongs to another query: ask the query that it came from, or begin without a cursor":
                     ("size>1", {"by": "size"}),
             }
             for said, (query, asked) in refusals.items():

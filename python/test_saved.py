@@ -43,7 +43,7 @@ def run(work, *arguments):
 
 
 def write_for_ever(path, round_number):
-    """Writes in threads, says each write that has returned, and writes the state anew now and then."""
+    """Writes in threads, says each write that has returned, and rewrites the state now and then."""
     store = saved.open(path)
 
     def write(user, writer):
@@ -208,7 +208,7 @@ class Kept(Files):
             self.assertEqual(store.new_node(), 67)
 
     def test_rows(self):
-        """The rows that writers hand in are the journal's entries, in their order, also if the last one hands in first."""
+        """The rows that writers hand in are the journal's entries, in their order, even if the last one hands in first."""
         batches = [
             bestore.Batch().new_node().new_node(), bestore.Batch().make_index("i", bestore.INT32).make_index("k", bestore.STRING),
             bestore.Batch().set(1, "i", bestore.Int32(-5)).set(2, "u", bestore.UInt64(2**64 - 1)).set(2, "k", "é"),
@@ -568,7 +568,7 @@ class Failures(Files):
         self.assertEqual(len(sql(self.path, "SELECT number FROM entry")), store._saver._line.saved)
 
     def test_interrupted(self):
-        """A write whose wait is interrupted is saved by the next one, also if it was in the file already."""
+        """A write whose wait is interrupted is saved by the next one, even if it was in the file already."""
         for after in (False, True):
             append = File.append
 

@@ -35,7 +35,7 @@ class Damaged(Files):
                 os.remove(self.beside(ending))
 
     def killed(self, entries: int) -> Dict[str, bytes]:
-        """A file with so many entries and as many nodes, as it is after `kill -9`."""
+        """A file with this many entries and as many nodes, as it is after `kill -9`."""
         with saved.open(self.path, 64) as store:
             for _ in range(entries):
                 store.new_node()

@@ -16,7 +16,7 @@ static inline double now(void) {
 
 static inline void say_value(const char *name, double value) { printf("%s %.3f\n", name, value); }
 
-/* The nanoseconds of one of `count`, which have taken so many seconds. */
+/* The nanoseconds of one of `count`, which have taken this many seconds. */
 static inline void say_spent(const char *name, double seconds, uint64_t count) {
     printf("%s %.3f %llu\n", name, seconds / count * 1e9, (unsigned long long)count);
 }

@@ -20,7 +20,7 @@ static uint64_t memory(void) {
     return kilobytes * 1024;
 }
 
-/* Sets a node's size to 5 again and again, in so many lists of so many operations. */
+/* Sets a node's size to 5 again and again, in so many lists of this many operations. */
 static void set_often(struct pass *pass, uint64_t node, uint64_t lists, uint64_t operations) {
     struct value value = number_value(5);
     for (uint64_t i = 0; i < lists; i++) {

@@ -11,7 +11,7 @@
 /* Where a page is: at the beginning, anywhere, or at the end. */
 enum where { NEWEST, ANYWHERE, OLDEST };
 
-/* What a case asks: texts of a shape, each with about so many nodes, and a page of each. */
+/* What a case asks: texts of a shape, each with about this many nodes, and a page of each. */
 struct paging {
     enum shape shape;
     uint64_t width, hits;

@@ -44,7 +44,7 @@ void run_patterns(const struct data *data) {
     store_close(store);
 }
 
-/* Sets names with a front of so many bytes, in an index of their own. */
+/* Sets names with a front of this many bytes, in an index of their own. */
 static void fill_front(struct pass *pass, const struct data *data, uint64_t length) {
     char called[16], text[NAME_MOST];
     struct text name = {called, snprintf(called, sizeof called, "name%u", (unsigned)length)};

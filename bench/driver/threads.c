@@ -1,4 +1,4 @@
-/* Readers and writers at once, each on a thread of its own, for so many seconds. */
+/* Readers and writers at once, each on a thread of its own, for this many seconds. */
 #include <pthread.h>
 #include <sched.h>
 #include <stdio.h>

@@ -71,7 +71,7 @@ static const char *after(const char *line, const char *name)
     return strncmp(line, name, length) == 0 ? line + length : NULL;
 }
 
-/* The seconds since 1970 of a date as "Mon, 3 Mar 2025 09:12:00 +0000", or -1 if it is none. */
+/* The seconds since 1970 of a date as "Mon, 3 Mar 2025 09:12:00 +0000", or -1 if it isn't one. */
 static int64_t seconds(const char *date)
 {
     static const char months[] = "JanFebMarAprMayJunJulAugSepOctNovDec";

@@ -44,7 +44,7 @@ impl<'a> Input<'a> {
         self.rest.is_empty()
     }
 
-    /// Takes up to so many bytes.
+    /// Takes up to this many bytes.
     pub fn bytes(&mut self, count: usize) -> &'a [u8] {
         let (taken, rest) = self.rest.split_at(count.min(self.rest.len()));
         self.rest = rest;

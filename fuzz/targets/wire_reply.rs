@@ -50,7 +50,7 @@ fn goes_there_and_back<T: DeserializeOwned + Serialize + PartialEq + Debug>(line
     assert_eq!(line, written);
 }
 
-/// A refusal is shown whatever it says, also if the caret's place is beyond the query's end.
+/// A refusal is shown whatever it says, even if the caret's place is beyond the query's end.
 fn refuses(line: &[u8]) {
     if let Ok(mut refusal) = serde_json::from_slice::<wire::Refusal>(line) {
         if refusal.details.values().all(is_exact) {

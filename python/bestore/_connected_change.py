@@ -1,4 +1,4 @@
-"""Changes of a server's store: their operations are collected here, and sent as one batch."""
+"""Changes to a server's store: their operations are collected here, and sent as one batch."""
 
 from __future__ import annotations
 
@@ -34,8 +34,8 @@ class ConnectedChange(Change):
         return self._batch
 
     def _collecting(self, node: Optional[int] = None) -> Batch:
-        """The batch, which takes one more operation, and that on a node, if one is given. `OtherVolume` if it is in another
-        volume than the operations before it."""
+        """The batch, for one more operation, on this node if one is given. Raises `OtherVolume` if the node isn't in the
+        volume of the earlier operations."""
         if not self._snapshot._is_pinned:
             raise NotPinned()
         if len(self._batch) >= MOST_OPERATIONS:
@@ -86,7 +86,7 @@ class ConnectedChange(Change):
             raise kind_mismatch(name, kind, index)
 
     def _indexed(self) -> Dict[str, int]:
-        """The kinds of the indices, the collected operations done."""
+        """The kinds of the indices, once the collected operations are done."""
         if self._kinds is None:
             self._kinds = dict(self.indices())
         return self._kinds

@@ -10,10 +10,10 @@ from .errors import BadCursor, Error, NotCovered, NotReached, NoVolume, OtherVol
 
 
 class ServerError(Error):
-    """Every error of a connection is one of these, except for those that the library has too."""
+    """Every error of a connection is one of these, except those that the library also has."""
 
     def __init__(self, path: str, *others: object) -> None:
-        Exception.__init__(self, path, *others)  # and not OSError's, which takes the parameters for its own
+        Exception.__init__(self, path, *others)  # and not OSError's, which would take the parameters as its own
         self.path = path
         """The server's socket."""
 
@@ -27,7 +27,7 @@ class ServerError(Error):
 
 
 class NoServer(ServerError, ConnectionError):
-    """No server can be reached at the socket. The error of the system is the `__cause__`."""
+    """No server can be reached at the socket. The system's error is the `__cause__`."""
 
     error_class = ErrorClass.GONE
 
@@ -37,16 +37,16 @@ class NoServer(ServerError, ConnectionError):
 
     @property
     def summary(self) -> str:
-        return f"no server can be reached: {self.reason}; start it by `bestored --background`"
+        return f"no server can be reached: {self.reason}; start it with `bestored --background`"
 
 
 class OtherUser(ServerError, PermissionError):
-    """The server at a default path runs neither as the effective user nor as root, and nothing was sent to it."""
+    """The server at a default path runs neither as the effective user nor as root. Nothing was sent to it."""
 
     def __init__(self, path: str, server_user: int, user: int) -> None:
         super().__init__(path, server_user, user)
         self.server_user = server_user
-        """The user as whom the server runs."""
+        """The user that the server runs as."""
         self.user = user
         """The effective user of this process."""
 
@@ -57,7 +57,7 @@ class OtherUser(ServerError, PermissionError):
 
 
 class BrokenConnection(ServerError):
-    """The connection failed, and is closed. Each later call on its pass is `Disconnected`."""
+    """The connection failed, and is closed. Each later call on its pass raises `Disconnected`."""
 
     error_class = ErrorClass.GONE
 
@@ -77,11 +77,11 @@ class Disconnected(BrokenConnection, ConnectionError):
 
 
 class TimedOut(BrokenConnection, TimeoutError):
-    """The server didn't accept the connection in time, or didn't reply in time."""
+    """The server didn't accept the connection, or didn't reply, in time."""
 
 
 class ProtocolError(BrokenConnection):
-    """The server sent a line that isn't of the protocol, or speaks another version of it."""
+    """The server sent a line that doesn't follow the protocol, or speaks another version of it."""
 
 
 class LineTooLong(ServerError):
@@ -139,7 +139,7 @@ class NoWatch(ServerRefusal):
 
 
 class TooManyWatches(ServerRefusal):
-    """The connection has as many watches as it can have."""
+    """The connection has as many watches as it may have."""
 
 
 class TooManyCopies(ServerRefusal):
@@ -163,15 +163,15 @@ class NotLeader(ServerRefusal):
 
 
 class NotAllowed(ServerRefusal):
-    """The server is another user's."""
+    """The server belongs to another user."""
 
 
 class PushesLost(ServerRefusal):
-    """The pushes of a watch waited too long and are lost."""
+    """Pushes of a watch waited too long and were lost."""
 
 
 class Unexpected(ServerRefusal):
-    """The server has an error that it doesn't name."""
+    """The server reported an error without a name."""
 
 
 _REFUSALS = {kind.__name__: kind for kind in (
@@ -182,18 +182,18 @@ _REFUSALS = {kind.__name__: kind for kind in (
 
 
 def _class_of(name: str) -> ErrorClass:
-    """The class of a server's own error. Of an unknown one nothing says that the same request may succeed later."""
+    """The class of a server's own error. If the error is unknown, nothing says that the same request may succeed later."""
     known = SERVER_MEANINGS.get(name)
     return ErrorClass.MINE if known is None else known.error_class
 
 
 def _said_class(details: Dict[str, object]) -> Optional[ErrorClass]:
-    """The class that a server says, if it says one that is known here."""
+    """The class that the server gives, if it is one that is known here."""
     said = details.get("class")
     return next((it for it in ErrorClass if it.value == said), None)
 
 
-# What goes with an error of the library, by its number, and what the call takes a list of.
+# What goes with a library error, by its number, and what the call takes a list of.
 _CARRIED: Dict[int, Tuple[str, Optional[str]]] = {
     ErrorNumber.BUSY: ("pass", None), ErrorNumber.FULL: ("oldest", None), ErrorNumber.CONFLICT: ("found", None),
     ErrorNumber.SYNTAX: ("offset", None), ErrorNumber.BAD_PATTERN: ("offset", None),
@@ -237,7 +237,7 @@ def _of_library(number: int, details: Dict[str, object], query: Optional[str]) -
 
 
 def error_of(path: str, details: Dict[str, object], query: Optional[str] = None) -> Error:
-    """The exception for an error as the protocol has it. `query` is the text that was asked."""
+    """The exception for an error in the protocol's form. `query` is the text that was asked."""
     number, name, message = details.get("number"), str(details.get("name")), str(details.get("message"))
     if isinstance(number, int):
         return _of_library(number, details, query)

@@ -28,18 +28,18 @@ class QueriedVersion(Version):
     @property
     @abstractmethod
     def _features(self) -> Tuple[str, ...]:
-        """What the server has that older ones lack."""
+        """What this server has that older ones lack."""
 
     @abstractmethod
     def _ask(self, command: str, parameters: JSON, read: Callable[[JSON], _Result], query: Optional[str] = None) -> _Result:
         """Makes a call on the pass while it has this pin."""
 
     def _takes(self, parameter: str) -> bool:
-        """Whether the server takes this parameter of a query, as older ones don't."""
+        """Whether the server takes this parameter of a query. Older ones don't."""
         return parameter in self._features
 
     def _ask_query(self, command: str, asked: Query, text: str, others: JSON, read: Callable[[JSON], _Result]) -> _Result:
-        """Asks something of a query. `text` is what is sent for it."""
+        """Asks something about a query. `text` is what is sent for it."""
         try:
             return self._ask(command, {"query": text, **others}, read, asked if isinstance(asked, str) else None)
         except NotCovered as error:
@@ -48,7 +48,7 @@ class QueriedVersion(Version):
             raise TooLong(query=text) from None
 
     def _named(self, error: NotCovered, asked: Query, text: str) -> NotCovered:
-        """The error of a query that needs another index, with the place that the server has said."""
+        """The error of a query that needs another index, with the place that the server gave."""
         if isinstance(asked, tuple) or error.missing is None:
             named = self._not_covered(asked)
             named.volume = error.volume
@@ -77,8 +77,8 @@ class QueriedVersion(Version):
         return nodes
 
     def _part(self, first: int, limit: int, had: int) -> JSON:
-        """The parameters of a page from a number on, of which there were so many nodes before. Without a limit the reply has what a
-        line holds."""
+        """The parameters of a page from a number on, after this many nodes have been read. Without a limit, the reply has as
+        many as fit on a line."""
         parameters: JSON = {"from": first} if first else {}
         if limit < _ALL:
             parameters["limit"] = min(limit - had, _MOST_OF_A_PAGE)
@@ -119,7 +119,7 @@ class QueriedVersion(Version):
 
     def _pages(self, asked: Asked, order: Order, after: Optional[Cursor], limit: Optional[int], others: JSON,
                read: Callable[[JSON], List[_Item]]) -> Page[_Item]:
-        """A page in an order, of as many replies as it takes."""
+        """A page in an order, read in as many replies as it takes."""
         encoded(order.by)
         parameters: JSON = {"by": order.by, **({"descending": True} if order.descending else {}), **others}
         items: List[_Item] = []
@@ -136,7 +136,7 @@ class QueriedVersion(Version):
         return Page(items, more, cursor)
 
     def _ask_order(self, asked: Asked, order: Order, text: str, others: JSON, read: Callable[[JSON], _Result]) -> _Result:
-        """Asks for a page. The error of a missing index names those that there are."""
+        """Asks for a page. If the index is missing, the error names those that exist."""
         try:
             return self._ask_query("query", asked, text, others, read)
         except NoIndex as error:

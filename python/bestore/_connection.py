@@ -28,12 +28,12 @@ _CLOSING = ("LineTooLong", "Timeout")  # errors after which the server closes th
 
 
 def _limited(timeout: Optional[float]) -> Optional[float]:
-    """A time that the system's calls take."""
+    """A time in the form that system calls accept."""
     return None if timeout is None or timeout > _LONGEST else timeout
 
 
 def _socket_to(path: str, timeout: Optional[float]) -> socket.socket:
-    """A socket that is connected. Connecting waits up to so many seconds, and later each of its calls."""
+    """A socket that is connected. Connecting waits up to this many seconds, and later each of its calls."""
     connected = socket.socket(socket.AF_UNIX, socket.SOCK_STREAM)
     try:
         connected.settimeout(timeout)
@@ -54,7 +54,7 @@ def _socket_to(path: str, timeout: Optional[float]) -> socket.socket:
 
 
 def _connects(connected: socket.socket, path: str) -> bool:
-    """Connects, unless as many connections as the system takes wait for the server."""
+    """Connects, unless as many connections as the system allows are already waiting for the server."""
     try:
         connected.connect(path)
     except BlockingIOError:
@@ -63,14 +63,14 @@ def _connects(connected: socket.socket, path: str) -> bool:
 
 
 def peer_user(connected: socket.socket) -> int:
-    """The user as whom the server has begun to listen."""
+    """The user that the server was running as when it began to listen."""
     credentials = struct.Struct("iII")  # the process, the user and the group
     user: int = credentials.unpack(connected.getsockopt(socket.SOL_SOCKET, socket.SO_PEERCRED, credentials.size))[1]
     return user
 
 
 def _check_user(connected: socket.socket, path: str) -> None:
-    """`OtherUser` if the server is of another user than this process and not of root."""
+    """Raises `OtherUser` if the server runs neither as this process's user nor as root."""
     server, user = peer_user(connected), os.geteuid()
     if server not in (user, 0):
         connected.close()
@@ -85,10 +85,10 @@ def _can_receive(connected: socket.socket, until: Optional[float]) -> bool:
 
 
 class Connection:
-    """A connection. Whoever uses it makes one call at a time.
+    """A connection, for one call at a time.
 
-    Once a call was interrupted, or a line can't be read, nobody knows which line comes next: the connection is closed. An
-    interrupt while nothing comes leaves it open."""
+    Once a call has been interrupted, or a line can't be read, nobody knows which line comes next, so the connection is
+    closed. An interrupt while nothing is coming leaves it open."""
 
     def __init__(self, path: SocketPath, timeout: Optional[float], take_push: Callable[[JSON], None]) -> None:
         self.path, self._timeout, self._take_push = path.path, _limited(timeout), take_push
@@ -115,14 +115,14 @@ class Connection:
         return self._socket
 
     def close(self) -> None:
-        """Ends the connection, also if a forked child has a copy of the socket."""
+        """Ends the connection, even if a forked child has a copy of the socket."""
         if self._socket is not None:
             with suppress(OSError):
                 self._socket.shutdown(socket.SHUT_RDWR)
             self.drop("the connection is closed")
 
     def drop(self, reason: str) -> None:
-        """Closes the socket of this process alone."""
+        """Closes only this process's socket."""
         dropped, self._socket, self._reason = self._socket, None, reason
         if dropped is not None:
             dropped.close()
@@ -139,13 +139,13 @@ class Connection:
         elif isinstance(error, OSError):
             reason = f"the connection failed: {error}"
         else:
-            failed, reason = ProtocolError, f"the server sent a line that isn't of the protocol: {error}"
+            failed, reason = ProtocolError, f"the server sent a line that doesn't follow the protocol: {error}"
         self.drop(reason)
         raise failed(self.path, reason, may_be_done) from (None if reason == _CLOSED or failed is TimedOut else error)
 
     def ask(self, command: str, parameters: JSON, read: Callable[[JSON], _Result], is_write: bool = False,
             query: Optional[str] = None) -> _Result:
-        """Sends a request, and returns what `read` finds in its reply. `query` is the text that errors show."""
+        """Sends a request, and returns what `read` makes of its reply. `query` is the text that errors show."""
         connected = self._live_socket()
         self._last += 1
         line = encode_request(self._last, command, parameters)
@@ -170,7 +170,7 @@ class Connection:
         raise error_of(self.path, reply["error"], query)
 
     def _reply(self, connected: socket.socket, query: Optional[str]) -> JSON:
-        """The reply to the last request. What is pushed before it is taken."""
+        """The reply to the last request. Lines that are pushed before it are taken."""
         until, is_late = None if self._timeout is None else time.monotonic() + self._timeout, False
         while True:
             line = self._take_line()
@@ -184,7 +184,7 @@ class Connection:
             self._take_other(reply, query)
 
     def _receive(self, received: bytes) -> Optional[bytes]:
-        """Keeps what was received, and returns a line if there is one."""
+        """Stores what was received, and returns a line if there is one."""
         if not received:
             raise EOFError(f"{_CLOSED} within a line" if self._received else _CLOSED)
         if not self._received and received.find(b"\n") == len(received) - 1:
@@ -208,8 +208,8 @@ class Connection:
         return line
 
     def _take_other(self, line: JSON, query: Optional[str]) -> None:
-        """Takes a line that is no reply to the last request: one that was pushed, or an error after which the server closes
-        the connection."""
+        """Takes a line that isn't the reply to the last request: one that was pushed, or an error after which the server
+        closes the connection."""
         if "id" not in line and isinstance(line.get("watch"), int):
             self._take_push(line)
             return
@@ -221,7 +221,7 @@ class Connection:
         raise error_of(self.path, error, query)
 
     def receive_pushes(self, timeout: Optional[float]) -> bool:
-        """Takes what was pushed. If there is nothing, waits up to so many seconds, or without an end. Returns whether a line
+        """Takes what was pushed. If there is nothing, waits up to this many seconds, or without an end. Returns whether a line
         came."""
         connected = self._live_socket()
         timeout = _limited(timeout)
@@ -254,7 +254,7 @@ _open: "WeakSet[Connection]" = WeakSet()
 
 
 def _drop_in_child() -> None:
-    """A forked child gives its copies of the sockets up, so that the server sees when the parent closes them."""
+    """A forked child closes its copies of the sockets, so that the server sees when the parent closes them."""
     for connection in list(_open):
         connection.drop("the connection belongs to the process that this one was forked from")
 

@@ -1,4 +1,4 @@
-"""What the extension and the library are needed for: handles, and batches that are made faster. A store of this process imports it, and a
+"""The parts that need the extension and the library: handles, and batches that are built faster. A store in this process imports it; a
 client of a server doesn't."""
 
 from __future__ import annotations
@@ -12,7 +12,7 @@ from .handles import Owner
 from .operations import Batch
 
 PASS, PREPARED, CURSOR, WITNESS = 1, 2, 3, 4
-"""What a handle of the library is of."""
+"""What a handle of the library belongs to."""
 
 
 class HandleOwner(_native.Handle, Owner):
@@ -29,7 +29,7 @@ class HandleOwner(_native.Handle, Owner):
         return bool(Handle.from_address(self._address).live)
 
     def _give_up(self, call: Callable[..., int]) -> None:
-        """Makes a call that ends the handle's use, which a forked child leaves to its parent."""
+        """Makes a call that ends the use of the handle. A forked child leaves that to its parent."""
         if not self._is_dead:
             self._call(call)
 
@@ -39,7 +39,7 @@ class NativeBatch(_native.Batch, Batch):
 
     @property
     def _operations(self) -> List[Operation]:
-        """The operations, as the library takes them."""
+        """The operations, in the form that the library takes."""
         return list((Operation * len(self)).from_buffer_copy(self._raw))
 
 

@@ -1,4 +1,4 @@
-"""The journal's text, as the library writes it."""
+"""The journal's text, in the form that the library writes."""
 
 from __future__ import annotations
 

@@ -1,4 +1,4 @@
-"""The shared object, as bestore.h declares it."""
+"""The shared object, as declared in bestore.h."""
 
 from __future__ import annotations
 
@@ -195,8 +195,8 @@ def _arguments() -> dict[str, List[Any]]:
 
 
 def _path() -> str:
-    """The shared object: the one that BESTORE_LIBRARY names, that inside the package, that in c/ of the repository,
-    or one that the system finds."""
+    """The shared object: the one that BESTORE_LIBRARY names, the one inside the package, the one in c/ of the
+    repository, or one that the system finds."""
     here = os.path.dirname(os.path.abspath(__file__))
     named = os.environ.get("BESTORE_LIBRARY")
     if named:
@@ -208,12 +208,12 @@ def _path() -> str:
 
 
 def dotted(version: int) -> str:
-    """A version as bes_version returns it, as text."""
+    """A version number of bes_version, as text."""
     return f"{version // 1000000}.{version // 1000 % 1000}.{version % 1000}"
 
 
 def _check_age(path: str, loaded: ctypes.CDLL) -> None:
-    """Raises OSError if the library lacks a call of this package, or is of an earlier version."""
+    """Raises OSError if the library lacks a call that this package needs, or has an earlier version."""
     missing = [name for name in _arguments() if not hasattr(loaded, name)]
     if missing:
         raise OSError(f"{path}: libbestore.so is older than this package, it has no {missing[0]}")
@@ -229,8 +229,8 @@ def _load() -> ctypes.CDLL:
         _check_age(path, loaded)
     except OSError as error:
         raise ImportError(
-            f"bestore can't load its library: {error}. Run `make` in c/ of the repository, and import bestore from python/ "
-            f"there or install its wheel (`make wheel`); or name {SONAME} by the variable BESTORE_LIBRARY.", path=path) from error
+            f"bestore can't load its library: {error}. Install the Debian package libbestore0 or bestore's wheel, or run `make -C c` "
+            f"at the top of the repository; the variable BESTORE_LIBRARY can name another {SONAME}.", path=path) from error
     for name, arguments in _arguments().items():
         call = getattr(loaded, name)
         call.argtypes, call.restype = arguments, ctypes.c_uint32
@@ -253,7 +253,7 @@ os.register_at_fork(after_in_child=_native.after_fork)
 
 
 def check(answer: int, carried: Optional[int] = None, query: Optional[str] = None, listed: Optional[str] = None) -> None:
-    """Raises the error that a call returned, if it returned one: with the number that goes with it, the text of the
-    query that was asked, and what the call takes a list of."""
+    """Raises the error that a call returned, if any: with the number that goes with it, the text of the query that
+    was asked, and what the call takes a list of."""
     if answer != 0:
         raise refusal(answer, carried, query, listed)

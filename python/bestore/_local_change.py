@@ -1,4 +1,4 @@
-"""Changes of a store in this process: the library collects their operations, and reads attributes as these leave them."""
+"""Changes to a store in this process: the library collects their operations, and reads attributes as these leave them."""
 
 from __future__ import annotations
 
@@ -14,7 +14,7 @@ if TYPE_CHECKING:
 
 
 class LocalChange(Change):
-    """A change on a version, by which attributes are read as the collected operations leave them."""
+    """A change on a version. It reads attributes as the collected operations leave them."""
 
     _snapshot: LocalVersion
 

@@ -54,7 +54,7 @@ class PreparedQuery(HandleOwner, Prepared):
         self._known_check: Optional[int] = None  # of cursors
 
     def close(self) -> None:
-        """Gives the query up, if it is still there."""
+        """Releases the query, if it is still there."""
         self._give_up(calls.bes_release)
         self._seen = set()
 
@@ -92,7 +92,7 @@ class PreparedQuery(HandleOwner, Prepared):
 
 
 def prepare(text: str) -> PreparedQuery:
-    """As `queries.prepare`."""
+    """Like `queries.prepare`."""
     prepared, taken, place = PreparedQuery(text), encoded_query(text), ctypes.c_uint64()
     answer = calls.bes_prepare(taken, len(taken), prepared._pointer, ctypes.byref(place))
     check(answer, place.value, text)

@@ -1,4 +1,4 @@
-"""Texts of the query language, by calls of the library: what `language` says of them."""
+"""Query texts, through calls of the library: `language` describes these functions."""
 
 from __future__ import annotations
 
@@ -16,17 +16,17 @@ _OPERATORS = {4: "==", 5: "!=", 6: "<", 7: "<=", 8: ">", 9: ">="}
 
 
 def escape(text: str) -> str:
-    """As `language.escape`."""
+    """Like `language.escape`."""
     return _made(calls.bes_escape_bytes, text, 2)
 
 
 def any_case(text: str) -> str:
-    """As `language.any_case`."""
+    """Like `language.any_case`."""
     return _made(calls.bes_any_case_bytes, text, 12)
 
 
 def _made(call: Callable[..., int], text: str, times: int) -> str:
-    """The text that a call makes of another, which has up to so many times its bytes."""
+    """The text that a call makes from another one; it has up to this many times the bytes."""
     taken = encoded(text)
     room = times * len(taken)
     written, count = ctypes.create_string_buffer(room + 1), ctypes.c_uint64()
@@ -35,7 +35,7 @@ def _made(call: Callable[..., int], text: str, times: int) -> str:
 
 
 class Read(NamedTuple):
-    """A comparison as the library has read it."""
+    """A comparison, as read by the library."""
 
     comparison: Comparison
     value: str  # without backslashes
@@ -44,7 +44,7 @@ class Read(NamedTuple):
 
 
 def read(query: str) -> List[Read]:
-    """The comparisons of a query. A `QueryError` if the text is none."""
+    """The comparisons of a query. A `QueryError` if the text isn't one."""
     text, counts, place = encoded_query(query), Counts(), ctypes.c_uint64()
     compared, room = (Compared * _MOST_COMPARISONS)(), 64 * _MOST_COMPARISONS + 4 * len(text)
     plain = ctypes.create_string_buffer(room)
@@ -63,7 +63,7 @@ def _read_back(it: Compared, text: bytes, plain: bytes) -> Read:
 
 
 def hints_in(query: str, indices: Mapping[str, Kind]) -> List[Hint]:
-    """The comparisons of a query that are never true in a store with these indices. A `QueryError` if the text is none."""
+    """The comparisons of a query that are never true in a store with these indices. A `QueryError` if the text isn't one."""
     found: List[Hint] = []
     for it in read(query):
         name, _, _, offset = it.comparison

@@ -1,4 +1,4 @@
-"""How damage to a store's file is found: checksums of its rows, and beside it the number of the last entry that it has had.
+"""How damage to a store's file is found: by checksums of its rows, and by the number of its last entry, which is kept beside it.
 
 docs/KEPT.md describes both.
 """
@@ -21,17 +21,17 @@ def of_about(what: str, number: int) -> int:
 
 
 def of_state(place: int, batch: bytes) -> int:
-    """That of a row of the table `state`."""
+    """The checksum of a row of the table `state`."""
     return crc32(batch, crc32(_TWO.pack(place, len(batch))))
 
 
 def of_entry(number: int, by: int, batch: bytes) -> int:
-    """That of a row of the table `entry`."""
+    """The checksum of a row of the table `entry`."""
     return crc32(batch, crc32(_THREE.pack(number, by, len(batch))))
 
 
 def of_token(number: int, token: bytes, nodes: bytes) -> int:
-    """That of a row of the table `token`."""
+    """The checksum of a row of the table `token`."""
     return crc32(nodes, crc32(_ONE.pack(len(nodes)), crc32(token, crc32(_TWO.pack(number, len(token))))))
 
 
@@ -40,8 +40,8 @@ def _line(identity: int, number: int) -> bytes:
 
 
 class LastEntry:
-    """The number of the last entry that a file has had, in a file of the same name with `-last`. SQLite leaves out all that comes
-    after a damaged frame of its WAL, and reports nothing."""
+    """The number of a file's last entry, kept in a file of the same name with `-last`. SQLite leaves out everything after a
+    damaged frame of its WAL, and doesn't report that."""
 
     def __init__(self, path: str, identity: int) -> None:
         within = os.path.realpath(path)
@@ -58,7 +58,7 @@ class LastEntry:
         return 0
 
     def begin(self, number: int) -> None:
-        """Keeps the number from now on, if the folder takes a file."""
+        """Keeps the number from now on, if a file can be made in the folder."""
         with suppress(OSError):
             self._file = os.open(self._path, os.O_WRONLY | os.O_CREAT | os.O_CLOEXEC, 0o600)
             self.set(number)
@@ -70,7 +70,7 @@ class LastEntry:
                 os.pwrite(self._file, _line(self._identity, number), 0)
 
     def close(self) -> None:
-        """After the store's file was closed. The number isn't needed then, unless a WAL is left."""
+        """To be called after the store's file was closed. The number isn't needed then, unless a WAL is left."""
         file, self._file = self._file, None
         if file is not None:
             os.close(file)

@@ -10,7 +10,7 @@ from .errors import CommitsSpent, Error, Full, NoMemory
 if TYPE_CHECKING:
     import sqlite3
 
-# The codes of SQLite, and its messages, which Python before 3.11 has alone.
+# SQLite's codes, and its messages, which are all that Python has before 3.11.
 _BUSY, _LOCKED, _NO_MEMORY, _READ_ONLY, _IO, _CORRUPT, _FULL, _CANT_OPEN, _NO_DATABASE = 5, 6, 7, 8, 10, 11, 13, 14, 26
 _CODES = {
     "database is locked": _BUSY, "database table is locked": _LOCKED, "database or disk is full": _FULL,
@@ -38,7 +38,7 @@ class SavedError(Error):
 
 
 class Foreign(SavedError):
-    """The file is of another program. It stays as it is."""
+    """The file belongs to another program. It stays as it is."""
 
     @property
     def summary(self) -> str:
@@ -46,7 +46,7 @@ class Foreign(SavedError):
 
 
 class Newer(SavedError):
-    """The file is of a newer format. It stays as it is."""
+    """The file has a newer format. It stays as it is."""
 
     def __init__(self, path: str, version: int, known: int) -> None:
         super().__init__(path, version, known)
@@ -81,7 +81,7 @@ class DiskFull(SavedError):
 
 
 class NoFile(SavedError):
-    """The file of a volume is missing, and that of a later one is there."""
+    """The file of a volume is missing, but the file of a later one is there."""
 
     @property
     def summary(self) -> str:
@@ -89,14 +89,14 @@ class NoFile(SavedError):
 
 
 class Fewer(SavedError):
-    """A shelf can't be opened with fewer volumes than its folder has, nor with none."""
+    """A shelf can't be opened with fewer volumes than its folder has, or with none."""
 
     def __init__(self, path: str, found: int, wanted: int) -> None:
         super().__init__(path, found, wanted)
         self.found = found
         """How many the folder has."""
         self.wanted = wanted
-        """How many were asked for, or `found` if no number was."""
+        """How many were asked for, or `found` if no number was given."""
 
     @property
     def summary(self) -> str:
@@ -106,7 +106,7 @@ class Fewer(SavedError):
 
 
 class SqliteError(SavedError):
-    """Another error of SQLite, which is the `__cause__`."""
+    """Another SQLite error, which is the `__cause__`."""
 
     error_class = ErrorClass.GONE
 
@@ -139,7 +139,7 @@ class _AtPlace(SavedError):
 
 
 class Differs(_AtPlace):
-    """The file has what no store did. An error of the store or of the batch is the `__cause__`."""
+    """The file has something that no store wrote. An error of the store or of the batch is the `__cause__`."""
 
     error_class = ErrorClass.GONE
 
@@ -184,7 +184,7 @@ class CutOff(SavedError):
         self.last = last
         """The last entry that it has."""
         self.had = had
-        """The last entry that it has had."""
+        """The last entry that it once had."""
 
     @property
     def summary(self) -> str:
@@ -201,7 +201,7 @@ class NotSaved(SavedError):
     def __init__(self, path: str, number: Optional[int]) -> None:
         super().__init__(path, number)
         self.number = number
-        """The commit number of the write, or None if a server did not say it."""
+        """The commit number of the write, or None if a server didn't give it."""
 
     @property
     def summary(self) -> str:
@@ -232,7 +232,7 @@ def _code(error: sqlite3.Error) -> Optional[int]:
 
 
 def of_sqlite(path: str, error: sqlite3.Error) -> SavedError:
-    """The error of the file for one of SQLite."""
+    """The file's error for an SQLite error."""
     code = _code(error)
     if code in (_BUSY, _LOCKED):
         return Held(path)
@@ -252,7 +252,7 @@ def of_reading(path: str, error: sqlite3.Error, entry: Optional[int] = None, bat
 
 
 def refused(path: str, error: Error, entry: Optional[int] = None, batch: Optional[int] = None) -> SavedError:
-    """The error of the file for one of a store that repeats what the file has."""
+    """The file's error for an error of the store that repeats what the file has."""
     if isinstance(error, (Full, CommitsSpent, NoMemory)):
         return TooLarge(path, f"the file doesn't fit the limits of the store: {error}", entry, batch)
     return Differs(path, f"the file has something that no store wrote: {error}", entry, batch)

@@ -1,4 +1,4 @@
-"""The file of a store: a database of SQLite with the last state and the entries since. docs/KEPT.md has the format."""
+"""The file of a store: an SQLite database with the last state and the entries since then. docs/KEPT.md has the format."""
 
 from __future__ import annotations
 
@@ -21,8 +21,8 @@ _WITHOUT_CHECKSUMS = 1  # the version before, whose rows have none
 
 _LAST_NUMBER = 2**63 - 1  # of an entry: SQLite's integers end there
 
-# The WAL is written from its start again after 1,000 pages, 4.1 MB, so the limit cuts off only what a large commit has left. The
-# last two take the lock.
+# The WAL is reused from its start after 1,000 pages, 4.1 MB, so the limit cuts off only what a large commit has left. The last
+# two statements take the lock.
 _SETTINGS = (
     "PRAGMA journal_mode = WAL", "PRAGMA synchronous = FULL", "PRAGMA journal_size_limit = 8388608", "BEGIN IMMEDIATE", "COMMIT")
 _TABLES = (
@@ -32,7 +32,7 @@ _TABLES = (
     "CREATE TABLE entry (number INTEGER PRIMARY KEY, pass INTEGER NOT NULL, batch BLOB NOT NULL, checksum INTEGER)",
 )
 
-# The statements that add so many entries. All of them fit in the cache of the connection.
+# The statements that add this many entries. All of them fit in the cache of the connection.
 _INSERTS = ["INSERT OR IGNORE INTO entry VALUES " + ", ".join(["(?, ?, ?, ?)"] * count) for count in range(65)]
 _INSERT_WITHOUT = "INSERT OR IGNORE INTO entry VALUES (?, ?, ?)"
 _WRONG_SUM = "its checksum doesn't fit"
@@ -42,7 +42,7 @@ Row = Tuple[int, int, bytes]
 
 
 class About(NamedTuple):
-    """What the file says of its state."""
+    """What the file says about its state."""
 
     entries: int
     """The number of the last entry that the state contains."""
@@ -51,13 +51,13 @@ class About(NamedTuple):
 
 
 def _make_private(path: str) -> None:
-    """Makes the file if it isn't there, so that the user alone may read it. SQLite gives the file with `-wal` the same mode."""
+    """Makes the file if it isn't there, so that only the user may read it. SQLite gives the file with `-wal` the same mode."""
     with suppress(OSError, ValueError):  # if it can't be made, opening it says why
         os.close(os.open(path, os.O_WRONLY | os.O_CREAT | os.O_EXCL, 0o600))
 
 
 class File:
-    """The file, which is this process's alone until `close`. One thread at a time uses it."""
+    """The file, which belongs to this process alone until `close`. One thread at a time uses it."""
 
     _open: ClassVar[weakref.WeakSet[File]] = weakref.WeakSet()
 
@@ -82,7 +82,7 @@ class File:
 
     @contextmanager
     def _translated(self) -> Iterator[None]:
-        """Raises an error of SQLite as that of the file."""
+        """Raises an SQLite error as an error of the file."""
         try:
             yield
         except sqlite3.Error as error:
@@ -97,7 +97,7 @@ class File:
         return None if row is None else row[0]
 
     def _take(self) -> None:
-        """Locks the file, looks whose it is, and makes the tables in an empty one, before it has a WAL that could lose them."""
+        """Locks the file, checks whose it is, and makes the tables in an empty one, before it has a WAL that could lose them."""
         with self._translated():
             assert self._connection is not None
             self._connection.text_factory = lambda text: None  # no column that is read has a text
@@ -125,7 +125,7 @@ class File:
             self._run("INSERT OR REPLACE INTO about (what, number, checksum) VALUES (?, ?, ?)", what, number, of_about(what, number))
 
     def _check_format(self) -> bool:
-        """Whether the file is new. One of another program, or of a newer format, is refused."""
+        """Whether the file is new. A file that belongs to another program, or has a newer format, is refused."""
         has_tables = self._number("SELECT count(*) FROM sqlite_master") > 0
         application, version = self._number("PRAGMA application_id"), self._number("PRAGMA user_version")
         if application == APPLICATION and version > FORMAT:
@@ -159,7 +159,7 @@ class File:
                 self._run("ROLLBACK")
 
     def about(self) -> About:
-        """What the file says of its state."""
+        """What the file says about its state."""
         return About(self._about("entries"), self._about("next"))
 
     def _about(self, what: str) -> int:
@@ -180,7 +180,7 @@ class File:
         return "checksum" if self.has_checksums else "NULL"
 
     def check(self, last: int) -> None:
-        """Refuses a file that ends with this entry and has had later ones, or whose pages SQLite finds damaged."""
+        """Refuses a file that ends with this entry but once had later ones, or whose pages SQLite finds damaged."""
         if self.has_checksums:
             had = LastEntry(self.path, self._about("file")).read()
             if had > last:
@@ -197,14 +197,14 @@ class File:
             raise Damaged(self.path, str(found).replace("\n", " "), until=last)
 
     def keep_last(self, last: int) -> None:
-        """From now on the number of the last entry, which is this one, is also kept beside the file."""
+        """From now on, also keeps the number of the last entry beside the file. It is this one now."""
         if self.has_checksums:
             self._last = LastEntry(self.path, self._about("file"))
             self._last.begin(last)
 
     def commits_within(self, commits: int) -> int:
-        """How many of these transactions a store of this file may accept, so that each entry has a number. Counts those that
-        make the state. 0 if no number is left and the state has nothing."""
+        """How many of these transactions a store of this file may accept, so that there is a number for each entry. Counts
+        those that make the state. 0 if no number is left and the state is empty."""
         left = _LAST_NUMBER - self.about().entries
         if left >= commits:
             return commits
@@ -246,7 +246,7 @@ class File:
     def _rows(self, sql: str) -> Iterator[Tuple[Any, ...]]:
         rows = self._run(sql)
         self._reading.append(rows)
-        for row in rows:  # `yield from` would close them, also after the connection
+        for row in rows:  # `yield from` would close them, even after the connection
             yield row
 
     def append(self, rows: Sequence[Row]) -> None:
@@ -276,8 +276,8 @@ class File:
             raise of_sqlite(self.path, error) from error
 
     def write_state(self, number: int, next_node: int, batches: Iterable[bytes]) -> None:
-        """Puts this state, which contains the entries up to `number`, in the place of the old one and of these entries.
-        After an error the file is as it was."""
+        """Replaces the old state, and the entries up to `number`, with this state, which contains them. After an error
+        the file is as it was."""
         with self._transaction():
             assert self._connection is not None
             self._run("DELETE FROM state")
@@ -290,7 +290,7 @@ class File:
         self.has_checksums = True
 
     def _add_checksums(self) -> None:
-        """Gives the rows of an earlier format checksums, but for those of `about`."""
+        """Adds checksums to the rows of an earlier format, except those of `about`."""
         assert self._connection is not None
         has_tokens = self._number("SELECT count(*) FROM sqlite_master WHERE name = 'token'") > 0
         for table in ("about", "state", "entry") + (("token",) if has_tokens else ()):
@@ -306,7 +306,7 @@ class File:
                 "UPDATE token SET checksum = ? WHERE number = ?", [(of_token(*row), row[0]) for row in rows])
 
     def close(self) -> None:
-        """Closes the file, and gives it free."""
+        """Closes the file, and unlocks it."""
         connection, self._connection = self._connection, None
         if connection is not None:
             with self._translated():
@@ -317,14 +317,14 @@ class File:
             self._last.close()
 
     def _leave_to_parent(self) -> None:
-        """In a forked child: keeps SQLite from closing the file, by which it would take the parent's WAL away."""
+        """In a forked child: keeps SQLite from closing the file, which would remove the parent's WAL."""
         if self._connection is not None:
             ctypes.pythonapi.Py_IncRef(ctypes.py_object(self._connection))
             self._connection = None
 
 
 def _sum_of(number: Any, by: Any, batch: bytes) -> Optional[int]:
-    """The checksum that a row of the table `entry` should have. None if the row has other kinds of values."""
+    """The checksum that a row of the table `entry` should have. None if the row's values have other types."""
     is_row = isinstance(number, int) and isinstance(by, int) and number >= 0 and by >= 0
     return of_entry(number, by, batch) if is_row else None
 

@@ -31,12 +31,12 @@ class Turn:
 
 
 class Line:
-    """Who has the file, and who waits for it. Each thread waits for a lock of its own, so that a commit wakes those alone
-    whose writes it has saved, and the one that has the file next."""
+    """Who has the file, and who is waiting for it. Each thread waits for a lock of its own, so a commit wakes only those
+    whose writes it has saved, and the one that gets the file next."""
 
     def __init__(self, saved: int) -> None:
         self.saved = saved
-        """The commit number up to which entries are in the file. Who has the file writes it."""
+        """The commit number up to which entries are in the file. Whoever has the file sets it."""
         self._mutex = threading.Lock()
         self._owner: Optional[Turn] = None
         self._askers: List[Turn] = []
@@ -49,7 +49,7 @@ class Line:
 
     @contextmanager
     def turn(self) -> Iterator[None]:
-        """Waits for the file, before all writes that wait, and has it alone."""
+        """Waits for sole use of the file, ahead of all waiting writes."""
         turn = Turn()
         try:
             self.take(turn)
@@ -72,7 +72,7 @@ class Line:
         return self._owner is turn
 
     def leave(self, turn: Turn) -> None:
-        """Ends a turn, or its wait: hands the file on, and wakes those whose writes are saved."""
+        """Ends a turn, or its wait: passes the file on, and wakes those whose writes are saved."""
         try:
             self._leave(turn)
         except BaseException:  # an interrupt, which nobody else should wait for
@@ -80,7 +80,7 @@ class Line:
             raise
 
     def _leave(self, turn: Turn) -> None:
-        """As `leave`. After an interrupt it can be run again."""
+        """Like `leave`. After an interrupt it can be run again."""
         with self._mutex:
             if self._owner is turn:
                 self._owner = self._next(turn)
@@ -98,7 +98,7 @@ class Line:
         return turn.number is not None and turn.number <= self.saved
 
     def _wake(self, gone: Optional[Turn] = None) -> None:
-        """Wakes those that go on. They leave the line, and so does the turn that is gone."""
+        """Wakes those that can go on. They leave the line, and so does the turn that has ended."""
         owner, left = self._owner, []
         if owner is not None:
             owner.wake()

@@ -12,7 +12,7 @@ from .local import LocalPass
 from .operations import BEGINNING, MAKE_INDEX, MOST_OPERATIONS, NEW, REMOVE, REMOVE_INDEX, SET, UNSET, Batch
 from .values import KIND_OF, RANGES
 
-_RAW = struct.Struct("=2I2Q4I")  # an operation as the library has it
+_RAW = struct.Struct("=2I2Q4I")  # an operation in the library's form
 _NODE, _NODE_LENGTH, _CODE_NUMBER = struct.Struct("<Q"), struct.Struct("<QB"), struct.Struct("<IQ")
 _MORE = bytes(_CODE_NUMBER.size)  # after a batch, so that its last value can be read as a number
 _NUMBERS, _CODES = frozenset(map(int, RANGES)), frozenset(KIND_OF)
@@ -27,8 +27,8 @@ class Repeater:
         self._operations = (RawOperation * MOST_OPERATIONS).from_buffer(self._room)
 
     def repeat(self, data: bytes) -> Tuple[List[int], List[int]]:
-        """Applies a batch as bytes. Returns for each operation the node that it made, or 0: by the bytes, and now. Raises what
-        `Batch.from_bytes` and `Pass.apply` do."""
+        """Applies a batch given as bytes. Returns for each operation the node that it made, or 0: first according to the
+        bytes, then as made now. Raises what `Batch.from_bytes` and `Pass.apply` raise."""
         texts = data + _MORE
         kept = self._read(data, texts)
         if kept is None:
@@ -57,8 +57,8 @@ class Repeater:
         return kept if at == len(data) else None
 
     def _read_operation(self, texts: bytes, at: int, to: int, kept: List[int]) -> int:
-        """Reads an operation into the room, and adds the node that it made, or 0. Returns where it ends. A ValueError if it is
-        none."""
+        """Reads an operation into the room, and adds the node that it made, or 0. Returns where it ends. Raises a
+        ValueError if it isn't one."""
         kind = texts[at]
         made = node = name_at = length = code = number = value_at = value_length = 0
         if kind == SET or kind == UNSET:

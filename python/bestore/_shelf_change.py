@@ -1,4 +1,4 @@
-"""Changes of a store that has several volumes: all are read, and one is written."""
+"""Changes to a store that has several volumes: all are read, and one is written."""
 
 from __future__ import annotations
 
@@ -16,8 +16,9 @@ if TYPE_CHECKING:
 
 
 class ShelfChange(Change):
-    """A change on a version of all volumes. The first operation says which of them is written, if the caller hasn't. There a change
-    of that volume alone collects the operations, and it takes the place of the volume's version: so it is also what is read."""
+    """A change on a version of all volumes. The first operation decides which of them is written, if the caller hasn't said so.
+    From then on a change of that one volume collects the operations, and takes the place of the volume's version, so reads see
+    it too."""
 
     _snapshot: ShelfVersion
 
@@ -27,7 +28,7 @@ class ShelfChange(Change):
         self.volume = volume
         """The volume that is written, once it is known."""
         self._within: Optional[Change] = None
-        self._early: List[Callable[[Change], None]] = []  # what is done about indices before the volume is known
+        self._early: List[Callable[[Change], None]] = []  # operations on indices before the volume is known
 
     @property
     def _count(self) -> int:
@@ -49,7 +50,7 @@ class ShelfChange(Change):
         return self._within
 
     def _begun(self, volume: int) -> Change:
-        """The change of this volume, with what was done about indices so far."""
+        """The change of this volume, with the index operations so far."""
         if not self._snapshot._is_pinned:
             raise NotPinned()
         within = self._users[volume]._change_on(self._snapshot.volumes[volume], self._check_kinds)
@@ -61,7 +62,7 @@ class ShelfChange(Change):
         return within
 
     def _end(self) -> Tuple[int, Change]:
-        """The volume that is written, and its change. The snapshots of the others are given up."""
+        """The volume that is written, and its change. The snapshots of the others are unpinned."""
         assert self.volume is not None and self._within is not None
         for volume, version in enumerate(self._snapshot.volumes):
             if volume != self.volume:

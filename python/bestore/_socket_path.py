@@ -1,4 +1,4 @@
-"""Where the socket of a server is. The server and all of its clients go by one rule, which docs/SERVER.md has."""
+"""Where the socket of a server is. The server and all of its clients follow one rule, which is in docs/SERVER.md."""
 
 from __future__ import annotations
 
@@ -9,11 +9,11 @@ from typing import Any, Optional, Union
 
 @dataclass(frozen=True)
 class SocketPath:
-    """The path of a server's socket, which is used as any other path."""
+    """The path of a server's socket. It can be used like any other path."""
 
     path: str
     is_named: bool
-    """Whether somebody has named it. Otherwise servers listen there by default, and anybody may have made the folder."""
+    """Whether somebody named it. If not, it is where servers listen by default, and anybody may have made the folder."""
 
     @classmethod
     def find(cls, named: Union[str, bytes, "os.PathLike[Any]", None] = None) -> SocketPath:

@@ -10,8 +10,8 @@ class ErrorClass(enum.Enum):
     """What a program can do about an error."""
 
     RETRY = "retry"
-    """Another pass, client or write was in the way: call again, after a conflict with what is read
-    anew."""
+    """Another pass, client or write was in the way: call again, and read again first after a
+    conflict."""
     MINE = "mine"
     """The call isn't valid here: it fails again until the program or its input changes."""
     FULL = "full"
@@ -99,8 +99,8 @@ MEANINGS: Dict[int, Meaning] = {
     ErrorNumber.TOO_MANY_INDICES: Meaning(ErrorClass.FULL, "the store has 32 indices, the most it can have",
                          "remove one first"),
     ErrorNumber.NOT_INDEXABLE: Meaning(ErrorClass.MINE, "an index can't have this kind",
-                         "it can have a kind of texts or integers, but not of MIME types or raw bytes"),
-    ErrorNumber.COMMITS_SPENT: Meaning(ErrorClass.FULL, "the journal is at the limit that the store was opened with",
+                         "it takes texts or integers, but not MIME types or raw bytes"),
+    ErrorNumber.COMMITS_SPENT: Meaning(ErrorClass.FULL, "the journal has reached the limit that the store was opened with",
                          "copy the state into a new store"),
     ErrorNumber.NO_MEMORY: Meaning(ErrorClass.FULL, "out of memory",
                          "free some and call again"),
@@ -172,7 +172,7 @@ SERVER_MEANINGS: Dict[str, Meaning] = {
                          "pin again"),
     "NoVolume": Meaning(ErrorClass.MINE, "there is no such volume",
                          ""),
-    "OtherVolume": Meaning(ErrorClass.MINE, "a node is in another volume than the one that is written",
+    "OtherVolume": Meaning(ErrorClass.MINE, "a node isn't in the volume that is written",
                          ""),
     "PartialIndex": Meaning(ErrorClass.MINE, "an index is made in all volumes, in a batch of its own",
                          ""),
@@ -180,7 +180,7 @@ SERVER_MEANINGS: Dict[str, Meaning] = {
                          "ask again"),
     "NoWatch": Meaning(ErrorClass.GONE, "the connection has no such live query",
                          "start it with watch"),
-    "TooManyWatches": Meaning(ErrorClass.FULL, "the connection has as many live queries as it can have",
+    "TooManyWatches": Meaning(ErrorClass.FULL, "the connection has as many live queries as it may have",
                          "end one with unwatch first"),
     "TooManyCopies": Meaning(ErrorClass.RETRY, "too many clients are reading copies of snapshots",
                          "try again once one has finished"),
@@ -200,13 +200,13 @@ SERVER_MEANINGS: Dict[str, Meaning] = {
                          ""),
     "LineTooLong": Meaning(ErrorClass.MINE, "the request has more than 1 MiB",
                          ""),
-    "Timeout": Meaning(ErrorClass.GONE, "the rest of the request didn't come",
+    "Timeout": Meaning(ErrorClass.GONE, "the rest of the request never came",
                          ""),
-    "NotAllowed": Meaning(ErrorClass.MINE, "the server is another user's",
+    "NotAllowed": Meaning(ErrorClass.MINE, "the server belongs to another user",
                          "start one of your own, or name its socket"),
-    "PushesLost": Meaning(ErrorClass.GONE, "the pushes of a live query waited too long and are lost",
+    "PushesLost": Meaning(ErrorClass.GONE, "pushes of a live query waited too long and were lost",
                          "begin it again"),
-    "Unexpected": Meaning(ErrorClass.MINE, "the server has an error that it doesn't name",
+    "Unexpected": Meaning(ErrorClass.MINE, "the server reported an error without a name",
                          ""),
 }
 """The errors of a server that the library doesn't have, by their names in the protocol."""

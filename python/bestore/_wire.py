@@ -33,7 +33,7 @@ def encode_request(number: int, command: str, parameters: JSON) -> bytes:
 
 
 def decode_line(line: bytes) -> JSON:
-    """The object of a line. A ValueError if it has none."""
+    """The JSON object on a line. A ValueError if there is none."""
     try:
         found = _decode(line.decode())
     except RecursionError:
@@ -44,7 +44,7 @@ def decode_line(line: bytes) -> JSON:
 
 
 def _value(code: int, number: int, value: bytes) -> object:
-    """The value of an operation. `NoValue` if its kind doesn't hold it."""
+    """The value of an operation. `NoValue` if its kind can't hold it."""
     kind, decoded_value = _kind(code), decode_value(code, number, value)
     if kind in RANGES and decoded_value not in RANGES[kind]:
         raise NoValue()
@@ -76,7 +76,7 @@ def _operation(kind: int, code: int, node: int, number: int, name: bytes, value:
 
 
 def operations_of(batch: Batch) -> List[List[object]]:
-    """The operations of a batch. `NotUTF8`, `NoKind` and `NoValue` with the first one that can't be written."""
+    """The operations of a batch. Raises `NotUTF8`, `NoKind` or `NoValue`, with the first operation that can't be written."""
     written = []
     for place, parts in enumerate(batch._parts()):
         try:
@@ -86,7 +86,7 @@ def operations_of(batch: Batch) -> List[List[object]]:
     return written
 
 
-# What reads a reply raises ValueError, KeyError, TypeError or an `Error` if the reply isn't as the protocol has it.
+# The functions that read a reply raise ValueError, KeyError, TypeError or an `Error` if the reply doesn't follow the protocol.
 
 
 def read_value(value: object) -> Typed:
@@ -112,7 +112,7 @@ class Compared(NamedTuple):
     offset: int
     is_number: bool
     never: Tuple[Kind, ...]
-    """The kinds of an index under which it is never true."""
+    """The index kinds under which it is never true."""
 
 
 def read_compared(one: JSON) -> Compared:

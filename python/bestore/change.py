@@ -1,4 +1,4 @@
-"""Changes: writes on what was read, with nothing written in between."""
+"""Changes: writes based on reads, with no other write in between."""
 
 from __future__ import annotations
 
@@ -14,12 +14,12 @@ from .versions import Asked, Attributes, Query, Version
 
 
 class Change(Version):
-    """What the function of `Pass.change` is given: a snapshot that is read, and up to 64 operations that are collected.
+    """What the function of `Pass.change` gets: a snapshot to read, and room to collect up to 64 operations.
 
     Operations are only collected; they are written after the function has returned. A node that `new` made has its
     number at once. `change[node]`, `get`, `kind`, `attributes` and `node in change` read the collected operations
-    first, and then the snapshot. Queries, lists of nodes, `count`, `pairs`, `indices` and `state` read the snapshot
-    alone. A live query is refreshed outside of a change, since the function may run again. The 65th operation is a
+    first, and then the snapshot. Queries, lists of nodes, `count`, `pairs`, `indices` and `state` read only the
+    snapshot. Refresh a live query outside a change, since the function may run again. The 65th operation is a
     `BadCount`. A call that raises collects nothing, and what was collected before stays."""
 
     _shown: ClassVar[str] = "change"
@@ -30,7 +30,7 @@ class Change(Version):
     @property
     @abstractmethod
     def _count(self) -> int:
-        """How many operations were collected."""
+        """How many operations have been collected."""
 
     @abstractmethod
     def _collected(self) -> Batch:
@@ -43,7 +43,7 @@ class Change(Version):
 
     @abstractmethod
     def new(self) -> int:
-        """Makes a node, and returns its number. Of several volumes it is in that of the change: `Pass.change`."""
+        """Makes a node, and returns its number. With several volumes it is made in the volume of the change: see `Pass.change`."""
 
     @abstractmethod
     def remove(self, node: int) -> None:
@@ -71,10 +71,10 @@ class Change(Version):
         return self.columns(nodes, [name])[0]
 
     def __getitem__(self, node: int) -> ChangedAttributes:
-        """A node's attributes, which can be set and deleted as those of a dict."""
+        """A node's attributes, which can be set and deleted like the items of a dict."""
         return ChangedAttributes(self, node)
 
-    # What reads the snapshot alone.
+    # Calls that read only the snapshot.
 
     @property
     def number(self) -> int:
@@ -147,6 +147,6 @@ class ChangedAttributes(Attributes, MutableMapping[str, Value]):
         self._version.set(self.node, name, value)
 
     def __delitem__(self, name: str) -> None:
-        """Removes an attribute. `NoAttribute`, which is a KeyError, if it isn't there."""
+        """Removes an attribute. Raises `NoAttribute`, which is a KeyError, if there is none."""
         self.__getitem__(name)
         self._version.unset(self.node, name)

@@ -1,4 +1,4 @@
-"""Waiting for what other passes of this process write, without looking again and again."""
+"""Waiting for what other passes of this process write, without polling."""
 
 from __future__ import annotations
 
@@ -7,20 +7,20 @@ from contextlib import contextmanager, suppress
 from typing import Iterator, Optional, Sequence, Tuple
 
 PAUSE = 0.002
-"""How many seconds pass from one look to the next, at a store whose commits wake nobody."""
+"""How many seconds pass between two looks at a store whose commits wake nobody."""
 
 
 class Waiter:
     """A thread that waits for commits: it looks, and then waits for a commit that has come since `begin`.
 
-    It waits for a lock, which whoever wakes it releases. That takes no other lock, so a write may come anywhere: within the handler
-    of a signal, or as Python collects an object."""
+    It waits for a lock, which is released by whoever wakes it. Releasing takes no other lock, so a write may come anywhere: in a
+    signal handler, or while Python collects an object."""
 
     def __init__(self, most: Optional[float]) -> None:
         self._most, self._sleep = most, threading.Lock()
 
     def begin(self) -> None:
-        """Is called before each look: later commits end the next wait."""
+        """To be called before each look: later commits then end the next wait."""
         self._sleep.acquire(blocking=False)
 
     def wake(self) -> None:
@@ -29,7 +29,7 @@ class Waiter:
             self._sleep.release()
 
     def wait(self, left: Optional[float]) -> None:
-        """Waits for a commit, up to so many seconds, or without an end."""
+        """Waits for a commit, up to this many seconds, or without an end."""
         times = (time for time in (self._most, left, threading.TIMEOUT_MAX) if time is not None)
         self._sleep.acquire(timeout=max(min(times), 0))
 
@@ -57,7 +57,7 @@ class Commits:
 
 @contextmanager
 def waiting(stores: Sequence[Commits], volumes: int) -> Iterator[Waiter]:
-    """A thread that waits for commits in any of these stores. If not each volume has one, it looks again from time to time."""
+    """A thread that waits for commits in any of these stores. If some volumes have no such list, it looks again from time to time."""
     waiter = Waiter(None if len(stores) == volumes else PAUSE)
     try:
         for store in stores:

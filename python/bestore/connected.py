@@ -1,20 +1,20 @@
-"""A store of a server, by the classes of a store in this process.
+"""A server's store, with the classes of a store in this process.
 
     with bestore.connect(path) as store:
         ...
 
-The server is bestored, and docs/SERVER.md describes it. A pass is a connection. What a program does with the passes,
-versions, changes, batches and prepared queries of `bestore.open` it does with these.
+The server is bestored, and docs/SERVER.md describes it. A pass is a connection. Use these passes, versions, changes,
+batches and prepared queries just like those of `bestore.open`.
 
 **What differs.** A call takes a round trip. The server tries again at `Busy` and at `Full`, so `tries` changes nothing. It
-takes back a snapshot that is kept too long, and reads of it then are `Expired`. `another` may be called in any thread.
-`meet` is `Unavailable`. `flush` and `compact` are there, and `watch` waits for what others write.
+takes back a snapshot that is kept too long, and reads of it then raise `Expired`. `another` may be called in any thread.
+`meet` raises `Unavailable`. There are also `flush` and `compact`, and `watch` waits for what others write.
 
-**Errors** are those of the library. Those of the connection are a `ServerError`. Once a connection is broken all later calls
-on its pass are `Disconnected`; the program connects again. If the broken call was a write, `may_be_done` says whether it may
+**Errors** are those of the library. Errors of the connection are subclasses of `ServerError`. Once a connection is broken,
+all later calls on its pass raise `Disconnected`; connect again then. If the broken call was a write, `may_be_done` says whether it may
 have been made.
 
-**A forked child** has no connection: the calls on its parent's passes raise `Forked`. It may connect by itself.
+**A forked child** has no connection: calls on its parent's passes raise `Forked`. It may make a connection of its own.
 """
 
 from __future__ import annotations
@@ -64,22 +64,22 @@ __all__ = [
 _Result = TypeVar("_Result")
 
 TIMEOUT = 60.0
-"""How many seconds connecting and each reply may take, if nothing else is said."""
+"""How many seconds connecting and each reply may take by default."""
 _AGAIN = 0.05  # seconds after which a write is repeated
 _WORDS = 512  # of a page
 _MOST_WAITED = 30.0  # seconds that the server waits by itself
-_MOST_NODES = 1 << 14  # of such a request, which then is no line that is too long
+_MOST_NODES = 1 << 14  # of such a request, so that its line isn't too long
 
 
 class Server(NamedTuple):
-    """What a server says of itself."""
+    """What a server says about itself."""
 
     version: str
     """The version of bestored."""
     library: str
     """The version of its library."""
     run: str
-    """Another text each time the server starts. Commit numbers begin anew then."""
+    """Another text each time the server starts. Commit numbers start again then."""
     kept: str
     """When a write is in the server's file: at `each` write, `every` so often, or `no`."""
     pages: int
@@ -89,10 +89,10 @@ class Server(NamedTuple):
     watches: int
     """How many watches a pass may have."""
     volumes: int = 1
-    """How many volumes there are. `pages` and `commits` are for each one."""
+    """How many volumes there are. `pages` and `commits` are per volume."""
     features: Tuple[str, ...] = ()
-    """What the server takes that older ones don't, such as the parameter `by` of a query. If it doesn't take that, pages in an order are
-    cut here from the whole answer."""
+    """What the server accepts that older ones don't, such as the parameter `by` of a query. If it doesn't accept that one, pages in an
+    order are cut from the whole answer here."""
 
 
 def _read_server(hello: JSON) -> Tuple[Server, int]:
@@ -200,7 +200,7 @@ class ConnectedVersion(QueriedVersion):
             done += len(rows)
 
     def _first_rows(self, nodes: List[int], names: List[str]) -> List[List[Optional[Value]]]:
-        """The values of the first of these nodes: of as many as come in one reply."""
+        """The values of the first of these nodes: as many as come in one reply."""
         def read(ok: JSON) -> List[List[Optional[Value]]]:
             rows = [read_row(row) for row in ok["rows"]]
             if not 1 <= len(rows) <= len(nodes) or any(len(row) != len(names) for row in rows):
@@ -233,7 +233,7 @@ class ConnectedVersion(QueriedVersion):
 
 
 def _node_number(node: int) -> int:
-    """A node's number, which 64 bits hold."""
+    """A node's number, which fits into 64 bits."""
     number = node_number(node)
     if number not in RANGES[Kind.UINT64]:
         raise NoNode(number)
@@ -241,13 +241,13 @@ def _node_number(node: int) -> int:
 
 
 def _asked_node(node: int) -> int:
-    """A node's number as a request has it: 0, which no node has, if 64 bits don't hold it."""
+    """A node's number in the form of a request: 0, which no node has, if it doesn't fit into 64 bits."""
     number = node_number(node)
     return number if number in RANGES[Kind.UINT64] else 0
 
 
 def _asked_name(name: str) -> str:
-    """A name as a request has it. `NotUTF8` if it has half of a surrogate pair."""
+    """A name in the form of a request. `NotUTF8` if it has half of a surrogate pair."""
     if not isinstance(name, str):
         raise TypeError(f"{name!r} isn't a name: a name is a str")
     encoded(name)
@@ -272,7 +272,7 @@ def _read_attributes(ok: JSON) -> Dict[str, Typed]:
 
 
 def _in_volume(volume: Optional[int]) -> JSON:
-    """The parameter of a volume, if one is said. `NoVolume` if it can't be one."""
+    """The volume parameter, if one is given. `NoVolume` if it can't be a volume."""
     if volume is not None and volume not in RANGES[Kind.UINT32]:
         raise NoVolume(volume, 0)
     return {} if volume is None else {"volume": volume}
@@ -298,16 +298,16 @@ def _read_journal(ok: JSON) -> Tuple[List[Entry], Optional[int]]:
 
 
 def _take_push(watches: "WeakValueDictionary[int, ConnectedWatch]", push: JSON) -> None:
-    """Gives what was pushed to its watch, if that is there. The connection has no reference to the pass, so that a pass that
-    nothing names goes at once."""
+    """Hands a push to its watch, if there still is one. The connection has no reference to the pass, so that an unreferenced
+    pass is freed at once."""
     watch = watches.get(push["watch"])
     if watch is not None:
         watch._take(push)
 
 
 class ConnectedPass(LockOwner, ThreadPass):
-    """A pass of a server's store: a connection. The calls of several threads on it wait for one another, so each thread has a
-    pass of its own."""
+    """A pass of a server's store: a connection. Calls from several threads wait for each other, so give each thread a pass of
+    its own."""
 
     def __init__(self, path: SocketPath, timeout: Optional[float], run: Optional[str] = None, repeat: Optional[float] = None) -> None:
         self._connection: Optional[Connection] = None
@@ -323,10 +323,10 @@ class ConnectedPass(LockOwner, ThreadPass):
         self._connect()
         if run is not None and self.server.run != run:
             self.close()
-            raise Disconnected(self.path, "the server was started anew")
+            raise Disconnected(self.path, "the server was restarted")
 
     def _connect(self) -> None:
-        """Connects, and learns what the server says of itself."""
+        """Connects, and asks the server about itself."""
         connection = Connection(self._socket_path, self._timeout, partial(_take_push, self._watches))
         with self._lock:
             self._connection, self._has_pin = connection, False
@@ -337,8 +337,8 @@ class ConnectedPass(LockOwner, ThreadPass):
                 raise
 
     def _until_answered(self, call: Callable[[], _Result]) -> _Result:
-        """Makes a call that has no second effect. If the connection fails, or the server can't keep writes now, and the program has
-        asked for it, makes it again. What a new connection lacks, a pin or a watch, isn't lost so."""
+        """Makes a call that can safely be repeated. If the program has asked for that, makes it again when the connection fails or
+        the server can't keep writes for now, but not if a pin or a watch would be lost with the old connection."""
         repeats = self._repeat is not None and not self._has_pin and not self._watches
         until = time.monotonic() + (self._repeat or 0)
         while True:
@@ -350,7 +350,7 @@ class ConnectedPass(LockOwner, ThreadPass):
                     raise
 
     def _may_repeat(self, is_refused: bool, until: float) -> bool:
-        """Waits a moment, and connects if need be. Returns whether the pass is connected before the time is over."""
+        """Waits a moment, and connects if necessary. Returns whether the pass is connected before the time is up."""
         while time.monotonic() < until:
             time.sleep(min(_AGAIN, max(until - time.monotonic(), 0)))
             if is_refused and self._is_open:
@@ -381,7 +381,7 @@ class ConnectedPass(LockOwner, ThreadPass):
         if self._connection is None:
             raise Closed()
         if self._is_asking:
-            raise RuntimeError("a call on this pass is made within another one, as by the handler of a signal")
+            raise RuntimeError("a call on this pass is made within another one, such as by a signal handler")
         self._is_asking = True
         return self._connection
 
@@ -402,15 +402,15 @@ class ConnectedPass(LockOwner, ThreadPass):
             return pinned
 
     def _unpin(self) -> None:
-        """Gives the pin up, as the end of the connection does too."""
+        """Unpins, as the end of the connection also does."""
         self._has_pin = False
         if self._is_open:
             with suppress(BrokenConnection):
                 self._ask("unpin", {}, lambda ok: None)
 
     def _leave(self) -> None:
-        """Takes over the pin of a version that goes. Python may collect that one anywhere, also within a call on this pass,
-        which gives the pin up at its end."""
+        """Takes over the pin of a version that is being destroyed. Python may collect it anywhere, even within a call on
+        this pass, which then unpins at its end."""
         if not self._is_dead:
             self._is_left = True
             self._unpin_left()
@@ -436,35 +436,35 @@ class ConnectedPass(LockOwner, ThreadPass):
         return self.server.volumes
 
     def another(self) -> ConnectedPass:
-        """A pass of the same store for another thread: a new connection. It may be called in any thread. `NoPass` if there
-        are as many clients as the server takes; `NoServer`, or `Disconnected` if the server was started anew since."""
+        """A pass of the same store for another thread: a new connection. It may be called in any thread. Raises `NoPass`
+        if the server has as many clients as it allows; `NoServer`; or `Disconnected` if the server has been restarted since."""
         self._check_process()
         return ConnectedPass(self._socket_path, self._timeout, self.server.run, self._repeat)
 
     def close(self) -> None:
-        """Closes the connection, if it is open, and so gives the pass back. The store stays with the server."""
+        """Closes the connection, if it is open, and so returns the pass. The store stays with the server."""
         if self._connection is not None and not self._is_dead:
             with self._lock:
                 self._connection.close()
                 self._connection = None
 
     def finish(self) -> str:
-        """`Unavailable`: a server closes its store."""
+        """Raises `Unavailable`: only the server closes its store."""
         self._check_process()
         raise Unavailable(self.path, "finish")
 
     def meet(self) -> int:
-        """`Unavailable`: a pass of a server has seen what its replies have."""
+        """Raises `Unavailable`: a server's pass has seen whatever is in its replies."""
         self._check_process()
         raise Unavailable(self.path, "meet")
 
     def witness(self) -> Witness:
-        """`Unavailable`: a pass of a server has seen what its replies have."""
+        """Raises `Unavailable`: a server's pass has seen whatever is in its replies."""
         self._check_process()
         raise Unavailable(self.path, "witness")
 
     def join(self, witness: Witness) -> int:
-        """`Unavailable`, as `witness`. `reach` waits for a commit number."""
+        """Raises `Unavailable`, like `witness`. Use `reach` to wait for a commit number."""
         self._check_process()
         raise Unavailable(self.path, "join")
 
@@ -476,7 +476,7 @@ class ConnectedPass(LockOwner, ThreadPass):
         def run() -> _Result:
             # The server itself tries again at Busy and Full.
             return super(ConnectedPass, self).change(function, attempts, check_kinds=check_kinds, tries=1, volume=volume)
-        # A write is sent again until its time is over, so what fails before that has written nothing.
+        # A write is sent again until its time is up, so what fails before that has written nothing.
         return self._until_answered(run)
 
     def _begin_change(self, check_kinds: bool, volume: Optional[int]) -> Change:
@@ -545,7 +545,7 @@ class ConnectedPass(LockOwner, ThreadPass):
         return self._ask("status", {}, _read_statuses)
 
     def reach(self, numbers: Union[int, Sequence[int]], within: float = 5) -> Tuple[int, ...]:
-        """As in a store of this process. The server waits, and is asked anew before its reply would be late."""
+        """Works as in a store in this process. The server waits, and is asked again before its reply would be late."""
         wanted: Union[int, List[int]] = numbers if isinstance(numbers, int) else list(numbers)
         most = _MOST_WAITED if self._timeout is None else min(self._timeout / 2, _MOST_WAITED)
         until = time.monotonic() + within
@@ -558,17 +558,17 @@ class ConnectedPass(LockOwner, ThreadPass):
                     raise
 
     def _reach(self, wanted: Union[int, List[int]], within: float) -> Tuple[int, ...]:
-        """Has the server wait once."""
+        """Makes the server wait once."""
         parameters = {"commit": wanted, "within": math.ceil(within * 1000)}
         return self._ask("reach", parameters, lambda ok: tuple(ok.get("commits", (ok["commit"],))))
 
     def flush(self) -> None:
-        """Returns when all that was written before the call is in the server's file. `NotKept` if it keeps none;
-        `saved.Stopped` and `saved.NotSaved`."""
+        """Returns when everything written before the call is in the server's file. Raises `NotKept` if it has
+        none; `saved.Stopped` and `saved.NotSaved`."""
         self._ask("flush", {}, lambda ok: None)
 
     def compact(self) -> None:
-        """Puts the current snapshot into the server's file, in the place of the state and the entries that it contains. Errors
+        """Writes the current snapshot into the server's file, replacing the state and the entries there. Errors
         are those of `flush`."""
         self._ask("compact", {}, lambda ok: None)
 
@@ -583,13 +583,13 @@ class ConnectedPass(LockOwner, ThreadPass):
         return AskedQuery(text, (one.name for one in compared))
 
     def watch(self, query: Optional[str] = None) -> ConnectedWatch:
-        """As in a store of this process. The server pushes the changes. A `QueryError`; `TooManyWatches`."""
+        """Works as in a store in this process. The server pushes the changes. Raises a `QueryError`, or `TooManyWatches`."""
         return ConnectedWatch(self, query)
 
     def fileno(self) -> int:
-        """The descriptor of the socket, for `select` and event loops: if it can be read, something was pushed for a watch.
-        Before the program waits for it, it calls `Watch.wait(0)` until that is None: what was received already can't be
-        read again."""
+        """The descriptor of the socket, for `select` and event loops: if it is readable, something was pushed for a watch.
+        Before waiting for it, call `Watch.wait(0)` until that returns None: lines that were already received don't make it
+        readable."""
         self._check_process()
         with self._lock:
             if self._connection is None:
@@ -606,7 +606,7 @@ class ConnectedPass(LockOwner, ThreadPass):
             self._unpin_left()
 
     def _end_watches(self) -> None:
-        """Ends the watches that nothing names any more."""
+        """Ends the watches that nothing refers to any more."""
         while self._ended:
             with suppress(NoWatch):
                 self._ask("unwatch", {"watch": self._ended.pop()}, lambda ok: None)
@@ -614,10 +614,10 @@ class ConnectedPass(LockOwner, ThreadPass):
 
 class ConnectedWatch(Watch):
     """A watch whose changes the server pushes. Any call on the pass receives what was pushed, and the watch keeps it until it is
-    returned. A program that makes no call for half a minute while more is pushed than the socket holds is disconnected by the
-    server.
+    returned. The server disconnects a program that makes no call for half a minute while more is pushed than the socket can
+    hold.
 
-    `Prepared` and `Version.refresh` do without pushes."""
+    `Prepared` and `Version.refresh` work without pushes."""
 
     def __init__(self, user: ConnectedPass, query: Optional[str]) -> None:
         super().__init__(query)
@@ -625,7 +625,7 @@ class ConnectedWatch(Watch):
         self._created: Set[int] = set()
         self._removed: Set[int] = set()
         self._is_partial = self._is_new = False  # whether a push of the same commit is missing, and something is to be returned
-        self._last = 0  # the commit to which all that was received leads
+        self._last = 0  # the commit to which everything received so far leads
         self._error: Optional[Error] = None  # what has ended the watch
         self._number: Optional[int] = None
         parameters = {} if query is None else {"query": query}
@@ -646,7 +646,7 @@ class ConnectedWatch(Watch):
             self._user._ended.append(self._number)
 
     def _read_first(self, ok: JSON) -> None:
-        """Takes the first answer in. From then on pushes come, also before the call ends."""
+        """Takes the first answer. From then on pushes come, even before the call ends."""
         nodes = ok.get("nodes")
         if nodes is not None:
             self._created.update(read_nodes(nodes))
@@ -656,7 +656,7 @@ class ConnectedWatch(Watch):
         self._user._watches[self._number] = self
 
     def _take(self, push: JSON) -> bool:
-        """Takes changes in. Returns whether more belong to them."""
+        """Takes changes. Returns whether more belong to them."""
         error = push.get("error")
         if error is not None:
             self._error, self._number = error_of(self._user.path, error, self.query), None
@@ -669,7 +669,7 @@ class ConnectedWatch(Watch):
         return self._is_partial
 
     def _check_room(self, nodes: int) -> None:
-        """A ValueError if the server has no room for so many nodes, of which each takes a word of a page at least."""
+        """Raises a ValueError if the server has no room for this many nodes, each of which takes at least a word of a page."""
         pages = self._user.server.pages * self._user.server.volumes
         if nodes > pages * _WORDS:
             raise ValueError(f"the server pushed more nodes than its {pages:,} pages have room for")
@@ -685,7 +685,7 @@ class ConnectedWatch(Watch):
         return error
 
     def _check(self) -> int:
-        """The number of the watch. Raises the error that has ended it, or `Closed`."""
+        """The number of the watch. Raises the error that ended it, or `Closed`."""
         if isinstance(self._error, NotCovered):
             raise self._named(self._error)
         if self._error is not None:
@@ -695,8 +695,8 @@ class ConnectedWatch(Watch):
         return self._number
 
     def refresh(self) -> Changes:
-        """What changed since a call on this watch returned something last, up to what reads of the pass see now: the current
-        snapshot, with all that this pass has written or seen, or the one that it is pinned to. A round trip."""
+        """What changed since a call on this watch last returned something, up to what reads of the pass see now: the current
+        snapshot, with everything that this pass has written or seen, or the one that it is pinned to. Takes a round trip."""
         user = self._user
         user._check_process()
         with user._lock:
@@ -712,9 +712,9 @@ class ConnectedWatch(Watch):
             return self._returned()
 
     def wait(self, timeout: Optional[float] = None) -> Optional[Changes]:
-        """The changes that were pushed and not returned yet. If there are none, waits for some up to so many seconds, or
-        without an end, and returns None if none came. With 0 it only receives what is there. The error that has ended the watch
-        is raised then, as `NotCovered` after its index was removed. Other threads' calls on the pass wait meanwhile."""
+        """The changes that were pushed and haven't been returned yet. If there are none, waits for up to this many
+        seconds, or forever, and returns None if none came. With 0 it only takes what has arrived. If an error has ended the watch,
+        it is raised then, such as `NotCovered` after its index was removed. Other threads' calls on the pass wait meanwhile."""
         user = self._user
         user._check_process()
         until = None if timeout is None else time.monotonic() + timeout
@@ -739,19 +739,19 @@ class ConnectedWatch(Watch):
 
 def connect(path: Union[str, bytes, "os.PathLike[Any]", None] = None, timeout: Optional[float] = TIMEOUT,
             repeat: Optional[float] = None) -> ConnectedPass:
-    """Connects to a server at this socket, or at the one that `SocketPath.find` finds. The pass is used as the one that `open`
+    """Connects to the server at this socket, or at the one that `SocketPath.find` finds. Use the pass like the one that `open`
     returns; `help(bestore.connected)` says what differs.
 
-    `timeout` is how many seconds connecting and each reply may take; None is without an end. After that the call raises
+    `timeout` is how many seconds connecting and each reply may take; None means no limit. After that the call raises
     `TimedOut`, and the connection is closed.
 
-    `repeat` lets writes outlive a server that ends and starts again. A write whose reply doesn't come, or that the server can't keep
-    now, is sent again for up to so many seconds, on a new connection if need be, and is made once. `change` runs its function again.
-    It isn't repeated while the pass is pinned or has watches, which a new connection lacks. Numbers for `apply_if` are those of the
-    run that `server.run` names.
+    `repeat` lets writes survive a restart of the server. A write whose reply doesn't come, or that the server can't keep
+    for now, is sent again for up to this many seconds, on a new connection if necessary, and is made once. `change` runs its function
+    again. It isn't repeated while the pass is pinned or has watches, which a new connection lacks. Numbers for `apply_if` belong to
+    the run that `server.run` names.
 
     Raises `NoServer`; `OtherUser` if nobody has named the socket, and the server is neither the effective user's nor root's;
-    `NoPass` if there are as many clients as the server takes; `NotAllowed` if the server refuses this user; `ProtocolError`,
+    `NoPass` if the server has as many clients as it allows; `NotAllowed` if the server refuses this user; `ProtocolError`,
     `TimedOut`; a ValueError if `timeout` or `repeat` isn't above 0."""
     if timeout is not None and not timeout > 0:
         raise ValueError(f"a timeout of {timeout} seconds")

@@ -1,4 +1,4 @@
-"""The errors of the package. Each error number of bestore.h has a class of its own, which carries what goes with it."""
+"""The errors of the package. Each error number of bestore.h has a class of its own, which carries its details."""
 
 from __future__ import annotations
 
@@ -16,7 +16,7 @@ class Error(Exception):
 
 
 class Forked(Error):
-    """The handle was made before this process was forked: it belongs to the parent, and is dead here."""
+    """The handle was made before this process was forked. It belongs to the parent, and is dead here."""
 
     error_class = ErrorClass.GONE
 
@@ -25,10 +25,10 @@ class Forked(Error):
 
 
 class Nested(Error):
-    """The function of a change writes by the pass of that change, so the change could never be committed."""
+    """The function of a change writes through the pass of that change, so the change could never be committed."""
 
     def __str__(self) -> str:
-        return "this pass is in a change: add the operation to the change, or write by another pass"
+        return "this pass is in a change: add the operation to the change, or write through another pass"
 
 
 class TooManyAttempts(Error):
@@ -47,23 +47,23 @@ class TooManyAttempts(Error):
 
 
 class NoVolume(Error):
-    """The store has no such volume, or the call has to say one because there are several."""
+    """The store has no such volume, or the call has to name one because there are several."""
 
     def __init__(self, volume: Optional[int], volumes: int) -> None:
         super().__init__(volume, volumes)
         self.volume = volume
-        """The volume, or None if the call says none."""
+        """The volume, or None if the call names none."""
         self.volumes = volumes
         """How many there are."""
 
     def __str__(self) -> str:
         if self.volume is None:
-            return f"the call has to say which of the {self.volumes} volumes, counted from 0"
+            return f"the call has to name one of the {self.volumes} volumes, counted from 0"
         return f"there is no volume {self.volume}; there are {self.volumes}, counted from 0"
 
 
 class OtherVolume(Error, ValueError):
-    """An operation names a node of another volume than the one that is written. A write is in one volume."""
+    """An operation names a node that isn't in the volume that is written. Each write is in one volume."""
 
     def __init__(self, volume: int, operation: Optional[int]) -> None:
         super().__init__(volume, operation)
@@ -73,12 +73,12 @@ class OtherVolume(Error, ValueError):
         """The operation, from 0."""
 
     def __str__(self) -> str:
-        return (f"a node is in another volume than {self.volume}, which is written (operation {self.operation}, counted from 0); "
+        return (f"a node isn't in volume {self.volume}, which is written (operation {self.operation}, counted from 0); "
                 "a batch has nodes of one volume")
 
 
 class PartialIndex(Error, ValueError):
-    """An index is made in all volumes, by a batch that has no other operations. A batch that says a volume may make it there."""
+    """An index is made in all volumes, by a batch that has no other operations. A batch that names a volume may make it there."""
 
     def __init__(self, operation: Optional[int]) -> None:
         super().__init__(operation)
@@ -91,14 +91,14 @@ class PartialIndex(Error, ValueError):
 
 
 class OtherStore(Error):
-    """The witness is of a pass of another store."""
+    """The witness belongs to a pass of another store."""
 
     def __str__(self) -> str:
-        return "the witness is of another store; join one of this store"
+        return "the witness belongs to another store; join one of this store"
 
 
 class NotReached(Error):
-    """The journals were shorter than expected at the end of the time."""
+    """The journals were still shorter than expected when the time was up."""
 
     error_class = ErrorClass.RETRY
 
@@ -127,7 +127,7 @@ class BadBytes(Error, ValueError):
 
 
 class Refusal(Error):
-    """A call of the library returned this error, and wrote nothing. What isn't known of it is None."""
+    """A call of the library returned this error, and wrote nothing. Details that aren't known are None."""
 
     number: int = 0
     """The error's number, one of `ErrorNumber`."""
@@ -148,27 +148,27 @@ class Refusal(Error):
     def __init__(self, carried: Optional[int] = None, query: Optional[str] = None, listed: Optional[str] = None) -> None:
         super().__init__(carried, query, listed)
         self.query = query
-        """The text of the query, if it was asked by a text."""
+        """The text of the query, if it was asked as text."""
         self.pass_number: Optional[int] = None
-        """Of `Busy`: the number of the pass that is writing."""
+        """For `Busy`: the number of the pass that is writing."""
         self.least: Optional[int] = None
         """For `Full`: the commit number of the oldest snapshot that a pass may still read. Its pages are kept."""
         self.offset: Optional[int] = None
-        """Of a `QueryError`: the byte of the query's text, in UTF-8 and from 0, at which the error is."""
+        """For a `QueryError`: the byte of the query's text, in UTF-8 and from 0, at which the error is."""
         self.item: Optional[int] = None
-        """Of items that can't be read or build no query: the item, from 0, at which that shows."""
+        """For items that can't be read or don't form a query: the item, from 0, at which that shows."""
         self.operation: Optional[int] = None
-        """Of a batch that can't be read: the first operation, from 0, that can't."""
+        """For a batch that can't be read: the first operation, from 0, that can't."""
         self.volume: Optional[int] = None
-        """The volume whose error it is, if the store has several."""
+        """The volume that has the error, if the store has several."""
         self._carry(carried, listed)
 
     def _carry(self, carried: Optional[int], listed: Optional[str]) -> None:
-        """Keeps what goes with the error. `listed` says what the call takes a list of: "item" or "operation"."""
+        """Stores the error's details. `listed` says what the call takes a list of: "item" or "operation"."""
 
     @property
     def _what(self) -> str:
-        """What was wrong, with what is known of it."""
+        """What was wrong, with its details."""
         return self.meaning
 
     @property
@@ -186,7 +186,7 @@ class Refusal(Error):
 
 
 def refusal(number: int, carried: Optional[int] = None, query: Optional[str] = None, listed: Optional[str] = None) -> Refusal:
-    """The error with this number, with what goes with it, the query's text, and what the call takes a list of."""
+    """The error with this number, from its details, the query's text, and what the call takes a list of."""
     found = Refusal._classes.get(number)
     if found is not None:
         return found(carried, query, listed)
@@ -216,8 +216,8 @@ def columns_of(text: str) -> int:
 
 
 def pointed(text: str, column: int, width: int = 8192) -> str:
-    """The text, and below it a caret under one of its characters. Of a text that is wider than `width` columns (4 or
-    more) the part round the caret is shown, between `…`."""
+    """The text, and below it a caret under one of its characters. If the text is wider than `width` columns (4 or
+    more), only the part around the caret is shown, between `…`."""
     text = "".join(character if character.isprintable() else " " for character in text)
     first, last = 0, len(text)
     if columns_of(text) > width:
@@ -230,7 +230,7 @@ def pointed(text: str, column: int, width: int = 8192) -> str:
 
 
 class QueryError(Refusal):
-    """A query that is none, or that can't be answered."""
+    """A text that isn't a query, or a query that can't be answered."""
 
     @property
     def column(self) -> Optional[int]:
@@ -240,8 +240,8 @@ class QueryError(Refusal):
         return len(self.query.encode(errors="surrogatepass")[:self.offset].decode(errors="ignore"))
 
     def shown(self, width: int = 8192) -> Optional[str]:
-        """The query with a caret under the character of the error, in two lines, if that is known. Of a query that
-        is wider than so many columns the part round the caret is shown."""
+        """The query with a caret under the character of the error, in two lines, if that is known. If the query is
+        wider than this many columns, only the part around the caret is shown."""
         if self.query is None or self.column is None:
             return None
         return pointed(self.query, self.column, width)
@@ -391,7 +391,7 @@ class NoKind(_OfList, ValueError, number=ErrorNumber.NO_KIND):
 
 
 class QueryNotUTF8(_AtPlace, NotUTF8):
-    """The text of a query has half of a surrogate pair, so it has no bytes in UTF-8."""
+    """The text of a query has half of a surrogate pair, so it can't be encoded in UTF-8."""
 
     meaning = "the query has half of a surrogate pair here, which isn't valid UTF-8"
 
@@ -411,7 +411,7 @@ class NoRoom(Refusal, ValueError, number=ErrorNumber.NO_ROOM):
 
     @property
     def _what(self) -> str:
-        return self.meaning if self.limit is None else f"{self.meaning}, and {self.limit} are asked for"
+        return self.meaning if self.limit is None else f"{self.meaning}, and {self.limit} were asked for"
 
 
 class WrongKind(Refusal, TypeError, number=ErrorNumber.WRONG_KIND):
@@ -447,14 +447,14 @@ class Conflict(Refusal, number=ErrorNumber.CONFLICT):
 
 
 def no_index(name: str, indices: Iterable[str]) -> NoIndex:
-    """The error of an order by a name without an index, where there are these."""
+    """The error of an order by a name without an index, where these are the indices."""
     error = NoIndex()
     error.name, error.indices = name, tuple(indices)
     return error
 
 
 def bad_cursor(reason: str) -> BadCursor:
-    """The error of a cursor from which no page can go on."""
+    """The error of a cursor that no page can go on from."""
     error = BadCursor()
     error.reason = reason
     return error
@@ -475,7 +475,7 @@ def no_room(limit: int) -> NoRoom:
 
 
 def encoded(text: str) -> bytes:
-    """The bytes of a name or a value. `NotUTF8` if half of a surrogate pair is in it."""
+    """The bytes of a name or a value. Raises `NotUTF8` if it has half of a surrogate pair."""
     try:
         return text.encode()
     except UnicodeEncodeError:
@@ -483,7 +483,7 @@ def encoded(text: str) -> bytes:
 
 
 def encoded_query(text: str) -> bytes:
-    """The bytes of a query's text. `QueryNotUTF8` if half of a surrogate pair is in it."""
+    """The bytes of a query's text. Raises `QueryNotUTF8` if it has half of a surrogate pair."""
     try:
         return text.encode()
     except UnicodeEncodeError as error:
@@ -491,7 +491,7 @@ def encoded_query(text: str) -> bytes:
 
 
 def decoded(text: bytes) -> str:
-    """The text of these bytes. `NotUTF8` if they are none."""
+    """The text of these bytes. Raises `NotUTF8` if they aren't a text."""
     try:
         return text.decode()
     except UnicodeDecodeError:

@@ -1,4 +1,4 @@
-"""Handles: who owns one, and what becomes of it in a forked child."""
+"""Handles: who owns one, and what happens to it in a forked child."""
 
 from __future__ import annotations
 
@@ -12,10 +12,10 @@ from .errors import Forked
 _Self = TypeVar("_Self", bound="Owner")
 
 class Owner:
-    """Owns a handle, and gives it up by `close`, at the end of a `with`, or when it goes itself.
+    """Owns a handle, and releases it on `close`, at the end of a `with`, or when the owner is destroyed.
 
-    A handle takes one call at a time, so the calls of several threads wait for one another. In a forked child the handle
-    is dead: each call raises `Forked`, and giving it up does nothing. The child may make handles of its own."""
+    A handle takes one call at a time, so calls from several threads wait for each other. In a forked child the handle is
+    dead: each call raises `Forked`, and releasing it does nothing. The child may make handles of its own."""
 
     def close(self) -> None:
         raise NotImplementedError
@@ -32,7 +32,7 @@ class Owner:
 
 
 class LockOwner(Owner):
-    """Owns what isn't of the library, as a connection, with a lock that guards it."""
+    """Owns something that isn't part of the library, such as a connection, with a lock that guards it."""
 
     _forks: ClassVar[int] = 0
 
@@ -47,8 +47,8 @@ class LockOwner(Owner):
         return self._made_after != LockOwner._forks
 
     def _check_process(self) -> None:
-        """Raises `Forked` if the handle is dead. It comes before each wait for the lock, whose owner may not be in
-        this process."""
+        """Raises `Forked` if the handle is dead. Call it before each wait for the lock, since the lock's owner may
+        not be in this process."""
         if self._made_after != LockOwner._forks:
             raise Forked()
 

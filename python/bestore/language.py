@@ -1,5 +1,5 @@
-"""Texts of the query language: what is put into one, and what one compares. The library reads and writes them, and isn't loaded before
-the first such call."""
+"""Query texts: how to put a text into one, and what one compares. The library reads and writes them, and is loaded by the first such
+call."""
 
 from __future__ import annotations
 
@@ -12,7 +12,7 @@ _ENDS_QUOTED = re.compile(r'["\\]')  # what a name in quotes has after a backsla
 
 
 def escape(text: str) -> str:
-    r"""The text with a backslash before what a query takes for more than itself, so that it matches itself alone, in quotes or not:
+    r"""The text with a backslash before each special character of a query, so that it matches only itself, in quotes or not:
     f'name=="{escape("[draft].txt")}"' is the query name=="\[draft].txt". An empty text needs quotes. The operators CONTAINS,
     BEGINS_WITH and ENDS_WITH of items take a text as it is. `NotUTF8`."""
     from . import _query_texts  # which needs the library
@@ -20,7 +20,7 @@ def escape(text: str) -> str:
 
 
 def quoted(name: str) -> str:
-    """Any name, in the quotes with which a query takes it."""
+    """Any name, in quotes, as a query takes it."""
     return '"' + _ENDS_QUOTED.sub(r"\\\g<0>", name) + '"'
 
 
@@ -32,7 +32,7 @@ def all_in(name: str, kind: Kind) -> str:
 
 def any_case(text: str) -> str:
     """A pattern that matches the text in upper and lower case, by Unicode's simple case folding: any_case("dr.") is "[dD][rR].". A
-    letter doesn't match two: ß isn't found by SS. `NotUTF8`."""
+    letter never matches two: SS doesn't find ß. `NotUTF8`."""
     from . import _query_texts
     return _query_texts.any_case(text)
 
@@ -44,14 +44,14 @@ class Comparison(NamedTuple):
     operator: str
     """One of `==`, `!=`, `<`, `<=`, `>` and `>=`."""
     value: str
-    """As the text has it, without its quotes."""
+    """As written in the text, without its quotes."""
     offset: int
     """The byte of the text, in UTF-8 and from 0, at which the comparison begins."""
 
 
 class Hint(NamedTuple):
-    """A comparison that is never true, because its name has an index of integers and its value is no integer, or out
-    of their range."""
+    """A comparison that is never true, because its name has an index of integers and its value isn't an integer, or
+    is out of their range."""
 
     name: str
     value: str
@@ -69,12 +69,12 @@ class Hint(NamedTuple):
 
 
 def comparisons(query: str) -> List[Comparison]:
-    """The comparisons of a query, from left to right. A `QueryError` if the text is none."""
+    """The comparisons of a query, from left to right. A `QueryError` if the text isn't one."""
     from . import _query_texts
     return [it.comparison for it in _query_texts.read(query)]
 
 
 def hints_in(query: str, indices: Mapping[str, Kind]) -> List[Hint]:
-    """The comparisons of a query that are never true in a store with these indices. A `QueryError` if the text is none."""
+    """The comparisons of a query that are never true in a store with these indices. A `QueryError` if the text isn't one."""
     from . import _query_texts
     return _query_texts.hints_in(query, indices)

@@ -1,4 +1,4 @@
-"""A store in this process: its passes and versions, by calls of the library."""
+"""A store in this process: its passes and versions, through calls of the library."""
 
 from __future__ import annotations
 
@@ -33,24 +33,24 @@ _BUSY, _FULL = int(ErrorNumber.BUSY), int(ErrorNumber.FULL)
 
 
 def check_one_volume(volume: Optional[int]) -> None:
-    """`NoVolume` if a call says another volume than the only one."""
+    """Raises `NoVolume` if a call names a volume other than the only one."""
     if volume:
         raise NoVolume(volume, 1)
 
 
 class _Cursor(HandleOwner):
-    """How many of the operations that make a version again were returned."""
+    """How many of the operations that rebuild a version have been returned."""
 
     def __init__(self) -> None:
         super().__init__(CURSOR)
 
     def close(self) -> None:
-        """Gives the cursor up, if it was begun."""
+        """Releases the cursor, if it was begun."""
         self._give_up(calls.bes_leave)
 
 
 class LocalVersion(_native.Reader, Version):
-    """A version of a store in this process. Most of its calls are those of the extension."""
+    """A version of a store in this process. Most of its calls are implemented by the extension."""
 
     _user: LocalPass
     _query_part = Version.query
@@ -105,7 +105,7 @@ class LocalVersion(_native.Reader, Version):
         return self._rows(nodes, names)
 
     def _query_error(self, answer: int, carried: int, asked: Query) -> Refusal:
-        """The error of a query, with what goes with it."""
+        """The error of a query, with its details."""
         if answer == ErrorNumber.NOT_COVERED:
             return self._not_covered(asked)
         if isinstance(asked, str):
@@ -184,12 +184,12 @@ class LocalPass(HandleOwner, Pass):
         super().__init__(PASS)
 
     def _open_by(self, user: LocalPass) -> None:
-        """Opens the handle as another pass of the store of `user`."""
+        """Opens the handle as another pass of `user`'s store."""
         self._store = user._store
         check(user._call(calls.bes_another, self._pointer))
 
     def _tried(self, tries: int, call: Callable[..., int], *arguments: Any) -> int:
-        """Makes a call, up to so many times while another pass is writing, and once at least."""
+        """Makes a call, up to this many times while another pass is writing, and at least once."""
         answer = self._call(call, *arguments)
         if answer == _BUSY:
             back = StandingBack()
@@ -199,7 +199,7 @@ class LocalPass(HandleOwner, Pass):
         return answer
 
     def _repeated(self, tries: int, call: Callable[..., _Answered], *arguments: Any) -> _Answered:
-        """The same of a call of the extension, which also returns what goes with the library's number."""
+        """The same for a call of the extension, which also returns what goes with the library's number."""
         answered = call(*arguments)
         if answered[0] == _BUSY:
             back = StandingBack()
@@ -209,8 +209,8 @@ class LocalPass(HandleOwner, Pass):
         return answered
 
     def _write(self, batch: Batch, tries: int, expected: Optional[int]) -> Tuple[int, List[int]]:
-        """Writes a batch: up to so many times while another pass is writing. With more than one try it also waits, when no
-        page is free, for other passes to give older snapshots up."""
+        """Writes a batch: up to this many times while another pass is writing. With more than one try it also waits, when no
+        page is free, for other passes to unpin older snapshots."""
         taken = native(batch)
         if expected is None:
             before: Tuple[int, ...] = ()
@@ -222,7 +222,7 @@ class LocalPass(HandleOwner, Pass):
         return number, made
 
     def _written_at_last(self, tries: int, answer: int, number: int, batch: NativeBatch, *before: int) -> Tuple[int, List[int]]:
-        """The same, once the first try has failed by this."""
+        """The same, once the first try has failed with this error."""
         pauses = 0
         made: List[int] = []
         if answer == _BUSY and tries > 1:
@@ -258,8 +258,8 @@ class LocalPass(HandleOwner, Pass):
         return error.least is not None and self._is_kept_by_another(error.least)
 
     def _is_kept_by_another(self, least: int) -> bool:
-        """Whether pages may come free that a write didn't find, as those of the commit number `least` and later were
-        kept: another pass is the oldest active reader, or was it."""
+        """Whether pages may become free for a write that found none because those of the commit number `least` and
+        later were kept: another pass is, or was, the oldest active reader."""
         try:
             status = self.status()
         except Refusal:
@@ -312,7 +312,7 @@ class LocalPass(HandleOwner, Pass):
 
     def join(self, witness: Witness) -> int:
         if not isinstance(witness, Witness):
-            raise TypeError(f"{witness!r} isn't a witness: a pass makes one by `witness()`")
+            raise TypeError(f"{witness!r} isn't a witness: a pass makes one with `witness()`")
         if not isinstance(witness, LocalWitness) or witness._store is not self._store:
             raise OtherStore()
         seen = ctypes.c_uint64()
@@ -326,7 +326,7 @@ class LocalPass(HandleOwner, Pass):
         return self._text(tries, calls.bes_journal)
 
     def _text(self, tries: int, call: Callable[..., int]) -> str:
-        """The text that a call writes, which is made again until there is room for all of it."""
+        """The text that a call writes. The call is made again until there is room for all of it."""
         count, room = ctypes.c_uint64(), 65536
         while True:
             written = ctypes.create_string_buffer(room)
@@ -357,7 +357,7 @@ _native.know(user=LocalPass)
 
 
 def open(pages: int = 4096, passes: int = PASSES, commits: int = 2**32 - 1) -> LocalPass:
-    """As `opening.open`."""
+    """Like `opening.open`."""
     if not all(0 <= operator.index(limit) < 2**64 for limit in (pages, passes, commits)):
         raise BadLimits()
     user = LocalPass()

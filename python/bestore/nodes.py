@@ -11,11 +11,11 @@ from .values import plain
 NUMBERS = 10**14
 """How many numbers a volume has. A power of ten, so that people can read the volume in a node's digits."""
 MOST_VOLUMES = 64
-"""How many volumes there are at most. So a node is below 2^53, which JSON keeps exactly."""
+"""The maximum number of volumes. A node is thus below 2^53, which JSON keeps exactly."""
 
 
 def volume_of(node: int) -> int:
-    """The volume of a node, from 0. A store without volumes has nodes of volume 0 alone."""
+    """The volume of a node, from 0. A store without volumes has only nodes of volume 0."""
     return node // NUMBERS
 
 
@@ -45,7 +45,7 @@ def within(batch: Batch, volume: Optional[int] = None) -> Tuple[Optional[int], B
 
 
 def of_volume(batch: Batch, volume: int) -> Batch:
-    """A batch of a volume with the nodes as they are in the whole."""
+    """A batch of a volume, with the shelf's numbers for its nodes."""
     moved = Batch()
     for kind, code, node, number, name, value in batch._parts():
         if kind in (REMOVE, SET, UNSET) or kind == NEW and node != 0:
@@ -55,7 +55,7 @@ def of_volume(batch: Batch, volume: int) -> Batch:
 
 
 def node_number(node: SupportsIndex) -> int:
-    """A node as a plain int. A TypeError if it is none."""
+    """A node as a plain int. A TypeError if it isn't one."""
     try:
         return plain(node)
     except TypeError:
@@ -63,7 +63,8 @@ def node_number(node: SupportsIndex) -> int:
 
 
 def name_missing(error: Union[NoNode, NoAttribute], batch: Batch) -> None:
-    """Says which nodes a refused batch names, of which one isn't there; or which attribute it removes, if that is one."""
+    """Adds to an error the nodes that a refused batch names, one of which isn't there; or the attribute that it removes, if
+    there is one."""
     parts = batch._parts()
     if isinstance(error, NoNode):
         error.nodes = tuple(dict.fromkeys(node for kind, _, node, *_ in parts if kind in (REMOVE, SET, UNSET)))

@@ -12,9 +12,9 @@ from .values import KIND_OF, RANGES, Kind, Value, decode_value, encode_value, pl
 
 NEW, REMOVE, SET, UNSET, MAKE_INDEX, REMOVE_INDEX = range(6)
 MOST_OPERATIONS = 64
-"""How many operations a write has at most."""
+"""The maximum number of operations in a write."""
 BYTES_OF_A_BATCH = MOST_OPERATIONS * (63 + 255)
-"""How many bytes their names and values have at most."""
+"""The maximum number of bytes in their names and values."""
 
 
 @dataclass(frozen=True)
@@ -22,7 +22,7 @@ class NewNode:
     """Makes a node."""
 
     node: int = 0
-    """In an entry of the journal the number of the node that was made, and otherwise of no use."""
+    """In an entry of the journal, the number of the node that was made; otherwise unused."""
 
 
 @dataclass(frozen=True)
@@ -34,7 +34,7 @@ class RemoveNode:
 
 @dataclass(frozen=True)
 class SetAttribute:
-    """Sets a node's attribute. The kind None is that of the value, as `Batch.set` takes it."""
+    """Sets a node's attribute. The kind None stands for the value's own kind, as `Batch.set` takes it."""
 
     node: int
     name: str
@@ -69,7 +69,7 @@ Operation = Union[NewNode, RemoveNode, SetAttribute, UnsetAttribute, MakeIndex, 
 
 
 Parts = Tuple[int, int, int, int, bytes, bytes]
-"""An operation's kind, type code, node and number, its name, and its value if that is no number."""
+"""An operation's kind, type code, node and number, its name, and its value unless that is a number."""
 _Self = TypeVar("_Self", bound="Batch")
 
 
@@ -79,7 +79,7 @@ class Batch:
     `for operation in batch` goes over them, `len(batch)` is how many there are, and `Batch(operations)` has these."""
 
     _made: ClassVar[Optional[Type[Batch]]] = None
-    """What a batch is made as once a store of this process was opened: by the extension, which is faster."""
+    """The class of new batches once a store of this process has been opened: the extension's, which is faster."""
 
     def __new__(cls, operations: Iterable[Operation] = ()) -> Batch:
         return super().__new__(Batch._made or cls if cls is Batch else cls)
@@ -102,11 +102,11 @@ class Batch:
     def __reduce__(self) -> Tuple[Callable[..., Batch], Tuple[Type[Batch], bytes, bytes]]:
         kind = type(self)
         if kind.__module__.startswith(f"{__package__}."):
-            kind = Batch  # whatever it is made as where it is read
+            kind = Batch  # the process that reads it chooses between the plain and the native class
         return _copied, (kind, self._raw, self._bytes)
 
     def _add_encoded(self: _Self, kind: int, node: int, name: bytes, code: int, number: int, value: bytes, /) -> _Self:
-        """Adds an operation by its parts."""
+        """Adds an operation from its parts."""
         self._list.append((kind, code, _node(node), number, name, value))
         return self
 
@@ -115,7 +115,7 @@ class Batch:
         return list(self._list)
 
     def _put(self, operations: bytes, texts: bytes, /) -> None:
-        """Puts operations, as the library has them, in the place of what the batch had."""
+        """Replaces what the batch had with these operations, in the library's form."""
         self._list = []
         for kind, code, node, number, name_at, name_length, value_at, value_length in _RAW.iter_unpack(operations):
             if max(name_at + name_length, value_at + value_length) > len(texts):
@@ -130,7 +130,7 @@ class Batch:
 
     @property
     def _raw(self) -> bytes:
-        """The operations as the library has them."""
+        """The operations in the library's form."""
         at, taken = 0, []
         for kind, code, node, number, name, value in self._list:
             taken.append(_RAW.pack(kind, code, node, number, at, len(name), at + len(name), len(value)))
@@ -146,8 +146,8 @@ class Batch:
         return self._add_encoded(REMOVE, node, b"", 0, 0, b"")
 
     def set(self: _Self, node: int, name: str, value: Value, kind: Optional[int] = None) -> _Self:
-        """Sets an attribute. Without a kind a str is STRING, bytes are RAW, an `Int32` and its like are what they say, and another
-        int is INT64."""
+        """Sets an attribute. Without a kind a str is STRING, bytes are RAW, an `Int32` and the like are what they say, and any
+        other int is INT64."""
         code, number, taken = encode_value(value, kind)
         return self._add_encoded(SET, node, _name(name), code, number, taken)
 
@@ -181,13 +181,13 @@ class Batch:
         return self.remove_index(operation.name)
 
     def to_bytes(self) -> bytes:
-        """The batch as bytes, which `from_bytes` and the libraries for C, C++ and Rust read. `BadCount` if it has
-        not 1 to 64 operations, `NameLength`, `DataLength` and `NoKind` for what no write takes."""
+        """The batch as bytes, which `from_bytes` and the libraries for C, C++ and Rust read. Raises `BadCount`
+        unless it has 1 to 64 operations, and `NameLength`, `DataLength` or `NoKind` for what no write takes."""
         return self._packed()
 
     def _packed(self, nodes: Optional[Sequence[int]] = None) -> bytes:
-        """The batch as bytes. If the nodes are given that each operation made, they are what the operations that make nodes
-        have, as in the journal."""
+        """The batch as bytes. If the nodes that each operation made are given, the operations that make nodes have these
+        numbers, as in the journal."""
         if not 1 <= len(self) <= MOST_OPERATIONS:
             raise BadCount()
         texts, parts = self._bytes, [BEGINNING, _BYTES[len(self)]]
@@ -218,7 +218,7 @@ class Batch:
 
     @classmethod
     def from_bytes(cls, data: bytes) -> Batch:
-        """The batch that `to_bytes` wrote so. `BadBytes` if there is none, or something follows it."""
+        """The batch that `to_bytes` wrote as these bytes. Raises `BadBytes` if there is none, or if something follows it."""
         reader, batch = _Reader(data), cls()
         reader.read_beginning()
         for _ in range(reader.read_count()):
@@ -228,7 +228,7 @@ class Batch:
 
 
 def _node(node: int) -> int:
-    """A node as a plain int. A TypeError if it is none, and `NoNode` if 64 bits don't hold it."""
+    """A node as a plain int. Raises a TypeError if it isn't one, and `NoNode` if it doesn't fit into 64 bits."""
     try:
         number = plain(node)
     except TypeError:
@@ -239,14 +239,14 @@ def _node(node: int) -> int:
 
 
 def _name(name: str) -> bytes:
-    """A name in UTF-8. A TypeError if it is none."""
+    """A name in UTF-8. A TypeError if it isn't one."""
     if not isinstance(name, str):
         raise TypeError(f"{name!r} isn't a str")
     return encoded(name)
 
 
 def _copied(kind: Type[Batch], operations: bytes, texts: bytes) -> Batch:
-    """A batch of this class with these operations, as the library takes them."""
+    """A batch of this class with these operations, in the form that the library takes."""
     batch = kind()
     batch._put(operations, texts)
     return batch
@@ -276,7 +276,7 @@ BEGINNING = b"BEB\x01"
 _WITH_NODE, _WITH_NAME, _WITH_CODE = (NEW, REMOVE, SET, UNSET), (SET, UNSET, MAKE_INDEX, REMOVE_INDEX), (SET, MAKE_INDEX)
 _KIND_NODE, _CODE, _CODE_NUMBER = struct.Struct("<BQ"), struct.Struct("<I"), struct.Struct("<IQ")
 _BYTES = [bytes([byte]) for byte in range(256)]
-_RAW = struct.Struct("=2I2Q4I")  # an operation as the library has it
+_RAW = struct.Struct("=2I2Q4I")  # an operation in the library's form
 
 
 class _Reader:
@@ -286,7 +286,7 @@ class _Reader:
         self._data, self._at = bytes(data), 0
 
     def _take(self, count: int, what: str) -> bytes:
-        """The next bytes, so many of them."""
+        """The next bytes, this many of them."""
         taken = self._data[self._at:self._at + count]
         if len(taken) < count:
             raise BadBytes(self._at, f"{what} is cut off")
@@ -297,14 +297,14 @@ class _Reader:
         return int.from_bytes(self._take(count, what), "little")
 
     def _counted(self, what: str) -> bytes:
-        """Bytes that their length comes before."""
+        """Bytes that follow their length."""
         return self._take(self._number(1, f"the length of {what}"), what)
 
     def read_beginning(self) -> None:
         if self._data[:3] != BEGINNING[:3]:
             raise BadBytes(0, "they don't begin with BEB")
         if self._data[3:4] != BEGINNING[3:]:
-            raise BadBytes(3, "the format has another version than 1")
+            raise BadBytes(3, "the format has a version other than 1")
         self._at = len(BEGINNING)
 
     def read_count(self) -> int:

@@ -34,26 +34,26 @@ class Order(NamedTuple):
     by: str
     """The name of the index."""
     descending: bool = False
-    """Whether it is the reverse."""
+    """Whether it is reversed."""
 
     def __str__(self) -> str:
         return f'"{self.by}" {"descending" if self.descending else "ascending"}'
 
 
 def check_of(text: str) -> int:
-    """What a cursor keeps of a query: the CRC-32 of its canonical text."""
+    """What a cursor keeps about a query: the CRC-32 of its canonical text."""
     return zlib.crc32(text.encode())
 
 
 @dataclass(frozen=True)
 class Cursor:
-    """A position in the answer of a query in an order: that of the last node of a page. The next page has what comes after it,
-    also in a later version, whatever was written in between. `str` makes a short text of it, and `parse` reads that."""
+    """A position in the ordered answer of a query: the position of a page's last node. The next page begins right after it,
+    even in a later version, whatever was written in between. `str` turns it into a short text, and `parse` reads that."""
 
     order: Order
     """The order of the page."""
     check: int
-    """The CRC-32 of the query's canonical text. A cursor of another query is a `BadCursor`."""
+    """The CRC-32 of the query's canonical text. A cursor of another query raises `BadCursor`."""
     kind: Optional[Kind] = None
     """The kind of the index; None at the beginning, where no node comes before."""
     value: Optional[Value] = None
@@ -76,7 +76,7 @@ class Cursor:
 
     @staticmethod
     def parse(text: str) -> Cursor:
-        """The cursor of this text. `BadCursor` if it is none."""
+        """The cursor of this text. `BadCursor` if it isn't one."""
         try:
             return _read(text)
         except (ValueError, struct.error):
@@ -91,16 +91,16 @@ class Cursor:
         return Cursor(order, check, Kind(kind), value, node)
 
     def check_fits(self, order: Order, check: int) -> None:
-        """`BadCursor` if it is of another order, or of another query."""
+        """Raises `BadCursor` if it belongs to another order or another query."""
         if self.order != order:
-            raise bad_cursor(f"the cursor is of the order by {self.order}, and this page is in the "
+            raise bad_cursor(f"the cursor belongs to the order by {self.order}, but this page is in the "
                              f"order by {order}: keep the order, or begin without a cursor")
         if self.check != check:
-            raise bad_cursor("the cursor is of another query: ask the query that it came from, "
+            raise bad_cursor("the cursor belongs to another query: ask the query that it came from, "
                              "or begin without a cursor")
 
     def of_other_kind(self, kind: Kind) -> BadCursor:
-        """The error if the index has this kind, and the cursor another."""
+        """The error if the index has this kind and the cursor another."""
         had = "no kind" if self.kind is None else f"kind {self.kind.name}"
         return bad_cursor(f'the index "{self.order.by}" has kind {kind.name}, and had {had} when the '
                           "cursor was made: begin without a cursor")
@@ -111,7 +111,7 @@ _Position = Tuple[Order, int, int, bytes]
 
 
 class Page(List[_Item]):
-    """Some of an answer in an order, as a list: nodes, or rows with their values."""
+    """Part of an answer in an order, as a list: nodes, or rows with their values."""
 
     def __init__(self, items: Iterable[_Item], more: bool, position: Union[Cursor, _Position]) -> None:
         super().__init__(items)
@@ -132,15 +132,15 @@ class Page(List[_Item]):
 
 
 After = Union[Cursor, str, None]
-"""Where a page begins: after a cursor, by itself or its text, or None at the beginning."""
+"""Where a page begins: after a cursor, given as itself or as its text, or at the beginning if None."""
 
 
 def cursor_of(after: After) -> Optional[Cursor]:
-    """The cursor that a call was given. `BadCursor` if it is a text that is none."""
+    """The cursor that a call was given. Raises `BadCursor` if it is a text that isn't one."""
     if after is None or isinstance(after, Cursor):
         return after
     if not isinstance(after, str):
-        raise TypeError(f"{after!r} is no cursor: a cursor is that of a page, or its text")
+        raise TypeError(f"{after!r} isn't a cursor: use the cursor of a page, or its text")
     return Cursor.parse(after)
 
 
@@ -154,7 +154,7 @@ def encode_key(kind: Kind, value: Value, node: int) -> bytes:
 
 
 def decode_key(kind: Kind, key: bytes) -> Tuple[Value, int]:
-    """The value and the node of a key of an index of this kind. A ValueError if it is none."""
+    """The value and the node of a key of an index of this kind. A ValueError if it isn't one."""
     front, node = key[:-_NODE.size], _NODE.unpack(key[-_NODE.size:])[0]
     if kind in _SIZES and len(front) == _SIZES[kind]:
         return int.from_bytes(front, "big") + RANGES[kind][0], node
@@ -164,7 +164,7 @@ def decode_key(kind: Kind, key: bytes) -> Tuple[Value, int]:
 
 
 def _bytes_of(text: str) -> bytes:
-    """The bytes of a cursor's text, whose last four were compared. A ValueError if it is none."""
+    """The bytes of a cursor's text, whose last four were compared. A ValueError if it isn't one."""
     if len(text) > _LONGEST:
         raise ValueError("the text is too long")
     padded = text.encode("ascii") + b"=" * (-len(text) % 4)
@@ -176,7 +176,7 @@ def _bytes_of(text: str) -> bytes:
 
 
 def _read(text: str) -> Cursor:
-    """The cursor of a text. A ValueError or a struct.error if it is none."""
+    """The cursor of a text. A ValueError or a struct.error if it isn't one."""
     front = _bytes_of(text)
     form, descending, number, length = _HEAD.unpack(front[:_HEAD.size])
     name, rest = front[_HEAD.size:_HEAD.size + length], front[_HEAD.size + length:]

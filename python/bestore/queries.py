@@ -15,7 +15,7 @@ class Name(str):
 
 
 class Operator(enum.IntEnum):
-    """What an item does to those before it."""
+    """What an item does with those before it."""
 
     EQ, NE, LT, LE, GT, GE, CONTAINS, BEGINS_WITH, ENDS_WITH, AND, OR, NOT = range(4, 16)
 
@@ -26,7 +26,7 @@ Item = Union[Name, Operator, str, int]
 
 class Prepared(Owner):
     """A query that is parsed once and kept, by `prepare` or `prepare_items`. It belongs to no store.
-    `Version.query_prepared` asks it, and `Version.refresh` returns what changed since it was refreshed last."""
+    `Version.query_prepared` asks it, and `Version.refresh` returns what changed since its last refresh."""
 
     source: Optional[str]
     """The text that it was prepared from, or None if it was prepared from items."""
@@ -36,7 +36,7 @@ class Prepared(Owner):
     _refreshed_in: Optional[object]  # the store of the library's last refresh
 
     def _check_process(self) -> None:
-        """Raises `Forked` if the query is of the process that this one was forked from."""
+        """Raises `Forked` if the query belongs to the process that this one was forked from."""
         raise NotImplementedError
 
     @property
@@ -46,11 +46,11 @@ class Prepared(Owner):
 
     @property
     def _check(self) -> int:
-        """What cursors of this query keep of it."""
+        """What cursors of this query keep about it."""
         raise NotImplementedError
 
     def _asked_text(self) -> str:
-        """The text by which a server is asked. `Closed` if the query is closed."""
+        """The text that is sent to a server. Raises `Closed` if the query is closed."""
         raise NotImplementedError
 
     @property
@@ -71,14 +71,14 @@ class Prepared(Owner):
 
 
 def prepare(text: str) -> Prepared:
-    """The query of this text, parsed once. `QuerySyntax`, `BadPattern`, `TooLong`, `TooDeep`, `TooMany`, or
-    `QueryNotUTF8` if it is no query. Takes the time to parse the text, and memory until it is closed."""
+    """The query of this text, parsed once. Raises `QuerySyntax`, `BadPattern`, `TooLong`, `TooDeep`,
+    `TooMany` or `QueryNotUTF8` if it isn't a query. Takes the time to parse the text, and memory until it is closed."""
     from . import _prepared  # which needs the library
     return _prepared.prepare(text)
 
 
 def prepare_items(*items: Item) -> Prepared:
-    """The query that items in reverse Polish order build, as `Version.query_items` takes them. `BadItems` or
-    `BadPattern` if they build none. Takes memory until it is closed."""
+    """The query that items in reverse Polish order form, as `Version.query_items` takes them. Raises
+    `BadItems` or `BadPattern` if they don't form one. Takes memory until it is closed."""
     from . import _prepared
     return _prepared.prepare_items(*items)

@@ -1,4 +1,4 @@
-"""Stores that are kept in a file of SQLite.
+"""Stores that are kept in an SQLite file.
 
     from bestore import saved
 
@@ -7,16 +7,16 @@
         store.set(letter, "MAIL:from", "ann")
 
 The store is in memory, and each accepted write is in the file before its call returns: after `kill -9` too, and after a
-power failure if the disk keeps what it has confirmed. Opening the file makes the store again. It repeats each write,
-and refuses a file with another outcome. One store at a time has a file. docs/KEPT.md has what is promised, and the
+power failure if the disk keeps what it has confirmed. Opening the file rebuilds the store. It repeats each write,
+and refuses a file if the outcome differs. Only one store at a time can have a file open. docs/KEPT.md has what is promised, and the
 format, which the crate for Rust shares.
 
 Concurrent writers share a commit: one of them saves what all have written, in the journal's order.
-A snapshot may show a write that isn't in the file yet, while its call waits; whoever hands it on calls `flush` first. If
-a `KeyboardInterrupt` ends the wait, the write is in memory, and the next commit saves it.
+A snapshot may show a write that isn't in the file yet, while its call waits; call `flush` before you pass a snapshot's
+data to anyone else. If a `KeyboardInterrupt` ends the wait, the write is in memory, and the next commit saves it.
 
-In a forked child all handles are dead, as everywhere in the package. Such a child can't open the file itself, as SQLite
-thinks there that the parent's handle is its own.
+In a forked child all handles are dead, as everywhere in the package. Such a child can't open the file itself, because
+SQLite would take the parent's handle for its own.
 """
 
 from __future__ import annotations
@@ -50,12 +50,12 @@ __all__ = [
 
 _ENDING = ".bestore"  # of the name of a volume's file
 
-_MOST_ROWS = 1024  # how many entries a commit has at most
-_TRIES = 2**63 - 1  # for as long as other passes write: an entry that can't be read would end all saving
+_MOST_ROWS = 1024  # the maximum number of entries in a commit
+_TRIES = 2**63 - 1  # as long as other passes write: an entry that can't be read would end all saving
 
 
 class _Reader:
-    """Reads entries of the journal as bytes, by a pass that nobody else uses."""
+    """Reads entries of the journal as bytes, through a pass that nobody else uses."""
 
     def __init__(self, user: _local.LocalPass) -> None:
         self._user = user
@@ -69,8 +69,8 @@ class _Reader:
 
 
 class _Saver:
-    """Saves the entries of the journal. A writer hands its entry in, and waits for its turn. Then it saves all entries that are
-    there. The writers whose entries it has saved go on."""
+    """Saves the entries of the journal. A writer hands in its entry, and waits for its turn. Then it saves all entries that
+    have been handed in, and the writers of those entries go on."""
 
     def __init__(self, file: File, own: _local.LocalPass, last: int, every: Optional[float]) -> None:
         self.own = own
@@ -99,8 +99,8 @@ class _Saver:
             raise Stopped(self.path) from self._failed
 
     def keep(self, number: int, by: int, batch: Batch, made: Optional[List[int]] = None) -> None:
-        """Saves the write with this commit number, or says to the thread that saves that there is one. Without the nodes that each
-        operation made, the batch has their numbers."""
+        """Saves the write with this commit number, or lets the saving thread know that there is one. If the nodes that each operation
+        made aren't given, the batch has their numbers."""
         if self.is_timed and not self._is_closing:
             self._hand_in_for_later(number, by, batch, made)
             return
@@ -117,7 +117,7 @@ class _Saver:
                 self._handed_in.pop(number, None)
 
     def _hand_in_for_later(self, number: int, by: int, batch: Batch, made: Optional[List[int]]) -> None:
-        """For the thread that saves, which reads the journal if there are too many."""
+        """For the saving thread, which reads the journal if there are too many."""
         if len(self._handed_in) < _MOST_ROWS:
             self._handed_in[number] = number + self._shift, by, batch._packed(made)
             if self._line.saved >= number:
@@ -168,7 +168,7 @@ class _Saver:
         self._save_up_to(number)
 
     def compact(self) -> None:
-        """Puts the current snapshot into the file, in the place of the state and the entries that it contains."""
+        """Writes the current snapshot into the file, instead of the state and the entries that it contains."""
         with self._line.turn():
             self.check()
             with self.own.pin() as version:
@@ -178,7 +178,7 @@ class _Saver:
                 self._file.write_state(number, version.next_node, (batch.to_bytes() for batch in version.state()))
 
     def _save_now_and_then(self, every: float) -> None:
-        """Saves what was written, so many seconds after the first write, again and again. At the end closes the file."""
+        """Keeps saving what was written, this many seconds after the first write. Closes the file at the end."""
         while not self._ending.is_set():
             self._work.wait()
             self._ending.wait(min(every, threading.TIMEOUT_MAX))
@@ -193,7 +193,7 @@ class _Saver:
             self.close()
 
     def end(self) -> None:
-        """Closes the file, or has it closed by the thread that saves, which may be the one that calls this."""
+        """Closes the file, or has the saving thread close it, which may be the caller."""
         if self.own._is_dead:
             return
         if self.is_timed:
@@ -218,7 +218,7 @@ class _Saver:
                 self._close(file)
 
     def _close(self, file: File) -> None:
-        """Closes the file, and ends the thread that saves."""
+        """Closes the file, and ends the saving thread."""
         try:
             file.close()
         finally:
@@ -260,20 +260,20 @@ class SavedPass(_local.LocalPass):
         return self._committed
 
     def another(self) -> SavedPass:
-        """A pass of the same store for another thread, by any pass and in any thread. `NoPass` if there is none."""
+        """A pass of the same store for another thread. Any pass can make it, in any thread. Raises `NoPass` if there is none left."""
         other = SavedPass(self._saver, self._first)
         other._open_by(self._saver.own)
         return other
 
     def flush(self) -> None:
-        """Returns when all that was written before the call is in the file. Otherwise raises `Stopped`."""
+        """Returns when everything written before the call is in the file. Otherwise raises `Stopped`."""
         self._check_process()
         self._saver.flush()
 
     def compact(self) -> None:
-        """Puts the current snapshot into the file, in the place of the state and of the entries that it contains. Writes
-        wait meanwhile for the file. `DiskFull` and `SqliteError` leave the file as it was, and `Stopped` is as in
-        `flush`. Takes the time to read and to write all attributes."""
+        """Writes the current snapshot into the file, instead of the state and the entries that it contains. Writes wait
+        for the file meanwhile. `DiskFull` and `SqliteError` leave the file as it was, and `Stopped` is as in `flush`. Takes
+        the time to read and to write all attributes."""
         self._check_process()
         self._saver.compact()
 
@@ -284,7 +284,7 @@ class SavedPass(_local.LocalPass):
 
 
 class Saved(SavedPass):
-    """A store that is kept, as its first pass. The file is closed with it, or when all of its passes are gone."""
+    """A kept store, as its first pass. The file is closed with it, or when all of its passes are gone."""
 
     def __init__(self, saver: _Saver) -> None:
         super().__init__(saver)
@@ -296,8 +296,8 @@ class Saved(SavedPass):
         return other
 
     def close(self) -> None:
-        """Saves what was written, and closes the file and this pass. Other passes can still read. `Stopped` if something
-        couldn't be saved; the file and the pass are closed then too."""
+        """Saves what was written, and closes the file and this pass. Other passes can still read. Raises `Stopped` if
+        something couldn't be saved; the file and the pass are closed even then."""
         try:
             self._saver.close()
         finally:
@@ -320,15 +320,15 @@ class Saved(SavedPass):
 
 def open(path: Union[str, bytes, "os.PathLike[Any]"], pages: int = 4096, passes: int = PASSES, commits: int = 2**32 - 1,
          every: Optional[float] = None) -> Saved:
-    """Opens the file, or makes it, and makes the store again. The limits are those of `bestore.open`, but for `passes`,
-    of which there are up to 63. The journal begins with what the file has, so `commits` has to leave room for that.
+    """Opens or makes the file, and rebuilds the store. The limits are those of `bestore.open`, except that there
+    are up to 63 `passes`. The journal begins with what the file has, so `commits` has to leave room for that.
 
-    With `every` a write returns at once, and is in the file so many seconds later. `flush` and `close` save it earlier.
+    With `every` a write returns at once, and is in the file this many seconds later. `flush` and `close` save it earlier.
 
-    If the file has entries since its state, the state is written anew; on a full disk the file stays as it is.
+    If the file has entries since its state, the state is rewritten; on a full disk the file stays as it is.
 
-    Raises `Foreign`, `Newer`, `Held`; `Damaged` and `CutOff`, if a changed or lost part is found; `Differs` and `TooLarge` with the place in the file; `DiskFull` and `SqliteError`;
-    the errors of `bestore.open`; and a ValueError if `every` is below 0."""
+    Raises `Foreign`, `Newer`, `Held`; `Damaged` and `CutOff` if part of the file was changed or lost; `Differs` and `TooLarge` with the
+    place in the file; `DiskFull` and `SqliteError`; the errors of `bestore.open`; and a ValueError if `every` is below 0."""
     if not 1 <= operator.index(passes) <= 63:
         raise BadLimits()
     if every is not None and not every >= 0:
@@ -356,7 +356,7 @@ def open(path: Union[str, bytes, "os.PathLike[Any]"], pages: int = 4096, passes:
 
 
 def _few_commits(file: File, pages: int, passes: int, commits: int) -> _local.LocalPass:
-    """A store for a file with few numbers left for entries. `TooLarge` if it couldn't accept even one transaction."""
+    """A store for a file with few entry numbers left. Raises `TooLarge` if it couldn't accept even one transaction."""
     if commits == 0:
         spent = CommitsSpent()
         raise refused(file.path, spent, entry=file.about().entries) from spent
@@ -364,26 +364,26 @@ def _few_commits(file: File, pages: int, passes: int, commits: int) -> _local.Lo
 
 
 class SavedShelf(_shelf.Shelf):
-    """A pass of a shelf whose volumes are kept in files. With the first one the files are closed."""
+    """A pass of a shelf whose volumes are kept in files. Closing the first one closes the files."""
 
     def __init__(self, passes: Sequence[SavedPass]) -> None:
         super().__init__(passes)
         self._saved = tuple(passes)
 
     def another(self) -> SavedShelf:
-        """A pass of the same shelf for another thread, by any pass and in any thread. `NoPass` if there is none."""
+        """A pass of the same shelf for another thread. Any pass can make it, in any thread. Raises `NoPass` if there is none left."""
         return SavedShelf(_shelf.taken(user.another for user in self._saved))
 
     def flush(self) -> None:
-        """Returns when all that was written before the call is in the files. `Stopped`, of the first volume that can't be saved;
-        the others are saved."""
+        """Returns when everything written before the call is in the files. Raises `Stopped` for the first volume that can't be
+        saved; the others are saved."""
         with ExitStack() as calls_of_all:
             for user in self._saved:  # the last one begins, so that the error of the first one is raised
                 calls_of_all.callback(user.flush)
 
     def compact(self) -> None:
-        """Puts the current snapshots into the files, as `SavedPass.compact` of each volume. Errors are those of the first volume
-        that fails; the others are compacted."""
+        """Writes the current snapshots into the files, as `SavedPass.compact` does for each volume. Errors are those of the first
+        volume that fails; the others are compacted."""
         with ExitStack() as calls_of_all:
             for user in self._saved:  # as in `flush`
                 calls_of_all.callback(user.compact)
@@ -405,7 +405,7 @@ class SavedShelf(_shelf.Shelf):
 
 
 def _volumes_in(folder: str) -> int:
-    """How many volumes a folder has. `NoFile` if one before another is missing."""
+    """How many volumes a folder has. Raises `NoFile` if one is missing and a later one is there."""
     names = [name[:-len(_ENDING)] for name in os.listdir(folder) if name.endswith(_ENDING)]
     found = sorted(int(name) for name in names if name.isdecimal() and str(int(name)) == name)
     for expected, volume in enumerate(found):
@@ -420,12 +420,12 @@ def _file_of(folder: str, volume: int) -> str:
 
 def open_shelf(folder: Union[str, bytes, "os.PathLike[Any]"], volumes: Optional[int] = None, pages: int = 4096, passes: int = PASSES,
                commits: int = 2**32 - 1, every: Optional[float] = None) -> SavedShelf:
-    """Opens the volumes that the folder has, each in a file of its own: `0.bestore`, `1.bestore` and so on. With a number of
-    `volumes`, 1 to 64, it makes the folder, and those that are missing; one that is new gets the indices that the others have.
-    The other parameters are those of `open`, for each volume. The crate for Rust and bestored share the folder.
+    """Opens the volumes that the folder has, each in a file of its own: `0.bestore`, `1.bestore` and so on. If `volumes` is
+    given, 1 to 64, it makes the folder and the missing volumes; a new one gets the indices that the others have. The other
+    parameters are those of `open`, for each volume. The crate for Rust and bestored can open the same folder.
 
     Raises what `open` raises; `Fewer` if the folder has more volumes than `volumes`, or none and no number is given; `NoFile` if
-    one before another is missing; an OSError if the folder can't be read or made."""
+    one is missing and a later one is there; an OSError if the folder can't be read or made."""
     path = os.fsdecode(folder)
     if volumes is not None:
         if not 1 <= volumes <= _shelf.MOST_VOLUMES:
@@ -453,7 +453,7 @@ def _load(file: File, own: _local.LocalPass) -> int:
         _repeat(file.path, repeater, data, batch=place)
     with own.pin() as version:
         if version.next_node != about.next_node:
-            raise Differs(file.path, "it has another next node than it says")
+            raise Differs(file.path, "its next node differs from the one that it names")
     last = about.entries
     for number, data in file.entries(last):
         if number != last + 1:
@@ -467,7 +467,8 @@ def _load(file: File, own: _local.LocalPass) -> int:
 
 def _repeat(path: str, repeater: Repeater, data: bytes, entry: Optional[int] = None,
             batch: Optional[int] = None) -> Tuple[List[int], List[int]]:
-    """Applies a batch of the file. Returns for each operation the node that it made, or 0: by the file, and now."""
+    """Applies a batch of the file. Returns for each operation the node that it made, or 0: first according to the file, then
+    as made now."""
     try:
         return repeater.repeat(data)
     except Error as error:

@@ -7,16 +7,16 @@
         with store.pin() as version:
             version.query("size>=5")
 
-A shelf has 1 to 64 volumes, each a store of its own, and so room for more nodes than one store. It is a `Pass` as any other, and its
-versions are as any other: queries, counts and live queries are over all volumes. A node is one integer, its volume * 10^14 + its
-number there: `volume_of` and `number_of` take it apart, `node_in` makes it. A node never leaves its volume. A server may have
+A shelf has 1 to 64 volumes, each a store of its own, so it has room for more nodes than one store. It is a `Pass` like any other,
+and so are its versions: queries, counts and live queries cover all volumes. A node is one integer, its volume * 10^14 + its
+number there: `volume_of` and `number_of` take it apart, and `node_in` builds it. A node never leaves its volume. A server may have
 volumes too: then the pass that `connect` returns is such a store.
 
-**What is promised.** Each volume keeps its own promise: its writes are serializable in its journal, and what is read of it is one
-snapshot. Across volumes there is no order. A version has a snapshot of each volume, pinned one after another, so it may have a later
-write to one volume and not an earlier one to another. A batch or a change writes one volume, and what a change has read of others
-may have changed meanwhile. Indices are made in one volume after another. A query that a volume doesn't cover is `NotCovered`, with
-that `volume`, so no answer is a part.
+**What is promised.** Each volume by itself keeps the promises of a store: its writes are serializable in its journal, and what is
+read from it is one snapshot. Across volumes there is no order. A version has a snapshot of each volume, pinned one after another, so it
+may have a later write to one volume and not an earlier one to another. A batch or a change writes one volume, and what a change has
+read from others may have changed meanwhile. Indices are made in one volume after another. If one volume can't answer a query, the
+error is `NotCovered`, with that `volume`, so no answer is partial.
 """
 
 from __future__ import annotations
@@ -47,7 +47,7 @@ from .versions import Asked, Query, Version
 __all__ = ["MOST_VOLUMES", "Shelf", "ShelfVersion", "node_in", "number_of", "open", "volume_of"]
 
 _LEAST_ASKED = 8
-"""A volume is asked for at least so many nodes, if a page may have them."""
+"""A volume is asked for at least this many nodes, if the page has room for them."""
 
 _Result = TypeVar("_Result")
 _Taken = TypeVar("_Taken", bound=Union[Pass, Version, Witness])
@@ -88,7 +88,7 @@ class ShelfVersion(Version):
         return node_in(volume, self.volumes[volume].next_node)
 
     def _each(self, read: Callable[[Version], _Result]) -> Iterator[Tuple[int, _Result]]:
-        """What is read of each volume. An error says of which, unless it is of the call alone."""
+        """What is read from each volume. An error names its volume, unless it depends only on the call."""
         for volume, version in enumerate(self.volumes):
             with _of_volume(volume):
                 found = read(version)
@@ -115,7 +115,7 @@ class ShelfVersion(Version):
         return self._some(read, range(len(self.volumes)), limit)
 
     def _some(self, read: Callable[[int, int], List[int]], volumes: Iterable[int], limit: int) -> List[int]:
-        """What is read of one volume after another, until it is so many nodes."""
+        """What is read from one volume after another, until there are this many nodes."""
         found: List[int] = []
         for volume in volumes:
             if len(found) < limit:
@@ -140,7 +140,7 @@ class ShelfVersion(Version):
         return Page([decode_key(kind, key)[1] for key in keys], more, cursor)
 
     def _keys_in(self, volume: int, asked: Prepared, kind: Kind, after: Cursor, room: Optional[int]) -> Iterator[bytes]:
-        """The keys of a volume's pages after a position there, in which nodes have their numbers in the whole."""
+        """The keys of a volume's pages after a position there, with the shelf's numbers for nodes."""
         version, order, more = self.volumes[volume], after.order, True
         while more:
             with _of_volume(volume):
@@ -164,7 +164,7 @@ class ShelfVersion(Version):
         return sum(count for _, count in self._each(lambda version: version._count_of(asked)))
 
     def _of(self, node: int) -> Tuple[Version, int]:
-        """The version that may have a node, and the node's number there. In no volume there is a node 0."""
+        """The version that may have a node, and the node's number there. No volume has a node 0."""
         volume, number = divmod(node_number(node), NUMBERS)
         if 0 <= volume < len(self.volumes):
             return self.volumes[volume], number
@@ -219,7 +219,7 @@ class ShelfVersion(Version):
         return [explained for _, explained in self._each(lambda version: version.explain(text))][0]
 
     def _indices_in(self) -> Dict[str, Dict[int, Kind]]:
-        """Of each index the volumes that have it, with its kind there."""
+        """For each index the volumes that have it, with its kind there."""
         found: Dict[str, Dict[int, Kind]] = {}
         for volume, indices in self._each(lambda version: version.indices()):
             for name, kind in indices.items():
@@ -244,7 +244,7 @@ class ShelfVersion(Version):
 
 @contextmanager
 def _of_volume(volume: int) -> Iterator[None]:
-    """Says of an error that a volume needs another index which volume it is."""
+    """Adds the volume to the error that says that another index is needed."""
     try:
         yield
     except (NotCovered, NoIndex) as error:
@@ -253,8 +253,8 @@ def _of_volume(volume: int) -> Iterator[None]:
 
 
 def _position_in(volume: int, after: Cursor) -> Cursor:
-    """The position in a volume of a shelf's cursor. Of the nodes with the cursor's value those of lower volumes come before it in the
-    ascending order, and those of higher volumes after it. No node has the number 2^64 - 1 or 0."""
+    """The position in a volume of a shelf's cursor. Among the nodes with the cursor's value, those of lower volumes come before it in
+    the ascending order, and those of higher volumes after it. No node has the number 2^64 - 1 or 0."""
     if after.node is None:
         return after
     own, number = divmod(after.node, NUMBERS)
@@ -284,7 +284,7 @@ class ShelfWitness(Witness):
             witness.close()
 
     def __del__(self) -> None:
-        """Each witness ends with what names it."""
+        """Each witness is closed when nothing refers to it any more."""
 
 
 class Shelf(ThreadPass):
@@ -309,11 +309,11 @@ class Shelf(ThreadPass):
         return tuple(commits for user in self._passes for commits in user._commits)
 
     def volume(self, volume: int) -> Pass:
-        """The pass of a volume, which reads and writes nodes by their numbers there. `NoVolume` if it isn't there."""
+        """The pass of a volume, which reads and writes nodes by their numbers there. `NoVolume` if there is no such volume."""
         return self._passes[self._checked(volume)]
 
     def _checked(self, volume: Optional[int]) -> int:
-        """The volume that a call says, or the only one. `NoVolume` if it isn't there."""
+        """The volume that a call names, or the only one. `NoVolume` if there is no such volume."""
         if volume is None and len(self._passes) == 1:
             return 0
         if volume is None or not 0 <= volume < len(self._passes):
@@ -340,14 +340,14 @@ class Shelf(ThreadPass):
         ends.__exit__(kind, value, trace)
 
     def __del__(self) -> None:
-        """Each pass ends with what names it."""
+        """Each pass is closed when nothing refers to it any more."""
 
     def finish(self) -> str:
         """Closes the volumes, one after another, and returns their journals. An error leaves those before it closed."""
         return "".join(user.finish() for user in self._passes)
 
     def meet(self) -> int:
-        """Meets a pass that was closed, of each volume. Returns how many entries both have seen together."""
+        """Meets a pass that was closed, in each volume. Returns how many entries both have seen together."""
         return sum(user.meet() for user in self._passes)
 
     def witness(self) -> ShelfWitness:
@@ -356,7 +356,7 @@ class Shelf(ThreadPass):
     def join(self, witness: Witness) -> int:
         """Joins a witness of the shelf, volume by volume. Returns how many entries both have seen together."""
         if not isinstance(witness, Witness):
-            raise TypeError(f"{witness!r} isn't a witness: a pass makes one by `witness()`")
+            raise TypeError(f"{witness!r} isn't a witness: a pass makes one with `witness()`")
         if not isinstance(witness, ShelfWitness) or len(witness._witnesses) != len(self._passes):
             raise OtherStore()
         return sum(user.join(it) for user, it in zip(self._passes, witness._witnesses))
@@ -402,7 +402,7 @@ class Shelf(ThreadPass):
         return [user.status(tries) for user in self._passes]
 
     def _roomiest(self) -> int:
-        """The volume with the most free pages, the first one of several."""
+        """The volume with the most free pages, or the first of several."""
         free = [status.free for status in self.statuses()]
         return free.index(max(free))
 
@@ -488,8 +488,8 @@ def taken(takes: Iterable[Callable[[], _Taken]]) -> List[_Taken]:
 
 
 def open(volumes: int, pages: int = 4096, passes: int = PASSES, commits: int = 2**32 - 1) -> Shelf:
-    """A new store in memory that has so many volumes, 1 to 64. The limits are those of each, as of `bestore.open`. `bestore.open_shelf`
-    is this function. `BadLimits` if one is out of its range, or `NoMemory`."""
+    """A new store in memory that has this many volumes, 1 to 64. The limits are for each volume, as in `bestore.open`.
+    `bestore.open_shelf` is this function. Raises `BadLimits` if one is out of its range, or `NoMemory`."""
     if not 1 <= volumes <= MOST_VOLUMES:
         raise BadLimits()
     from . import local  # which needs the library

@@ -1,4 +1,4 @@
-"""Passes of a store: how it is written, read and followed."""
+"""Passes of a store: how to write, read and follow it."""
 
 from __future__ import annotations
 
@@ -26,19 +26,18 @@ from .watches import LocalWatch, Watch
 _Result = TypeVar("_Result")
 
 PASSES = 63
-"""How many passes a store may have, if nothing else is said. Each takes about 90 bytes, and a write 13 instructions more: for 55 passes
-700 of some 20,000. A pin costs the same however many there are."""
+"""How many passes a store has by default. Each takes about 90 bytes and adds 13 instructions to a write: 55 passes add 700 to about
+20,000. A pin costs the same however many there are."""
 TRIES = 10_000
-"""How often a call is tried at most while another pass is writing, if nothing else is said: for some seconds at
-least."""
+"""How often a call is tried by default while another pass is writing: for at least a few seconds."""
 PAUSES = 50
-"""How often a write waits at most for another pass to give its snapshot up, when no page is free: about 2 seconds in all."""
+"""How often a write waits, when no page is free, for another pass to unpin its snapshot: for about 2 seconds in all."""
 ATTEMPTS = 10_000
-"""How often the function of a change is run at most, if nothing else is said."""
+"""How often the function of a change is run, at most, by default."""
 
 
 class Held(NamedTuple):
-    """The oldest active reader: a commit number, and the first pass that is pinned to it or to a later one, or is
+    """The oldest active reader: a commit number, and the first pass that is pinned to it or a later one, or is
     about to be."""
 
     version: int
@@ -52,7 +51,7 @@ class Status(NamedTuple):
     free: int
     """The pages that a write may take."""
     retired: int
-    """The pages of older versions that wait, since a pass may read them."""
+    """The pages of older versions that are kept because a pass may read them."""
     entries: int
     """How many writes the journal has."""
     commits: int
@@ -73,8 +72,8 @@ class Entry(NamedTuple):
 
 
 class StandingBack:
-    """Lets other threads run, twice as often each time, up to 1,024 times: two passes that hand the store to and fro
-    at each write would each wait for what the other has just written."""
+    """Lets other threads run, twice as often each time, up to 1,024 times. Otherwise two passes that take turns at
+    each write would each wait for what the other has just written."""
 
     def __init__(self) -> None:
         self._turns = 1
@@ -85,12 +84,12 @@ class StandingBack:
         self._turns = min(2 * self._turns, 1024)
 
     def wait_by_chance(self) -> None:
-        """The same, up to that often: so threads that came at one time come again at different times."""
+        """The same, but up to that often, so that threads that came at the same time come back at different times."""
         self.wait(random.randint(1, self._turns))
 
 
 class _Waits:
-    """How a change waits after an attempt that has written nothing."""
+    """How a change waits after an attempt that wrote nothing."""
 
     def __init__(self, user: Pass, tries: int) -> None:
         self._user, self._tries, self._pauses = user, tries, 0
@@ -114,7 +113,7 @@ class _Waits:
 
 
 def pause_at_full(pauses: int) -> None:
-    """Waits for pages, after so many pauses before: 1 to 50 milliseconds."""
+    """Waits for pages, after this many earlier pauses: 1 to 50 milliseconds."""
     time.sleep(min(0.001 * 2**pauses, 0.05))
 
 
@@ -128,81 +127,81 @@ class Witness(Owner, ABC):
 
 
 class Pass(Owner, ABC):
-    """A session: one thread's handle on the store. `open` makes the first one of a store in this process, and `connect` one
-    of a server's store; `another` makes the others.
+    """A session: one thread's handle on the store. `open` returns the first one of a store in this process, and `connect`
+    one of a server's store; `another` makes the others.
 
-    Each thread has a pass of its own, since the calls on one pass wait for one another."""
+    Give each thread a pass of its own, since calls on the same pass wait for each other."""
 
     _committed: int
     _is_changing: bool  # whether this thread runs the function of a change
 
     @property
     def committed(self) -> int:
-        """The commit number of the last write that this pass made, or 0 before the first. Of several volumes it is the number in
+        """The commit number of the last write that this pass made, or 0 before the first. With several volumes, it is the number in
         the volume that was written."""
         return self._committed
 
     @property
     @abstractmethod
     def number(self) -> int:
-        """The pass's number, as `Busy`, `Status` and the journal have it. Of several volumes that in the first."""
+        """The pass's number, which `Busy`, `Status` and the journal use. With several volumes, that in the first."""
 
     @property
     def volumes(self) -> int:
-        """How many volumes the store has: 1, but for a shelf. `help(bestore.shelf)` says what a shelf promises."""
+        """How many volumes the store has: 1, except for a shelf. `help(bestore.shelf)` says what a shelf promises."""
         return 1
 
     @abstractmethod
     def another(self) -> Pass:
-        """A pass of the same store for another thread. Those that nobody has used wait with the pass that `open`
-        returned: its thread makes a pass for each thread before that starts. One that was closed is given by each
-        pass of the store. `NoPass` if there is none."""
+        """A pass of the same store for another thread. Unused ones stay with the pass that `open` returned: its
+        thread makes a pass for each other thread before that starts. Any pass can hand out one that was closed.
+        Raises `NoPass` if there is none."""
 
     @abstractmethod
     def close(self) -> None:
-        """Closes the pass, if it is open, and gives it back: `another` may give it out again. The store goes with
-        its last pass."""
+        """Closes the pass, if it is open, and returns it to the store: `another` may hand it out again. The store
+        is freed with its last pass."""
 
     @abstractmethod
     def finish(self) -> str:
-        """Closes the store by its last pass, which is then closed, and returns the whole journal, as `journal` does. Of each
-        pass it has just the writes that its calls have committed, at their commit numbers. `InUse` if another pass is open, and
-        so always in a file: the store has a pass of its own there. `NoMemory`. The pass is as it was after either."""
+        """Closes the store through its last pass, which is then closed, and returns the whole journal, as `journal` does. For each
+        pass it has exactly the writes that its calls have committed, at their commit numbers. Raises `InUse` if another pass is
+        open, and so always for a kept store, which has a pass of its own; or `NoMemory`. The pass is as it was after either."""
 
     @abstractmethod
     def meet(self) -> int:
         """Meets a pass that was closed: both have then seen what either had. Returns how many entries of the journal
-        that is. `NoPass` if none is there, or another thread is at it."""
+        that is. Raises `NoPass` if there is none, or another thread is meeting it."""
 
     @abstractmethod
     def witness(self) -> Witness:
-        """A witness of all entries of the journal that the pass has seen so far, its own among them. Hand it to another thread,
+        """A witness of all entries of the journal that the pass has seen so far, including its own. Hand it to another thread,
         whose pass joins it. `NoMemory`."""
 
     @abstractmethod
     def join(self, witness: Witness) -> int:
         """Joins a witness: the pass and the witness have then both seen what either had. So each later version of the pass
-        includes all that the witness's pass had seen, and each later commit number of the pass is greater than those. Returns how
-        many entries of the journal both have seen. `OtherStore` if the witness is of a pass of another store."""
+        includes everything that the witness's pass had seen, and each later commit number of the pass is greater than those. Returns
+        how many entries of the journal both have seen. Raises `OtherStore` if the witness belongs to another store."""
 
     @abstractmethod
     def pin(self) -> Version:
-        """Pins the current version: `with store.pin() as version:` reads it, and gives the pin up at the end.
+        """Pins the current version: `with store.pin() as version:` reads it, and unpins at the end. Raises
         `Pinned` if the pass is pinned. Takes constant time."""
 
     @abstractmethod
     def _write(self, batch: Batch, tries: int, expected: Optional[int]) -> Tuple[int, List[int]]:
-        """Writes a batch, with a number only if the journal has so many entries. Returns the commit number, and for each
+        """Writes a batch; if a number is given, only if the journal has this many entries. Returns the commit number, and for each
         operation the new node's number or 0."""
 
     @abstractmethod
     def journal(self, tries: int = TRIES) -> str:
-        """The journal up to now, with up to so many tries while another pass is writing: a line for each write, with
+        """The journal up to now, with up to this many tries while another pass is writing: a line for each write, with
         the pass that wrote it, its operations and their outcomes. Takes memory for all of it, and other writes are
         `Busy` meanwhile."""
 
     def _write_in(self, volume: int, batch: Batch, tries: int, expected: Optional[int]) -> Tuple[int, List[int]]:
-        """The same in this volume. `NoVolume` if it isn't there."""
+        """The same in this volume. Raises `NoVolume` if there is no such volume."""
         if volume != 0:
             raise NoVolume(volume, 1)
         return self._write(batch, tries, expected)
@@ -211,22 +210,22 @@ class Pass(Owner, ABC):
     def journal_from(self, number: int = 0, tries: int = TRIES, volume: Optional[int] = None) -> Iterator[Entry]:
         """The entries of the journal after the first `number`, until there are no more. So
         `store.journal_from(version.number)` has what was written after a snapshot. Each entry is read by a call of
-        its own, which is tried up to so many times while another pass is writing, and then is `Busy`.
+        its own, which is tried up to this many times while another pass is writing, and then raises `Busy`.
 
-        If there are several volumes, the journal of this one; `NoVolume` without one."""
+        If there are several volumes, the journal of this one; raises `NoVolume` if none is given."""
 
     @abstractmethod
     def status(self, tries: int = TRIES) -> Status:
-        """How full the store is, and who is the oldest active reader, with up to so many tries while another pass is
-        writing. Of several volumes the numbers are sums, and the reader is that of the first volume that has one."""
+        """How full the store is, and which pass is the oldest active reader, with up to this many tries while another pass is
+        writing. With several volumes the numbers are sums, and the reader is that of the first volume that has one."""
 
     def statuses(self, tries: int = TRIES) -> List[Status]:
         """How full each volume is."""
         return [self.status(tries)]
 
     def reach(self, numbers: Union[int, Sequence[int]], within: float = 5) -> Tuple[int, ...]:
-        """Waits until the journal has at least so many entries, or that of each volume, up to so many seconds. Returns how many
-        they have. Versions that the pass pins then have them. `NotReached` if they aren't there in time."""
+        """Waits up to this many seconds until the journal, or that of each volume, has at least this many entries. Returns how many
+        they have. Versions that the pass pins from then on include them. Raises `NotReached` if they don't come in time."""
         wanted = _numbers(numbers, self.volumes)
         until = time.monotonic() + within
         with waiting(self._commits, self.volumes) as waiter:
@@ -247,13 +246,13 @@ class Pass(Owner, ABC):
         return prepare(text)
 
     def watch(self, query: Optional[str] = None) -> Watch:
-        """Begins to follow what a query finds, or each commit if there is none: `Watch.wait` waits for changes. In this process it
-        pins the pass for each look, and takes memory for the nodes of the query. A `QueryError`; `Pinned`."""
+        """Starts to follow what a query finds, or every commit without a query: `Watch.wait` waits for changes. In this process it
+        pins the pass for each look, and takes memory for the nodes of the query. Raises a `QueryError`, or `Pinned`."""
         return LocalWatch(self, query)
 
     def change(self, function: Callable[[Change], _Result], attempts: int = ATTEMPTS, *, check_kinds: bool = True,
                tries: int = TRIES, volume: Optional[int] = None) -> _Result:
-        """Writes on what was read. Runs the function on a new snapshot, and commits the operations that it collected,
+        """Writes based on reads. Runs the function on a new snapshot, and commits the operations that it collected,
         but only if nothing else was written since. Otherwise it runs the function again, on a newer snapshot.
 
             def file(change):
@@ -267,15 +266,15 @@ class Pass(Owner, ABC):
         operation, nothing is written. The function may run up to `attempts` times, so it should do nothing else that
         can't be done twice. If it raises, nothing is written.
 
-        Of several volumes it reads all and writes one: the given one, otherwise that of its first operation. A new node
+        With several volumes it reads all and writes one: the given one, otherwise that of its first operation. A new node
         is made in the volume with the most free pages if the volume isn't known by then. It is committed if nothing else
-        was written to that volume; what it read of others may have changed. `OtherVolume` if it writes to another.
+        was written to that volume; what it read from others may have changed. Raises `OtherVolume` if it writes to another one.
 
         It also runs the function again if another pass is writing, up to `tries` times, and with more than one try at `Full`
-        while another pass has the oldest snapshot, for about 2 seconds: by then the snapshot is mostly no longer the current one.
+        while another pass has the oldest snapshot, for about 2 seconds: by then the snapshot usually isn't current any more.
 
-        Raises `TooManyAttempts` if other writes came between each time; `Pinned` if this pass is pinned; `Nested` if
-        the function writes by this pass; and the errors of `apply`. `Change.set` says what `check_kinds` does."""
+        Raises `TooManyAttempts` if other writes came in between each time; `Pinned` if this pass is pinned; `Nested`
+        if the function writes through this pass; and the errors of `apply`. `Change.set` says what `check_kinds` does."""
         waits, left = _Waits(self, tries), max(attempts, 1)
         while True:
             with self._begin_change(check_kinds, volume) as change:
@@ -295,7 +294,7 @@ class Pass(Owner, ABC):
                 raise failed
 
     def _begin_change(self, check_kinds: bool, volume: Optional[int]) -> Change:
-        """A change on the current version. `NoVolume` if it is to write a volume that isn't there."""
+        """A change on the current version. Raises `NoVolume` if it is to write a volume that doesn't exist."""
         if volume:
             raise NoVolume(volume, 1)
         return self._change_on(self.pin(), check_kinds)
@@ -306,8 +305,8 @@ class Pass(Owner, ABC):
 
     @abstractmethod
     def _commit(self, change: Change) -> int:
-        """Writes what a change has collected, if nothing was written to its volume since, and gives its snapshot up. Returns the
-        commit number. While another pass is writing it is `Busy` at once, and at `Full` too it doesn't wait."""
+        """Writes what a change has collected, if nothing was written to its volume since, and unpins its snapshot. Returns the
+        commit number. It doesn't wait: while another pass is writing, it raises `Busy` at once, and `Full` likewise."""
 
     def _run(self, function: Callable[[Change], _Result], change: Change) -> _Result:
         """Runs the function of a change."""
@@ -318,32 +317,32 @@ class Pass(Owner, ABC):
             self._is_changing = False
 
     def _may_be_given_pages(self, error: Full) -> bool:
-        """Whether pages may come free that a write didn't find, because another pass has to give its snapshot up."""
+        """Whether pages may become free for a write that found none, because another pass can still unpin its snapshot."""
         return False
 
     def apply(self, batch: Batch, tries: int = TRIES, volume: Optional[int] = None) -> Tuple[int, List[int]]:
         """Applies a batch, all or none, whatever other passes have written meanwhile. Returns the commit number, and
-        for each operation the new node's number or 0. A write that rests on what was read is made by `change`.
+        for each operation the new node's number or 0. For a write based on a read, use `change`.
 
         While another pass is writing it tries again, `tries` times in all. With more than one try it also waits up to
         some five seconds at `Full` while another pass has the oldest snapshot. Takes memory for the operations, and new
         pages on the way to each change of a tree.
 
-        Of several volumes the batch is in one: the given one, otherwise that of the nodes which it names, otherwise the
-        one with the most free pages. The commit number is that of the volume. A batch of `make_index` and `remove_index`
-        alone is written in each volume that lacks the index, or has it, one after another. If one refuses, those before
-        it are written, and the same batch writes the others; the number then is the sum.
+        With several volumes the batch is written to one of them: the given one, otherwise that of the nodes which it names, otherwise
+        the one with the most free pages. The commit number is that of the volume. A batch of nothing but `make_index` and
+        `remove_index` is written to each volume that lacks the index, or has it, one after another. If one volume refuses,
+        those before it have been written, and the same batch then writes the others; the number is then the sum.
 
         Raises `Busy`, `BadCount`, `NoMemory`; `NameLength`, `DataLength`, `HasNul`, `NotUTF8`, `NoKind` and
         `NoValue` with the first operation that can't be read; `NoNode`, `NoAttribute`, `TooManyAttributes`,
-        `IndexExists`, `NoIndex`, `TooManyIndices` and `NotIndexable`; `CommitsSpent`, `Full`. Of several volumes also
+        `IndexExists`, `NoIndex`, `TooManyIndices` and `NotIndexable`; `CommitsSpent`, `Full`. With several volumes also
         `NoVolume`, `OtherVolume`, `PartialIndex`."""
         return self._written(batch, tries, volume=volume)
 
     def apply_if(self, number: int, batch: Batch, tries: int = TRIES, volume: Optional[int] = None) -> Tuple[int, List[int]]:
-        """Applies a batch as `apply` does, if the journal has exactly so many entries: no write came after the
-        snapshot of this number. Otherwise raises `Conflict`, and nothing is written. Of several volumes the journal is
-        that of the batch's volume, and a batch that names no node has to say one, or is `NoVolume`."""
+        """Applies a batch as `apply` does, if the journal has exactly this many entries: no write came after the
+        snapshot of this number. Otherwise raises `Conflict`, and nothing is written. With several volumes the journal is
+        that of the batch's volume, and a batch that names no node needs a `volume`, or `NoVolume` is raised."""
         try:
             return self._written(batch, tries, number, volume)
         except Conflict as conflict:
@@ -368,7 +367,7 @@ class Pass(Owner, ABC):
 
     @property
     def _commits(self) -> Tuple[Commits, ...]:
-        """Who waits for commits, of each volume whose passes wake them."""
+        """Those that wait for commits, for each volume whose passes wake them."""
         return ()
 
     def _wake(self) -> None:
@@ -379,9 +378,9 @@ class Pass(Owner, ABC):
         return self.apply(Batch().new_node())[1][0]
 
     def new_nodes(self, count: int) -> List[int]:
-        """Makes so many nodes, and returns their numbers. Each write makes up to 64 of them."""
+        """Makes this many nodes, and returns their numbers. Each write makes up to 64 of them."""
         if count < 0:
-            raise ValueError(f"{count} nodes are asked for")
+            raise ValueError(f"can't make {count} nodes; ask for 0 or more")
         made: List[int] = []
         while len(made) < count:
             batch = Batch()
@@ -395,7 +394,7 @@ class Pass(Owner, ABC):
         self.apply(Batch().remove_node(node))
 
     def set(self, node: int, name: str, value: Value, kind: Optional[int] = None) -> None:
-        """Sets an attribute, as `Batch.set`. The kind isn't compared with that of an index, as in a change."""
+        """Sets an attribute, like `Batch.set`. Unlike in a change, the kind isn't compared with that of an index."""
         self.apply(Batch().set(node, name, value, kind))
 
     def unset(self, node: int, name: str) -> None:
@@ -412,9 +411,9 @@ class Pass(Owner, ABC):
         self.apply(Batch().remove_index(name))
 
     def reindex(self, name: str) -> int:
-        """Sets again, to the values that they have, the attributes that the index of this name lacks, because they
-        were set before it was made. Each change sets up to 64 of them, so no newer value is lost. Returns how many were
-        set again. `NoIndex` if there is no such index; other errors are those of `change`. Takes a read of each
+        """Sets the attributes that the index of this name lacks, because they were set before it was made, to the same
+        values again. Each change sets up to 64 of them, so no newer value is lost. Returns how many were set. Raises
+        `NoIndex` if there is no such index; other errors are those of `change`. Takes a read of each
         node, and a write of each attribute."""
         with self.pin() as version:
             kind = version.indices().get(name)
@@ -428,7 +427,7 @@ class Pass(Owner, ABC):
 
 
 class ThreadPass(Pass):
-    """A pass that isn't a handle of the library. It keeps for itself which thread runs the function of a change."""
+    """A pass that isn't a handle of the library. It remembers itself which thread is running the function of a change."""
 
     _changing: Optional[int] = None  # the thread that runs it
 
@@ -442,7 +441,7 @@ class ThreadPass(Pass):
 
 
 def _numbers(numbers: Union[int, Sequence[int]], volumes: int) -> Tuple[int, ...]:
-    """The commit number of each volume. A ValueError if there are others."""
+    """The commit number of each volume. Raises a ValueError if there are more or fewer than volumes."""
     found = (numbers,) if isinstance(numbers, int) else tuple(numbers)
     if len(found) != volumes:
         raise ValueError(f"{len(found)} commit numbers for {volumes} volumes")
@@ -450,7 +449,7 @@ def _numbers(numbers: Union[int, Sequence[int]], volumes: int) -> Tuple[int, ...
 
 
 def _set_again(name: str, kind: Kind, nodes: List[int], change: Change) -> int:
-    """Sets a name's attributes of these nodes to what they are, if they are of this kind."""
+    """Sets an attribute of these nodes to the value that it has, if that is of this kind."""
     for node in nodes:
         typed = change.typed(node, name)
         if typed is not None and typed.kind == kind:

@@ -46,7 +46,7 @@ _Self = TypeVar("_Self", bound="Integer")
 
 
 class Integer(int):
-    """An integer with an explicit kind. `NoValue` if the kind doesn't hold it. What is computed from it is a plain int."""
+    """An integer with an explicit kind. Raises `NoValue` if the kind can't hold it. Results of arithmetic are plain ints."""
 
     kind: ClassVar[Kind]
 
@@ -95,13 +95,13 @@ Encoded = Tuple[Kind, int, bytes]
 
 
 def plain(value: SupportsIndex) -> int:
-    """An integer as a plain int: a range looks for one of another class number by number."""
+    """An integer as a plain int: a range searches for one of another class number by number."""
     return int(operator.index(value))
 
 
 def encode_value(value: Value, kind: Optional[int] = None) -> Encoded:
-    """A value as the library takes it. Without a kind a str is STRING, bytes are RAW, and an int is of the
-    kind of its class, or INT64 if it is a plain one."""
+    """A value in the form that the library takes. Without a kind a str is STRING, bytes are RAW, and an
+    int has the kind of its class, or INT64 if it is a plain int."""
     if isinstance(value, str):
         return _fitting(value, kind, "a str is", (Kind.STRING, Kind.MIME)), 0, encoded(value)
     if isinstance(value, (bytes, bytearray)):
@@ -116,7 +116,7 @@ def encode_value(value: Value, kind: Optional[int] = None) -> Encoded:
 
 
 def _number(value: SupportsIndex) -> int:
-    """The number that a value is. A TypeError if it is none. A bool would be read back as 0 or 1, so it has to be said."""
+    """The number that a value is. Raises a TypeError if it isn't one. A bool would be read back as 0 or 1, so it is refused."""
     if isinstance(value, bool):
         raise TypeError(f"{value} isn't a value of an attribute: write int({value}), which is {int(value)}, or a text")
     try:
@@ -126,7 +126,7 @@ def _number(value: SupportsIndex) -> int:
 
 
 def _fitting(value: Value, kind: Optional[int], called: str, kinds: Tuple[Kind, ...]) -> Kind:
-    """The kind that is said, or the first of these, which a value may have."""
+    """The kind that is given, or the first of those that the value may have."""
     if kind is None:
         return kinds[0]
     for fitting in kinds:
@@ -158,5 +158,5 @@ def typed_value(code: int, number: int, value: bytes) -> Typed:
 
 
 def kind_mismatch(name: str, kind: int, index_kind: int) -> WrongKind:
-    """The error of an attribute whose value has another kind than the index of its name, by their codes."""
+    """The error of an attribute whose kind isn't that of its name's index; both kinds are given as codes."""
     return wrong_kind(name, Kind(kind).name, Kind(index_kind).name)

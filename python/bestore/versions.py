@@ -1,4 +1,4 @@
-"""Versions of a store: snapshots that are read."""
+"""Versions of a store: snapshots to read."""
 
 from __future__ import annotations
 
@@ -23,7 +23,7 @@ Row = Tuple[int, List[Optional[Value]]]
 
 
 def not_covered(asked: Query, indices: Iterable[str]) -> NotCovered:
-    """The error of a query that needs another index than these, with the place of the first name that has none."""
+    """The error of a query that needs an index beyond these, with the place of the first name that has none."""
     if isinstance(asked, Prepared):
         asked = asked.source or asked.text
     if isinstance(asked, str):
@@ -43,16 +43,16 @@ def not_covered(asked: Query, indices: Iterable[str]) -> NotCovered:
 class Version(ABC):
     """A snapshot: what the store was when the pass was pinned, whatever is written meanwhile.
 
-    It is read until the pin is given up: at the end of a `with`, by `unpin`, or when it goes itself. After that each
-    read is `NotPinned`. `version[node]` has a node's attributes, `node in version` is whether the node is there, and
-    `for node in version` goes over all nodes. While it is pinned the store keeps its pages, so give it up soon."""
+    It can be read until it is unpinned: at the end of a `with`, by `unpin`, or when the object is destroyed. After
+    that each read raises `NotPinned`. `version[node]` has a node's attributes, `node in version` says whether the
+    node exists, and `for node in version` goes over all nodes. While it is pinned the store keeps its pages, so unpin it soon."""
 
     _shown: ClassVar[str] = "version"
 
     @property
     @abstractmethod
     def number(self) -> int:
-        """The commit number of the last write that it has: how many writes it contains."""
+        """The commit number of the last write that it includes, which is also how many writes it includes."""
 
     @property
     def numbers(self) -> Tuple[int, ...]:
@@ -62,7 +62,7 @@ class Version(ABC):
     @property
     @abstractmethod
     def _is_pinned(self) -> bool:
-        """Whether the pin is there."""
+        """Whether it is still pinned."""
 
     def __repr__(self) -> str:
         return f"<{self._shown} at commit {self.number}>"
@@ -76,15 +76,15 @@ class Version(ABC):
 
     @abstractmethod
     def unpin(self) -> None:
-        """Gives the pin up, if it is still there."""
+        """Unpins the version, if it is still pinned."""
 
     @property
     @abstractmethod
     def next_node(self) -> int:
-        """The number of the next node that is made, if no other write comes before."""
+        """The number of the next node that is made, if no other write comes first."""
 
     def _next_in(self, volume: int) -> int:
-        """The next node of a volume. `NoVolume` if it isn't there."""
+        """The next node of a volume. Raises `NoVolume` if there is no such volume."""
         if volume != 0:
             raise NoVolume(volume, 1)
         return self.next_node
@@ -99,7 +99,7 @@ class Version(ABC):
 
     @abstractmethod
     def _read(self, node: int, name: str) -> Typed:
-        """A node's attribute. `NoAttribute` if it isn't there."""
+        """A node's attribute. Raises `NoAttribute` if there is none."""
 
     def _value(self, node: int, name: str) -> Value:
         """The same without its kind."""
@@ -107,24 +107,24 @@ class Version(ABC):
 
     @abstractmethod
     def _listed(self, node: int) -> Dict[str, Typed]:
-        """A node's attributes with their kinds, by ascending names. `NoNode` if it isn't there."""
+        """A node's attributes with their kinds, by ascending names. Raises `NoNode` if there is no such node."""
 
     @abstractmethod
     def _nodes_from(self, first: int, room: int) -> List[int]:
-        """Up to so many nodes from a number on: fewer only if there are no more."""
+        """Up to this many nodes from a number on: fewer only if there are no more."""
 
     def _not_covered(self, asked: Query) -> NotCovered:
         """The error of a query that needs another index."""
         return not_covered(asked, self.indices())
 
     def _first_of(self, asked: Query, start: int, limit: int) -> List[int]:
-        """The first so many nodes that meet a query, from the number `start` on."""
+        """The first nodes that meet a query, up to this many, from the number `start` on."""
         nodes = self._nodes_of(asked)
         begin = bisect_left(nodes, start)
         return nodes[begin:begin + limit]
 
     def _any_of(self, asked: Query, limit: int) -> List[int]:
-        """Any so many nodes that meet a query."""
+        """Any nodes that meet a query, up to this many."""
         return self._nodes_of(asked)[:limit]
 
     def _page_of(self, asked: Asked, order: Order, after: Optional[Cursor], limit: Optional[int]) -> Page[int]:
@@ -139,7 +139,8 @@ class Version(ABC):
         return self._page_after(asked, after, limit)
 
     def _page_after(self, asked: Prepared, after: Cursor, limit: Optional[int]) -> Page[int]:
-        """The page after a cursor of this query. Here it is cut from the whole answer; a store that walks an index overrides it."""
+        """The page after a cursor of this query. Here it is cut from the whole answer; a store that can walk an index
+        overrides this."""
         order = after.order
         kind = self._order_kind(order.by)
         if after.kind not in (None, kind):
@@ -166,15 +167,15 @@ class Version(ABC):
 
     def _part_of(self, asked: Asked, *, by: Optional[str] = None, descending: bool = False, limit: Optional[int] = None,
                  after: After = None, start: int = 0) -> List[int]:
-        """What `query` returns of a query by its text or prepared."""
+        """What `query` returns for a query, given as text or prepared."""
         if limit is not None and operator.index(limit) < 1:
             raise no_room(limit)
         if by is not None:
             if start:
-                raise TypeError("start is a number of a node, and an order goes on from a cursor: after=page.cursor")
+                raise TypeError("start is the number of a node; an order continues from a cursor: after=page.cursor")
             return self._page_of(asked, Order(by, bool(descending)), cursor_of(after), limit)
         if descending or after is not None:
-            raise TypeError('an order needs the name of an index, as by="size"')
+            raise TypeError('an order needs the name of an index, such as by="size"')
         if limit is None and start <= 0:
             return self._nodes_of(asked)
         return self._first_of(asked, max(operator.index(start), 0), 2**64 if limit is None else limit)
@@ -190,25 +191,25 @@ class Version(ABC):
 
     def query(self, text: str, *, by: Optional[str] = None, descending: bool = False, limit: Optional[int] = None,
               after: After = None, start: int = 0) -> List[int]:
-        """The nodes that meet the query, ascending. A `QueryError` if the text is no query, or `NotCovered` if it
-        needs another index. Takes the time to parse the text, and to read the part of the indices that it needs.
+        """The nodes that meet the query, ascending. Raises a `QueryError` if the text isn't a query, or
+        `NotCovered` if it needs another index. Takes the time to parse the text, and to read the part of the indices that it needs.
 
-        With `limit` it has the first so many from the number `start` on. With `by` it is a `Page`: the nodes in the order of the
-        values that the index of this name has, and by number where these are equal; `descending` is the exact reverse. Nodes
-        without a value in that index aren't in it. `after` is the cursor of another page of the same query and order, which this
-        one goes on from. A page takes less time than the whole answer. `NoIndex`, `BadCursor` or `NoRoom` if there is no such
+        With `limit` it returns the first nodes, up to that many, from the number `start` on. With `by` it is a `Page`: the nodes in the
+        order of the values that the index of this name has, and by number where these are equal; `descending` is the exact reverse.
+        Nodes without a value in that index aren't in it. `after` is the cursor of another page of the same query and order, from which
+        this one goes on. A page takes less time than the whole answer. Raises `NoIndex`, `BadCursor` or `NoRoom` if there is no such
         page."""
         return self._part_of(text, by=by, descending=descending, limit=limit, after=after, start=start)
 
     def any(self, query: Asked, limit: int) -> List[int]:
-        """Any `limit` of the nodes that meet the query, or all if there are fewer, in no order. Takes less time than `query` where
-        the answer is large: as for one of the jobs that nobody has taken."""
+        """Any `limit` of the nodes that meet the query, or all if there are fewer, in no particular order. If the answer is large,
+        it takes less time than `query`: for example, to find one of the jobs that nobody has taken."""
         if operator.index(limit) < 1:
             raise no_room(limit)
         return self._any_of(query, limit)
 
     def query_items(self, *items: Item) -> List[int]:
-        """The nodes that meet the query which items in reverse Polish order build: names, texts, numbers and operators.
+        """The nodes that meet the query formed by items in reverse Polish order: names, texts, numbers and operators.
         The text of EQ and NE is a pattern, and that of the other operators is taken as it is.
 
             version.query_items(bestore.Name("size"), 5, bestore.Operator.LT)
@@ -227,36 +228,36 @@ class Version(ABC):
 
     def query_prepared(self, prepared: Prepared, *, by: Optional[str] = None, descending: bool = False,
                        limit: Optional[int] = None, after: After = None, start: int = 0) -> List[int]:
-        """The nodes that meet a prepared query, as `query` returns them. What its last refresh returned stays."""
+        """The nodes that meet a prepared query, as `query` returns them. The result of its last refresh stays."""
         return self._part_of(prepared, by=by, descending=descending, limit=limit, after=after, start=start)
 
     def count(self, query: Union[str, Prepared]) -> int:
-        """How many nodes meet the query, by its text or prepared. Takes what the query takes, but no list."""
+        """How many nodes meet the query, given as text or prepared. Costs what the query costs, except for the list."""
         return self._count_of(query)
 
     def pairs(self, name: str) -> int:
-        """How many pairs of a value and a node the index of this name has. `NoIndex` if there is none. Takes the
+        """How many pairs of a value and a node the index of this name has. Raises `NoIndex` if there is none. Takes the
         time to read the whole index."""
         return self._count_of(all_in(name, self._order_kind(name)))
 
     def hints(self, query: Union[str, Prepared]) -> List[Hint]:
-        """The comparisons of a query that are never true, because their value is no number of the kind that the
-        index of their name has: size>1.5, or last_modified>2024-01-01. A `QueryError` if the text is no query."""
+        """The comparisons of a query that are never true, because their value isn't a number of the kind that
+        the index of their name has: size>1.5, or last_modified>2024-01-01. Raises a `QueryError` if the text isn't a query."""
         text = query if isinstance(query, str) else query._asked_text()
         return hints_in(text, self.indices())
 
     @abstractmethod
     def refresh(self, prepared: Prepared) -> Tuple[List[int], List[int]]:
-        """Which nodes came and which went since the prepared query was refreshed last: two lists, ascending. At
+        """Which nodes came and which went since the prepared query was last refreshed: two lists, ascending. At
         first all of its nodes come. Refresh a query in versions of one store, or of another that its state was
         carried on to: nodes are compared by their numbers. After an error the query is as it was.
 
-        It asks the whole query and takes no lock, so no write of another pass is `Busy` because of it."""
+        It asks the whole query and takes no lock, so it doesn't make another pass's write `Busy`."""
 
     def refresh_changed(self, prepared: Prepared) -> Tuple[List[int], List[int]]:
-        """What `refresh` returns. In a store of this process it reads what was written since the last refresh, and asks the query
-        only of those nodes, so it takes less time where the answer has 96 nodes or more and few were written. Meanwhile writes of
-        other passes are `Busy`. Otherwise, and in a shelf or a server's store, it asks the whole query."""
+        """Returns what `refresh` does. In a store of this process it reads what was written since the last refresh, and checks
+        only those nodes, so it takes less time if the answer has 96 nodes or more and few were written. Writes of other passes
+        are `Busy` meanwhile. Otherwise, and in a shelf or a server's store, it asks the whole query."""
         return self.refresh(prepared)
 
     @abstractmethod
@@ -275,7 +276,7 @@ class Version(ABC):
 
     def attributes(self, node: int, kinds: bool = False) -> Union[Dict[str, Value], Dict[str, Typed]]:
         """A node's attributes: a dict of names and values, or with `kinds` of names and `Typed` values with their
-        kinds, by ascending names. `NoNode` if it isn't there."""
+        kinds, by ascending names. Raises `NoNode` if there is no such node."""
         listed = self._listed(node)
         if kinds:
             return listed
@@ -283,49 +284,50 @@ class Version(ABC):
 
     @abstractmethod
     def indices(self) -> Dict[str, Kind]:
-        """The indices: a dict of names and kinds, by ascending names. Of several volumes those that each one has, with one
-        kind."""
+        """The indices: a dict of names and kinds, by ascending names. With several volumes, those that every volume has,
+        with the same kind."""
 
     def partial_indices(self) -> Dict[str, List[int]]:
-        """The indices that some volumes lack, or have with another kind: a dict of names and the volumes that have them."""
+        """The indices that some volumes lack, or have with another kind: a dict from names to the volumes that have them."""
         return {}
 
     @abstractmethod
     def state(self, volume: Optional[int] = None) -> Iterator[Batch]:
-        """The operations that make the version again on an empty store, as batches of 1 to 64, each for one
+        """The operations that rebuild the version on an empty store, as batches of 1 to 64, each for one
         `Pass.apply`:
 
             for batch in version.state():
                 other.apply(batch)
 
-        If there are several volumes, the batches of this one, for `apply` with the same `volume`; `NoVolume` without one."""
+        If there are several volumes, the batches of this one, for `apply` with the same `volume`; raises `NoVolume` if none is
+        given."""
 
     def typed(self, node: int, name: str) -> Optional[Typed]:
-        """A node's attribute with its kind, or None if it isn't there. Takes one search in a tree."""
+        """A node's attribute with its kind, or None if there is none. Takes one search in a tree."""
         try:
             return self._read(node, name)
         except (NoAttribute, NoNode):
             return None
 
     def get(self, node: int, name: str) -> Optional[Value]:
-        """A node's attribute, or None if it isn't there: a str, bytes or an int. Takes one search in a tree."""
+        """A node's attribute, or None if there is none: a str, bytes or an int. Takes one search in a tree."""
         typed = self.typed(node, name)
         return None if typed is None else typed.value
 
     def kind(self, node: int, name: str) -> Optional[Kind]:
-        """The kind of a node's attribute, or None if it isn't there. Takes one search in a tree."""
+        """The kind of a node's attribute, or None if there is none. Takes one search in a tree."""
         typed = self.typed(node, name)
         return None if typed is None else typed.kind
 
     def column(self, nodes: Iterable[int], name: str) -> List[Optional[Value]]:
-        """The attributes of this name of many nodes: a list with the value of each node, or None if it has none. Takes a
-        search in a tree for each node, and memory for the list."""
+        """One attribute of many nodes: a list with each node's value, or None if it has none. Takes a search in a tree
+        for each node, and memory for the list."""
         return [self.get(node, name) for node in nodes]
 
     def columns(self, nodes: Iterable[int], names: Iterable[str]) -> List[List[Optional[Value]]]:
-        """The attributes of these names of many nodes: for each name a list, as `column` returns it. It takes less time than a
-        `column` for each name, since it reads node by node. In a version of a server a round trip has room for some thousand
-        nodes with five attributes each."""
+        """Several attributes of many nodes: for each name a list, as `column` returns it. It takes less time than a `column`
+        for each name, since it reads node by node. On a server, one round trip has room for a few thousand nodes with five
+        attributes each."""
         read = list(nodes)
         return [self.column(read, name) for name in names]
 
@@ -340,18 +342,18 @@ class Version(ABC):
              descending: bool = False, after: After = None) -> List[Row]:
         """Nodes that meet the query, ascending and from the number `first` on, up to `most` of them, each with its attributes of
         these names: pairs of a node and a list of values, None where it has none. Takes the query and a search in a tree for each
-        value. In a version of a server it takes a round trip for some thousand rows, and no more than 64 names. With `by` it is a
+        value. On a server it takes a round trip for every few thousand rows, and allows up to 64 names. With `by` it is a
         `Page` of rows, whose nodes are those of `query` with `by`, `descending` and `after`."""
         if by is not None:
             if first:
-                raise TypeError("first is a number of a node, and an order goes on from a cursor: after=page.cursor")
+                raise TypeError("first is the number of a node; an order continues from a cursor: after=page.cursor")
             if operator.index(most) < 1:
                 raise no_room(most)
             return self._page_of_rows(query, list(names), Order(by, bool(descending)), cursor_of(after), most)
         if descending or after is not None:
-            raise TypeError('an order needs the name of an index, as by="size"')
+            raise TypeError('an order needs the name of an index, such as by="size"')
         if most < 0:
-            raise ValueError(f"{most} rows are asked for")
+            raise ValueError(f"can't return {most} rows; ask for 0 or more")
         return self._rows_of(query, list(names), max(operator.index(first), 0), most)
 
     def _rows_of(self, query: Asked, names: List[str], first: int, most: int) -> List[Row]:
@@ -366,7 +368,7 @@ class Version(ABC):
         return [(node, list(values)) for node, values in zip(nodes, zip(*found))] if names else [(node, []) for node in nodes]
 
     def __getitem__(self, node: int) -> Attributes:
-        """A node's attributes, each of which is read when it is asked for."""
+        """A node's attributes, each read when it is asked for."""
         return Attributes(self, node)
 
     def __contains__(self, node: int) -> bool:
@@ -375,7 +377,7 @@ class Version(ABC):
     def nodes(self, first: int = 0, most: int = 1024) -> List[int]:
         """The nodes from a number on, ascending, whatever attributes they have, up to `most` of them."""
         if most < 0:
-            raise ValueError(f"{most} nodes are asked for")
+            raise ValueError(f"can't return {most} nodes; ask for 0 or more")
         first = max(operator.index(first), 0)
         found: List[int] = []
         while first < 2**64:
@@ -399,7 +401,7 @@ class Version(ABC):
 
 
 class Attributes(Mapping[str, Value]):
-    """A node's attributes in a version. One that isn't there is `NoAttribute`, which is a KeyError."""
+    """A node's attributes in a version. A missing one raises `NoAttribute`, which is a KeyError."""
 
     def __init__(self, version: Version, node: int) -> None:
         self._version, self.node = version, node

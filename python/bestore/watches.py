@@ -1,4 +1,4 @@
-"""Watches: queries whose changes a program waits for."""
+"""Watches: queries whose changes a program can wait for."""
 
 from __future__ import annotations
 
@@ -15,7 +15,7 @@ if TYPE_CHECKING:
 
 
 class Changes(NamedTuple):
-    """What changed in what a query finds. It unpacks as what `Version.refresh` returns."""
+    """What changed in a query's answer. It unpacks like what `Version.refresh` returns."""
 
     created: List[int]
     """The nodes that came, ascending."""
@@ -24,20 +24,20 @@ class Changes(NamedTuple):
 
 
 class Watch(ABC):
-    """A live query, by `Pass.watch`, which waits for changes. At first all of its nodes come.
+    """A live query that waits for changes, from `Pass.watch`. At first all of its nodes come.
 
         with store.watch("MAIL:status==New") as unread:
             for came, went in unread:
                 print(came, went)
 
-    What the calls on it return, taken together, is what the query finds at `commit`. Changes from several commits arrive as one.
-    Without a query each commit is awaited, and nodes are never returned."""
+    Taken together, what its calls return is what the query finds at `commit`. Changes from several commits arrive as one.
+    Without a query it waits for every commit, and never returns nodes."""
 
     def __init__(self, query: Optional[str]) -> None:
         self.query = query
         """The text of the query, or None if each commit is watched."""
         self.commit = 0
-        """The commit number of the snapshot to which what was returned leads, and at first that of the first answer."""
+        """The commit number of the snapshot that the returned changes lead to; at first that of the first answer."""
 
     def __repr__(self) -> str:
         return f"<watch of {self.query or 'each commit'} at commit {self.commit}>"
@@ -49,7 +49,7 @@ class Watch(ABC):
         self.close()
 
     def __iter__(self) -> Iterator[Changes]:
-        """The changes, each as soon as it comes, without an end."""
+        """The changes, each as soon as it comes, forever."""
         while True:
             changes = self.wait()
             assert changes is not None
@@ -57,12 +57,12 @@ class Watch(ABC):
 
     @abstractmethod
     def refresh(self) -> Changes:
-        """What changed since a call on this watch returned something last, up to what reads of the pass see now."""
+        """What changed since a call on this watch last returned something, up to what reads of the pass see now."""
 
     @abstractmethod
     def wait(self, timeout: Optional[float] = None) -> Optional[Changes]:
-        """The changes that were not returned yet. If there are none, waits for some up to so many seconds, or without an end, and
-        returns None if none came."""
+        """The changes that haven't been returned yet. If there are none, waits for up to this many seconds, or forever, and returns
+        None if none came."""
 
     @abstractmethod
     def close(self) -> None:
@@ -70,8 +70,9 @@ class Watch(ABC):
 
 
 class LocalWatch(Watch):
-    """A watch of a store in this process. A pass that writes wakes who waits, so nobody looks again and again. Each look pins the
-    pass: `Pinned` if that is pinned. It asks the query by `Version.refresh_changed`, since between two looks little is written."""
+    """A watch of a store in this process. A pass that writes wakes whoever waits, so nothing polls. Each look pins the pass, and
+    raises `Pinned` if that is pinned already. It asks the query with `Version.refresh_changed`, since little is written
+    between two looks."""
 
     def __init__(self, user: Pass, query: Optional[str]) -> None:
         super().__init__(query)

@@ -14,7 +14,7 @@ from .own_server import CannotStart
 from .sources import FolderSource, ServerSource, Source
 
 def parser() -> argparse.ArgumentParser:
-    """What the command line may have."""
+    """What the command line may contain."""
     made = argparse.ArgumentParser(
         prog="bestore-queries",
         description="A window that finds files by their attributes, and follows them while they come and go.",
@@ -24,7 +24,7 @@ def parser() -> argparse.ArgumentParser:
     where.add_argument("--socket", metavar="PATH", help="the socket of the server whose store is asked")
     where.add_argument("--folder", metavar="FOLDER", help="read this folder, or Maildir, into a store of the window's own")
     made.add_argument("--geometry", default="940x560", metavar="WxH", help="the size in pixels, and the place as +X+Y after it")
-    made.add_argument("query", nargs="?", metavar="QUERY", help="the query that is asked first; docs/QUERIES.md has its language")
+    made.add_argument("query", nargs="?", metavar="QUERY", help="the query that is asked first; docs/QUERIES.md describes the language")
     return made
 
 
@@ -38,7 +38,7 @@ def source_of(options: argparse.Namespace) -> Source:
 
 
 def main(words: Optional[List[str]] = None) -> int:
-    """Shows the window, up to its end."""
+    """Shows the window until it is closed."""
     options = parser().parse_args(words)
     try:
         import tkinter

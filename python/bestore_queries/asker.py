@@ -1,5 +1,5 @@
 """The thread that asks a store for a window, reads the hits, and writes attributes. The window sends it requests, and takes
-what it reports; neither waits for the other."""
+its reports; neither waits for the other."""
 
 from __future__ import annotations
 
@@ -32,11 +32,11 @@ class Begin(NamedTuple):
 
     order: Order
     most: int
-    """How many of them: those that are seen, and some more."""
+    """How many of them: the visible ones, and a few more."""
 
 
 class Sort(NamedTuple):
-    """A request: report the first hits of the query that is followed, in this order."""
+    """A request: report the first hits of the followed query, in this order."""
 
     turn: int
     begin: Begin
@@ -46,10 +46,10 @@ class Ask(NamedTuple):
     """A request: ask this query, and follow it."""
 
     turn: int
-    """A number that is in each report about it."""
+    """A number that each report about it has."""
     text: str
     names: Sequence[str]
-    """The attributes that are read of each hit."""
+    """The attributes that are read for each hit."""
     begin: Optional[Begin] = None
     """The hits that are reported before all others."""
 
@@ -61,7 +61,7 @@ class Write(NamedTuple):
     name: str
     text: str
     shown: Optional[bestore.Value]
-    """What the window shows. If the store has another value by now, nothing is written."""
+    """What the window shows. If the store has a different value by now, nothing is written."""
 
 
 class Opened(NamedTuple):
@@ -71,7 +71,7 @@ class Opened(NamedTuple):
 
 
 class Lost(NamedTuple):
-    """A report: the store isn't there. It is opened again as soon as it is."""
+    """A report: the store isn't there. It is opened again as soon as it is back."""
 
     reason: str
 
@@ -107,21 +107,21 @@ class First(NamedTuple):
 
 
 class Came(NamedTuple):
-    """A report: hits that are new, or that have other attributes now."""
+    """A report: hits that are new, or whose attributes have changed."""
 
     turn: int
     hits: List[Hit]
 
 
 class Went(NamedTuple):
-    """A report: nodes that are no hits any more."""
+    """A report: nodes that aren't hits any more."""
 
     turn: int
     nodes: List[Node]
 
 
 class Counted(NamedTuple):
-    """A report: how many hits there are, how many of them are still to be read, and how many nodes there are to be found."""
+    """A report: how many hits there are, how many of them are still to be read, and how many nodes there are to find."""
 
     turn: int
     hits: int
@@ -130,7 +130,7 @@ class Counted(NamedTuple):
 
 
 class Written(NamedTuple):
-    """A report: the write is done, or why it isn't."""
+    """A report: the write has been made, or why it hasn't."""
 
     write: Write
     fault: Optional[str]
@@ -140,11 +140,11 @@ Report = Union[Opened, Lost, Accepted, Refused, Named, First, Came, Went, Counte
 
 
 class NotWritten(Exception):
-    """A write isn't made, as the text says."""
+    """A write isn't made, for the reason in the text."""
 
 
 class _Following:
-    """A query that is followed: its hits, those that are still to be read, and the snapshot up to which that is."""
+    """A followed query: its hits, those that are still to be read, and the snapshot up to which they are known."""
 
     def __init__(self, ask: Ask, live: LiveAnswer) -> None:
         self.ask, self.live = ask, live
@@ -157,7 +157,7 @@ class _Following:
         self.is_named = False
 
     def refresh(self, version: bestore.Version, changed: Iterable[Node]) -> None:
-        """Goes on to a snapshot, in which these nodes may have other attributes."""
+        """Goes on to a snapshot, in which these nodes' attributes may have changed."""
         came, went = self.live.refresh(version)
         self.seen = version.numbers
         self.known.difference_update(went)
@@ -172,12 +172,12 @@ class _Following:
         self.waiting.update(dict.fromkeys(node for node in changed if node in self.known))
 
     def report_first(self, hits: List[Hit]) -> None:
-        """Keeps in mind that the first hits of an order were reported, of a snapshot of their own."""
+        """Remembers that the first hits in an order were reported, from a snapshot of their own."""
         self._ahead += [hit.node for hit in hits]
         self.reported.update(self._ahead)
 
     def reports(self, hits: List[Hit]) -> List[Report]:
-        """What there is to report once these hits were read. Those that went come first, since one may have come again."""
+        """What there is to report once these hits have been read. Those that went come first, since one may have come back."""
         turn, gone, self.gone = self.ask.turn, self.gone, []
         for hit in hits:
             del self.waiting[hit.node]
@@ -186,7 +186,7 @@ class _Following:
         return [*([Went(turn, gone)] if gone else []), *(Came(turn, part) for part in parts)]
 
     def read(self, version: bestore.Version, names: Sequence[str]) -> Dict[Node, List[Optional[bestore.Value]]]:
-        """These attributes of the next hits that wait."""
+        """These attributes of the next waiting hits."""
         nodes = list(self.waiting)[:SLICE]
         if len(nodes) <= FEW:
             found = version.columns(nodes, names)
@@ -201,7 +201,7 @@ def _names(ask: Ask) -> List[str]:
 
 
 class _Requests:
-    """What the window asks for: the last query, and the writes that aren't done yet."""
+    """What the window asks for: the last query, and the writes that haven't been made yet."""
 
     def __init__(self) -> None:
         self._came = threading.Condition()
@@ -224,12 +224,12 @@ class _Requests:
             self._came.notify()
 
     def put_back(self, write: Write) -> None:
-        """Gives a write back that wasn't made, as the next one."""
+        """Puts back a write that wasn't made, as the next one."""
         with self._came:
             self._writes.appendleft(write)
 
     def wait(self, timeout: float) -> None:
-        """If there is nothing, waits up to so many seconds."""
+        """If there is nothing, waits up to this many seconds."""
         with self._came:
             self._came.wait_for(lambda: self._ask or self._sort or self._writes or self._is_ended, timeout)
 
@@ -240,7 +240,7 @@ class _Requests:
             return ask
 
     def take_sort(self) -> Optional[Sort]:
-        """Takes the order whose first hits are asked for."""
+        """Takes the order whose first hits are wanted."""
         with self._came:
             sort, self._sort = self._sort, None
             return sort
@@ -268,11 +268,11 @@ class Asker(threading.Thread):
         self._all, self._counted_at = 0, 0.0
 
     def send(self, request: Union[Ask, Sort, Write]) -> None:
-        """Asks for something. A query takes the place of one that wasn't asked yet."""
+        """Asks for something. A query replaces one that hasn't been asked yet."""
         self._requests.put(request)
 
     def end(self) -> None:
-        """Ends the thread. It isn't waited for long if a server doesn't reply."""
+        """Ends the thread. If a server doesn't reply, this doesn't wait long."""
         self._ended.set()
         self._requests.put(None)
         if self.is_alive():
@@ -327,7 +327,7 @@ class Asker(threading.Thread):
                 self._step(session, self._following)
 
     def _check_store(self, store: str) -> None:
-        """Refuses the writes that wait if their nodes are those of another store."""
+        """Refuses the waiting writes if their nodes belong to another store."""
         if self._store not in (None, store):
             for write in iter(self._requests.take_write, None):
                 self._report(Written(write, "another store is there now"))
@@ -363,8 +363,8 @@ class Asker(threading.Thread):
             self._has_news = True
 
     def _report_first(self, session: Session, ask: Ask, begin: Optional[Begin]) -> List[Hit]:
-        """Reads the first hits in an order, and reports them. At an error it reports none: the window sorts all hits when it has
-        them."""
+        """Reads the first hits in an order, and reports them. After an error it reports none: the window sorts all hits once it
+        has them."""
         if begin is None:
             return []
         names, (by, descending), hits = _names(ask), begin.order, []  # type: List[str], Order, List[Hit]
@@ -380,7 +380,7 @@ class Asker(threading.Thread):
         return hits
 
     def _step(self, session: Session, following: _Following) -> None:
-        """Goes on to the current snapshot, and reads hits of it."""
+        """Goes on to the current snapshot, and reads hits from it."""
         self._has_news = session.has_news() or self._has_news or following.seen is None
         if not self._has_news and not following.waiting:
             return
@@ -388,7 +388,7 @@ class Asker(threading.Thread):
             with session.user.pin() as version:
                 reports = self._follow(session, following, version)
         except bestore.Expired:
-            return  # the server took the snapshot back: the next step has another
+            return  # the server took the snapshot back: the next step gets a new one
         except bestore.BrokenConnection:
             raise
         except bestore.Error as error:
@@ -399,7 +399,7 @@ class Asker(threading.Thread):
             self._report(*reports)
 
     def _follow(self, session: Session, following: _Following, version: bestore.Version) -> List[Report]:
-        """What there is to report of a snapshot. If it raises, the next call reports it."""
+        """What there is to report from a snapshot. If this raises, the next call reports it."""
         turn = following.ask.turn
         if version.numbers != following.seen:
             following.refresh(version, self._changed(session, following, version))
@@ -413,7 +413,7 @@ class Asker(threading.Thread):
         return [*reports, Counted(turn, len(following.known), len(following.waiting), count)]
 
     def _changed(self, session: Session, following: _Following, version: bestore.Version) -> Iterable[Node]:
-        """The hits whose attributes were set since the last snapshot. If a folder's were, all hits may be in it."""
+        """The hits whose attributes were set since the last snapshot. If a folder's were, any hit may be in it."""
         if following.seen is None or not following.known:
             return []
         written = session.written(following.seen, version)
@@ -423,18 +423,18 @@ class Asker(threading.Thread):
         return written
 
     def _read(self, following: _Following, version: bestore.Version) -> List[Hit]:
-        """The next hits that wait, with the attributes that the window needs."""
+        """The next waiting hits, with the attributes that the window needs."""
         names = _names(following.ask)
         return [self._hit(version, node, names, values) for node, values in following.read(version, names).items()]
 
     def _hit(self, version: bestore.Version, node: Node, names: Sequence[str], values: Sequence[Optional[bestore.Value]]) -> Hit:
-        """A node with the attributes of these names, and its place."""
+        """A node with these attributes, and the place of its file."""
         attributes = {name: value for name, value in zip(names, values) if value is not None}
         self._places.locate(version, attributes)
         return Hit(node, attributes)
 
     def _count(self, version: bestore.Version) -> int:
-        """How many nodes there are to be found. They are counted now and then."""
+        """How many nodes there are to find. They are counted now and then."""
         if time.monotonic() >= self._counted_at + COUNTING:
             everything = find.everything(self._indices)
             self._all = version.count(everything) if everything else 0
@@ -442,7 +442,7 @@ class Asker(threading.Thread):
         return self._all
 
     def _write(self, session: Session, write: Write) -> None:
-        """Makes a write. If the store goes before it is made, it waits until the store is there again."""
+        """Makes a write. If the store goes away before it is made, it waits until the store is back."""
         fault: Optional[str] = None
         try:
             session.user.change(lambda change: self._set(change, write))

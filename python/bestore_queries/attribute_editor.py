@@ -1,4 +1,4 @@
-"""An attribute that is edited at its place in the list."""
+"""An attribute that is edited in place in the list."""
 
 from __future__ import annotations
 
@@ -14,7 +14,7 @@ Box = Tuple[int, int, int, int]
 
 
 class Cell(NamedTuple):
-    """What is edited: an attribute of a node, and the value that the list had at the beginning."""
+    """What is edited: an attribute of a node, and the value that the list showed at the beginning."""
 
     node: Node
     column: Column
@@ -22,7 +22,7 @@ class Cell(NamedTuple):
 
 
 class AttributeEditor:
-    """An entry over a cell of the list. Return takes the text, Escape doesn't, and a click elsewhere takes it too."""
+    """An entry over a cell of the list. Return or a click elsewhere accepts the text, Escape doesn't."""
 
     def __init__(self, tree: ttk.Treeview, take: Callable[[Cell, str], None]) -> None:
         self._tree, self._take = tree, take
@@ -30,10 +30,10 @@ class AttributeEditor:
         """Where it is typed."""
         self._before = ""
         self.cell: Optional[Cell] = None
-        """What is edited now."""
+        """What is being edited."""
 
     def begin(self, cell: Cell, before: str, text: str, box: Box) -> None:
-        """Shows an entry with a text over a cell. `before` is what the value is as a text."""
+        """Shows an entry with a text over a cell. `before` is the value as a text."""
         self.end()
         self.cell, self._before = cell, before
         entry = ttk.Entry(self._tree, style="Cell.TEntry")
@@ -50,11 +50,11 @@ class AttributeEditor:
 
     @property
     def text(self) -> str:
-        """What is typed by now."""
+        """What has been typed so far."""
         return "" if self.entry is None else self.entry.get()
 
     def move(self, box: Optional[Box]) -> None:
-        """Follows its cell, which isn't seen if there is no box."""
+        """Follows its cell, which isn't visible if it has no box."""
         if self.entry is None:
             return
         if box is None:
@@ -73,7 +73,7 @@ class AttributeEditor:
         return "break"
 
     def end(self) -> None:
-        """Takes the entry away, and its text with it."""
+        """Removes the entry, and its text with it."""
         entry, self.entry, self.cell = self.entry, None, None
         if entry is not None:
             entry.destroy()

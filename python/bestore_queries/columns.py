@@ -14,9 +14,9 @@ from . import dates
 MAIL_TYPE = "text/x-email"
 FOLDER_TYPE = "application/x-vnd.Be-directory"
 HIDDEN = frozenset({"FILE:parent", "FILE:root", "FILE:name", "FILE:stat", "FILE:xattrs"})
-"""By what an import knows files again. Nobody looks at it."""
+"""What an import recognises files by. Nobody looks at it."""
 OF_FILES = HIDDEN | {"name", "size", "last_modified", "created", "folder", "path"}
-"""What a file itself says. The window doesn't edit it."""
+"""What the file itself determines. The window doesn't edit it."""
 
 _TIME = re.compile(r"(?:.*[_:])?(?:modified|created|changed|when|date|time)", re.IGNORECASE)
 _NUMBERS = (bestore.INT32, bestore.INT64, bestore.UINT32, bestore.UINT64)
@@ -25,7 +25,7 @@ _RANGES = {bestore.INT32: (-2**31, 2**31 - 1), bestore.INT64: (-2**63, 2**63 - 1
 
 
 class NotAValue(ValueError):
-    """A typed text that is no value of its attribute. Its text says why."""
+    """A typed text that isn't a value of its attribute. The error's text says why."""
 
 
 def is_time(attribute: str) -> bool:
@@ -39,7 +39,7 @@ def is_number(kind: Optional[bestore.Kind]) -> bool:
 
 
 def size_in_words(size: bestore.Value) -> str:
-    """A number of bytes, as people read it."""
+    """A number of bytes, in a readable form."""
     if not isinstance(size, int):
         return text_of(size)
     number, unit = float(size), "byte" if size == 1 else "bytes"
@@ -50,7 +50,7 @@ def size_in_words(size: bestore.Value) -> str:
 
 
 def time_in_words(seconds: bestore.Value) -> str:
-    """A time, as people read it. What the calendar doesn't have is shown as it is."""
+    """A time, in a readable form. A number outside the calendar is shown as it is."""
     if not isinstance(seconds, int):
         return text_of(seconds)
     try:
@@ -76,7 +76,7 @@ class Column(NamedTuple):
     in_words: Callable[[bestore.Value], str] = text_of
 
     def shown(self, attributes: Mapping[str, bestore.Value]) -> str:
-        """What the list shows of a node's attributes."""
+        """What the list shows for a node's attributes."""
         value = attributes.get(self.attribute)
         return "" if value is None else self.in_words(value)
 
@@ -110,7 +110,7 @@ def column_of(attribute: str, kind: Optional[bestore.Kind] = None) -> Column:
 
 
 def default_columns(indices: Mapping[str, bestore.Kind], is_mail: bool = False) -> List[Column]:
-    """The columns of a store with these indices, if nothing else was chosen: of files or of mails, otherwise the first six."""
+    """The default columns of a store with these indices: those for files or for mails, otherwise the first six."""
     if "MAIL:subject" in indices and is_mail:
         return [_KNOWN[it] for it in _MAIL if it in indices]
     if "name" in indices:
@@ -124,7 +124,7 @@ def columns_of(attributes: Iterable[str], indices: Mapping[str, bestore.Kind]) -
 
 
 def edited_text(attribute: str, value: Optional[bestore.Value]) -> str:
-    """An attribute's value as the text that is edited."""
+    """An attribute's value as the text to edit."""
     if value is None:
         return ""
     if isinstance(value, bytes):
@@ -133,7 +133,7 @@ def edited_text(attribute: str, value: Optional[bestore.Value]) -> str:
 
 
 def _edited_time(seconds: int) -> str:
-    """A time as a date that is read again. What the calendar doesn't have is edited as it is."""
+    """A time as a date that can be read back. A number outside the calendar is edited as it is."""
     try:
         return datetime.fromtimestamp(seconds).isoformat(" ")
     except (ValueError, OverflowError, OSError):
@@ -141,7 +141,7 @@ def _edited_time(seconds: int) -> str:
 
 
 def typed_value(attribute: str, text: str, kind: bestore.Kind) -> bestore.Value:
-    """The value of a kind that was typed for an attribute. `NotAValue` if it is none."""
+    """The value of a kind that was typed for an attribute. Raises `NotAValue` if it isn't one."""
     if kind == bestore.RAW:
         try:
             return bytes.fromhex(text)
@@ -170,7 +170,7 @@ def _typed_text(text: str) -> str:
     except UnicodeEncodeError:
         raise NotAValue("the text has half of a character") from None
     if length > 255:
-        raise NotAValue(f"the text has {length} bytes, and 255 is the most")
+        raise NotAValue(f"the text has {length} bytes; the limit is 255")
     return text
 
 

@@ -14,8 +14,8 @@ _DAYS = "monday tuesday wednesday thursday friday saturday sunday".split()
 _UNITS = ("second", "minute", "hour", "day", "week", "month", "year")
 _REASONS = {
     "day is out of range for month": "that month doesn't have so many days", "month must be in 1..12": "a year has 12 months",
-    "hour must be in 0..23": "a day has the hours 0 to 23", "minute must be in 0..59": "an hour has the minutes 0 to 59",
-    "second must be in 0..59": "a minute has the seconds 0 to 59",
+    "hour must be in 0..23": "hours go from 0 to 23", "minute must be in 0..59": "minutes go from 0 to 59",
+    "second must be in 0..59": "seconds go from 0 to 59",
 }
 _TIME = re.compile(r"(?:^|[ t]|\bat )(\d{1,2}):(\d{2})(?::(\d{2}))?$", re.ASCII)
 _AGO = re.compile(r"(\d{1,9}|an?|one) (second|minute|hour|day|week|month|year)s? ago", re.ASCII)
@@ -25,7 +25,7 @@ _NAMED = re.compile(r"(?:(\d{1,2})\.? )?([a-z]{3,9})\.?(?: (\d{1,2})(?!\d),?)?(?
 
 
 class NotADate(ValueError):
-    """A text that is no date."""
+    """A text that isn't a date."""
 
     def __init__(self, text: str, reason: Optional[str] = None) -> None:
         super().__init__(text, reason)
@@ -43,7 +43,7 @@ class Span(NamedTuple):
 
 
 class _Moment(NamedTuple):
-    """A time, and the part of the calendar that it means, as "day"."""
+    """A time, and the part of the calendar that it means, such as "day"."""
 
     at: datetime
     unit: str
@@ -75,7 +75,7 @@ def _moment(words: str, now: datetime) -> Optional[_Moment]:
 
 
 def _with_time(words: str, now: datetime) -> Optional[_Moment]:
-    """A day, and a time of it: today's if no day is named."""
+    """A day and a time on it: today if no day is named."""
     found = _TIME.search(words)
     if found is None:
         return None
@@ -88,7 +88,7 @@ def _with_time(words: str, now: datetime) -> Optional[_Moment]:
 
 
 def _start_of(unit: str, at: datetime) -> datetime:
-    """The beginning of the part of the calendar in which a time is."""
+    """The beginning of the part of the calendar that a time is in."""
     if unit == "week":
         at -= timedelta(days=at.weekday())
     fields = {"second": 5, "minute": 4, "hour": 3, "day": 2, "week": 2, "month": 1, "year": 0}[unit]
@@ -98,12 +98,12 @@ def _start_of(unit: str, at: datetime) -> datetime:
 
 
 def _moved(at: datetime, unit: str, count: int) -> datetime:
-    """A time so many units later. A day that the month doesn't have is its last one."""
+    """A time this many units later. A day beyond the end of the month becomes its last day."""
     if unit in ("month", "year"):
         months = at.year * 12 + at.month - 1 + count * (12 if unit == "year" else 1)
         year, month = divmod(months, 12)
         if not 1 <= year <= 9999:
-            raise ValueError("it is out of the calendar")
+            raise ValueError("it is outside the calendar")
         return at.replace(year=year, month=month + 1, day=min(at.day, calendar.monthrange(year, month + 1)[1]))
     return at + timedelta(**{f"{unit}s": count})
 

@@ -1,4 +1,4 @@
-"""The query of a Find row: an attribute, how it is compared, and what was typed."""
+"""The query of a Find row: an attribute, how to compare it, and what was typed."""
 
 from __future__ import annotations
 
@@ -43,13 +43,13 @@ def relations_of(attribute: str, kind: Optional[bestore.Kind]) -> List[Relation]
 
 
 def attributes_of(indices: Mapping[str, bestore.Kind]) -> List[str]:
-    """The attributes that can be asked, those that most people ask first."""
+    """The attributes that can be searched, the most common ones first."""
     order = ["name", "MAIL:subject", "MAIL:from", "MAIL:to", "size", "last_modified", "MAIL:when", "BEOS:TYPE"]
     return sorted(indices, key=lambda name: (order.index(name) if name in order else len(order), name))
 
 
 def everything(indices: Mapping[str, bestore.Kind]) -> Optional[str]:
-    """The query that finds all files, or the nodes that have another attribute. None if nothing has an index."""
+    """The query that finds all files, or all nodes with some other attribute. None if there are no indices."""
     for attribute in attributes_of(indices)[:1]:
         least = _LEAST.get(indices[attribute])
         return query_of(attribute, Relation.CONTAINS, "") if least is None else f"{_quoted(attribute)}>={least}"
@@ -57,7 +57,7 @@ def everything(indices: Mapping[str, bestore.Kind]) -> Optional[str]:
 
 
 def _quoted(attribute: str) -> str:
-    """An attribute's name as a query has it."""
+    """An attribute's name in the form of a query."""
     is_word = attribute.replace("_", "").replace(":", "").isalnum()
     return attribute if is_word else quoted(attribute)
 

@@ -1,4 +1,4 @@
-"""A row in which people say what they look for: an attribute, how it is compared, and with what."""
+"""A row in which people say what they are looking for: an attribute, how to compare it, and with what."""
 
 from __future__ import annotations
 
@@ -13,13 +13,13 @@ from .theme import FACE
 
 
 class FindRow(tk.Frame):
-    """The row. It calls `asks` with the query that it makes, as it is typed."""
+    """The row. It calls `asks` with its query as that is typed."""
 
     def __init__(self, parent: tk.Misc, asks: Callable[[str], None]) -> None:
         super().__init__(parent, background=FACE)
         self._asks, self._is_filled = asks, True
         self._indices: Mapping[str, bestore.Kind] = {}
-        self._attributes: Dict[str, str] = {}  # by what the row shows of them
+        self._attributes: Dict[str, str] = {}  # by what the row shows for them
         self._attribute, self._relation, self._text = tk.StringVar(self), tk.StringVar(self), tk.StringVar(self)
         tk.Label(self, text="Find", background=FACE, padx=2).pack(side="left")
         self._attribute_box = ttk.Combobox(self, textvariable=self._attribute, state="readonly", width=13)
@@ -34,7 +34,7 @@ class FindRow(tk.Frame):
         self._is_filled = False
 
     def take_indices(self, indices: Mapping[str, bestore.Kind]) -> None:
-        """Offers what can be asked of a store with these indices."""
+        """Offers what can be searched in a store with these indices."""
         if indices == self._indices:
             return
         self._indices = indices
@@ -70,7 +70,7 @@ class FindRow(tk.Frame):
         self._changed()
 
     def empty(self) -> None:
-        """Takes the text away, since another query was asked."""
+        """Clears the text, since another query was asked."""
         self._is_filled = True
         self._text.set("")
         self._is_filled = False

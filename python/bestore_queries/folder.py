@@ -1,4 +1,4 @@
-"""The import of a folder of files, or of mails, into a store in this process, by a thread of its own that follows the folder."""
+"""Importing a folder of files, or of mails, into a store in this process, in a thread of its own that follows the folder."""
 
 from __future__ import annotations
 
@@ -17,7 +17,7 @@ INDICES = {
     "MAIL:when": bestore.INT64, "MAIL:status": bestore.STRING,
 }
 RESERVE = 48
-"""Pages of a volume that no new file takes, so that files can still change and go."""
+"""Pages of a volume that new files don't use, so that files can still be changed and removed."""
 
 
 def type_of(name: str) -> str:
@@ -27,7 +27,7 @@ def type_of(name: str) -> str:
 
 
 def files_below(folder: str) -> Iterator[os.DirEntry[str]]:
-    """The files of a folder and of those inside it. What goes meanwhile, or may not be read, is passed over."""
+    """The files of a folder and of those inside it. Whatever disappears meanwhile, or may not be read, is skipped."""
     waiting = [folder]
     while waiting:
         try:
@@ -51,22 +51,22 @@ class Known(NamedTuple):
 
 
 class Waiting(NamedTuple):
-    """A file that is to be written, or one that went."""
+    """A file that is to be written, or one that is gone."""
 
     path: str
     values: Dict[str, bestore.Value]
     about: Optional[os.stat_result]
-    """None if it went."""
+    """None if it is gone."""
 
     @property
     def operations(self) -> int:
-        """How many operations it takes at most."""
+        """The maximum number of operations that it takes."""
         return len(self.values) + 1
 
 
 class FolderReader(threading.Thread):
-    """Has a node for each file of a folder, and looks again and again for files that came, went or changed. A file that
-    changes keeps its node."""
+    """Keeps a node for each file of a folder, and keeps looking for files that were added, removed or changed. A
+    changed file keeps its node."""
 
     def __init__(self, user: bestore.Pass, folder: str, pause: float) -> None:
         super().__init__(name="folder", daemon=True)
@@ -77,9 +77,9 @@ class FolderReader(threading.Thread):
         self._is_full = False  # whether a file didn't fit in this round
         self._counted = 0
         self.rounds = 0
-        """How often the folder was read to its end."""
+        """How often the folder has been read to its end."""
         self.left_out = 0
-        """How many files have no room in the store."""
+        """How many files the store has no room for."""
         self.is_gone = False
         """Whether the folder can't be read. The nodes of its files stay."""
         self.fault: Optional[BaseException] = None
@@ -97,7 +97,7 @@ class FolderReader(threading.Thread):
             self.fault = fault
 
     def end(self) -> None:
-        """Ends the thread, and gives its pass back."""
+        """Ends the thread, and closes its pass."""
         self._ended.set()
         if self.is_alive():
             self.join()
@@ -117,7 +117,7 @@ class FolderReader(threading.Thread):
             try:
                 self._read_file(entry)
             except OSError:
-                gone.add(entry.path)  # it went meanwhile, or may not be read
+                gone.add(entry.path)  # it disappeared meanwhile, or may not be read
         for path in gone & self._known.keys():
             self._wait(Waiting(path, {}, None))
         self._write()
@@ -146,13 +146,13 @@ class FolderReader(threading.Thread):
         return values
 
     def _wait(self, file: Waiting) -> None:
-        """Keeps the file until as many wait as one change takes."""
+        """Queues the file until there are enough for one change."""
         if sum(it.operations for it in [*self._waiting, file]) > bestore.MOST_OPERATIONS:
             self._write()
         self._waiting.append(file)
 
     def _write(self) -> None:
-        """Writes the files that wait. What doesn't fit is left out for this round."""
+        """Writes the queued files. What doesn't fit is left out for this round."""
         files, self._waiting = self._waiting, []
         try:
             self._commit(files)
@@ -165,8 +165,8 @@ class FolderReader(threading.Thread):
             self._remove([file for file in files if file.about is None])
 
     def _remove(self, gone: List[Waiting]) -> None:
-        """Removes files of a full store. Since that takes pages too, fewer are removed at a time if need be, and one that can't
-        be is removed in a later round."""
+        """Removes files from a full store. Since that takes pages too, fewer are removed at a time if necessary, and one that
+        can't be removed now is removed in a later round."""
         try:
             self._commit(gone)
         except bestore.Full:
@@ -176,7 +176,7 @@ class FolderReader(threading.Thread):
                 self._remove(gone[half:])
 
     def _commit(self, files: List[Waiting]) -> None:
-        """Writes files, each volume by a change of its own. New files go into the volume that has most room."""
+        """Writes files, with one change per volume. New files go into the volume with the most room."""
         parts: Dict[Optional[int], List[Waiting]] = {}
         for file in files:
             known = self._known.get(file.path)

@@ -1,5 +1,4 @@
-"""The list of hits. The widget has the rows that are seen, and no others, so it takes the same time for ten hits and for a
-million."""
+"""The list of hits. The widget has only the visible rows, so it takes the same time for ten hits as for a million."""
 
 from __future__ import annotations
 
@@ -39,19 +38,19 @@ class HitList(tk.Frame):
         self._hits, self._actions, self._icons = hits, actions, Icons()
         self.selection = Selection(hits)
         self.columns: List[Column] = []
-        self._places: List[str] = []      # the columns by the widget's names
+        self._places: List[str] = []      # the columns, by the widget's names
         self._painted: List[Tuple[object, ...]] = []  # what its rows have
         self._top, self._top_node = 0, -1
         self._room, self._row_height = 1, row_height(self)  # how many rows there is room for
         self._clicked: Optional[Column] = None
         self._edit_later = ""
-        # It asks for no rows, so the height that it asks for is that of its headings and edges.
+        # It asks for no rows, so its requested height is just its headings and edges.
         self.tree = ttk.Treeview(self, selectmode="none", height=0, xscrollcommand=self._scrolled_sideways)
         self.tree.tag_configure("stripe", background=STRIPE)
         self.tree.tag_configure("selected", background=MARKED)
         self._bar = ttk.Scrollbar(self, command=self._scroll)
         self.bar_below = ttk.Scrollbar(self, orient="horizontal", command=self._scroll_sideways)
-        """It is there as long as columns lie beyond the edge."""
+        """It is shown as long as some columns are beyond the edge."""
         self._lay_out()
         self.editor = AttributeEditor(self.tree, actions.write)
         self._bind_keys()
@@ -83,7 +82,7 @@ class HitList(tk.Frame):
             tree.bind(f"<{name}>", lambda _: self._open())
         tree.bind("<F2>", lambda _: self.edit())
         tree.bind("<<SelectAll>>", lambda _: self._select_all())
-        tree.bind("<space>", lambda _: "break")  # which would select by the widget's own rule
+        tree.bind("<space>", lambda _: "break")  # which would select by the widget's own rules
 
     def destroy(self) -> None:
         self._cancel_edit()
@@ -91,7 +90,7 @@ class HitList(tk.Frame):
 
     @property
     def room(self) -> int:
-        """How many hits are seen at a time."""
+        """How many hits are visible at a time."""
         return self._room
 
     def show_columns(self, shown: List[Column]) -> None:
@@ -110,7 +109,7 @@ class HitList(tk.Frame):
         self.show_order()
 
     def show_order(self) -> None:
-        """Shows an arrow in the heading of the column by which the hits are sorted."""
+        """Shows an arrow in the heading of the column that the hits are sorted by."""
         for place, column in zip(self._places, self.columns):
             arrow = "" if column.attribute != self._hits.attribute else " ▼" if self._hits.will_be_turned else " ▲"
             self.tree.heading(place, text=column.title + arrow)
@@ -123,7 +122,7 @@ class HitList(tk.Frame):
         self.paint()
 
     def hit_went(self, node: Node) -> None:
-        """A hit went."""
+        """A hit is gone."""
         self.selection.forget(node)
         cell = self.editor.cell
         if cell is not None and cell.node == node:
@@ -131,7 +130,7 @@ class HitList(tk.Frame):
             self.editor.end()
 
     def paint(self) -> None:
-        """Shows the hits as they are now. If it isn't at its beginning the list stays at the hit that is on top."""
+        """Shows the hits as they are now. Unless it is at its beginning, the list keeps the same hit at the top."""
         if self._top > 0:
             place = self._hits.place_of(self._top_node)
             self._top = self._top if place is None else place
@@ -170,7 +169,7 @@ class HitList(tk.Frame):
         self._paint_from(self._top)
 
     def shown(self) -> List[List[str]]:
-        """The texts of the rows that are seen."""
+        """The texts of the visible rows."""
         rows = self.tree.get_children()
         return [[str(self.tree.item(it, "text"))[1:], *map(str, self.tree.item(it, "values"))] for it in rows]
 
@@ -208,7 +207,7 @@ class HitList(tk.Frame):
         return "break"
 
     def _scrolled_sideways(self, first: float, last: float) -> None:
-        """The widget shows this part of its columns."""
+        """Shows this part of the widget's columns."""
         if float(first) > 0 or float(last) < 1:
             self.bar_below.grid()
         else:
@@ -226,7 +225,7 @@ class HitList(tk.Frame):
             self.tree.xview_moveto(min(begin, max(first, end - (last - first))) / total)
 
     def _place_at(self, event: "tk.Event[Any]") -> Optional[int]:
-        """The place in the list that is at the pointer, or None if there is none."""
+        """The place in the list at the pointer, or None if there is none."""
         row = self.tree.identify_row(event.y)
         is_hit = self.tree.identify_region(event.x, event.y) in ("cell", "tree") and row
         return self._top + int(row) if is_hit else None
@@ -273,7 +272,7 @@ class HitList(tk.Frame):
         self._edit_later = ""
 
     def _steps_of(self, key: str) -> int:
-        """By how many places a key moves."""
+        """How many places a key moves."""
         return {"Up": -1, "Down": 1, "Prior": -self._room, "Next": self._room, "Home": -len(self._hits)}.get(key, len(self._hits))
 
     def _move(self, steps: int, extends: bool) -> str:
@@ -290,14 +289,14 @@ class HitList(tk.Frame):
 
     def _open(self) -> str:
         if len(self.selection) > MOST_OPENED:
-            self._actions.warn(f"{len(self.selection):,} files are selected, and {MOST_OPENED} is the most to open at a time")
+            self._actions.warn(f"{len(self.selection):,} files are selected, and at most {MOST_OPENED} can be opened at a time")
         else:
             hits = [self._hits.get(node) for node in self.selection.nodes]
             self._actions.open([hit for hit in hits if hit is not None])
         return "break"
 
     def edit(self) -> str:
-        """Edits the attribute that was clicked, otherwise the first that can be edited, of the hit that keys move from."""
+        """Edits the clicked attribute, otherwise the first one that can be edited, of the hit that keys move from."""
         self._cancel_edit()
         place = self.selection.cursor
         can = [column for column in self.columns if column.is_edited]
@@ -314,7 +313,7 @@ class HitList(tk.Frame):
         return "break"
 
     def edit_cell(self, cell: Cell, text: str) -> None:
-        """Edits a cell, which begins with a text, if its hit is still there."""
+        """Edits a cell, starting with a text, if its hit is still there."""
         place = self._hits.place_of(cell.node)
         if place is None or cell.column not in self.columns:
             return
@@ -330,7 +329,7 @@ class HitList(tk.Frame):
         return None if self.editor.cell is None else self._box(self.editor.cell)
 
     def _box(self, cell: Cell) -> Optional[Box]:
-        """Where a cell is seen, or None."""
+        """Where a cell is visible, or None."""
         place = self._hits.place_of(cell.node)
         if place is None or not self._top <= place < self._top + len(self._painted):
             return None

@@ -1,4 +1,4 @@
-"""The attributes of a mail, by the names of BeOS."""
+"""The attributes of a mail, under BeOS's names."""
 
 from __future__ import annotations
 
@@ -20,12 +20,12 @@ _ENCODED = re.compile(rf"{_WORD}(?:\s+{_WORD})*", re.IGNORECASE)  # words of a h
 
 
 def cut(text: str) -> str:
-    """As much of a text as a value holds."""
+    """As much of a text as fits into a value."""
     return text.replace("\0", "").encode(errors="replace")[:255].decode(errors="ignore")
 
 
 def is_mailbox(folder: str) -> bool:
-    """Whether a folder has the mails of a Maildir, of which it is one of two sides."""
+    """Whether a folder holds the mails of a Maildir, as one of its two folders."""
     maildir, side = os.path.split(folder)
     return side in ("cur", "new") and is_maildir(maildir)
 
@@ -49,7 +49,7 @@ def _decoded_bytes(raw: bytes) -> str:
 
 
 def _decoded_words(found: Match[str]) -> str:
-    """Encoded words of a header in plain text, or as they are if they can't be read."""
+    """A header's encoded words in plain text, or unchanged if they can't be read."""
     try:
         return str(email.header.make_header(email.header.decode_header(found[0])))
     except (LookupError, ValueError, email.errors.MessageError):
@@ -57,7 +57,7 @@ def _decoded_words(found: Match[str]) -> str:
 
 
 def mail_attributes(path: str) -> Dict[str, bestore.Value]:
-    """What the head of a mail says."""
+    """What the headers of a mail say."""
     with open(path, "rb") as file:
         head = email.parser.BytesHeaderParser().parse(file)
     is_read = "S" in os.path.basename(path).rpartition(":2,")[2] and os.path.basename(os.path.dirname(path)) == "cur"

@@ -1,4 +1,4 @@
-"""Opens a file by the program that the desktop has for its type."""
+"""Opens a file with the desktop's program for its type."""
 
 from __future__ import annotations
 
@@ -12,11 +12,11 @@ _MEANINGS = {2: "there is no such file", 3: "a program that it needs is missing"
 
 
 class CannotOpen(Exception):
-    """A file can't be opened, as the text says."""
+    """A file can't be opened, for the reason in the text."""
 
 
 class Opening:
-    """A file that is being opened, by xdg-open. `CannotOpen` if that can't be tried."""
+    """A file that is being opened, by xdg-open. Raises `CannotOpen` if that can't be tried."""
 
     def __init__(self, path: Optional[str], name: str) -> None:
         if path is None:
@@ -34,7 +34,7 @@ class Opening:
             raise CannotOpen(f"{shown(path)} can't be opened: {error.strerror}") from error
 
     def has_ended(self) -> bool:
-        """Whether xdg-open has ended. `CannotOpen` if it has failed."""
+        """Whether xdg-open has ended. Raises `CannotOpen` if it failed."""
         code = self._process.poll()
         if code is None:
             return False

@@ -1,4 +1,4 @@
-"""A server that a window starts for itself, if none listens."""
+"""A server that a window starts for itself if none is listening."""
 
 from __future__ import annotations
 
@@ -12,7 +12,7 @@ import bestore
 from bestore.connected import SocketPath
 
 PATIENCE = 10.0
-"""How many seconds a server may take to listen."""
+"""How many seconds a server may take until it listens."""
 
 
 class CannotStart(Exception):
@@ -20,13 +20,13 @@ class CannotStart(Exception):
 
 
 def kept_path() -> str:
-    """The file in which the units of systemd keep the store too."""
+    """The file in which the systemd units also keep the store."""
     folder = os.environ.get("XDG_DATA_HOME") or os.path.join(os.path.expanduser("~"), ".local", "share")
     return os.path.join(folder, "bestore", "store.bestore")
 
 
 def listens(path: SocketPath) -> bool:
-    """Whether a server listens at a socket. One that refuses this client does."""
+    """Whether a server listens at a socket, even one that refuses this client."""
     try:
         bestore.connect(path, PATIENCE).close()
     except bestore.NoServer:
@@ -37,7 +37,7 @@ def listens(path: SocketPath) -> bool:
 
 
 class OwnServer:
-    """A server, up to `close`."""
+    """A server, until `close`."""
 
     def __init__(self, path: SocketPath) -> None:
         program = shutil.which("bestored")

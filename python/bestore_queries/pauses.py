@@ -1,4 +1,4 @@
-"""Keeps Python itself from halting the window for long."""
+"""Keeps Python itself from pausing the window for long."""
 
 from __future__ import annotations
 
@@ -9,17 +9,17 @@ import tkinter as tk
 from typing import Iterator
 
 SWITCH = 0.0005
-"""Seconds after which a thread lets another one run. The window calls Tk often, and waits for its turn each time."""
+"""Seconds after which a thread lets another one run. The window often calls Tk, and waits for its turn each time."""
 LOOK = 1_000
 """Milliseconds between two collections."""
 MANY = 50_000
-"""New objects that are collected. More of them are hits, which have no cycles: they are never looked at."""
+"""How many new objects trigger a collection. Most others are hits, which have no cycles and are never looked at."""
 
 
 @contextlib.contextmanager
 def short_pauses(root: tk.Tk) -> Iterator[None]:
-    """Until the end of the `with` threads take turns quickly, and the garbage collector looks at new objects alone: a look at
-    all hits takes longer the more there are."""
+    """Until the end of the `with`, threads take turns quickly, and the garbage collector looks only at new objects: looking
+    at all hits takes longer the more there are."""
     before = sys.getswitchinterval()
     sys.setswitchinterval(SWITCH)
     gc.disable()

@@ -1,4 +1,4 @@
-"""Where a file is: its folder as a path, from the attributes that an import writes."""
+"""Where a file is: the path of its folder, from the attributes that an import writes."""
 
 from __future__ import annotations
 
@@ -15,7 +15,7 @@ _DEEPEST = 256  # folders within one another
 
 
 class Places:
-    """The folders that were read already, by their nodes."""
+    """The folders that have already been read, by their nodes."""
 
     def __init__(self) -> None:
         self._paths: Dict[Node, Optional[str]] = {}
@@ -25,7 +25,7 @@ class Places:
         return any(node in self._paths for node in nodes)
 
     def locate(self, version: bestore.Version, attributes: Dict[str, bestore.Value]) -> None:
-        """Adds the folder of a file, if an import has written only which node that is."""
+        """Adds the folder of a file, if an import has written only its node."""
         parent, root = attributes.get("FILE:parent"), attributes.get("FILE:root")
         if "folder" in attributes:
             return
@@ -34,7 +34,7 @@ class Places:
             attributes["folder"] = path
 
     def _path_of(self, version: bestore.Version, node: Node, depth: int) -> Optional[str]:
-        """The path of a folder. None if it isn't known."""
+        """The path of a folder, or None if it isn't known."""
         if node not in self._paths:
             values = [column[0] for column in version.columns([node], ("FILE:root", "FILE:parent", "FILE:name", "name"))]
             root, parent, raw, name = values
@@ -46,7 +46,7 @@ class Places:
 
 
 def _decoded(value: Optional[bestore.Value]) -> Optional[str]:
-    """A path or a name as the system's calls take it. Its bytes may be no text."""
+    """A path or a name in the form that system calls take. Its bytes needn't be text."""
     if value is None or isinstance(value, int):
         return None
     return os.fsdecode(value)

@@ -47,7 +47,7 @@ class QueryMenu(ttk.Menubutton):
 
 
 class AttributeMenu(ttk.Menubutton):
-    """The attributes, of which each may be a column."""
+    """The attributes, each of which can be a column."""
 
     def __init__(self, parent: tk.Misc, choose: Callable[[List[str]], None]) -> None:
         super().__init__(parent, text="Attributes", width=9)
@@ -57,7 +57,7 @@ class AttributeMenu(ttk.Menubutton):
         self.configure(menu=self.menu)
 
     def offer(self, attributes: Sequence[str], shown: Sequence[str]) -> None:
-        """Offers these attributes, of which some are shown."""
+        """Offers these attributes, some of which are shown."""
         names = [*shown, *(it for it in attributes if it not in shown)]
         if names == list(self._chosen) and all(var.get() == (name in shown) for name, var in self._chosen.items()):
             return
@@ -71,7 +71,7 @@ class AttributeMenu(ttk.Menubutton):
 
 
 class NameRow(tk.Frame):
-    """A row that asks for the name of a query that is to be saved."""
+    """A row that asks for the name under which to save a query."""
 
     def __init__(self, parent: tk.Misc, save: Callable[[str], None]) -> None:
         super().__init__(parent, background=FACE)
@@ -86,14 +86,14 @@ class NameRow(tk.Frame):
         self.entry.bind("<Escape>", lambda _: self.pack_forget())
 
     def show(self, name: str) -> None:
-        """Shows the row, with a name that is offered."""
+        """Shows the row, with a suggested name."""
         self._typed.set(name)
         self.pack(fill="x", pady=(6, 0))
         self.entry.focus_set()
         self.entry.select_range(0, "end")
 
     def finish(self) -> None:
-        """Saves by the name, if there is one."""
+        """Saves under the name, if there is one."""
         name = self._typed.get().strip()
         if name:
             self.pack_forget()

@@ -15,9 +15,9 @@ class Saved(NamedTuple):
 
     name: str
     query: str
-    """As it was typed, so that `yesterday` is another day each time."""
+    """As it was typed, so that `yesterday` is a different day each time."""
     columns: Tuple[str, ...] = ()
-    """The attributes that were shown, or none if nobody chose any."""
+    """The attributes that were shown, or empty if nobody chose any."""
 
 
 class BadFile(Exception):
@@ -32,7 +32,7 @@ class BadFile(Exception):
 
 
 def default_path() -> str:
-    """The file, if nothing else is said."""
+    """The default file."""
     folder = os.environ.get("XDG_CONFIG_HOME") or os.path.join(os.path.expanduser("~"), ".config")
     return os.path.join(folder, "bestore", "queries.json")
 
@@ -44,16 +44,16 @@ class SavedQueries:
         self.path = default_path() if path is None else path
 
     def all(self) -> List[Saved]:
-        """The queries, in the order of their names. `BadFile`."""
+        """The queries, in the order of their names. Raises `BadFile`."""
         return sorted(self._read(), key=lambda it: it.name.casefold())
 
     def save(self, saved: Saved) -> None:
-        """Saves a query in the place of the one that has its name. `BadFile`, and then the file is as it was."""
+        """Saves a query, replacing the one that has its name. Raises `BadFile`, and then the file is as it was."""
         with self._alone():
             self._write([it for it in self._read() if it.name != saved.name] + [saved])
 
     def remove(self, name: str) -> None:
-        """Removes a query, if it is there. `BadFile`."""
+        """Removes a query, if it is there. Raises `BadFile`."""
         with self._alone():
             self._write([it for it in self._read() if it.name != name])
 
@@ -82,7 +82,7 @@ class SavedQueries:
             raise BadFile(self.path, f"it has no list of queries: {error}") from error
 
     def _write(self, queries: List[Saved]) -> None:
-        """Writes the file anew: whoever reads it has the old one or the new one."""
+        """Replaces the file: a reader gets either the old one or the new one."""
         text = json.dumps({"queries": [it._asdict() for it in queries]}, ensure_ascii=False, indent=1)
         folder = os.path.dirname(self.path)
         descriptor, path = tempfile.mkstemp(dir=folder, prefix=".queries-")

@@ -1,4 +1,4 @@
-"""Which hits of a list are selected, by their nodes: it stays as the list changes."""
+"""Which hits of a list are selected, by their nodes, so that the selection stays as the list changes."""
 
 from __future__ import annotations
 
@@ -38,16 +38,16 @@ class Selection:
         self._nodes, self._cursor, self._anchor = set(), None, None
 
     def forget(self, node: Node) -> None:
-        """A hit went."""
+        """A hit is gone."""
         self._nodes.discard(node)
 
     def choose(self, place: int) -> None:
-        """Selects one hit alone."""
+        """Selects only one hit."""
         node = self._hits[place].node
         self._nodes, self._cursor, self._anchor = {node}, node, node
 
     def toggle(self, place: int) -> None:
-        """Adds a hit, or takes it away."""
+        """Adds a hit, or removes it."""
         node = self._hits[place].node
         self._nodes ^= {node}
         self._cursor = self._anchor = node
@@ -69,7 +69,7 @@ class Selection:
             self._anchor = self._hits[0].node
 
     def move(self, steps: int, extends: bool = False) -> Optional[int]:
-        """Moves by so many places, and selects what is there, or all up to there. Returns the place."""
+        """Moves by this many places, and selects the hit there, or all hits up to there. Returns the place."""
         if not len(self._hits):
             return None
         at = self.cursor

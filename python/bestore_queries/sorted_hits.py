@@ -1,5 +1,5 @@
-"""The hits of a query in their order. One that comes is put at its place, and the hits are sorted anew in steps, so that no step
-takes long however many there are."""
+"""The hits of a query, in order. A new one is put in its place, and re-sorting is done in steps, so that no step takes long
+however many hits there are."""
 
 from __future__ import annotations
 
@@ -26,7 +26,7 @@ Entry = Tuple[int, Any, Any, Node]
 
 
 def entry_of(attribute: str, hit: Hit) -> Optional[Entry]:
-    """By what a hit is sorted, or None if it lacks the attribute: numbers before texts, and texts whatever their case."""
+    """What a hit is sorted by, or None if it lacks the attribute: numbers before texts, and texts regardless of case."""
     value = hit.attributes.get(attribute)
     if value is None:
         return None
@@ -36,7 +36,7 @@ def entry_of(attribute: str, hit: Hit) -> Optional[Entry]:
 
 
 class _Listed:
-    """Hits in the order of an attribute, and those without it after them."""
+    """Hits in the order of an attribute, followed by those without it."""
 
     def __init__(self, attribute: str, entries: Optional[List[Entry]] = None, lacking: Optional[List[Node]] = None) -> None:
         self.attribute = attribute
@@ -59,7 +59,7 @@ class _Listed:
 
 
 class _Sorting:
-    """Hits that are being sorted by another attribute: parts of them first, which then are merged."""
+    """Hits that are being sorted by another attribute: first in parts, which are then merged."""
 
     def __init__(self, attribute: str, hits: Iterator[Hit]) -> None:
         self.attribute = attribute
@@ -70,7 +70,7 @@ class _Sorting:
         self._lacking: List[Node] = []
         self._has_read_all = False
         self.touched: Dict[Node, Optional[Hit]] = {}
-        """The hits that came, changed or went meanwhile, as they were at the beginning: None if they weren't there."""
+        """The hits that came, changed or went meanwhile, as they were at the beginning, or None if they weren't there."""
 
     def step(self) -> Optional[_Listed]:
         """Goes on. Returns the hits once they are sorted."""
@@ -99,7 +99,7 @@ class _Sorting:
 
 
 class SortedHits:
-    """The hits by their place in the list."""
+    """The hits, by their place in the list."""
 
     def __init__(self, attribute: str = "name") -> None:
         self._hits: Dict[Node, Hit] = {}
@@ -109,7 +109,7 @@ class SortedHits:
         self._first: List[Node] = []  # the first hits in the order that is being made, which come before the others
         self._gaps: Optional[List[int]] = None  # their places in the order that the others still have, if these are known
         self.is_turned = self.will_be_turned = False
-        """Whether the greatest come first. Hits without the attribute come last all the same."""
+        """Whether the greatest come first. Hits without the attribute come last in either case."""
 
     def __len__(self) -> int:
         return len(self._hits)
@@ -133,7 +133,7 @@ class SortedHits:
         return self._hits.get(node)
 
     def place_of(self, node: Node) -> Optional[int]:
-        """The place of a node, from 0, or None if it is no hit."""
+        """The place of a node, from 0, or None if it isn't a hit."""
         hit = self._hits.get(node)
         if hit is None:
             return None
@@ -143,7 +143,7 @@ class SortedHits:
         return len(self._first) + place - bisect_left(self._gaps_of_first(), place)
 
     def _gaps_of_first(self) -> List[int]:
-        """The places that the hits which come first have among those that are listed."""
+        """The places among the listed hits of those that are put first."""
         if self._gaps is None:
             self._gaps = sorted(self._listed_place(self._hits[node]) for node in self._first)
         return self._gaps
@@ -170,7 +170,7 @@ class SortedHits:
         self._listed.add(hit)
 
     def remove(self, node: Node) -> None:
-        """Takes a hit away, if it is there."""
+        """Removes a hit, if it is there."""
         old = self._hits.pop(node, None)
         if old is not None:
             self._touch(node, old)
@@ -178,7 +178,7 @@ class SortedHits:
             self._set_first([it for it in self._first if it != node])
 
     def clear(self) -> None:
-        """Takes all hits away. Their order stays."""
+        """Removes all hits. The order stays."""
         self._hits, self._listed = {}, _Listed(self.attribute)
         self._set_first([])
         self._sorting, self._sorted, self.is_turned = None, None, self.will_be_turned
@@ -189,11 +189,11 @@ class SortedHits:
 
     @property
     def attribute(self) -> str:
-        """By what the hits are sorted, or will be once `step` has done it."""
+        """What the hits are sorted by, or will be once `step` has finished."""
         return self._listed.attribute if self._sorting is None else self._sorting.attribute
 
     def sort(self, attribute: str, is_turned: bool = False) -> None:
-        """Sorts the hits by an attribute. Until `step` has done it they stay in the order that they have."""
+        """Sorts the hits by an attribute. Until `step` has finished they stay in their old order."""
         self._set_first([])
         if attribute == self._listed.attribute:
             self._sorting = self._sorted = None
@@ -203,7 +203,7 @@ class SortedHits:
         self.will_be_turned = is_turned
 
     def show_first(self, nodes: Sequence[Node]) -> None:
-        """Puts these hits, which the store has found as the first ones of the new order, before all others until `step` has sorted
+        """Puts these hits, which the store has found to be the first in the new order, before all others until `step` has sorted
         them."""
         if self._sorting is not None:
             self._set_first([node for node in nodes if node in self._hits])

@@ -1,4 +1,4 @@
-"""The store that a window asks: that of a server, or one in this process with the files of a folder."""
+"""The store that a window asks: a server's, or one in this process with the files of a folder."""
 
 from __future__ import annotations
 
@@ -21,7 +21,7 @@ GROWTH = 1.3           # how many more files than there are at first have room
 
 
 class Condition(NamedTuple):
-    """How a source is: what the line below the list says."""
+    """The state of a source, for the line below the list."""
 
     text: str
     is_fault: bool = False
@@ -36,7 +36,7 @@ class LiveAnswer(ABC):
 
     @abstractmethod
     def refresh(self, version: bestore.Version) -> Tuple[List[Node], List[Node]]:
-        """Which nodes came and which went, since the last call up to this version. At first all come."""
+        """Which nodes came and which went between the last call and this version. At first all come."""
 
     @abstractmethod
     def close(self) -> None:
@@ -44,11 +44,11 @@ class LiveAnswer(ABC):
 
 
 class Session(ABC):
-    """A store that is open. Its calls are made by one thread."""
+    """An open store. One thread makes all its calls."""
 
     user: bestore.Pass
     store: str = ""
-    """Of sessions with the same text nodes are the same."""
+    """Nodes are the same in sessions with the same text."""
 
     @abstractmethod
     def begin(self, text: str) -> LiveAnswer:
@@ -59,7 +59,7 @@ class Session(ABC):
         """Whether something may have been written since the last call."""
 
     def written(self, since: Numbers, version: bestore.Version) -> Optional[Set[Node]]:
-        """The nodes whose attributes were set after these commits and up to a snapshot. None if that is too much to be read."""
+        """The nodes whose attributes were set after these commits and up to a snapshot. None if that is too much to read."""
         now = version.numbers
         if len(now) != len(since) or sum(now) - sum(since) > MANY:
             return None
@@ -70,14 +70,14 @@ class Session(ABC):
         return nodes
 
     def _entries(self, volume: Optional[int], first: int, last: int) -> Iterator[bestore.Entry]:
-        """What was written to a volume from a commit to another one."""
+        """What was written to a volume between two commits."""
         for entry in self.user.journal_from(first, volume=volume) if first < last else ():
             if entry.number > last:
                 break
             yield entry
 
     def close(self) -> None:
-        """Gives the store up."""
+        """Closes the store."""
         self.user.close()
 
 
@@ -89,15 +89,15 @@ class Source(ABC):
 
     @abstractmethod
     def open(self) -> Session:
-        """Opens the store. A `bestore.Error` if it isn't there."""
+        """Opens the store. Raises a `bestore.Error` if it isn't there."""
 
     @property
     @abstractmethod
     def condition(self) -> Condition:
-        """How the source is now."""
+        """The current state of the source."""
 
     def close(self) -> None:
-        """Ends what belongs to the window alone."""
+        """Ends whatever belongs only to the window."""
 
 
 class _Prepared(LiveAnswer):
@@ -106,7 +106,7 @@ class _Prepared(LiveAnswer):
     def __init__(self, user: bestore.Pass, text: str) -> None:
         self._query = bestore.prepare(text)
         with user.pin() as version:
-            version.explain(text)  # the errors that the query has at this store
+            version.explain(text)  # the errors that the query has with this store
 
     def refresh(self, version: bestore.Version) -> Tuple[List[Node], List[Node]]:
         return version.refresh(self._query)
@@ -155,21 +155,21 @@ class _ServerSession(Session):
 
 
 def size_for(files: int) -> Tuple[int, int]:
-    """How many volumes a store needs for so many files and some more, and of how many pages each."""
+    """How many volumes a store needs for this many files and a few more, and how many pages each needs."""
     pages = 4096 + math.ceil(files * PAGES_OF_A_FILE * GROWTH)
     volumes = min(math.ceil(pages / MOST_PAGES), MOST_VOLUMES)
     return volumes, min(math.ceil(pages / volumes), MOST_PAGES)
 
 
 class FolderSource(Source):
-    """A store in this process, with the files of a folder. It is made at the first opening, for as many files as there are
-    then."""
+    """A store in this process, with the files of a folder. It is made when it is first opened, with room for the files
+    that there are then."""
 
     def __init__(self, folder: str, pages: Optional[int] = None, pause: float = 1.0) -> None:
         self.title, self._folder, self._pages, self._pause = folder, folder, pages, pause
         self._store: Optional[bestore.Pass] = None
         self.reader: Optional[FolderReader] = None
-        """What reads the folder, once the store was opened."""
+        """What reads the folder, once the store has been opened."""
 
     def open(self) -> Session:
         if self._store is None:
@@ -189,7 +189,7 @@ class FolderSource(Source):
         if reader.fault is not None:
             return Condition(f"The folder is no longer followed: {reader.fault}", True)
         if reader.is_gone:
-            return Condition(f"The folder {self._folder} can't be read: what is shown is what it had", True)
+            return Condition(f"The folder {self._folder} can't be read; the list shows what was in it", True)
         if reader.left_out:
             return Condition(
                 f"The store is full: {len(reader):,} files are in, and {reader.left_out:,} aren't. Open the window again, and it "
@@ -204,7 +204,7 @@ class FolderSource(Source):
 
 
 class ServerSource(Source):
-    """The store of a server. If none is named and none listens, it starts one."""
+    """The store of a server. If none is named and none is listening, it starts one."""
 
     def __init__(self, path: Optional[str] = None) -> None:
         self._server: Optional[own_server.OwnServer] = None

@@ -25,7 +25,7 @@ _FOLDERS = ("inode/directory", "application/x-vnd.Be-directory", "application/x-
 
 
 def _image(parts: List[Tuple[str, int, int, int, int]]) -> tk.PhotoImage:
-    """Rectangles: each its colour, its place, its width and its height."""
+    """Rectangles: each with its colour, place, width and height."""
     image = tk.PhotoImage(width=20, height=ICON_HEIGHT)
     for colour, x, y, width, height in parts:
         row = "{" + " ".join([colour] * width) + "}"
@@ -59,7 +59,7 @@ class Icons:
 
 
 def row_height(widget: tk.Misc) -> int:
-    """The height of a row of the list, in pixels: that of its letters or of its icon, and some room."""
+    """The height of a list row in pixels: the height of its letters or icon, plus some space."""
     return max(tkinter.font.nametofont("TkDefaultFont", widget).metrics("linespace"), ICON_HEIGHT) + 4
 
 
@@ -81,6 +81,6 @@ def apply(root: tk.Tk) -> None:
     style.configure("TMenubutton", padding=(8, 3), arrowcolor="#333333")
     style.configure("Treeview", background=PAPER, fieldbackground=PAPER, rowheight=row_height(root), borderwidth=0)
     style.configure("Treeview.Heading", background=FACE, relief="flat", padding=(3, 4))
-    # An icon and a text, and no mark of rows below a row.
+    # An icon and a text, without a mark for rows below a row.
     parts = [(part, {"side": "left", "sticky": ""}) for part in ("Treeitem.image", "Treeitem.text")]
     style.layout("Treeview.Item", [("Treeitem.padding", {"sticky": "nswe", "children": parts})])

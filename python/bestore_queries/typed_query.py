@@ -1,4 +1,4 @@
-"""What was typed as a query, as the store is asked: dates become numbers. Errors are shown at their place in what was typed."""
+"""A typed query, in the form that the store is asked: dates become numbers. Errors are shown at their place in what was typed."""
 
 from __future__ import annotations
 
@@ -25,14 +25,14 @@ _NO_DATE = re.compile(r"(?!(?:19|20|21)[0-9]{2}$)-?[0-9]+", re.ASCII)  # a whole
 
 
 class Fault(NamedTuple):
-    """What is wrong with a query, and the character of what was typed at which it is, if that is known."""
+    """What is wrong with a query, and at which typed character, if that is known."""
 
     message: str
     column: Optional[int] = None
 
 
 class TypedFault(Exception):
-    """What was typed can't be sent: a date in it is none."""
+    """What was typed can't be sent, because a date in it isn't one."""
 
     def __init__(self, fault: Fault) -> None:
         super().__init__(fault.message)
@@ -50,7 +50,7 @@ class _Token(NamedTuple):
 
     @property
     def value(self) -> str:
-        """The text without what encloses it."""
+        """The text without the marks around it."""
         return self.text[1:-1] if self.kind in ("quoted", "date") else self.text
 
 
@@ -71,7 +71,7 @@ class TypedQuery(NamedTuple):
     parts: Tuple[_Part, ...]
 
     def column_of(self, offset: int) -> int:
-        """The character of what was typed that has a byte of what is sent. In a date it is the first of its comparison."""
+        """The typed character that a byte of the sent text comes from. For a date, it is the first one of its comparison."""
         column = len(self.sent.encode(errors="surrogatepass")[:offset].decode(errors="ignore"))
         for part in self.parts:
             if column < part.start:
@@ -87,8 +87,8 @@ class TypedQuery(NamedTuple):
 
 
 def read(typed: str, now: Optional[datetime] = None) -> TypedQuery:
-    """The query that is sent for what was typed. A value in `%` is a date, and so is one of an attribute that is a time unless it
-    is a number of seconds or has a wildcard. `TypedFault` if it is none."""
+    """The query that is sent for what was typed. A value in `%` is a date, and so is any value of a time attribute, unless it is
+    a number of seconds or has a wildcard. `TypedFault` if it isn't one."""
     found, parts = _tokens(typed), []
     for name, operator, value in zip(found, found[1:], found[2:]):
         if name.kind in ("word", "quoted") and operator.kind == "compares" and _is_date(name, value):
@@ -154,7 +154,7 @@ def fault_of(error: bestore.Error, query: TypedQuery, indices: Mapping[str, best
     if isinstance(error, bestore.NotCovered):
         return _not_covered(error, query, indices)
     return Fault({
-        bestore.TooLong: "the query is too long: 4,096 bytes are the most", bestore.TooMany: "more than 256 comparisons",
+        bestore.TooLong: "the query is too long: the limit is 4,096 bytes", bestore.TooMany: "more than 256 comparisons",
         bestore.TooDeep: "more than 64 ( or ! within one another",
     }.get(type(error), error.summary), _place(error, query))
 
@@ -172,7 +172,7 @@ def _not_covered(error: bestore.NotCovered, query: TypedQuery, indices: Mapping[
 
 
 def _missing(typed: str, place: Optional[int]) -> str:
-    """What is missing at this character, or too much."""
+    """What is missing, or superfluous, at this character."""
     column = len(typed) if place is None else place
     before = [token for token in _tokens(typed) if token.end <= column]
     last = before[-1] if before else None
@@ -197,14 +197,14 @@ def _ends_comparison(before: List[_Token]) -> bool:
 
 
 def _open_quote(typed: str) -> bool:
-    """Whether what is after the last token begins a quoted text that has no end."""
+    """Whether an unclosed quoted text begins after the last token."""
     found = _tokens(typed)
     return typed[found[-1].end if found else 0:].strip()[:1] in ('"', "'")
 
 
 def lines_of(fault: Fault, typed: str, width: int) -> List[str]:
-    """A fault in lines of up to so many columns: what it is, and what was typed with a caret under the place. Of what is wider
-    the part round the place is shown."""
+    """A fault, in lines of up to this many columns: what it is, and what was typed, with a caret under the place. If that is
+    wider, only the part around the place is shown."""
     message = fault.message[:1].upper() + fault.message[1:]
     lines = [shortened(message, width)]
     if fault.column is not None:
@@ -213,7 +213,7 @@ def lines_of(fault: Fault, typed: str, width: int) -> List[str]:
 
 
 def shortened(line: str, width: int) -> str:
-    """As much of a line as has room."""
+    """As much of a line as fits."""
     if columns_of(line) <= width:
         return line
     while line and columns_of(line) > width - 1:
@@ -222,6 +222,6 @@ def shortened(line: str, width: int) -> str:
 
 
 def hint_of(hint: bestore.Hint) -> str:
-    """A comparison that no node meets, in words."""
+    """A comparison that no node can meet, in words."""
     why = "it is out of range" if hint.is_number else "it isn't a whole number"
     return f"Nothing has {hint.name} “{hint.value}”: {why}."

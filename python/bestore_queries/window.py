@@ -114,7 +114,7 @@ class Window:
         self.message.bind("<Configure>", lambda _: self._tell_query())
 
     def close(self) -> None:
-        """Ends the window, and what belongs to it."""
+        """Closes the window and everything that belongs to it."""
         if not self._is_ended:
             self.end()
             self.root.destroy()
@@ -151,7 +151,7 @@ class Window:
         self._typing = self.root.after(TYPING_PAUSE, self._ask)
 
     def _ask(self) -> None:
-        """Asks what is in the line. The old answer goes at once, also if nothing can be asked."""
+        """Asks what is in the line. The old answer disappears at once, even if nothing can be asked."""
         if self._typing:
             self.root.after_cancel(self._typing)
         self._typing = ""
@@ -177,7 +177,7 @@ class Window:
         self._ask()
 
     def sort(self, column: Column) -> None:
-        """Sorts the hits by a column from now on; at the second time the other way round."""
+        """Sorts the hits by a column from now on; the second time, the other way round."""
         is_turned = self.hits.attribute == column.attribute and not self.hits.will_be_turned
         self.hits.sort(column.attribute, is_turned)
         begin = self._begin()
@@ -188,8 +188,8 @@ class Window:
         self.list.paint()
 
     def _begin(self) -> Optional[Begin]:
-        """The hits that the list begins with, if an index has its order: those that are seen, and a page more. The order of an index
-        of texts is another one than that of the list, which pays no heed to case."""
+        """The hits that the list begins with, if an index has its order: the visible ones, and one more page. An index of texts has
+        a different order from the list, which ignores case."""
         attribute = self.hits.attribute
         if not columns.is_number(self._indices.get(attribute)):
             return None
@@ -213,7 +213,7 @@ class Window:
         self._next_step = self.root.after(milliseconds, self._step)
 
     def open(self, hits: List[Hit]) -> None:
-        """Opens files by the programs that the desktop has for them."""
+        """Opens files with the desktop's programs for them."""
         self._warning = ""
         for hit in hits:
             try:
@@ -257,14 +257,14 @@ class Window:
         self.root.title(f"Query: {name}")
 
     def warn(self, text: str) -> None:
-        """Shows that something couldn't be done, up to the next thing that the user does."""
+        """Shows that something couldn't be done, until the user does something else."""
         self._warning = text
         self._show_notice()
 
     # What is reported.
 
     def _step(self) -> None:
-        """Takes reports for a short time, and goes on as long as the window is there."""
+        """Takes reports for a short time, and repeats this as long as the window exists."""
         end, is_busy, is_changed = time.monotonic() + BUDGET, self.hits.is_sorting or self._awaits_first, False
         awaited_first = self._awaits_first
         while time.monotonic() < end:
@@ -336,7 +336,7 @@ class Window:
         self.list.clear()
 
     def _refuse(self, report: Refused) -> None:
-        """The query isn't followed: what is shown is no answer to it."""
+        """The query isn't followed: what is shown isn't an answer to it."""
         self._take_nothing()
         self._take_indices(report.indices)
         self._fault = typed_query.fault_of(report.error, self._typed, report.indices)
@@ -373,7 +373,7 @@ class Window:
         self.attribute_menu.offer([it for it in names if it not in columns.HIDDEN], [it.attribute for it in self._columns()])
 
     def _width(self) -> int:
-        """How many characters a line below the query has room for."""
+        """How many characters fit on a line below the query."""
         room = self.message.winfo_width() - 2 * int(str(self.message["padx"]))
         return max(room // tkinter.font.nametofont("TkFixedFont").measure("0"), 20)
 
@@ -405,7 +405,7 @@ class Window:
         self.state.configure(text="   ·   ".join(words))
 
     def _show_notice(self) -> None:
-        """Shows what is wrong with the source, and what couldn't be done. It is there as long as something is."""
+        """Shows what is wrong with the source, and what couldn't be done, for as long as there is something to show."""
         condition = self._source.condition
         faults = [self._warning] if self._warning else []
         if self._lost:

@@ -1,11 +1,11 @@
-/* Batches: operations, and the bytes of their names and values, as the library takes them. */
+/* Batches: operations, and the bytes of their names and values, in the form that the library takes. */
 #include "native.h"
 
 #include <string.h>
 
 PyTypeObject *batch_type;
 
-/* Makes room for so many more things, and doubles it. */
+/* Makes room for this many more things, at least doubling it. */
 static void *grown(void *kept, size_t *room, size_t needed, size_t size)
 {
     size_t more = *room == 0 ? 4 : *room;
@@ -64,7 +64,7 @@ bool add_operation(Batch *batch, bes_operation operation, const uint8_t *name, s
     return true;
 }
 
-/* Adds an operation to a batch, which is then the result, as it is of each call that adds one. */
+/* Adds an operation to a batch, and returns the batch, like every call that adds one. */
 static PyObject *added(PyObject *self, bes_operation operation, PyObject *name, const uint8_t *value, size_t value_length)
 {
     const uint8_t *bytes = NULL;
@@ -86,7 +86,7 @@ static bool keep_bytes(Encoded *encoded, PyObject *bytes)
     return true;
 }
 
-/* Encodes a value by the package's own function. */
+/* Encodes a value with the package's own function. */
 static bool encode_slowly(PyObject *value, PyObject *kind, Encoded *encoded)
 {
     PyObject *parts = PyObject_CallFunctionObjArgs(known.encode_value, value, kind == NULL ? Py_None : kind, NULL);
@@ -103,7 +103,7 @@ static bool encode_slowly(PyObject *value, PyObject *kind, Encoded *encoded)
     return is_done;
 }
 
-/* Encodes a value: of the common types here, with the kinds that encode_value gives them too. */
+/* Encodes a value: the common types here, with the same kinds that encode_value gives them. */
 bool encode(PyObject *value, PyObject *kind, Encoded *encoded)
 {
     PyTypeObject *type = Py_TYPE(value);
@@ -203,7 +203,7 @@ static PyObject *batch_remove_index(PyObject *self, PyObject *const *given, Py_s
     return added(self, (bes_operation){ .kind = BES_REMOVE_INDEX }, read[0], NULL, 0);
 }
 
-/* Adds an operation by its parts: kind, node, name, code, number and value, the name and the value as bytes. */
+/* Adds an operation from its parts: kind, node, name, code, number and value, the name and the value as bytes. */
 static PyObject *batch_add_encoded(PyObject *self, PyObject *arguments)
 {
     unsigned int kind, code;
@@ -247,7 +247,7 @@ static PyObject *batch_parts(PyObject *self, PyObject *nothing)
     return list;
 }
 
-/* Puts operations, as the library writes them, and their bytes in the place of what the batch had. */
+/* Replaces what the batch had with operations in the library's form, and their bytes. */
 static PyObject *batch_put(PyObject *self, PyObject *arguments)
 {
     Batch *batch = (Batch *)self;
@@ -280,7 +280,7 @@ PyObject *batch_of(const Listed *listed)
     return made;
 }
 
-/* Adds each of the operations that a batch is made with, by its method `add`. */
+/* Adds each of the operations that a batch is made with, using its method `add`. */
 static int add_all(PyObject *self, PyObject *operations)
 {
     PyObject *all = PyObject_GetIter(operations), *operation;
@@ -349,21 +349,21 @@ static PyMethodDef methods[] = {
       "Makes an index of this name, for values of this kind. It takes the attributes that are set from then on." },
     { "remove_index", METHOD(batch_remove_index), "remove_index($self, /, name)\n--\n\nRemoves the index of this name." },
     { "_add_encoded", batch_add_encoded, METH_VARARGS,
-      "Adds an operation by its parts: kind, node, name, code, number and value, the name and the value as bytes." },
+      "Adds an operation from its parts: kind, node, name, code, number and value, the name and the value as bytes." },
     { "_parts", batch_parts, METH_NOARGS, "The operations: kind, code, node, number, name and value of each." },
     { "_put", batch_put, METH_VARARGS,
-      "Puts operations, as the library writes them, and their bytes in the place of what the batch had." },
+      "Replaces what the batch had with operations in the library's form, and their bytes." },
     { NULL, NULL, 0, NULL },
 };
 
 static PyGetSetDef fields[] = {
-    { "_bytes", get_bytes, NULL, "The bytes that names and values are parts of.", NULL },
-    { "_raw", get_raw, NULL, "The operations, as the library takes them.", NULL },
+    { "_bytes", get_bytes, NULL, "The bytes that contain names and values.", NULL },
+    { "_raw", get_raw, NULL, "The operations, in the form that the library takes.", NULL },
     { NULL, NULL, NULL, NULL, NULL },
 };
 
 static PyType_Slot slots[] = {
-    { Py_tp_doc, "Operations, and the bytes that their names and values are parts of." },
+    { Py_tp_doc, "Operations, and the bytes that contain their names and values." },
     { Py_tp_init, (void *)batch_init },
     { Py_tp_dealloc, (void *)batch_dealloc },
     { Py_sq_length, (void *)batch_length },

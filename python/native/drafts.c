@@ -3,7 +3,7 @@
 
 #include <string.h>
 
-/* Gives the draft up, if there is one. No call of the pass is needed for that, so another thread may be at it. */
+/* Abandons the draft, if there is one. That needs no call on the pass, so another thread may be using it. */
 void abandon_draft(Reader *reader)
 {
     bes_pass none = BES_PASS_INIT;
@@ -12,7 +12,7 @@ void abandon_draft(Reader *reader)
     reader->count = reader->length = 0;
 }
 
-/* Begins a draft on the reader's snapshot, if there is none yet. The caller is at the pass. */
+/* Begins a draft on the reader's snapshot, if there is none yet. The caller has the pass. */
 static uint32_t begin_draft(Reader *reader, Handle *user)
 {
     uint64_t number, next;
@@ -25,7 +25,7 @@ static uint32_t begin_draft(Reader *reader, Handle *user)
     return answer;
 }
 
-/* An operation that is to be collected, with the bytes of its name and value, and what the library makes of it. */
+/* An operation to collect, with the bytes of its name and value, and what the library returns for it. */
 typedef struct Collected {
     bes_operation operation;
     const uint8_t *name, *value;
@@ -163,7 +163,7 @@ PyObject *reader_remove_index(PyObject *self, PyObject *name)
     return none_if(read_name(name, &it) && collect(self, &it, NULL));
 }
 
-/* Gives the operations that make nodes the numbers that these have: the snapshot's next node and those after it. */
+/* Gives the operations that make nodes their numbers: the snapshot's next node and those after it. */
 static void number_new_nodes(Listed *listed, uint64_t next)
 {
     for (size_t at = 0; at < listed->counts.operations; at++)

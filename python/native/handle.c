@@ -1,4 +1,4 @@
-/* Handles: whose turn it is, what becomes of them in a forked child, and pins that are given up for a version that is gone. */
+/* Handles: whose turn it is, what happens to them in a forked child, and unpinning for versions that are gone. */
 #include "native.h"
 
 #include <pythread.h>
@@ -22,7 +22,7 @@ struct Waiter {
     struct Waiter *next;
 };
 
-/* Whether this thread may be at the handle now. Those who wait come first, or a thread that calls again and again kept them out. */
+/* Whether this thread may use the handle now. Waiting threads come first, so that a thread that keeps calling can't keep them out. */
 static bool may_enter(const Handle *handle, unsigned long self)
 {
     if (handle->depth != 0)
@@ -58,7 +58,7 @@ static void give_turn(Handle *handle)
     PyThread_release_lock(waiter->lock);
 }
 
-/* Waits in the line until the turn comes, or a signal. */
+/* Waits in the queue for its turn, or for a signal. */
 static void wait_in_line(Handle *handle, Waiter *waiter)
 {
     line_up(handle, waiter);
@@ -68,7 +68,7 @@ static void wait_in_line(Handle *handle, Waiter *waiter)
     if (waiter->has_turn)
         handle->is_given = false;
     else
-        step_out(handle, waiter); /* what handles the signal may call for the same handle */
+        step_out(handle, waiter); /* the signal's handler may make calls on the same handle */
 }
 
 static bool wait_for_turn(Handle *handle, unsigned long self)
@@ -119,7 +119,7 @@ void leave(Handle *handle)
     give_turn(handle);
 }
 
-/* The handle that an object is, if it is of this sort. */
+/* The object as a handle, if it is of this sort. */
 Handle *handle_of(PyObject *object, enum Sort sort)
 {
     static const char *const names[] = { "handle", "pass", "prepared query", "cursor", "witness" };
@@ -129,7 +129,7 @@ Handle *handle_of(PyObject *object, enum Sort sort)
     return NULL;
 }
 
-/* Calls arguments[0] with the handle, as ctypes takes it, and the others. The caller is at the handle. */
+/* Calls arguments[0] with the handle, in the form that ctypes takes, and the other arguments. The caller has the handle. */
 PyObject *call_guarded(Handle *handle, PyObject *const *arguments, Py_ssize_t count)
 {
     PyObject *pointer, *taken, *result = NULL;
@@ -201,7 +201,7 @@ static int handle_init(PyObject *self, PyObject *arguments, PyObject *names)
     return 0;
 }
 
-/* Closes what its owner has not. */
+/* Closes the handle if its owner hasn't. */
 static void end_handle(Handle *handle)
 {
     if (is_dead(handle))
@@ -278,17 +278,17 @@ static int set_committed(PyObject *self, PyObject *value, void *nothing)
 
 static PyMethodDef methods[] = {
     { "_call", (PyCFunction)(void (*)(void))handle_call, METH_FASTCALL,
-      "Makes a call on the handle, when no other thread is at it. Raises Forked if the handle is dead." },
+      "Makes a call on the handle, when no other thread is using it. Raises Forked if the handle is dead." },
     { "_check_process", handle_check_process, METH_NOARGS, "Raises Forked if the handle is dead." },
     { "_apply", (PyCFunction)(void (*)(void))handle_apply, METH_FASTCALL,
-      "Writes a batch, with an expected number if the journal has so many entries: what the library returned, the commit\n"
+      "Writes a batch; if a number is expected, only on a journal of that length. Returns the library's result, the commit\n"
       "number or what goes with the error, and the nodes that were made." },
     { "_set", (PyCFunction)(void (*)(void))handle_set, METH_FASTCALL,
-      "Sets an attribute by one try: a node, a name, a value, and a kind or None. False if nothing is written, because the\n"
+      "Tries once to set an attribute: a node, a name, a value, and a kind or None. False if nothing is written, because the\n"
       "library refuses it, or the pass has more to do at a write." },
-    { "_expect", handle_expect, METH_O, "Keeps whether a prepared query may take long, by its text, until it is asked." },
+    { "_expect", handle_expect, METH_O, "Remembers whether a prepared query may take long, judging by its text, until it is asked." },
     { "_journal_entry", handle_journal_entry, METH_O,
-      "Reads an entry of the journal: what the library returned, what goes with the error or the journal's length, the pass\n"
+      "Reads an entry of the journal: the library's result, what goes with the error or the journal's length, the pass\n"
       "that wrote it, and its batch, or None if there is none." },
     { NULL, NULL, 0, NULL },
 };
@@ -298,12 +298,12 @@ static PyGetSetDef fields[] = {
     { "_is_dead", get_is_dead, NULL, "Whether this process was forked since the handle was made.", NULL },
     { "_pinned", get_pinned, NULL, "The commit number of the snapshot, while there is one.", NULL },
     { "_committed", get_committed, set_committed, "The commit number of the last write, or 0.", NULL },
-    { "_is_changing", get_is_changing, set_is_changing, "Whether this thread runs the function of a change.", NULL },
+    { "_is_changing", get_is_changing, set_is_changing, "Whether this thread is running the function of a change.", NULL },
     { NULL, NULL, NULL, NULL, NULL },
 };
 
 static PyType_Slot slots[] = {
-    { Py_tp_doc, "A handle of the library. One thread at a time is at it, and others wait. In a forked child it is dead." },
+    { Py_tp_doc, "A handle of the library. One thread at a time uses it, and others wait. In a forked child it is dead." },
     { Py_tp_new, (void *)handle_new },
     { Py_tp_init, (void *)handle_init },
     { Py_tp_dealloc, (void *)handle_dealloc },

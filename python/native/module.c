@@ -38,7 +38,7 @@ static PyObject *use(PyObject *module, PyObject *addresses)
     Py_RETURN_NONE;
 }
 
-/* Keeps an object of the package, in the place of what was kept before. */
+/* Keeps an object of the package, replacing an earlier one. */
 static void keep(PyObject **place, PyObject *object)
 {
     PyObject *before = *place;
@@ -46,7 +46,7 @@ static void keep(PyObject **place, PyObject *object)
     Py_XDECREF(before);
 }
 
-/* Takes what the module knows of the package: some of it at a time, as the package's modules are imported. */
+/* Takes what the module knows about the package: bit by bit, as the package's modules are imported. */
 static PyObject *know(PyObject *module, PyObject *arguments, PyObject *names)
 {
     static char *parameters[] = { "refusal", "forked", "encoded_query", "encode_value", "typed", "batch", "user",
@@ -77,7 +77,7 @@ static PyObject *know(PyObject *module, PyObject *arguments, PyObject *names)
 static PyMethodDef functions[] = {
     { "use", use, METH_O, "Takes the calls of the library that was loaded: a dict of their names and addresses." },
     { "know", (PyCFunction)(void (*)(void))know, METH_VARARGS | METH_KEYWORDS,
-      "Takes what the module knows of the package. The kinds are in the order in which values.py has them." },
+      "Takes what the module knows about the package. The kinds are in the order of values.py." },
     { "after_fork", after_fork, METH_NOARGS, "In a forked child: all handles are dead from now on." },
     { NULL, NULL, 0, NULL },
 };
@@ -115,7 +115,7 @@ static PyModuleDef_Slot slots[] = { { Py_mod_exec, (void *)fill }, { 0, NULL } }
 static struct PyModuleDef definition = {
     PyModuleDef_HEAD_INIT,
     .m_name = "bestore._native",
-    .m_doc = "The calls that programs make most, on the handles of the library.",
+    .m_doc = "The most frequent calls, on the library's handles.",
     .m_methods = functions,
     .m_slots = slots,
 };

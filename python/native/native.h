@@ -1,6 +1,7 @@
-/* What the parts of bestore._native share. The module calls the library that bestore._library has loaded, by the calls of bestore.h.
+/* What the parts of bestore._native share. The module calls the library that bestore._library has loaded, through the calls of
+ * bestore.h.
  *
- * Its state is the process's, and what guards it is the GIL: a part that lets the GIL go touches no object meanwhile. */
+ * Its state belongs to the process, and the GIL guards it: code that releases the GIL touches no object meanwhile. */
 #ifndef BESTORE_NATIVE_H
 #define BESTORE_NATIVE_H
 
@@ -18,13 +19,13 @@ enum {
     MOST_OPERATIONS = 64,
     BYTES_OF_A_BATCH = MOST_OPERATIONS * (63 + 255),
     BYTES_OF_A_VALUE = 255,
-    /* A write of no more is made with the GIL: that takes microseconds, and the wait for the GIL beside a thread that computes takes
-     * milliseconds. */
+    /* A write of up to this many operations keeps the GIL: it takes microseconds, and waiting for the GIL beside a thread that
+     * computes takes milliseconds. */
     SHORT_OPERATIONS = 8,
     SHORT_BYTES = 2048,
 };
 
-/* The calls of the library, as the loaded one has them. */
+/* The calls of the loaded library. */
 typedef struct Library {
     uint32_t (*pin)(bes_pass *, uint64_t *);
     uint32_t (*unpin)(bes_pass *);
@@ -72,16 +73,16 @@ extern Library library;
 enum { KINDS = 7 };
 /* surface.toml: end */
 
-/* What the module knows of the package: it is handed over once, by `know`. */
+/* What the module knows about the package: it is handed over once, through `know`. */
 typedef struct Known {
     PyObject *refusal;       /* makes the error of a number */
     PyObject *forked;        /* the class of the error */
-    PyObject *encoded_query; /* raises the error of a query's text that has no UTF-8 */
+    PyObject *encoded_query; /* raises the error of a query's text that isn't valid UTF-8 */
     PyObject *encode_value;  /* encodes what isn't of a common type */
     PyObject *typed;         /* a class of pairs */
     PyObject *batch;         /* the class */
-    PyObject *user;          /* the class of passes whose writes need nothing besides */
-    PyObject *wrong_kind;    /* makes the error of a value of another kind than its index */
+    PyObject *user;          /* the class of passes whose writes need nothing else */
+    PyObject *wrong_kind;    /* makes the error of a value whose kind isn't its index's */
     PyObject *kinds[KINDS];  /* by the order of kind_index */
 } Known;
 
@@ -89,10 +90,10 @@ extern Known known;
 
 typedef struct Waiter Waiter;
 
-/* What a handle is of. */
+/* What a handle belongs to. */
 enum Sort { NO_SORT, OF_PASS, OF_PREPARED, OF_CURSOR, OF_WITNESS };
 
-/* A handle of the library, with what guards it: one thread at a time is at it, which may come in again. */
+/* A handle of the library, with its guard: one thread at a time uses it, and that thread may enter again. */
 typedef struct Handle {
     PyObject_HEAD
     union {
@@ -102,26 +103,26 @@ typedef struct Handle {
         bes_witness witness;
     } held;
     enum Sort sort;
-    unsigned long forks; /* how many forks there were when it was made */
-    unsigned long owner; /* the thread that is at it, if depth isn't 0 */
+    unsigned long forks; /* how many forks there had been when it was made */
+    unsigned long owner; /* the thread that is using it, if depth isn't 0 */
     unsigned depth;
-    Waiter *first;     /* the first of the threads that wait */
+    Waiter *first;     /* the first of the waiting threads */
     bool is_given;     /* whether the turn was given to one that hasn't run since */
-    bool is_pinned;    /* of a pass: whether a version has it pinned */
-    bool is_left;      /* whether that version is gone, and the thread that is at the pass gives the pin up */
+    bool is_pinned;    /* for a pass: whether a version has it pinned */
+    bool is_left;      /* whether that version is gone, and the thread that is using the pass has to unpin */
     uint64_t snapshot; /* the commit number of the snapshot, if it is pinned */
-    uint64_t committed;     /* of a pass: the commit number of its last write, or 0 */
-    unsigned long changing; /* the thread that runs the function of a change, or 0 */
-    uint64_t *nodes;   /* of a pass: what queries are written into, or NULL */
+    uint64_t committed;     /* for a pass: the commit number of its last write, or 0 */
+    unsigned long changing; /* the thread that is running the function of a change, or 0 */
+    uint64_t *nodes;   /* for a pass: what queries are written into, or NULL */
     size_t room;
-    bool is_long;   /* of a prepared query: whether the GIL is let go while it is asked */
+    bool is_long;   /* for a prepared query: whether the GIL is released while it is asked */
     unsigned asked; /* how often it was asked with the GIL */
 } Handle;
 
 extern PyTypeObject *handle_type;
 extern PyTypeObject *batch_type;
 
-/* Operations, and the bytes that their names and values are parts of. */
+/* Operations, and the bytes that contain their names and values. */
 typedef struct Batch {
     PyObject_HEAD
     bes_operation *operations;
@@ -144,8 +145,8 @@ typedef struct Listed {
     uint8_t bytes[BYTES_OF_A_BATCH];
 } Listed;
 
-/* Guards: handle.c. `enter` waits until no other thread is at the handle; it raises, and returns false, if the handle is dead or the
- * wait is interrupted. */
+/* Guards: handle.c. `enter` waits until no other thread is using the handle; it raises, and returns false, if the handle is dead or
+ * the wait is interrupted. */
 bool enter(Handle *handle);
 void leave(Handle *handle);
 bool is_dead(const Handle *handle);
@@ -168,7 +169,7 @@ PyObject *kind_object(uint32_t code);
 PyObject *typed_object(uint32_t code, uint64_t number, const uint8_t *bytes, size_t length);
 PyObject *list_of(const uint64_t *numbers, size_t count);
 
-/* The parameters of a function: their names, how many there are, and how many have to be given. */
+/* The parameters of a function: their names, how many there are, and how many are required. */
 typedef struct Signature {
     const char *function;
     const char *names[6];
@@ -177,7 +178,7 @@ typedef struct Signature {
 
 bool read_arguments(const Signature *signature, PyObject *const *given, Py_ssize_t count, PyObject *names, PyObject **read);
 
-/* A value as the library takes it. Its bytes are those of `keeper`, if that isn't NULL, which is then to be given up. */
+/* A value in the form that the library takes. Its bytes belong to `keeper`, unless that is NULL; the keeper has to be released then. */
 typedef struct Encoded {
     uint32_t code;
     uint64_t number;

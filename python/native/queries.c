@@ -9,7 +9,7 @@ enum {
     MANY_NODES = 256,       /* a list of more nodes is read without the GIL */
     LONG_TIME = 50000,      /* a prepared query that took more nanoseconds is asked without the GIL the next time */
     SHORT_TIME = 20000,     /* one that took less is asked with it */
-    TIMED = 8,              /* of so many askings with the GIL one is timed, and not the first */
+    TIMED = 8,              /* one in this many runs with the GIL is timed, and not the first */
 };
 static const uint64_t MOST_NODES = 8u << 20; /* no store has more nodes with attributes: its pages have 64 MiB */
 
@@ -23,7 +23,7 @@ typedef struct Part {
     uint32_t descending, more;
 } Part;
 
-/* A query as it is asked: by a text, by items, or prepared. Of a prepared one a part may be asked for. */
+/* A query in the form in which it is asked: a text, items, or prepared. A prepared one may be asked for a part. */
 typedef struct Asked {
     Handle *prepared;
     const bes_item *items;
@@ -79,7 +79,7 @@ static bool may_take_long(const uint8_t *text, size_t length)
     return false;
 }
 
-/* Keeps whether a prepared query may take long, by its text, until it is asked. */
+/* Remembers whether a prepared query may take long, judging by its text, until it is asked. */
 PyObject *handle_expect(PyObject *self, PyObject *text)
 {
     const uint8_t *bytes;
@@ -90,7 +90,7 @@ PyObject *handle_expect(PyObject *self, PyObject *text)
     Py_RETURN_NONE;
 }
 
-/* Asks with the GIL, and takes the time now and then. */
+/* Asks with the GIL, and measures the time now and then. */
 static uint32_t ask_short(bes_pass *pass, const Asked *asked, Result *it)
 {
     Handle *prepared = asked->prepared;
@@ -118,7 +118,7 @@ static uint32_t ask_long(bes_pass *pass, const Asked *asked, Result *it)
     return answer;
 }
 
-/* Asks without the GIL what may take long, or did the last time. */
+/* Asks without the GIL if the query may take long, or did the last time. */
 static uint32_t ask_once(bes_pass *pass, const Asked *asked, Result *it)
 {
     bool is_long = asked->prepared != NULL ? asked->prepared->is_long
@@ -126,9 +126,9 @@ static uint32_t ask_once(bes_pass *pass, const Asked *asked, Result *it)
     return is_long ? ask_long(pass, asked, it) : ask_short(pass, asked, it);
 }
 
-/* Takes what the pass has for the nodes that are found, or more: as many as there can be. So no query is asked twice. Memory that
- * nothing was written into costs nothing. If there isn't so much, a query that finds more than there is is asked again; a prepared
- * query keeps what it found. */
+/* Takes the pass's room for found nodes, or makes more: as many as there can be, so that no query is asked twice. Memory that
+ * nothing is written into costs nothing. If there isn't that much, a query that finds more than fits is asked again; a prepared
+ * query keeps its result. */
 static bool take_room(Handle *user, uint64_t most, Result *it)
 {
     size_t wanted = (size_t)(most < MOST_NODES ? most : MOST_NODES);
@@ -272,7 +272,7 @@ static const Signature of_prepared = { "query_prepared", { "prepared" }, 1, 1 };
 static const Signature of_count = { "count", { "query" }, 1, 1 };
 static const Signature of_refresh = { "refresh", { "prepared" }, 1, 1 };
 
-/* The parameters of a call that are named, as a dict. */
+/* The named parameters of a call, as a dict. */
 static PyObject *named(PyObject *const *given, PyObject *names)
 {
     PyObject *dict = PyDict_New();
@@ -283,7 +283,7 @@ static PyObject *named(PyObject *const *given, PyObject *names)
     return dict;
 }
 
-/* Makes a call by the method of the package that does the same, and knows more parameters. */
+/* Makes a call through the package's method that does the same and knows more parameters. */
 static PyObject *forward(
     PyObject *self, const char *method, PyObject *const *given, Py_ssize_t count, PyObject *names)
 {
@@ -299,7 +299,7 @@ static PyObject *forward(
     return result;
 }
 
-/* Whether a call has more than a query: it asks for a part of the answer. */
+/* Whether a call has more than a query, so that it asks for a part of the answer. */
 static bool asks_part(Py_ssize_t count, PyObject *names)
 {
     return count + (names == NULL ? 0 : PyTuple_Size(names)) > 1;
@@ -377,7 +377,7 @@ PyObject *reader_any(PyObject *self, PyObject *arguments)
     return answered_part(self, prepared, &(Part){ .how = ANY, .limit = (size_t)limit });
 }
 
-/* Reads what a page is asked by: the query, the name of the index, the direction, where it begins, and how many nodes it may have. */
+/* Reads the arguments for a page: the query, the name of the index, the direction, where it begins, and how many nodes it may have. */
 static bool read_page(PyObject *arguments, PyObject **prepared, Part *part)
 {
     const char *name, *key;

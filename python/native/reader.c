@@ -1,4 +1,4 @@
-/* Readers: how they pin a pass, and what one node has. */
+/* Readers: how they pin a pass, and reading a node. */
 #include "reader.h"
 
 #include <pythread.h>
@@ -22,7 +22,7 @@ Handle *enter_pinned(Reader *reader)
 static const Signature of_get = { "get", { "node", "name" }, 2, 2 };
 static const Signature of_attributes = { "attributes", { "node", "kinds" }, 2, 1 };
 
-/* What the operations of the reader's draft leave of an attribute, if it has one, and otherwise that of the snapshot. */
+/* The attribute as the operations of the reader's draft leave it, if it has one, otherwise as in the snapshot. */
 static uint32_t read_attribute(Reader *reader, Handle *user, uint64_t node, const uint8_t *name, size_t length, Found *found)
 {
     bes_pass *pass = &user->held.pass;
@@ -32,7 +32,7 @@ static uint32_t read_attribute(Reader *reader, Handle *user, uint64_t node, cons
     return library.get(pass, node, name, length, &found->attribute, found->bytes, BYTES_OF_A_VALUE);
 }
 
-/* Reads a node's attribute. False, and an exception, for what can't be asked. */
+/* Reads a node's attribute. False, and an exception, if the arguments are wrong. */
 static bool find(PyObject *self, PyObject *const *given, Py_ssize_t count, PyObject *names, Found *found)
 {
     PyObject *read[2];
@@ -71,7 +71,7 @@ static PyObject *found_typed(const Found *found)
 
 static PyObject *found_kind(const Found *found) { return kind_object(found->attribute.code); }
 
-/* What a reading makes of an attribute, or None if it isn't there. */
+/* What a reading returns for an attribute, or None if there is none. */
 #define OR_NONE(function, made)                                                                                       \
     static PyObject *function(PyObject *self, PyObject *const *given, Py_ssize_t count, PyObject *names)              \
     {                                                                                                                 \
@@ -97,7 +97,7 @@ OR_NONE(reader_kind, found_kind)
 OR_ERROR(reader_read, found_typed)
 OR_ERROR(reader_value, found_value)
 
-/* What an operation that sets an attribute or makes an index has, as a dict has it. */
+/* The contents of an operation that sets an attribute or makes an index, in the form for a dict. */
 typedef PyObject *Made(const bes_operation *operation, const uint8_t *bytes);
 
 static PyObject *made_value(const bes_operation *it, const uint8_t *bytes)
@@ -116,7 +116,7 @@ static PyObject *made_kind(const bes_operation *it, const uint8_t *bytes)
     return kind_object(it->code);
 }
 
-/* Puts the name of an operation, and what is made of it, into a dict. */
+/* Puts the name of an operation, and the value made from it, into a dict. */
 static bool put(PyObject *dict, const bes_operation *it, const uint8_t *bytes, Made *made)
 {
     PyObject *name = PyUnicode_DecodeUTF8((const char *)bytes + it->name_at, it->name_length, NULL), *value = NULL;
@@ -169,7 +169,7 @@ static PyObject *reader_indices(PyObject *self, PyObject *nothing)
     return answer != BES_OK ? refused(answer) : dict_of(&listed, made_kind);
 }
 
-/* The next batch of those that make the snapshot again, or None at their end. */
+/* The next of the batches that rebuild the snapshot, or None at their end. */
 static PyObject *reader_state(PyObject *self, PyObject *given)
 {
     Handle *cursor = handle_of(given, OF_CURSOR), *user;
@@ -221,8 +221,8 @@ static PyObject *reader_unpin(PyObject *self, PyObject *nothing)
     Py_RETURN_NONE;
 }
 
-/* Gives the pin up for a reader that goes. Python may collect it anywhere, also while this thread is at another pass. So a thread that
- * is at this one isn't waited for: it gives the pin up after its call. */
+/* Unpins for a reader that is being destroyed. Python may collect it anywhere, even while this thread is using another pass. So
+ * this doesn't wait for a thread that is using this one: that thread unpins after its call. */
 static void give_pin_up(Reader *reader)
 {
     Handle *user = reader->user;
@@ -321,77 +321,78 @@ static PyObject *get_count(PyObject *self, void *nothing)
 static PyMethodDef methods[] = {
     { "get", METHOD(reader_get),
       "get($self, /, node, name)\n--\n\n"
-      "A node's attribute, or None if it isn't there: a str, bytes or an int. Takes one search in a tree." },
+      "A node's attribute, or None if there is none: a str, bytes or an int. Takes one search in a tree." },
     { "kind", METHOD(reader_kind),
       "kind($self, /, node, name)\n--\n\n"
-      "The kind of a node's attribute, or None if it isn't there. Takes one search in a tree." },
+      "The kind of a node's attribute, or None if there is none. Takes one search in a tree." },
     { "typed", METHOD(reader_typed),
       "typed($self, /, node, name)\n--\n\n"
-      "A node's attribute with its kind, or None if it isn't there. Takes one search in a tree." },
+      "A node's attribute with its kind, or None if there is none. Takes one search in a tree." },
     { "column", METHOD(reader_column),
       "column($self, /, nodes, name)\n--\n\n"
-      "The attributes of this name of many nodes: a list with the value of each node, or None if it has none. Takes a\n"
+      "One attribute of many nodes: a list with each node's value, or None if it has none. Takes a\n"
       "search in a tree for each node, and memory for the list." },
     { "columns", METHOD(reader_columns),
       "columns($self, /, nodes, names)\n--\n\n"
-      "The attributes of these names of many nodes: for each name a list, as `column` returns it. Takes less time than a\n"
+      "Several attributes of many nodes: for each name a list, as `column` returns it. Takes less time than a\n"
       "`column` for each name, since it reads node by node." },
     { "attributes", METHOD(reader_attributes),
       "attributes($self, /, node, kinds=False)\n--\n\n"
       "A node's attributes: a dict of names and values, or with `kinds` of names and `Typed` values with their\n"
-      "kinds, by ascending names. `NoNode` if it isn't there." },
+      "kinds, by ascending names. Raises `NoNode` if there is no such node." },
     { "indices", reader_indices, METH_NOARGS,
       "indices($self, /)\n--\n\nThe indices: a dict of names and kinds, by ascending names." },
     { "query", METHOD(reader_query),
       "query($self, /, text, *, by=None, descending=False, limit=None, after=None, start=0)\n--\n\n"
-      "The nodes that meet the query, ascending. A `QueryError` if the text is no query, or `NotCovered` if it\n"
+      "The nodes that meet the query, ascending. Raises a `QueryError` if the text isn't a query, or `NotCovered` if it\n"
       "needs another index. Takes the time to parse the text, and to read the part of the indices that it needs.\n\n"
       "`help(bestore.Version.query)` describes the parts of an answer: with `limit`, and in the order `by` an index." },
     { "query_prepared", METHOD(reader_query_prepared),
       "query_prepared($self, /, prepared, *, by=None, descending=False, limit=None, after=None, start=0)\n--\n\n"
-      "The nodes that meet a prepared query, as `query` returns them. What its last refresh returned stays." },
+      "The nodes that meet a prepared query, as `query` returns them. The result of its last refresh stays." },
     { "count", METHOD(reader_count),
       "count($self, /, query)\n--\n\n"
-      "How many nodes meet the query, by its text or prepared. Takes what the query takes, but no list." },
+      "How many nodes meet the query, given as text or prepared. Costs what the query costs, except for the list." },
     { "refresh", METHOD(reader_refresh),
       "refresh($self, /, prepared)\n--\n\n"
-      "Which nodes came and which went since the prepared query was refreshed last: two lists, ascending. At\n"
+      "Which nodes came and which went since the prepared query was last refreshed: two lists, ascending. At\n"
       "first all of its nodes come. Refresh a query in versions of one store, or of another that its state was\n"
       "carried on to: nodes are compared by their numbers. After an error the query is as it was." },
     { "_refresh_changed", reader_refresh_changed, METH_O,
-      "The same, by what was written since the last refresh, which has to have been in this store." },
-    { "unpin", reader_unpin, METH_NOARGS, "unpin($self, /)\n--\n\nGives the pin up, if it is still there." },
-    { "_read", METHOD(reader_read), "A node's attribute with its kind. `NoAttribute` if it isn't there." },
-    { "_value", METHOD(reader_value), "A node's attribute. `NoAttribute` if it isn't there." },
-    { "_query_items", reader_query_items, METH_VARARGS, "The nodes that meet the query of items, which were encoded." },
+      "The same, from what was written since the last refresh, which must have been in this store." },
+    { "unpin", reader_unpin, METH_NOARGS, "unpin($self, /)\n--\n\nUnpins the version, if it is still pinned." },
+    { "_read", METHOD(reader_read), "A node's attribute with its kind. Raises `NoAttribute` if there is none." },
+    { "_value", METHOD(reader_value), "A node's attribute. Raises `NoAttribute` if there is none." },
+    { "_query_items", reader_query_items, METH_VARARGS, "The nodes that meet a query of encoded items." },
     { "_page", reader_page, METH_VARARGS,
       "A page of a prepared query: its nodes, whether there are more, and the kind and the key of the last one." },
     { "_rows", reader_rows, METH_VARARGS, "The nodes with their attributes of the names in a list: pairs of a node and a list of values." },
     { "_first", reader_first, METH_VARARGS, "The first nodes that meet a prepared query, from a number on." },
     { "_any", reader_any, METH_VARARGS, "Any nodes that meet a prepared query." },
-    { "_count_items", reader_count_items, METH_VARARGS, "How many nodes these are." },
-    { "_nodes_from", reader_nodes_from, METH_VARARGS, "So many nodes from a number on, by one call." },
-    { "_state", reader_state, METH_O, "The next batch of those that make the snapshot again, or None at their end." },
-    { "_take_any_kind", reader_take_any_kind, METH_NOARGS, "Its change sets values of any kind from now on." },
+    { "_count_items", reader_count_items, METH_VARARGS, "How many nodes there are." },
+    { "_nodes_from", reader_nodes_from, METH_VARARGS, "Up to this many nodes from a number on, in one call." },
+    { "_state", reader_state, METH_O, "The next of the batches that rebuild the snapshot, or None at their end." },
+    { "_take_any_kind", reader_take_any_kind, METH_NOARGS, "From now on its change sets values of any kind." },
     { "_new_node", reader_new_node, METH_NOARGS, "Collects: makes a node. Returns its number." },
     { "_remove_node", reader_remove_node, METH_O, "Collects: removes a node and all its attributes." },
     { "_set_attribute", FAST(reader_set_attribute), "Collects: sets an attribute, with a node, a name, a value, and a kind or None." },
-    { "_unset", FAST(reader_unset), "Collects: removes an attribute, of a node and a name." },
-    { "_make_index", FAST(reader_make_index), "Collects: makes an index, of a name and a kind." },
+    { "_unset", FAST(reader_unset), "Collects: removes an attribute, given a node and a name." },
+    { "_make_index", FAST(reader_make_index), "Collects: makes an index, given a name and a kind." },
     { "_remove_index", reader_remove_index, METH_O, "Collects: removes an index." },
-    { "_collected", reader_collected, METH_NOARGS, "The batch of what was collected, in which new nodes have their numbers." },
+    { "_collected", reader_collected, METH_NOARGS, "The batch of what has been collected, in which new nodes have their numbers." },
     { "_end_change", reader_end_change, METH_NOARGS,
-      "Writes what was collected, if nothing was written since this snapshot: what the library returned, and the commit\n"
+      "Writes what was collected, if nothing was written since this snapshot: the library's result, and the commit\n"
       "number or what goes with the error. Nothing is collected then." },
     { "_call", FAST(reader_call), "Makes a call on the pass while it has this pin, and not a later one." },
     { NULL, NULL, 0, NULL },
 };
 
 static PyGetSetDef fields[] = {
-    { "number", get_number, NULL, "The commit number of the last write that it has: how many writes it contains.", NULL },
+    { "number", get_number, NULL,
+      "The commit number of the last write that it includes, which is also how many writes it includes.", NULL },
     { "_user", get_user, NULL, "The pass.", NULL },
-    { "_is_pinned", get_is_pinned, NULL, "Whether the pin is there.", NULL },
-    { "_collected_count", get_count, NULL, "How many operations were collected.", NULL },
+    { "_is_pinned", get_is_pinned, NULL, "Whether it is still pinned.", NULL },
+    { "_collected_count", get_count, NULL, "How many operations have been collected.", NULL },
     { NULL, NULL, NULL, NULL, NULL },
 };
 

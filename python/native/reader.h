@@ -1,4 +1,4 @@
-/* Readers: snapshots of a pass that is pinned. */
+/* Readers: snapshots of a pinned pass. */
 #ifndef BESTORE_READER_H
 #define BESTORE_READER_H
 
@@ -7,7 +7,7 @@
 typedef struct Reader {
     PyObject_HEAD
     Handle *user;    /* the pass */
-    uint64_t number; /* the commit number of the last write that it has */
+    uint64_t number; /* the commit number of the last write that it includes */
     uint64_t most;   /* how many nodes a query can find: all numbers below the next node's */
     bool is_pinned;
     bool takes_any_kind; /* whether its draft does */
@@ -16,8 +16,8 @@ typedef struct Reader {
     size_t length;       /* how many bytes their names and values have */
 } Reader;
 
-/* Waits until no other thread is at the pass, and looks that it has this pin, and not a later one. Otherwise it raises, and
- * returns NULL. */
+/* Waits until no other thread is using the pass, and checks that it has this pin, and not a later one. Otherwise it raises,
+ * and returns NULL. */
 Handle *enter_pinned(Reader *reader);
 
 PyObject *reader_query(PyObject *self, PyObject *const *given, Py_ssize_t count, PyObject *names);

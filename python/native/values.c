@@ -1,7 +1,7 @@
 /* Values, numbers, texts and errors, between Python and the library. */
 #include "native.h"
 
-/* Raises the error of this number, made by arguments that are taken over. */
+/* Raises the error with this number, made from arguments that are taken over. */
 static PyObject *raise_refusal(PyObject *arguments)
 {
     PyObject *error = arguments == NULL ? NULL : PyObject_CallObject(known.refusal, arguments);
@@ -20,7 +20,7 @@ PyObject *refused_at(uint32_t answer, uint64_t carried, const char *listed)
     return raise_refusal(Py_BuildValue("(IKOz)", answer, (unsigned long long)carried, Py_None, listed));
 }
 
-/* Raises the error of an attribute whose value has another kind than the index of its name. */
+/* Raises the error of an attribute whose kind isn't that of its name's index. */
 PyObject *refused_kind(PyObject *name, uint32_t kind, uint32_t index_kind)
 {
     PyObject *error = PyObject_CallFunction(known.wrong_kind, "OII", name, kind, index_kind);
@@ -31,7 +31,7 @@ PyObject *refused_kind(PyObject *name, uint32_t kind, uint32_t index_kind)
     return NULL;
 }
 
-/* Reads an integer that 64 bits hold. Without an exception it is out of their range. */
+/* Reads an integer of 64 bits. If this fails without an exception, the integer is out of range. */
 bool read_in_range(PyObject *object, uint64_t *number)
 {
     PyObject *index = PyLong_Check(object) ? Py_NewRef(object) : PyNumber_Index(object);
@@ -55,7 +55,7 @@ bool read_number(PyObject *object, uint64_t *number)
     return false;
 }
 
-/* Reads a node that 64 bits hold. Without an exception it is out of their range. */
+/* Reads a node of 64 bits. If this fails without an exception, the number is out of range. */
 bool read_node_in_range(PyObject *object, uint64_t *node)
 {
     if (read_in_range(object, node))
@@ -140,7 +140,7 @@ PyObject *value_object(uint32_t code, uint64_t number, const uint8_t *bytes, siz
     }
 }
 
-/* Makes a pair of the class Typed by the constructor of tuples, which its own calls too. */
+/* Makes a pair of the class Typed with the constructor of tuples, which its own constructor also calls. */
 PyObject *typed_object(uint32_t code, uint64_t number, const uint8_t *bytes, size_t length)
 {
     newfunc new_tuple = (newfunc)PyType_GetSlot(&PyTuple_Type, Py_tp_new);
@@ -196,11 +196,12 @@ static bool read_named(const Signature *signature, PyObject *const *given, PyObj
     return true;
 }
 
-/* Reads what a function was called with. An argument that may lack, and does, is NULL. */
+/* Reads the arguments of a function. An optional argument that is missing is NULL. */
 bool read_arguments(const Signature *signature, PyObject *const *given, Py_ssize_t count, PyObject *names, PyObject **read)
 {
     if (count > signature->count) {
-        PyErr_Format(PyExc_TypeError, "%s() takes up to %d arguments, and %zd were given", signature->function, signature->count, count);
+        PyErr_Format(PyExc_TypeError, "%s() takes up to %d arguments, and %zd were given", signature->function, signature->count,
+                     count);
         return false;
     }
     for (int at = 0; at < signature->count; at++)

@@ -1,9 +1,9 @@
-/* Writes and the journal, which a pass does pinned or not. */
+/* Writes and the journal, for a pass that is pinned or not. */
 #include "native.h"
 
 #include <string.h>
 
-/* What a write is called with, and what it returns. */
+/* The arguments of a write, and what it returns. */
 typedef struct Write {
     Handle *handle;
     const bes_operation *operations;

@@ -2,7 +2,7 @@
 
     PYTHONPATH=python:python/window_tests python3 python/window_tests/test_sixty_thousand.py --print
 
-prints the longest time of each phase, and after `--nodes 83000` those of so many nodes; it expects a tenth of a second at most, so it
+prints the longest time of each phase, and after `--nodes 83000` those of this many nodes; it expects a tenth of a second at most, so it
 wants a machine with nothing else to do. Among other tests the bound is a second, since the loop then waits for a processor.
 """
 
@@ -187,28 +187,14 @@ COLUMNS = ["name", "size", "last_modified", "BEOS:TYPE", "folder"]
 
 
 class SixtyThousand(OnDisplay):
-    def soonest(self, source: Callable[[], Source], store: bestore.Pass) -> Dict[str, float]:
-        """The shortest of some times in which the first hits are shown."""
-        best: Dict[str, float] = {}
-        for _ in range(TRIES):
-            window = self.show(source())
-            window.choose(COLUMNS)
-            with short_pauses(window.root):
-                for phase, seconds in measure_first(window, store).items():
-                    best[phase] = min(best.get(phase, seconds), seconds)
-            window.close()
-            if max(best.values()) < LONGEST:
-                break
-        return best
-
-    def longest(self, source: Callable[[], Source], store: bestore.Pass) -> Dict[str, float]:
-        """The shortest of the longest times of each phase, of some tries."""
+    def shortest(self, source: Callable[[], Source], measured: Callable[["Window", int], Dict[str, float]]) -> Dict[str, float]:
+        """The shortest time of each phase, from some tries in a new window each."""
         best: Dict[str, float] = {}
         for turn in range(TRIES):
             window = self.show(source())
             window.choose(COLUMNS)
             with short_pauses(window.root):
-                for phase, seconds in measure(window, store, f"{turn} ").items():
+                for phase, seconds in measured(window, turn).items():
                     best[phase] = min(best.get(phase, seconds), seconds)
             window.close()
             if max(best.values()) < LONGEST:
@@ -216,7 +202,8 @@ class SixtyThousand(OnDisplay):
         return best
 
     def check(self, source: Callable[[], Source], store: bestore.Pass) -> None:
-        best = {**self.soonest(source, store), **self.longest(source, store)}
+        best = {**self.shortest(source, lambda window, turn: measure_first(window, store)),
+                **self.shortest(source, lambda window, turn: measure(window, store, f"{turn} "))}
         if "--print" in PRINTS:
             for phase, seconds in best.items():
                 print(f"{seconds * 1000:6.1f} ms  {phase}")

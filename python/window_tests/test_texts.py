@@ -62,7 +62,7 @@ class Dates(LocalTime):
         for text, reason in [
             ("2024-13-01", "a year has 12 months"), ("2023-02-29", "that month doesn't have"), ("1/2/2024", "two meanings"),
             ("soon", "such as"),
-            ("", "such as"), ("25:00", "a day has the hours"), ("9999999 years ago", "out of the calendar"),
+            ("", "such as"), ("25:00", "hours go from"), ("9999999 years ago", "outside the calendar"),
             ("999999999 days ago", "isn't a date"),
             ("m", "such as"), ("yesterday yesterday", "such as"), ("٣ days ago", "such as"), ("2024-01-01 2024", "such as"),
         ]:
@@ -117,7 +117,7 @@ class Typed(LocalTime):
              28),
             ("size==1 ||" * 256 + "size==1", "more than 256 comparisons", None),
             ("(" * 65, "more than 64 ( or ! within one another", None),
-            ("size==1" + " " * 5000, "the query is too long: 4,096 bytes are the most", None),
+            ("size==1" + " " * 5000, "the query is too long: the limit is 4,096 bytes", None),
             ("name==\udcff", "half of a character can't be part of a query", 6),
         ]:
             self.assertEqual(self.fault(typed), (message, column), typed)

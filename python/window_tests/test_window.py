@@ -477,7 +477,7 @@ class Listing(OverStore):
         tree.event_generate("<Control-a>")
         self.assertEqual(len(window.list.selection), 301)
         tree.event_generate("<Return>")
-        self.assertIn("20 is the most to open", str(window.notice["text"]))
+        self.assertIn("at most 20 can be opened", str(window.notice["text"]))
 
     def test_icons_and_lines(self) -> None:
         self.file("a\nb", kind="inode/directory")

@@ -1,4 +1,4 @@
-//! `info`, `clients` and `kick`: what goes on in the server.
+//! `info`, `clients` and `kick`: what the server is doing.
 
 use crate::command_line::{Activity, Kick};
 use crate::failure::Failure;
@@ -6,7 +6,7 @@ use crate::output::Output;
 use bestore_client::wire::{ClientInfo, Info, Latency, OldestReader};
 use bestore_client::Client;
 
-/// A time as people read it.
+/// A time in a readable form.
 fn time(milliseconds: u64) -> String {
     let seconds = milliseconds / 1_000;
     match seconds {
@@ -18,7 +18,7 @@ fn time(milliseconds: u64) -> String {
     }
 }
 
-/// A number of bytes as people read it.
+/// A number of bytes in a readable form.
 fn size(bytes: u64) -> String {
     match bytes {
         0..=9_999 => format!("{bytes} bytes"),

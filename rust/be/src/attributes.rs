@@ -17,10 +17,10 @@ use std::io::{self, Read};
 use std::os::unix::ffi::OsStringExt;
 use std::path::Path;
 
-/// A file of this many bytes or more is no value. The server refuses values of more than 255 bytes.
+/// A file of this many bytes or more can't be a value. The server refuses values of more than 255 bytes.
 const READ: u64 = 1 << 16;
 
-/// What `addattr` does, once its command line is taken apart.
+/// What `addattr` has to do, once its command line has been parsed.
 #[derive(Debug)]
 pub struct Added {
     name: String,
@@ -30,7 +30,7 @@ pub struct Added {
 }
 
 impl Added {
-    /// Takes the command line apart, and reads the value. `Err` of a text: the command line is wrong.
+    /// Parses the command line, and reads the value. The error is a text if the command line is wrong.
     pub fn read(line: AddAttribute) -> Result<Result<Self, Failure>, String> {
         let AddAttribute {
             kind,
@@ -99,7 +99,7 @@ pub fn add(client: &mut Client, added: &Added, output: &mut Output) -> Result<()
     output.line(node.to_string().as_bytes())
 }
 
-/// Says so if the index of this name will leave the value out.
+/// Prints a warning if the index of this name will leave the value out.
 fn warn_of_index(client: &mut Client, name: &str, value: &Value) -> Result<(), Failure> {
     let indices = server::indices(client)?;
     let taken = indices
@@ -247,7 +247,7 @@ fn list_node(
     output.line(format!("\n{total} bytes total in attributes").as_bytes())
 }
 
-/// The bytes that the value has in BeOS: numbers are little-endian.
+/// The value's bytes in BeOS: numbers are little-endian.
 fn bytes_of(value: &Value) -> Vec<u8> {
     match value {
         Value::Int32(number) => number.to_le_bytes().to_vec(),

@@ -28,7 +28,7 @@ pub fn make(client: &mut Client, line: &Line, output: &mut Output) -> Result<(),
     shown.print(&String::from_utf8_lossy(&file), line.json, output)
 }
 
-/// The batch with the numbers that its nodes have in their volume.
+/// The batch with its volume's own node numbers.
 fn to_volume(batch: &Batch, volume: Option<u32>) -> Result<Batch, Failure> {
     match volume {
         None => Ok(batch.clone()),
@@ -39,7 +39,7 @@ fn to_volume(batch: &Batch, volume: Option<u32>) -> Result<Batch, Failure> {
     }
 }
 
-/// Waits until the server has kept what the snapshot shows, so that a backup is never ahead of it.
+/// Waits until the server has kept everything in the snapshot, so that a backup is never ahead of it.
 fn flush(client: &mut Client, hello: &Hello) -> Result<(), Error> {
     match hello.kept.as_str() {
         "no" => Ok(()),

@@ -20,13 +20,13 @@ pub struct CommandLine {
 
 #[derive(Clone, Debug, Args)]
 pub struct ServerOptions {
-    /// The socket of the server. Otherwise $BESTORE_SOCKET, or the one that bestored has by default
+    /// The server's socket. By default $BESTORE_SOCKET, or the one that bestored makes by default
     #[arg(long, value_name = "PATH", global = true)]
     pub socket: Option<PathBuf>,
-    /// Wait for a server that starts, up to this time
+    /// Wait up to this time for a server that is starting
     #[arg(long, value_name = "SECONDS", global = true, value_parser = seconds)]
     pub wait: Option<Duration>,
-    /// How long a reply of the server may take, 60 by default
+    /// How long the server may take to reply, 60 by default
     #[arg(long, value_name = "SECONDS", global = true, value_parser = seconds)]
     pub timeout: Option<Duration>,
 }
@@ -45,13 +45,13 @@ pub enum Command {
     Rmindex(RemoveIndex),
     Reindex(Reindex),
     Status(Status),
-    /// Print what goes on in the server: how much is written, and who keeps an old snapshot
+    /// Print what the server is doing: how much is written, and who keeps an old snapshot
     Info(Activity),
-    /// List who is connected, and what each does
+    /// List who is connected, and what each client is doing
     Clients(Activity),
     Kick(Kick),
     Backup(Backup),
-    /// Print a snapshot of the server as JSON: a line about it, and the batches that make it again
+    /// Print a snapshot of the server as JSON: a line about it, and the batches that rebuild it
     Dump,
     Restore(Restore),
 }
@@ -62,34 +62,34 @@ pub struct Query {
     /// Also print these attributes of each node
     #[arg(short, long, value_name = "NAMES", value_delimiter = ',')]
     pub columns: Vec<String>,
-    /// Print the first N nodes alone
+    /// Print only the first N nodes
     #[arg(short = 'n', long, value_name = "N")]
     pub limit: Option<u64>,
-    /// Print the nodes by their values in this index, the least first. Nodes without a value there are left out
+    /// Print the nodes in the order of their values in this index, lowest first. Nodes without a value there are left out
     #[arg(short, long, value_name = "NAME")]
     pub sort: Option<String>,
-    /// With --sort: print the greatest first
+    /// With --sort: print the highest first
     #[arg(short, long, requires = "sort")]
     pub reverse: bool,
-    /// With --sort: go on after a page that was printed by --json and had this cursor
+    /// With --sort: continue after the page that --json printed with this cursor
     #[arg(long, value_name = "CURSOR", requires = "sort")]
     pub after: Option<String>,
-    /// Print any N of the nodes, those that are found fastest
+    /// Print any N of the nodes, whichever are found fastest
     #[arg(long, value_name = "N", conflicts_with_all = ["limit", "sort"])]
     pub any: Option<u64>,
-    /// Print how many nodes there are, not which
+    /// Print how many nodes there are, not which ones
     #[arg(long, conflicts_with_all = ["columns", "limit", "sort", "any"])]
     pub count: bool,
-    /// Go on, and print nodes that come as +NODE and nodes that go as -NODE
+    /// Keep running, and print nodes that come as +NODE and nodes that go as -NODE
     #[arg(short, long, conflicts_with_all = ["limit", "sort", "any"])]
     pub watch: bool,
-    /// Escape control characters also in a pipe or a file
+    /// Escape control characters even in a pipe or a file
     #[arg(short, long, conflicts_with = "json")]
     pub escape: bool,
     /// Print JSON
     #[arg(long)]
     pub json: bool,
-    /// Print the paths of files in place of their nodes
+    /// Print the paths of files instead of their nodes
     #[arg(short, long, conflicts_with = "json")]
     pub path: bool,
     /// End each line with a zero byte, for names with line feeds
@@ -131,7 +131,7 @@ pub struct AddAttribute {
 /// Print an attribute
 #[derive(Debug, Args)]
 pub struct ShowAttribute {
-    /// Print the value alone, as it is
+    /// Print only the value, as it is
     #[arg(short, long)]
     pub raw: bool,
     /// Print a line of JSON for each node
@@ -182,19 +182,19 @@ pub struct RemoveNode {
 /// Make a node for each file of a folder
 #[derive(Debug, Args)]
 pub struct Import {
-    /// Go on, and write what changes in the folder
+    /// Keep running, and follow changes in the folder
     #[arg(short, long)]
     pub follow: bool,
-    /// Write attributes that were set at nodes into their files, as extended attributes
+    /// Write attributes that were set on nodes into their files, as extended attributes
     #[arg(short = 'a', long)]
     pub xattr: bool,
-    /// Don't read folders of other file systems
+    /// Don't read folders on other file systems
     #[arg(short = 'x', long)]
     pub one_file_system: bool,
-    /// Read each file again, also those that were not changed
+    /// Read every file again, even if it hasn't changed
     #[arg(long)]
     pub reread: bool,
-    /// Print each file that came, changed or went
+    /// Print each file that was added, changed or removed
     #[arg(short, long)]
     pub verbose: bool,
     /// Print the counts as JSON
@@ -226,7 +226,7 @@ pub struct ListIndices {
     /// Also print their types
     #[arg(short, long)]
     pub long: bool,
-    /// As --long
+    /// Same as --long
     #[arg(short, long)]
     pub verbose: bool,
     /// Print JSON
@@ -241,7 +241,7 @@ pub struct RemoveIndex {
     pub name: String,
 }
 
-/// Set again the attributes that an index lacks, because they were set before it was made
+/// Set attributes again that an index lacks because they were set before it was made
 #[derive(Debug, Args)]
 pub struct Reindex {
     /// The name of the index
@@ -263,10 +263,10 @@ pub struct Activity {
     pub json: bool,
 }
 
-/// End the connection of a client
+/// Disconnect a client
 #[derive(Debug, Args)]
 pub struct Kick {
-    /// The number of the client, by be clients
+    /// The number of the client, as be clients lists it
     #[arg(value_name = "CLIENT")]
     pub client: u64,
 }
@@ -281,20 +281,20 @@ pub struct Backup {
     pub file: PathBuf,
 }
 
-/// Write what a backup has into a server whose store is empty
+/// Write a backup into a server whose store is empty
 #[derive(Debug, Args)]
 pub struct Restore {
     /// Print JSON
     #[arg(long)]
     pub json: bool,
-    /// Restore what the file had with its entry N, as when a later one is damaged; of a folder, for each such volume
+    /// Restore the file only up to its entry N, such as when a later one is damaged; for a folder, give it for each such volume
     #[arg(long, value_name = "[VOLUME:]N", value_parser = until)]
     pub until: Vec<(u32, u64)>,
-    /// The backup, or the file of a server that has ended
+    /// The backup, or the file of a stopped server
     pub file: PathBuf,
 }
 
-/// The longest time of an option, in seconds: a day.
+/// The longest time that an option takes, in seconds: a day.
 const MOST_SECONDS: f64 = 86_400.0;
 
 /// Reads a time.
@@ -314,7 +314,7 @@ fn until(text: &str) -> Result<(u32, u64), String> {
     }
 }
 
-/// Reads what names a node: digits are a number, and other words a path.
+/// Reads a word that names a node: digits are a number, and anything else is a path.
 fn places() -> impl TypedValueParser<Value = Place> {
     OsStringValueParser::new().map(Place::from)
 }

@@ -1,5 +1,5 @@
 //! Dates as people type them: 2024-01-31, 24 Dec 2024, yesterday, last week, 2 days ago, monday 9:30. The query window takes the same
-//! forms, and `tests` has its table.
+//! forms, and `tests` has the same table.
 
 use chrono::{Datelike, Duration, NaiveDate, NaiveDateTime, NaiveTime};
 use std::fmt;
@@ -32,11 +32,11 @@ const DAYS: [&str; 7] = [
 ];
 const YEARS: RangeInclusive<i32> = 1..=9999;
 
-const NO_YEAR: &str = "it is out of the calendar";
+const NO_YEAR: &str = "it is outside the calendar";
 const NO_MONTH: &str = "a year has 12 months";
 const NO_DAY: &str = "that month doesn't have so many days";
 
-/// The longest time by which a clock is turned back.
+/// The longest time that a clock is turned back by.
 const TURNED: i64 = 86_400;
 
 /// The time that a date means, in seconds since 1970: from `begin` on, and before `end`.
@@ -46,7 +46,7 @@ pub struct Span {
     pub end: i64,
 }
 
-/// A text that is no date.
+/// A text that isn't a date.
 #[derive(Debug, PartialEq, Eq)]
 pub struct NotADate {
     text: String,
@@ -63,7 +63,7 @@ impl fmt::Display for NotADate {
     }
 }
 
-/// What a clock shows, and by how many seconds it is ahead of UTC at a time in seconds since 1970.
+/// What a clock shows, and how many seconds it is ahead of UTC, at a time in seconds since 1970.
 #[derive(Clone, Copy, Debug)]
 pub struct Clock {
     now: NaiveDateTime,
@@ -84,8 +84,8 @@ impl Clock {
         }
     }
 
-    /// When the clock shows this. If it does so twice, the first time counts. If it never does, because it was put forward, the clock
-    /// before that counts.
+    /// When the clock shows this. If that is twice, the first time counts. If it is never, because the clock was put forward, the
+    /// clock before that counts.
     fn seconds(&self, shown: NaiveDateTime) -> i64 {
         let shown = shown.timestamp();
         let near = shown - (self.ahead)(shown);
@@ -97,9 +97,9 @@ impl Clock {
     }
 }
 
-/// By how many seconds the local time is ahead of UTC.
+/// How many seconds the local time is ahead of UTC.
 fn ahead_here(seconds: i64) -> i64 {
-    // SAFETY: all bytes of the structure may be zero, and localtime_r reads and writes these two values alone.
+    // SAFETY: all bytes of the structure may be zero, and localtime_r reads and writes only these two values.
     unsafe {
         let mut parts: libc::tm = std::mem::zeroed();
         let seconds: libc::time_t = seconds;
@@ -144,7 +144,7 @@ struct Moment {
     unit: Unit,
 }
 
-/// A moment, if the words have this form, or why there is none.
+/// A moment, if the words have this form, or the reason why they don't give one.
 type Read = Result<Option<Moment>, Option<&'static str>>;
 
 /// The time that a typed date means, by this clock: a date is the whole day, a month the whole month, a time of day a minute.
@@ -173,7 +173,7 @@ fn moment(words: &str, now: NaiveDateTime) -> Read {
     with_time(words, now)
 }
 
-/// A day, and a time of it: today's if no day is named.
+/// A day and a time on it: today if no day is named.
 fn with_time(words: &str, now: NaiveDateTime) -> Read {
     let before = words.trim_end_matches(|sign: char| sign == ':' || sign.is_ascii_digit());
     let (day, time) = words.split_at(before.len());
@@ -221,15 +221,15 @@ fn time_of_day(text: &str) -> Result<Option<(NaiveTime, Unit)>, Option<&'static 
         _ => return Ok(None),
     };
     let wrong = match () {
-        () if hour > 23 => "a day has the hours 0 to 23",
-        () if minute > 59 => "an hour has the minutes 0 to 59",
-        () => "a minute has the seconds 0 to 59",
+        () if hour > 23 => "hours go from 0 to 23",
+        () if minute > 59 => "minutes go from 0 to 59",
+        () => "seconds go from 0 to 59",
     };
     let time = NaiveTime::from_hms_opt(hour, minute, second).ok_or(Some(wrong))?;
     Ok(Some((time, unit)))
 }
 
-/// The number that these digits are, if there are so many of them.
+/// The number that these digits form, if there are this many of them.
 fn digits(text: &str, count: RangeInclusive<usize>) -> Option<u32> {
     let fits = count.contains(&text.len()) && text.bytes().all(|byte| byte.is_ascii_digit());
     text.parse().ok().filter(|_| fits)
@@ -261,7 +261,7 @@ fn start_of(unit: Unit, at: NaiveDateTime) -> Result<NaiveDateTime, Option<&'sta
     })
 }
 
-/// A time so many units later. A day that the month doesn't have is its last one.
+/// A time this many units later. A day beyond the end of the month becomes its last day.
 fn moved(at: NaiveDateTime, unit: Unit, count: i64) -> Result<NaiveDateTime, Option<&'static str>> {
     let by = match unit {
         Unit::Second => Duration::seconds(count),
@@ -336,7 +336,7 @@ fn ago(words: &str, now: NaiveDateTime) -> Read {
     }
 }
 
-/// The place in the list of the only name that begins so.
+/// The place in the list of the only name with this beginning.
 fn named_so(names: &[&str], begin: &str) -> Option<usize> {
     let mut places = (0..names.len()).filter(|place| begin.len() >= 3 && names[*place].starts_with(begin));
     places.next().filter(|_| places.next().is_none())
@@ -450,7 +450,7 @@ pub mod tests {
         NaiveDateTime::parse_from_str(text, "%Y-%m-%d %H:%M:%S").unwrap()
     }
 
-    /// An hour, and from the last Sunday of March to that of October two.
+    /// One hour, and two from the last Sunday of March to the last one of October.
     fn ahead_in_berlin(seconds: i64) -> i64 {
         let year = NaiveDateTime::from_timestamp_opt(seconds, 0).unwrap().year();
         let turned = |month: u32| {
@@ -522,11 +522,11 @@ pub mod tests {
             ("1/2/2024", "two meanings"),
             ("soon", "such as"),
             ("", "such as"),
-            ("25:00", "a day has the hours 0 to 23"),
-            ("9:60", "an hour has the minutes"),
-            ("0000-01-01", "out of the calendar"),
-            ("9999", "out of the calendar"),
-            ("9999999 years ago", "out of the calendar"),
+            ("25:00", "hours go from 0 to 23"),
+            ("9:60", "minutes go from"),
+            ("0000-01-01", "outside the calendar"),
+            ("9999", "outside the calendar"),
+            ("9999999 years ago", "outside the calendar"),
             ("999999999 days ago", "isn't a date"),
             ("m", "such as"),
             ("yesterday yesterday", "such as"),

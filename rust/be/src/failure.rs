@@ -22,7 +22,7 @@ pub enum Failure {
     Server(Error),
     /// A query was refused.
     Query(Box<QueryRefused>),
-    /// A date in a query is none.
+    /// A date in a query isn't valid.
     Date(Box<BadDate>),
     /// The value isn't of this type.
     Value(&'static str),
@@ -36,7 +36,7 @@ pub enum Failure {
     Watch(PathBuf, io::Error),
     /// The folder that is imported is gone.
     Gone(PathBuf),
-    /// The folder is another one than before, and has no files.
+    /// The folder isn't the same one as before, and has no files.
     Another(PathBuf),
     /// The output can't be written.
     Output(io::Error),
@@ -44,7 +44,7 @@ pub enum Failure {
     Backup(saved::Error),
     /// The server refuses a batch of a backup.
     Restore { place: Place, refusal: Box<Refusal> },
-    /// A backup has another number of volumes than the server.
+    /// A backup has a different number of volumes from the server.
     Volumes { backup: usize, server: u32 },
     /// A backup is restored into a store that isn't empty.
     NotEmpty { entries: u64 },
@@ -59,7 +59,7 @@ pub struct QueryRefused {
     pub refusal: Refusal,
     /// The byte of the text at which it is wrong, if that is known.
     pub offset: Option<usize>,
-    /// The names of kinds by the names of the indices, if the query lacks one.
+    /// The names of the kinds, by the names of the indices, if the query lacks an index.
     pub indices: Option<BTreeMap<String, String>>,
 }
 
@@ -73,7 +73,7 @@ impl Failure {
         }
     }
 
-    /// Prints why, if that was not done, and returns the exit status.
+    /// Prints the reason, if that hasn't been done, and returns the exit status.
     pub fn report(&self) -> ExitCode {
         match self {
             Failure::Output(error) if error.kind() == io::ErrorKind::BrokenPipe => return ExitCode::SUCCESS,
@@ -177,7 +177,7 @@ impl fmt::Display for QueryRefused {
         if let Some(offset) = self.offset {
             f.write_str(&pointed(&self.text, offset))?;
         }
-        // The message about an order has the name already.
+        // The message about an order already has the name.
         let missing = self.refusal.details.get("missing").filter(|_| self.offset.is_some());
         if let Some(missing) = missing.and_then(|name| name.as_str()) {
             write!(f, "\n  {} has no index", escaped(missing))?;
@@ -198,7 +198,7 @@ fn shown(path: &Path) -> String {
     escaped(&path.to_string_lossy())
 }
 
-/// Why bytes are no value of a type.
+/// Why bytes aren't a value of a type.
 fn value_fault(kind: &str) -> String {
     match kind {
         "string" | "mime" => format!("the value isn't valid UTF-8, as a {kind} is; the type raw takes any bytes"),
@@ -206,7 +206,7 @@ fn value_fault(kind: &str) -> String {
     }
 }
 
-/// Prints on standard error. There is nothing to be done if that fails.
+/// Prints on standard error. If that fails, nothing can be done about it.
 pub fn complain(text: &str) {
     let _ = writeln!(io::stderr(), "be: {text}");
 }

@@ -1,4 +1,4 @@
-//! What a query finds: by the nodes' numbers, in the order of an index, or any nodes.
+//! What a query finds: nodes by number, in the order of an index, or any nodes.
 
 use crate::command_line::Query as Line;
 use crate::failure::Failure;
@@ -21,7 +21,7 @@ pub enum Found {
 }
 
 impl Found {
-    /// Reads what the line asks for, of the snapshot that the client has pinned.
+    /// Reads what the command line asks for, in the snapshot that the client has pinned.
     pub fn read(client: &mut Client, text: &str, line: &Line) -> Result<Self, Failure> {
         match (&line.sort, line.any) {
             (Some(by), _) => in_order(client, text, by, line).map(Found::Page),
@@ -40,7 +40,7 @@ impl Found {
     }
 }
 
-/// How many nodes the next page has, if there were so many in those before. `None`: there is no next page.
+/// How many nodes the next page has, if the earlier pages had this many. `None`: there is no next page.
 fn left(limit: Option<u64>, had: usize) -> Option<Option<u64>> {
     match limit.map(|limit| limit.saturating_sub(had as u64)) {
         Some(0) => None,
@@ -81,7 +81,7 @@ fn joined(rows: Option<Vec<Row>>, more: Option<Vec<Row>>) -> Option<Vec<Row>> {
     })
 }
 
-/// The columns of the line as a request has them.
+/// The columns of the command line, in the form of a request.
 fn columns_of(line: &Line) -> Option<Columns<'_>> {
     let names: Vec<_> = line.columns.iter().map(Cow::from).collect();
     (!names.is_empty()).then_some(Columns(names))
@@ -112,7 +112,7 @@ fn in_order(client: &mut Client, text: &str, by: &str, line: &Line) -> Result<Pa
     Ok(all)
 }
 
-/// As many nodes as one page may have of those that are asked for.
+/// As many of the wanted nodes as one page may have.
 fn of_a_page(limit: u64) -> u64 {
     limit.min(NODES as u64)
 }

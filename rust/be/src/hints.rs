@@ -1,4 +1,5 @@
-//! Warnings about comparisons that no node can meet: those with what is no integer, or out of range, under an index of integers.
+//! Warnings about comparisons that no node can meet: the name has an index of integers, and the value isn't an integer or is out of
+//! range.
 
 use crate::dates::{span_of, Clock};
 use crate::kind::kind_name;
@@ -96,7 +97,7 @@ mod tests {
         let hints = |name: &str, kind| hints("t>1.5", from_ref(&one), &[(name.to_string(), kind)].into());
         assert_eq!(hints("t", Kind::Int64).len(), 1);
         assert!(hints("t", Kind::Text).is_empty() && hints("u", Kind::Int64).is_empty());
-        // What a server says of bytes that aren't there is left out.
+        // Leaves out what a server says about bytes that don't exist.
         let beyond = Comparison {
             offset: 9,
             ..one.clone()

@@ -1,4 +1,4 @@
-//! The types of values by the names that the tools have for them.
+//! The types of values, under the tools' names for them.
 
 use crate::failure::Failure;
 use bestore_types::{Kind, Value};
@@ -24,7 +24,7 @@ pub enum Type {
 }
 
 impl Type {
-    /// The type as the library has it.
+    /// The library's kind for the type.
     pub fn kind(self) -> Kind {
         match self {
             Type::String => Kind::Text,
@@ -37,7 +37,7 @@ impl Type {
         }
     }
 
-    /// The value of this type that the bytes are. Numbers are decimal digits, and may have blanks around them.
+    /// The bytes as a value of this type. Numbers are decimal digits, and may have blanks around them.
     pub fn value(self, bytes: Vec<u8>) -> Result<Value, Failure> {
         let value = match self {
             Type::String => String::from_utf8(bytes).ok().map(Value::Text),
@@ -56,7 +56,7 @@ fn number<T: std::str::FromStr>(bytes: &[u8]) -> Option<T> {
     std::str::from_utf8(bytes).ok()?.trim().parse().ok()
 }
 
-/// The name of a kind in the tools, which is the protocol's, but for texts.
+/// The name of a kind in the tools, which is the protocol's except for texts.
 pub fn kind_name(kind: Kind) -> &'static str {
     match kind {
         Kind::Text => "string",
@@ -64,7 +64,7 @@ pub fn kind_name(kind: Kind) -> &'static str {
     }
 }
 
-/// The name in the tools of a kind that the protocol names so.
+/// The tools' name for a kind with this name in the protocol.
 pub fn shown_name(protocol: &str) -> &str {
     match bestore_client::wire::kind_named(protocol) {
         Some(kind) => kind_name(kind),

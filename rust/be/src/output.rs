@@ -1,4 +1,4 @@
-//! Standard output: a terminal, where what is printed is escaped, or a pipe or a file, where it is printed as it is.
+//! Standard output: what is printed is escaped on a terminal, and unchanged in a pipe or a file.
 
 use crate::failure::Failure;
 use crate::text::{escaped, escaped_bytes, escaped_json, width};
@@ -13,7 +13,7 @@ use std::path::Path;
 #[derive(Debug)]
 pub struct Output {
     out: BufWriter<StdoutLock<'static>>,
-    /// Whether it is a terminal, on which columns are aligned and have headings.
+    /// Whether it is a terminal, where columns are aligned and have headings.
     terminal: bool,
     escapes: bool,
 }
@@ -29,7 +29,7 @@ impl Output {
         }
     }
 
-    /// Escapes control characters also where the output is no terminal.
+    /// Escapes control characters even if the output isn't a terminal.
     pub fn escape(&mut self) {
         self.escapes = true;
     }
@@ -54,7 +54,7 @@ impl Output {
         }
     }
 
-    /// The name as it is printed.
+    /// The printed form of the name.
     pub fn name<'a>(&self, name: &'a str) -> Cow<'a, str> {
         match self.escapes {
             true => escaped(name).into(),
@@ -62,7 +62,7 @@ impl Output {
         }
     }
 
-    /// The value as it is printed: a text, digits, or bytes.
+    /// The printed form of the value: a text, digits, or bytes.
     pub fn value(&self, value: &Value) -> Vec<u8> {
         match value.as_bytes() {
             Some(bytes) if !self.escapes => bytes.to_vec(),
@@ -117,7 +117,7 @@ impl Output {
         self.line(&path)
     }
 
-    /// The path as it is printed.
+    /// The printed form of the path.
     pub fn path_bytes(&self, path: &Path) -> Vec<u8> {
         let bytes = path.as_os_str().as_bytes();
         match (self.escapes, path.to_str()) {
@@ -127,7 +127,7 @@ impl Output {
         }
     }
 
-    /// Hands on all that was printed.
+    /// Flushes everything that was printed.
     pub fn flush(&mut self) -> Result<(), Failure> {
         Ok(self.out.flush()?)
     }

@@ -1,4 +1,4 @@
-//! Files and their nodes: `be import` makes a node for each file, and these find one by the other.
+//! Files and their nodes: `be import` makes a node for each file, and these functions find one from the other.
 
 use crate::failure::Failure;
 use crate::import::content::{name_in, NAME, PARENT, ROOT, STAT};
@@ -13,10 +13,10 @@ use std::fs;
 use std::os::unix::ffi::OsStringExt;
 use std::path::{Path, PathBuf};
 
-/// The most folders that a path goes through: more are a ring, which another program has made.
+/// The maximum number of folders in a path: more would be a cycle, made by another program.
 const DEPTH: usize = 4_096;
 
-/// The attributes by which paths are made.
+/// The attributes that paths are made from.
 pub const COLUMNS: [&str; 4] = ["name", NAME, PARENT, ROOT];
 
 /// What a word of the command line names.
@@ -29,7 +29,7 @@ pub enum Place {
 }
 
 impl From<OsString> for Place {
-    /// Digits are a node; all other words are a path.
+    /// Digits are a node; any other word is a path.
     fn from(word: OsString) -> Self {
         let number = word
             .to_str()
@@ -41,7 +41,7 @@ impl From<OsString> for Place {
     }
 }
 
-/// The nodes that the words name. What is no imported file is an error.
+/// The nodes that the words name. A path that isn't an imported file is an error.
 pub fn nodes_of(client: &mut Client, places: &[Place]) -> Result<Vec<u64>, Failure> {
     let node = |place: &Place| match place {
         Place::Node(node) => Ok(*node),
@@ -50,7 +50,7 @@ pub fn nodes_of(client: &mut Client, places: &[Place]) -> Result<Vec<u64>, Failu
     places.iter().map(node).collect()
 }
 
-/// The node of a file. Of two with the same name and inode it is the one whose path is the same.
+/// The node of a file. If two have the same name and inode, it is the one with the same path.
 fn node_of(client: &mut Client, path: &Path) -> Result<u64, Failure> {
     let failed = |error| Failure::File(path.into(), error);
     let about = fs::symlink_metadata(path).map_err(failed)?;
@@ -74,7 +74,7 @@ fn node_of(client: &mut Client, path: &Path) -> Result<u64, Failure> {
     found.first().copied().ok_or_else(|| Failure::NotImported(path.into()))
 }
 
-/// The path from the root of all files on, without symlinks. If the file itself is one, it stays.
+/// The absolute path, without symlinks in its folders. If the file itself is a symlink, it isn't followed.
 fn whole_path(path: &Path) -> std::io::Result<PathBuf> {
     match (path.parent(), path.file_name()) {
         (Some(folder), Some(name)) => {
@@ -85,7 +85,7 @@ fn whole_path(path: &Path) -> std::io::Result<PathBuf> {
     }
 }
 
-/// What a node says of its path.
+/// What a node says about its path.
 #[derive(Clone, Debug, Default)]
 pub struct Step {
     pub name: OsString,
@@ -108,7 +108,7 @@ impl Step {
     }
 }
 
-/// The paths of nodes. Those of folders are kept, so that each is asked for once.
+/// The paths of nodes. Those of folders are kept, so that each is asked for only once.
 #[derive(Debug, Default)]
 pub struct Paths {
     folders: HashMap<u64, Option<PathBuf>>,
@@ -126,7 +126,7 @@ impl Paths {
         })
     }
 
-    /// The path of a node, whose steps the closure finds.
+    /// The path of a node; the closure finds each step.
     pub fn found<E>(
         &mut self,
         node: u64,
@@ -170,7 +170,7 @@ pub fn paths_of(client: &mut Client, nodes: &[u64]) -> Result<Vec<Option<PathBuf
     nodes.iter().map(|node| paths.of(client, *node)).collect()
 }
 
-/// Calls the closure with each node that has a name and the values of the columns, on one snapshot.
+/// Calls the closure with each node that has a name, and with its values of the columns, on one snapshot.
 pub fn each_named(
     client: &mut Client,
     columns: &[&str],

@@ -17,7 +17,7 @@ use serde::Serialize;
 use std::path::PathBuf;
 use std::time::Duration;
 
-/// How long a wait for a push is, after which the next begins.
+/// How long each wait for a push lasts before the next one begins.
 const WAIT: Duration = Duration::from_secs(3_600);
 
 pub fn run(client: &mut Client, line: &Line, output: &mut Output) -> Result<(), Failure> {
@@ -36,10 +36,10 @@ pub fn run(client: &mut Client, line: &Line, output: &mut Output) -> Result<(), 
     })
 }
 
-/// Says which comparisons of a query that the server has accepted no node can meet.
+/// Prints which comparisons of an accepted query no node can meet.
 fn warn(client: &mut Client, query: &TypedQuery) -> Result<(), Failure> {
     let compared = match client.comparisons(&query.sent) {
-        // The server is older, and can't say.
+        // The server is older, and can't tell.
         Err(error) if error.is(ErrorName::BadRequest) => return Ok(()),
         compared => compared?,
     };
@@ -56,7 +56,7 @@ fn warn(client: &mut Client, query: &TypedQuery) -> Result<(), Failure> {
     Ok(())
 }
 
-/// Adds to an error of a query what helps to see why.
+/// Adds details to a query's error that help to see the reason.
 fn refused(client: &mut Client, query: &TypedQuery, refusal: wire::Refusal) -> Failure {
     let lacks_index = matches!(refusal.name, ErrorName::NotCovered | ErrorName::NoIndex);
     if !lacks_index && !matches!(refusal.name, ErrorName::Syntax | ErrorName::BadPattern) {
@@ -111,7 +111,7 @@ fn find(client: &mut Client, query: &TypedQuery, line: &Line, output: &mut Outpu
     output.rows(&headings(line), &rows)
 }
 
-/// What the first column has: the numbers of the nodes, or the paths of their files. A node that is no file has its number.
+/// The contents of the first column: the numbers of the nodes, or the paths of their files. A node that isn't a file has its number.
 fn names_of(client: &mut Client, nodes: &[u64], line: &Line, output: &Output) -> Result<Vec<Vec<u8>>, Failure> {
     let number = |node: &u64| node.to_string().into_bytes();
     if !line.path {
@@ -147,7 +147,7 @@ struct Change<'a> {
     rows: Option<Vec<Row>>,
 }
 
-/// Prints what the query finds, and then what comes and goes, until the server ends or the watch does.
+/// Prints what the query finds, and then what comes and goes, until the server or the watch ends.
 fn watch(client: &mut Client, query: &TypedQuery, line: &Line, output: &mut Output) -> Result<(), Failure> {
     let begun = client.watch(Some(&query.sent))?;
     warn(client, query)?;

@@ -1,4 +1,4 @@
-//! The tokens and the comparisons of a query as it is typed, with dates between `%`. The server reads what is made of it.
+//! The tokens and comparisons of a query as it was typed, with dates between `%`. The server reads the result.
 
 /// What a token is.
 #[derive(Clone, Copy, Debug, PartialEq, Eq)]
@@ -10,7 +10,7 @@ pub enum Form {
     Word,
     /// An operator such as `==`.
     Compares,
-    /// What joins or turns comparisons.
+    /// A sign that joins or negates comparisons.
     Sign,
 }
 
@@ -35,7 +35,7 @@ impl<'a> Token<'a> {
         self.start + self.text.len()
     }
 
-    /// The text without what encloses it.
+    /// The text without the marks around it.
     pub fn inner(&self) -> &'a str {
         match self.form {
             Form::Quoted | Form::Date => &self.text[1..self.text.len() - 1],
@@ -87,7 +87,7 @@ fn first_token(text: &str, may_be_date: bool) -> Option<(Form, usize)> {
     }
 }
 
-/// How many bytes come before the first such character. A backslash takes the next character with it.
+/// How many bytes come before the first such character. A backslash protects the next character.
 fn length_until(text: &str, is_end: impl Fn(char) -> bool) -> Option<usize> {
     let mut characters = text.char_indices();
     while let Some((at, character)) = characters.next() {
@@ -100,7 +100,7 @@ fn length_until(text: &str, is_end: impl Fn(char) -> bool) -> Option<usize> {
     None
 }
 
-/// The length of a text, without a last backslash that takes nothing with it.
+/// The length of a text, without a final backslash that protects nothing.
 fn whole_length(text: &str) -> usize {
     let backslashes = text.len() - text.trim_end_matches('\\').len();
     text.len() - backslashes % 2

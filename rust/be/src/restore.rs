@@ -13,7 +13,7 @@ use std::collections::VecDeque;
 /// How many batches are sent before the reply to the first one is read.
 const AHEAD: usize = 64;
 
-/// Writes what a backup has into the server, whose store has to be empty. Nobody else can write meanwhile without ending it.
+/// Writes a backup into the server, whose store has to be empty. If anybody else writes meanwhile, this fails.
 pub fn restore(client: &mut Client, line: &Line, output: &mut Output) -> Result<(), Failure> {
     // All of it is read and checked before anything is written.
     let backup = saved::read_until(&line.file, &line.until.iter().copied().collect())?;
@@ -84,7 +84,7 @@ impl<'b, 'c> Restoring<'b, 'c> {
         Ok(self.count)
     }
 
-    /// Looks whether the state makes the next node that the file says.
+    /// Checks whether the state makes the next node that the file names.
     fn end_state(&mut self, contents: &Contents) -> Result<(), Failure> {
         self.receive_all()?;
         let next = self.client.next_node()?;
@@ -94,7 +94,10 @@ impl<'b, 'c> Restoring<'b, 'c> {
         };
         match found.map(|node| Node::from(node).number) == Some(contents.about.next) {
             true => Ok(()),
-            false => Err(differs(Place::State(0), "the state has another next node than it says")),
+            false => Err(differs(
+                Place::State(0),
+                "the next node of the state differs from the one that it names",
+            )),
         }
     }
 
@@ -105,7 +108,7 @@ impl<'b, 'c> Restoring<'b, 'c> {
         Ok(())
     }
 
-    /// Reads the reply to the first batch that was sent, and compares the nodes that it made with those that the file has.
+    /// Reads the reply to the oldest batch that was sent, and compares the nodes that it made with those in the file.
     fn receive(&mut self) -> Result<(), Failure> {
         let Sent { id, place, batch } = match self.sent.pop_front() {
             Some(sent) => sent,
@@ -136,7 +139,7 @@ fn differs(place: Place, why: &str) -> Failure {
     saved::Error::differs(place, why).into()
 }
 
-/// Sends a batch, which is written if the volume has so many entries.
+/// Sends a batch, which is written only if the volume has this many entries.
 fn send(client: &mut Client, volume: Option<u32>, expected: u64, batch: Batch) -> Result<u64, Error> {
     let batch = match volume {
         None => batch,

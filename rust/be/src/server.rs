@@ -10,21 +10,21 @@ use std::collections::BTreeMap;
 /// How often a write is tried again if another client is writing.
 const TRIES: u32 = 100;
 
-/// The most operations of a batch.
+/// The maximum number of operations in a batch.
 const OPERATIONS: usize = 64;
 
 /// How many snapshots a read is tried on.
 const SNAPSHOTS: u32 = 5;
 
-/// Connects to the server at the socket that the option names, otherwise where the environment says.
+/// Connects to the server at the socket that the option names, or otherwise the environment.
 pub fn connect(line: &ServerOptions) -> Result<Client, Failure> {
     let mut client = open(line)?;
     client.hello()?;
     Ok(client)
 }
 
-/// Connects as [`connect`], for a command that asks a few things and ends: it is answered for a moment also when there is no place for
-/// one more client.
+/// Connects like [`connect`], for a command that asks a few things and ends: it is served for a moment even when there is no place for
+/// another client.
 pub fn visit(line: &ServerOptions) -> Result<Client, Failure> {
     match connect(line) {
         Err(Failure::Server(error)) if error.is(ErrorName::NoPass) => {
@@ -67,8 +67,8 @@ pub fn apply(client: &mut Client, batch: &Batch) -> Result<(), Error> {
     }
 }
 
-/// Writes an operation for each node, as many at a time as a batch takes. If such a batch is refused, its operations are
-/// written one by one, and those that are refused are reported.
+/// Writes an operation for each node, as many at a time as fit into a batch. If a batch is refused, its operations are
+/// written one by one, and refused ones are reported.
 pub fn apply_each(client: &mut Client, nodes: &[u64], add: impl Fn(&mut Batch, u64)) -> Result<(), Failure> {
     let mut all = true;
     for nodes in nodes.chunks(OPERATIONS) {

@@ -1,4 +1,4 @@
-//! The state of a snapshot: the batches that make it again on an empty store.
+//! The state of a snapshot: the batches that rebuild it on an empty store.
 
 use crate::failure::Failure;
 use crate::output::Output;
@@ -11,13 +11,13 @@ use serde::Serialize;
 /// A snapshot of a server, for people and programs.
 #[derive(Debug, Serialize)]
 pub struct Shown {
-    /// The run of the server. Commit numbers are of one run.
+    /// The run of the server that the commit numbers belong to.
     pub run: String,
     pub commit: u64,
     /// The number of each volume, if there are several.
     #[serde(skip_serializing_if = "Vec::is_empty")]
     pub commits: Vec<u64>,
-    /// How many batches make it.
+    /// How many batches rebuild it.
     pub batches: u64,
 }
 
@@ -51,7 +51,7 @@ pub fn volumes(hello: &Hello) -> impl Iterator<Item = Option<u32>> {
     (0..count).map(move |volume| (count > 1).then_some(volume))
 }
 
-/// Hands each batch of the collected snapshot to the closure, of this volume. Returns the volume's numbers.
+/// Hands each of the collected snapshot's batches for this volume to the closure. Returns the volume's numbers.
 pub fn each_batch(
     client: &mut Client,
     volume: Option<u32>,

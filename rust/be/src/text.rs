@@ -1,12 +1,12 @@
-//! Texts as a terminal may show them.
+//! Texts that are safe to show on a terminal.
 
 use unicode_width::UnicodeWidthChar;
 
-/// The most columns of a query that an error shows.
+/// The maximum number of columns of a query that an error shows.
 const WIDTH: usize = 72;
 
-/// The text with escapes for what a terminal would obey or hide: control characters and marks of direction. A backslash is
-/// escaped too, so that different texts look different.
+/// The text with escapes for whatever a terminal would obey or hide: control characters and direction marks. Backslashes
+/// are escaped too, so that different texts look different.
 pub fn escaped(text: &str) -> String {
     let mut shown = String::with_capacity(text.len());
     for character in text.chars() {
@@ -35,7 +35,7 @@ fn push_visible(shown: &mut String, character: char) {
     }
 }
 
-/// The same JSON, in which what a terminal would obey or hide is escaped. Outside texts JSON has none of it.
+/// The same JSON, with escapes for whatever a terminal would obey or hide. Outside of texts, JSON has no such characters.
 pub fn escaped_json(json: &str) -> String {
     let mut shown = String::with_capacity(json.len());
     for character in json.chars() {
@@ -47,12 +47,12 @@ pub fn escaped_json(json: &str) -> String {
     shown
 }
 
-/// Whether the character has no picture of its own and changes how others look: marks of direction, ends of lines.
+/// Whether the character is invisible but changes how others look: direction marks and line ends.
 fn is_hidden(character: char) -> bool {
     matches!(character, '\u{200b}'..='\u{200f}' | '\u{2028}'..='\u{202e}' | '\u{2060}'..='\u{206f}' | '\u{feff}')
 }
 
-/// The bytes with escapes for all that isn't ASCII that can be seen.
+/// The bytes, with escapes for everything but visible ASCII.
 pub fn escaped_bytes(bytes: &[u8]) -> String {
     let mut shown = String::with_capacity(bytes.len());
     for byte in bytes {
@@ -108,7 +108,7 @@ fn visible(character: char) -> String {
     shown
 }
 
-/// The bytes as 16 a line: their offset, hexadecimal digits, and what of them is ASCII.
+/// The bytes, 16 on a line: their offset, hexadecimal digits, and the ASCII among them.
 pub fn hexadecimal(bytes: &[u8]) -> Vec<String> {
     let line = |(index, part): (usize, &[u8])| {
         let digits: Vec<_> = part.iter().map(|byte| format!("{byte:02x}")).collect();

@@ -1,5 +1,5 @@
-//! What was typed as a query, as the server is asked: dates between `%` become numbers. Errors are shown at their place in what was
-//! typed.
+//! A typed query, in the form that is sent to the server: dates between `%` become numbers. Errors are shown at their place in what
+//! was typed.
 
 use crate::dates::{span_of, Clock, NotADate, Span};
 use crate::query_text::{comparisons, Comparison, Form};
@@ -20,7 +20,7 @@ pub struct TypedQuery {
     parts: Vec<Part>,
 }
 
-/// A date in a query is none.
+/// A date in a query isn't valid.
 #[derive(Debug)]
 pub struct BadDate {
     pub typed: String,
@@ -30,7 +30,7 @@ pub struct BadDate {
 }
 
 impl TypedQuery {
-    /// Reads a query, with dates as this clock has them.
+    /// Reads a query, with dates by this clock.
     pub fn read(typed: &str, clock: &Clock) -> Result<Self, BadDate> {
         let with_date = |comparison: &Comparison<'_>| comparison.value.form == Form::Date;
         let parts: Vec<Part> = comparisons(typed)
@@ -60,7 +60,7 @@ impl TypedQuery {
         Ok(Self { typed, sent, parts })
     }
 
-    /// The byte of the typed text that a byte of the sent text comes from. In a date it is the first byte of its comparison.
+    /// The byte of the typed text that a byte of the sent text comes from. For a date, it is the first byte of its comparison.
     pub fn place_of(&self, mut offset: usize) -> usize {
         for part in &self.parts {
             if offset < part.start {

@@ -173,7 +173,7 @@ fn a_changed_backup_is_refused_with_the_place() {
         ),
         (
             "UPDATE about SET number = 9 WHERE what = 'next'",
-            "another next node",
+            "the next node of the state differs",
             true,
         ),
         // One that removes node 77.

@@ -6,9 +6,9 @@ use bestore_types::{Batch, Kind, Node, Operation};
 use std::collections::BTreeMap;
 use std::time::Instant;
 
-/// What the closure of [`Client::change`] reads by, and the operations that it collects.
+/// What the closure of [`Client::change`] reads through, and the operations that it collects.
 ///
-/// Reads see the pinned snapshot, and none of the operations that were collected.
+/// Reads see the pinned snapshot, and none of the collected operations.
 #[derive(Debug)]
 pub struct Change<'a> {
     client: &'a mut Client,
@@ -22,12 +22,12 @@ pub struct Change<'a> {
 }
 
 impl Change<'_> {
-    /// The client, which is pinned: reads see one snapshot.
+    /// The client, which is pinned: its reads see one snapshot.
     pub fn client(&mut self) -> &mut Client {
         self.client
     }
 
-    /// The operations. Add to them, and make nodes by [`new_node`](Self::new_node) alone.
+    /// The operations. Add to them, but make nodes only with [`new_node`](Self::new_node).
     pub fn batch(&mut self) -> &mut Batch {
         &mut self.batch
     }
@@ -38,8 +38,8 @@ impl Change<'_> {
         self
     }
 
-    /// Makes nodes from now on in this volume, and no longer in the one with the most free pages. A batch has one volume, so this is
-    /// called before the first [`new_node`](Self::new_node). A volume that isn't there is refused when the change is written.
+    /// From now on, makes nodes in this volume instead of the one with the most free pages. A batch has one volume, so call this
+    /// before the first [`new_node`](Self::new_node). A volume that doesn't exist is refused when the change is written.
     pub fn in_volume(&mut self, volume: u32) -> &mut Self {
         if let Some(next) = self.nexts.get(volume as usize) {
             self.next = *next;
@@ -67,18 +67,18 @@ impl Client {
     /// If the server has several volumes, the operations are in one of them, and no other write came between there. What the closure
     /// reads of other volumes may have changed.
     ///
-    /// If an attribute is set, this asks the server which indices there are: one request more.
+    /// If an attribute is set, this asks the server which indices there are, which takes one more request.
     ///
     /// # Errors
-    /// Those of the closure; [`Error::KindMismatch`], if an index takes another kind than that of an attribute of its name, unless the
-    /// closure has called [`any_kind`](Change::any_kind); [`Error::Refused`].
+    /// Those of the closure; [`Error::KindMismatch`], if an attribute's kind isn't that of its name's index, unless the closure has
+    /// called [`any_kind`](Change::any_kind); [`Error::Refused`].
     pub fn change<T>(&mut self, mut change: impl FnMut(&mut Change<'_>) -> Result<T>) -> Result<T> {
         let mut left = 1_000_u32;
         let until = self.repeats_until().filter(|_| !self.is_pinned);
         loop {
             match self.try_change(&mut change, until) {
                 Err(error) if error.is(ErrorName::Conflict) && left > 0 => left -= 1,
-                // A write is sent again until that time, so what fails before it has written nothing.
+                // A write is sent again until that time, so what fails earlier has written nothing.
                 Err(error) if self.may_repeat(&error, until) => {}
                 answer => return answer,
             }
@@ -127,14 +127,14 @@ impl Client {
             _ => Ok(None),
         };
         match self.unpin_quietly() {
-            // The connection's next call says that it has failed. What was written is written.
+            // If this fails, the connection's next call says so. The write has been made.
             Err(error) if matches!(written, Ok(Some(_))) && error.refusal().is_none() => {}
             unpinned => unpinned?,
         }
         value.and_then(|value| written.map(|_| value))
     }
 
-    /// Fails if the batch sets an attribute of another kind than the index of its name takes then.
+    /// Fails if the batch sets an attribute whose kind isn't the one that its name's index takes by then.
     fn check_kinds(&mut self, batch: &Batch) -> Result<()> {
         if !batch
             .operations()
@@ -165,7 +165,7 @@ impl Client {
         Ok(())
     }
 
-    /// Unpins. That the closure has done so, or that the server took the snapshot back, is no error.
+    /// Unpins. It isn't an error if the closure has done so, or if the server took the snapshot back.
     fn unpin_quietly(&mut self) -> Result<()> {
         match self.unpin() {
             Err(error) if error.is(ErrorName::NotPinned) => Ok(()),

@@ -15,20 +15,20 @@ use std::os::unix::net::UnixStream;
 use std::path::Path;
 use std::time::{Duration, Instant};
 
-/// The most bytes of a line of the server.
+/// The maximum number of bytes in a line from the server.
 const LINE: usize = 2 << 20;
 
-/// How long a command waits on the server if it says nothing, and at most.
+/// How long a command waits on the server by default, and at most.
 const WITHIN: Duration = Duration::from_secs(5);
 const MOST_WITHIN: Duration = Duration::from_secs(60);
 
-/// A connection, and with it a pass of the server's store.
+/// A connection, which has a pass of the server's store.
 #[derive(Debug)]
 pub struct Client {
     stream: UnixStream,
     /// The socket of the server, to connect again.
     pub(crate) socket: Option<SocketPath>,
-    /// The server's run, once it has said it.
+    /// The server's run, once the server has named it.
     pub(crate) run: Option<String>,
     /// Whether a snapshot is pinned, and whether there were live queries. A new connection has neither.
     pub(crate) is_pinned: bool,
@@ -36,31 +36,31 @@ pub struct Client {
     pub(crate) options: Options,
     last: u64,
     received: Vec<u8>,
-    /// How many of the received bytes have been looked at and have no end of a line.
+    /// How many of the received bytes have been searched and have no end of a line.
     searched: usize,
     pushes: Pushes,
     /// How long the server may wait before it replies, of each such request.
     waits: BTreeMap<u64, Duration>,
     /// The queries of requests whose replies haven't come.
     queries: BTreeMap<u64, String>,
-    /// What the server has said that it has.
+    /// The features that the server has named.
     features: Vec<String>,
     /// Whether a call has timed out. What the server sends after that belongs to no call.
     is_over: bool,
 }
 
-/// A query with what the reply has besides the nodes, by [`Client::hits`].
+/// A query, and what the reply should have besides the nodes: for [`Client::hits`].
 #[derive(Clone, Copy, Debug, Default)]
 pub struct Query<'a> {
     /// The text of the query.
     pub text: &'a str,
     /// The attributes of each node that are wanted.
     pub columns: &'a [&'a str],
-    /// The most nodes.
+    /// The maximum number of nodes.
     pub limit: Option<u64>,
     /// The lowest node.
     pub from: u64,
-    /// Whether the reply needs no `count`, which takes the whole answer. A server that can't leave it out sends it.
+    /// Whether the reply can do without `count`, which takes the whole answer. A server that can't leave it out sends it anyway.
     pub uncounted: bool,
 }
 
@@ -87,7 +87,7 @@ fn wait_of(command: &Command<'_>) -> Option<Duration> {
     Some(within.map_or(WITHIN, Duration::from_millis).min(MOST_WITHIN))
 }
 
-/// The text of the query that the server is asked.
+/// The text of the query that is sent to the server.
 fn query_of<'a>(command: &'a Command<'_>) -> Option<&'a str> {
     match command {
         Command::Query(wire::Query { query, .. }) => Some(query),
@@ -101,20 +101,20 @@ fn bad(error: impl std::fmt::Display) -> Error {
     Error::BadLine(error.to_string())
 }
 
-/// The socket, to wait for it beside other files. It can be read once the server has sent something or closed the connection.
+/// The socket, to be polled along with other files. It is readable once the server has sent something or closed the connection.
 impl AsRawFd for Client {
     fn as_raw_fd(&self) -> RawFd {
         self.stream.as_raw_fd()
     }
 }
 
-/// Reads a line that is no reply to a request: a push, or why the server closes the connection.
+/// Reads a line that isn't the reply to a request: a push, or why the server closes the connection.
 fn pushed(line: &[u8]) -> Result<Push> {
     let read: Line<'_> = serde_json::from_slice(line).map_err(bad)?;
     match (read.watch, read.id, read.error) {
         (None, None, Some(refusal)) => Err(Error::Refused(refusal)),
         (Some(_), ..) => serde_json::from_slice(line).map_err(bad),
-        _ => Err(bad("the reply is of no request")),
+        _ => Err(bad("the reply belongs to no request")),
     }
 }
 
@@ -122,7 +122,7 @@ impl Client {
     /// Connects to the server at this socket, whoever runs it. A reply may take a minute; [`Options`] sets another time.
     ///
     /// # Errors
-    /// As [`Options::connect`].
+    /// Those of [`Options::connect`].
     pub fn connect(path: impl AsRef<Path>) -> Result<Self> {
         Options::new().connect(path.as_ref())
     }
@@ -130,7 +130,7 @@ impl Client {
     /// Connects to the server that [`SocketPath::find`] finds.
     ///
     /// # Errors
-    /// As [`Options::connect`].
+    /// Those of [`Options::connect`].
     pub fn connect_default() -> Result<Self> {
         Options::new().connect(SocketPath::find(None))
     }
@@ -154,7 +154,7 @@ impl Client {
         }
     }
 
-    /// Goes on over the connection of another client.
+    /// Continues on the connection of another client.
     pub(crate) fn continue_as(&mut self, other: Client) {
         *self = Client {
             last: self.last,
@@ -172,7 +172,7 @@ impl Client {
         self.receive(id)
     }
 
-    /// Sends a command. Its reply is received by [`receive`](Self::receive), after those of earlier ones.
+    /// Sends a command. [`receive`](Self::receive) receives its reply, after those of earlier ones.
     ///
     /// # Errors
     /// [`Error::Io`], [`Error::TimedOut`], and [`Error::Closed`] after a call that timed out.
@@ -204,7 +204,7 @@ impl Client {
         }
     }
 
-    /// The error of a write. After a part of a line nothing can follow.
+    /// The error of a write. Nothing can follow part of a line.
     fn failed(&mut self, error: io::Error) -> Error {
         let error = self.options.late_or(error);
         if matches!(error, Error::TimedOut(_)) {
@@ -216,14 +216,14 @@ impl Client {
     /// Closes the connection.
     fn end(&mut self) {
         self.is_over = true;
-        // It fails if the server has closed the connection, and then it needs no closing.
+        // This fails if the server has closed the connection, which then needs no closing.
         let _ = self.stream.shutdown(Shutdown::Both);
     }
 
-    /// Receives the reply to the request with this number, which is the oldest one without.
+    /// Receives the reply to the request with this number, which is the oldest one without a reply.
     ///
     /// # Errors
-    /// As [`call`](Self::call).
+    /// Those of [`call`](Self::call).
     pub fn receive<T: DeserializeOwned>(&mut self, id: u64) -> Result<T> {
         let query = self.queries.remove(&id);
         self.receive_any(id).map_err(|error| match error {
@@ -263,11 +263,11 @@ impl Client {
         match (line.ok, line.error) {
             (_, Some(refusal)) => Ok(Some(Err(Error::Refused(refusal)))),
             (Some(ok), None) if line.id == Some(id) => Ok(Some(Ok(serde_json::from_str(ok.get()).map_err(bad)?))),
-            _ => Err(bad("the reply is of another request")),
+            _ => Err(bad("the reply belongs to another request")),
         }
     }
 
-    /// The length of the next line, once it is received. `None` at the end of the time.
+    /// The length of the next line, once it is received. `None` when the time is up.
     fn read_line(&mut self, until: Option<Instant>) -> Result<Option<usize>> {
         loop {
             let unseen = &self.received[self.searched..];
@@ -315,7 +315,7 @@ impl Client {
         }
     }
 
-    /// The next line that was pushed for a live query, if one comes within the time. Lines that come while another call waits for its
+    /// The next line that is pushed for a live query, if one comes within the time. Lines that come while another call waits for its
     /// reply are kept up to [`Options::most_pushed`]. A push with an `error` is the last one of its live query.
     ///
     /// # Errors
@@ -339,17 +339,17 @@ impl Client {
     /// Versions and limits of the server.
     ///
     /// # Errors
-    /// As [`call`](Self::call), like all calls below.
+    /// Those of [`call`](Self::call), like all calls below.
     pub fn hello(&mut self) -> Result<wire::Hello> {
         self.greet(false)
     }
 
-    /// As [`hello`](Self::hello), by a client that asks a few things and goes. As its first request it gets the client a place when all
-    /// others are taken: for 2 seconds, and not while it sends nothing for a quarter of one. Such a client can't wait for commits or
-    /// begin a live query.
+    /// Like [`hello`](Self::hello), for a client that asks a few things and leaves. As the first request, it gets the client a place
+    /// even when all others are taken: for 2 seconds, or until it sends nothing for a quarter of a second. Such a client can't wait
+    /// for commits or begin a live query.
     ///
     /// # Errors
-    /// As `call`.
+    /// Those of `call`.
     pub fn visit(&mut self) -> Result<wire::Hello> {
         self.greet(true)
     }
@@ -363,8 +363,8 @@ impl Client {
         Ok(self.greeted(hello))
     }
 
-    /// Whether the server has said by [`hello`](Self::hello) that it has this: one of its `features`, such as
-    /// `by` for pages in an order.
+    /// Whether the server has named this in the reply to [`hello`](Self::hello): one of its `features`, such
+    /// as `by` for pages in an order.
     #[must_use]
     pub fn has(&self, feature: &str) -> bool {
         self.features.iter().any(|it| it == feature)
@@ -373,32 +373,32 @@ impl Client {
     /// Writes all operations of the batch or none.
     ///
     /// # Errors
-    /// As `call`.
+    /// Those of `call`.
     pub fn apply(&mut self, batch: &Batch) -> Result<Written> {
         self.write(batch, None, None)
     }
 
-    /// Writes as [`apply`](Self::apply), if the journal has exactly `expected` entries. Otherwise the error is `Conflict`.
+    /// Writes like [`apply`](Self::apply), but only if the journal has exactly `expected` entries. Otherwise the error is `Conflict`.
     ///
     /// # Errors
-    /// As `call`.
+    /// Those of `call`.
     pub fn apply_if(&mut self, expected: u64, batch: &Batch) -> Result<Written> {
         self.write(batch, Some(Numbers::One(expected)), None)
     }
 
-    /// Writes as [`apply`](Self::apply), in this volume of a server that has several. Without a volume it is the one of the nodes that
-    /// the batch names, or the one with the most free pages. The number of what was written is the one in the volume.
+    /// Writes like [`apply`](Self::apply), in this volume of a server that has several. Without a volume it is that of the nodes that
+    /// the batch names, or the one with the most free pages. The returned commit number is the volume's.
     ///
     /// # Errors
-    /// As `call`.
+    /// Those of `call`.
     pub fn apply_in(&mut self, volume: u32, batch: &Batch) -> Result<Written> {
         self.write(batch, None, Some(volume))
     }
 
-    /// Writes as [`apply_in`](Self::apply_in), if the journal of the volume has exactly `expected` entries.
+    /// Writes like [`apply_in`](Self::apply_in), but only if the volume's journal has exactly `expected` entries.
     ///
     /// # Errors
-    /// As `call`.
+    /// Those of `call`.
     pub fn apply_in_if(&mut self, volume: u32, expected: u64, batch: &Batch) -> Result<Written> {
         self.write(batch, Some(Numbers::One(expected)), Some(volume))
     }
@@ -410,7 +410,7 @@ impl Client {
             volume,
             ..wire::Write::default()
         };
-        // What is pinned would be lost on a new connection.
+        // A new connection would lose the pin.
         let until = self.repeats_until().filter(|_| !self.is_pinned);
         let written = self.write_until(write, until)?;
         Ok(Written {
@@ -419,12 +419,12 @@ impl Client {
         })
     }
 
-    /// Waits up to this time until the journal of each volume has at least so many entries: one number for a server with one volume.
-    /// Later reads of the current snapshot have them. Otherwise, and once a pinned snapshot has to be taken back, the error is
-    /// `NotReached`.
+    /// Waits up to this time until the journal of each volume has at least this many entries: one number for a server with one volume.
+    /// Later reads of the current snapshot include them. Otherwise, or once the server has to take back a pinned snapshot, the
+    /// error is `NotReached`.
     ///
     /// # Errors
-    /// As `call`.
+    /// Those of `call`.
     pub fn reach(&mut self, numbers: &[u64], within: Duration) -> Result<wire::Commit> {
         self.call(Command::Reach(wire::Reach {
             commit: match numbers {
@@ -438,31 +438,31 @@ impl Client {
     /// Keeps the current snapshot for reads, until [`unpin`](Self::unpin).
     ///
     /// # Errors
-    /// As `call`.
+    /// Those of `call`.
     pub fn pin(&mut self) -> Result<wire::Next> {
         self.call(Command::Pin(Nothing {}))
     }
 
-    /// The number of the snapshot that is pinned, otherwise of the current one, and that of the next node.
+    /// The number of the pinned snapshot, or of the current one if none is pinned, and that of the next node.
     ///
     /// # Errors
-    /// As `call`.
+    /// Those of `call`.
     pub fn next_node(&mut self) -> Result<wire::Next> {
         self.call(Command::Next(Nothing {}))
     }
 
-    /// Has the server copy the snapshot, so that the command `state` reads it without a pin.
+    /// Makes the server copy the snapshot, so that the command `state` can read it without a pin.
     ///
     /// # Errors
-    /// As `call`.
+    /// Those of `call`.
     pub fn collect(&mut self) -> Result<wire::Next> {
         self.call(Command::Collect(Nothing {}))
     }
 
-    /// Gives the snapshot back.
+    /// Unpins the snapshot.
     ///
     /// # Errors
-    /// As `call`.
+    /// Those of `call`.
     pub fn unpin(&mut self) -> Result<()> {
         self.call::<Nothing>(Command::Unpin(Nothing {})).map(drop)
     }
@@ -470,7 +470,7 @@ impl Client {
     /// An attribute, or `None` if the node or the attribute doesn't exist.
     ///
     /// # Errors
-    /// As `call`.
+    /// Those of `call`.
     pub fn get(&mut self, node: u64, name: &str) -> Result<Option<Value>> {
         let name = name.into();
         let read: wire::Value = self.call(Command::Get(wire::Get { node, name }))?;
@@ -480,17 +480,18 @@ impl Client {
     /// The attributes of a node.
     ///
     /// # Errors
-    /// As `call`.
+    /// Those of `call`.
     pub fn attributes(&mut self, node: u64) -> Result<BTreeMap<String, Value>> {
         let read: wire::Attributes = self.call(Command::Attributes(wire::Node { node }))?;
         let attributes = read.attributes.into_iter();
         Ok(attributes.map(|(name, Json(value))| (name, value)).collect())
     }
 
-    /// All nodes that the query finds, ascending. Of more than a page they are of one snapshot only if the client is pinned.
+    /// All nodes that the query finds, ascending. If they take more than one page, they come from one snapshot only if the client is
+    /// pinned.
     ///
     /// # Errors
-    /// As `call`.
+    /// Those of `call`.
     pub fn query(&mut self, text: &str) -> Result<Vec<u64>> {
         let mut found = Vec::new();
         let mut query = Query {
@@ -510,7 +511,7 @@ impl Client {
     /// A page of what a query finds, with columns.
     ///
     /// # Errors
-    /// As `call`.
+    /// Those of `call`.
     pub fn hits(&mut self, query: Query<'_>) -> Result<wire::Hits> {
         let columns: Vec<_> = query.columns.iter().map(|name| Cow::from(*name)).collect();
         self.call(Command::Query(wire::Query {
@@ -526,7 +527,7 @@ impl Client {
     /// How many nodes the query finds.
     ///
     /// # Errors
-    /// As `call`.
+    /// Those of `call`.
     pub fn count(&mut self, text: &str) -> Result<u64> {
         let hits: wire::Hits = self.call(Command::Query(wire::Query {
             query: text.into(),
@@ -536,28 +537,28 @@ impl Client {
         Ok(hits.count.unwrap_or_default())
     }
 
-    /// Begins a live query, whose changes come by [`next_push`](Self::next_push). Without a query each commit is pushed.
+    /// Begins a live query; [`next_push`](Self::next_push) returns its changes. Without a query, every commit is pushed.
     ///
     /// # Errors
-    /// As `call`.
+    /// Those of `call`.
     pub fn watch(&mut self, query: Option<&str>) -> Result<wire::Watched> {
         let query = query.map(Cow::from);
         self.call(Command::Watch(wire::Watch { query }))
     }
 
-    /// Asks a live query now, or in the pinned snapshot, and returns what changed since the last line of the watch. The pushes
-    /// that [`next_push`](Self::next_push) hasn't returned yet come before it. `more`: call it again for the rest.
+    /// Runs a live query now, or in the pinned snapshot, and returns what changed since the last line of the watch. Any pushes
+    /// that [`next_push`](Self::next_push) hasn't returned yet come before it. With `more`, call it again for the rest.
     ///
     /// # Errors
-    /// As `call`.
+    /// Those of `call`.
     pub fn refresh(&mut self, watch: u64) -> Result<Push> {
         self.call(Command::Refresh(wire::Watching { watch }))
     }
 
-    /// Ends a live query. Pushes that have come before may still be waiting.
+    /// Ends a live query. Earlier pushes may still be waiting.
     ///
     /// # Errors
-    /// As `call`.
+    /// Those of `call`.
     pub fn unwatch(&mut self, watch: u64) -> Result<()> {
         let command = Command::Unwatch(wire::Watching { watch });
         self.call::<Nothing>(command).map(drop)
@@ -566,15 +567,15 @@ impl Client {
     /// How full the store is.
     ///
     /// # Errors
-    /// As `call`.
+    /// Those of `call`.
     pub fn status(&mut self) -> Result<wire::Status> {
         self.call(Command::Status(Nothing {}))
     }
 
-    /// What goes on in the server.
+    /// What the server is doing.
     ///
     /// # Errors
-    /// As `call`.
+    /// Those of `call`.
     pub fn info(&mut self) -> Result<wire::Info> {
         self.call(Command::Info(Nothing {}))
     }
@@ -582,25 +583,25 @@ impl Client {
     /// Who is connected.
     ///
     /// # Errors
-    /// As `call`.
+    /// Those of `call`.
     pub fn clients(&mut self) -> Result<Vec<wire::ClientInfo>> {
         let read: wire::Clients = self.call(Command::Clients(Nothing {}))?;
         Ok(read.clients)
     }
 
-    /// Ends the connection of the client with this number, which [`clients`](Self::clients) says. What it has pinned is given back, and a
+    /// Ends the connection of the client with this number, which [`clients`](Self::clients) lists. Its snapshot is unpinned, and a
     /// write that it has sent may still be made.
     ///
     /// # Errors
-    /// As `call`; `NoClient`.
+    /// Those of `call`; `NoClient`.
     pub fn kick(&mut self, client: u64) -> Result<()> {
         self.call::<Nothing>(Command::Kick(wire::Kick { client })).map(drop)
     }
 
-    /// What the server does in the log that machines share.
+    /// What the server is doing in the log that machines share.
     ///
     /// # Errors
-    /// As `call`; `NoLog` if there is no such log.
+    /// Those of `call`; `NoLog` if there is no such log.
     pub fn log(&mut self) -> Result<wire::LogStatus> {
         self.call(Command::Log(wire::OfLog::default()))
     }
@@ -608,7 +609,7 @@ impl Client {
     /// Waits until the server has this entry of the log that machines share. Reads after it see at least that entry.
     ///
     /// # Errors
-    /// As `call`; `NotReached` at the end of the time, of which a minute is the most; `NoLog`; `Pinned`.
+    /// Those of `call`; `NotReached` when the time is up, which is a minute at most; `NoLog`; `Pinned`.
     pub fn wait_for_entry(&mut self, entry: u64, within: Duration) -> Result<wire::LogStatus> {
         self.call(Command::Log(wire::OfLog {
             entry: Some(entry),
@@ -619,7 +620,7 @@ impl Client {
     /// A page of the journal, from the entry with this index on.
     ///
     /// # Errors
-    /// As `call`.
+    /// Those of `call`.
     pub fn journal_from(&mut self, from: u64) -> Result<wire::Journal> {
         self.call(Command::Journal(wire::JournalFrom {
             from,
@@ -627,10 +628,10 @@ impl Client {
         }))
     }
 
-    /// The same of this volume, which has to be said if the server has several.
+    /// The same for this volume, which has to be given if the server has several.
     ///
     /// # Errors
-    /// As `call`.
+    /// Those of `call`.
     pub fn journal_of(&mut self, volume: u32, from: u64) -> Result<wire::Journal> {
         self.call(Command::Journal(wire::JournalFrom {
             from,
@@ -645,7 +646,7 @@ mod tests {
     use super::*;
     use crate::ErrorName;
 
-    /// A client, whose server sends these lines.
+    /// A client whose server sends these lines.
     fn client_of(lines: &str) -> (UnixStream, Client) {
         let (stream, mut server) = UnixStream::pair().unwrap();
         server.write_all(lines.as_bytes()).unwrap();

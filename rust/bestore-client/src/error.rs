@@ -15,21 +15,21 @@ pub type Result<T> = std::result::Result<T, Error>;
 pub enum Error {
     /// The server refused the request, and did nothing.
     Refused(Refusal),
-    /// The connection failed. Whether a write was made is not known.
+    /// The connection failed. A write may have been made or not.
     Io(io::Error),
-    /// The server closed the connection. Whether a write was made is not known.
+    /// The server closed the connection. A write may have been made or not.
     Closed,
-    /// The server sent a line that isn't of the protocol.
+    /// The server sent a line that doesn't follow the protocol.
     BadLine(String),
-    /// The server didn't reply within this time, and the connection is closed. Whether a write was made is not known.
+    /// The server didn't reply within this time, and the connection is closed. A write may have been made or not.
     TimedOut(Duration),
     /// The server at a default path runs as another user, and nothing was sent to it.
     OtherUser {
         /// The path of the socket.
         socket: PathBuf,
-        /// The user as whom the server runs.
+        /// The user that the server runs as.
         server: u32,
-        /// The user as whom this process acts.
+        /// The effective user of this process.
         user: u32,
     },
     /// A change sets an attribute to a value of a kind that its index doesn't take. Nothing was written.
@@ -44,7 +44,7 @@ pub enum Error {
 }
 
 impl Error {
-    /// What the server refused, if it did.
+    /// The server's refusal, if this is one.
     #[must_use]
     pub fn refusal(&self) -> Option<&Refusal> {
         match self {
@@ -53,7 +53,7 @@ impl Error {
         }
     }
 
-    /// Whether the server refused with this error.
+    /// Whether the server refused the request with this error.
     ///
     /// ```
     /// use bestore_client::wire::{ErrorName, Refusal};
@@ -88,7 +88,7 @@ impl fmt::Display for Error {
             Error::Refused(refusal) => refusal.fmt(f),
             Error::Io(error) => write!(f, "the connection to the server: {error}"),
             Error::Closed => f.write_str("the server closed the connection"),
-            Error::BadLine(why) => write!(f, "the server sent a line that isn't of the protocol: {why}"),
+            Error::BadLine(why) => write!(f, "the server sent a line that doesn't follow the protocol: {why}"),
             Error::TimedOut(time) => write!(
                 f,
                 "the server didn't reply within {time:?}; whether a write was made is not known"

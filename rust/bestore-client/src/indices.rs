@@ -1,14 +1,14 @@
-//! What a client does about indices by several requests.
+//! What a client does about indices with several requests.
 
 use crate::wire::{self, Command, ErrorName, Form, Nothing, Refusal};
 use crate::{Client, Error, Result};
 use bestore_types::{all_in, Hint, Kind, Node, Value};
 use std::collections::BTreeMap;
 
-/// The most operations of a batch, and how many nodes are asked for before the first reply is read.
+/// The maximum number of operations in a batch, and of requests for nodes before the first reply is read.
 const OPERATIONS: usize = 64;
 
-/// How many of these nodes, which ascend, a batch can be about: those of the volume of the first one.
+/// How many of these ascending nodes can be in one batch: those in the volume of the first one.
 fn of_a_batch(nodes: &[u64]) -> usize {
     let volume = |node: &u64| Node::from(*node).volume;
     let first = nodes.first().map(volume);
@@ -23,7 +23,7 @@ impl Client {
     /// The indices with their kinds.
     ///
     /// # Errors
-    /// As [`call`](Self::call).
+    /// Those of [`call`](Self::call).
     pub fn indices(&mut self) -> Result<BTreeMap<String, Kind>> {
         let read: wire::Indices = self.call(Command::Indices(Nothing {}))?;
         let named = read.indices.into_iter();
@@ -47,21 +47,21 @@ impl Client {
         self.count(&all_in(name, kind))
     }
 
-    /// The comparisons of a query, from left to right. The server reads the text alone, and nothing of its store.
+    /// The comparisons of a query, from left to right. The server reads only the text, and nothing in its store.
     ///
     /// # Errors
-    /// `Syntax`, `BadPattern`, `TooLong`, `TooDeep` or `TooMany`: the text is no query. `BadRequest`: the server is older, and
-    /// [`has`](Self::has) no `text`. Otherwise as [`call`](Self::call).
+    /// `Syntax`, `BadPattern`, `TooLong`, `TooDeep` or `TooMany`: the text isn't a query. `BadRequest`: the server is older,
+    /// and doesn't [have](Self::has) `text`. Otherwise as [`call`](Self::call).
     pub fn comparisons(&mut self, query: &str) -> Result<Vec<wire::Comparison>> {
         let query = query.into();
         let read: wire::Comparisons = self.call(Command::Text(wire::QueryText { query }))?;
         Ok(read.comparisons)
     }
 
-    /// The comparisons of a query that are never true in the store with its indices, as `size>1.5`.
+    /// The comparisons of a query that are never true with the indices of the store, such as `size>1.5`.
     ///
     /// # Errors
-    /// As [`comparisons`](Self::comparisons).
+    /// Those of [`comparisons`](Self::comparisons).
     pub fn hints(&mut self, query: &str) -> Result<Vec<Hint>> {
         let compared = self.comparisons(query)?;
         if compared.iter().all(|one| one.never.is_empty()) {
@@ -81,9 +81,8 @@ impl Client {
         Ok(compared.into_iter().filter_map(hint).collect())
     }
 
-    /// Sets again, to the values that they have, the attributes that the index of this name lacks, because they were set before it was
-    /// made. Each change sets up to 64 of them, so no newer value is lost. Returns how many were set. Reads each node that isn't in the
-    /// index.
+    /// Sets the attributes that the index of this name lacks, because they were set before it was made, to the same values again. Each
+    /// change sets up to 64 of them, so no newer value is lost. Returns how many were set. Reads each node that isn't in the index.
     ///
     /// # Errors
     /// `NoIndex`; otherwise as [`change`](Self::change).
@@ -127,7 +126,7 @@ impl Client {
         Ok(lacking)
     }
 
-    /// The attributes of this name of these nodes, if they are of this kind. All requests are sent before the first reply is read.
+    /// These nodes' attributes of this name, if they are of this kind. All requests are sent before the first reply is read.
     fn values_of(&mut self, nodes: &[u64], name: &str, kind: Kind) -> Result<Vec<(u64, Value)>> {
         let mut asked = Vec::with_capacity(nodes.len());
         for &node in nodes {

@@ -1,4 +1,4 @@
-//! A client of bestored, which shares a store of attributes between the programs of a user.
+//! A client of bestored, the server that shares an attribute store between a user's programs.
 //!
 //! ```no_run
 //! use bestore_client::{Batch, Client, Kind};
@@ -16,8 +16,8 @@
 //! # Ok::<(), bestore_client::Error>(())
 //! ```
 //!
-//! [`wire`] has the lines of the protocol, and [`Client::call`] sends any of them. A client has no store of its own, and loads nothing of
-//! libbestore: what it needs of a query's text it asks the server.
+//! [`wire`] contains the lines of the protocol, and [`Client::call`] sends any of them. A client has no store of its own, and doesn't load
+//! libbestore: it asks the server what a query's text means.
 #![warn(missing_docs, missing_debug_implementations, rust_2018_idioms)]
 #![deny(unsafe_code)]
 

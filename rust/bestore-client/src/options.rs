@@ -5,13 +5,13 @@ use std::io::{self, ErrorKind};
 use std::thread;
 use std::time::{Duration, Instant};
 
-/// How long a reply may take if nothing else is said.
+/// How long a reply may take by default.
 const TIMEOUT: Duration = Duration::from_secs(60);
 
-/// How many bytes of pushed lines are kept if nothing else is said.
+/// How many bytes of pushed lines are kept by default.
 const PUSHED: usize = 64 << 20;
 
-/// How often a server that isn't there yet is tried again.
+/// How often to try again if a server isn't there yet.
 const AGAIN: Duration = Duration::from_millis(10);
 
 /// How a client connects, and how long it waits.
@@ -52,40 +52,40 @@ impl Options {
         Self::default()
     }
 
-    /// Sets how long connecting may take, and each reply: a minute by default, and without an end by `None`. A command that waits on
-    /// the server, as [`Client::reach`] does, gets that time too. At the end the call fails with [`Error::TimedOut`], and the connection
-    /// is closed.
+    /// Sets how long connecting and each reply may take: a minute by default, and forever with `None`. A command that waits on the
+    /// server, such as [`Client::reach`], gets that time on top. When the time is up the call fails with [`Error::TimedOut`], and the
+    /// connection is closed.
     pub fn timeout(&mut self, timeout: Option<Duration>) -> &mut Self {
-        // The system takes no time of zero.
+        // The system doesn't accept a time of zero.
         self.timeout = timeout.map(|time| time.max(Duration::from_millis(1)));
         self
     }
 
-    /// Sets how long [`connect`](Self::connect) waits for a server that starts. By default it doesn't wait.
+    /// Sets how long [`connect`](Self::connect) waits for a server that is starting. By default it doesn't wait.
     pub fn wait(&mut self, time: Duration) -> &mut Self {
         self.wait = time;
         self
     }
 
-    /// Sets how many bytes of pushed lines are kept for [`Client::next_push`], 64 MiB by default. A live query whose line doesn't fit
-    /// loses all its lines, and has ended: its next push has the error `PushesLost`.
+    /// Sets how many bytes of pushed lines are kept for [`Client::next_push`], 64 MiB by default. If a line doesn't fit, its live
+    /// query loses all its lines and ends: its next push has the error `PushesLost`.
     pub fn most_pushed(&mut self, bytes: usize) -> &mut Self {
         self.most_pushed = bytes;
         self
     }
 
-    /// Lets writes outlive a server that ends and starts again. A write whose reply doesn't come, or that the server can't keep now, is
-    /// sent again for up to this time, on a new connection if need be, and is made once: its token says which one it is. It then
-    /// returns what the first of them did. [`Client::change`] runs its closure again.
+    /// Lets writes survive a restart of the server. A write whose reply doesn't come, or that the server can't keep for now, is sent
+    /// again for up to this time, on a new connection if necessary, and is made once: its token identifies it. It then returns the
+    /// first outcome. [`Client::change`] runs its closure again.
     ///
-    /// It isn't repeated while a snapshot is pinned, but by `change`, or if there were live queries: a new connection has neither. The
-    /// number of [`Client::apply_if`] is one of [`Client::run`].
+    /// A write isn't repeated while a snapshot is pinned (except by `change`), or if there were live queries: a new connection has
+    /// neither. The number for [`Client::apply_if`] belongs to the run that [`Client::run`] names.
     pub fn repeat(&mut self, time: Duration) -> &mut Self {
         self.repeat = Some(time);
         self
     }
 
-    /// Connects to the server at this socket: [`SocketPath::find`], or the path of one.
+    /// Connects to the server at this socket: that of [`SocketPath::find`], or a path.
     ///
     /// # Errors
     /// [`Error::Io`]: there is no server. [`Error::OtherUser`]: nobody named the socket, and the server runs neither as the effective
@@ -96,7 +96,7 @@ impl Options {
         loop {
             match self.connect_once(&socket) {
                 Err(Error::Io(error)) if may_start(&error) && Instant::now() < until => thread::sleep(AGAIN),
-                // It has ended before it could say which run it is.
+                // The server has ended before it could name its run.
                 Err(Error::Closed) if self.repeat.is_some() && Instant::now() < until => thread::sleep(AGAIN),
                 answer => return answer,
             }
@@ -112,7 +112,7 @@ impl Options {
         Ok(client)
     }
 
-    /// The error of a call that the system has ended at the end of the time, otherwise that of the connection.
+    /// The error of a call that the system ended because the time was up, otherwise that of the connection.
     pub(crate) fn late_or(&self, error: io::Error) -> Error {
         match (error.kind(), self.timeout) {
             (ErrorKind::WouldBlock | ErrorKind::TimedOut, Some(time)) => Error::TimedOut(time),
@@ -121,7 +121,7 @@ impl Options {
     }
 }
 
-/// Whether a server that starts has no socket yet.
+/// Whether this may be a starting server that has no socket yet.
 fn may_start(error: &io::Error) -> bool {
     matches!(error.kind(), ErrorKind::NotFound | ErrorKind::ConnectionRefused)
 }

@@ -10,12 +10,12 @@ use std::borrow::Cow;
 pub struct PageOfRows {
     /// The nodes, whether there are more, and the position of the last one.
     pub page: Page,
-    /// Of each node its values in the order of the columns, `None` where it has none.
+    /// Each node's values in the order of the columns, `None` where it has none.
     pub rows: Vec<Vec<Option<Value>>>,
 }
 
 /// What a query finds in an order, by [`Client::ordered`]: the nodes, page after page, each twice as long as the last one. An error
-/// ends them. Pages of different snapshots go on where the last one ended; of one snapshot they are if the client is pinned.
+/// ends them. Each page goes on where the last one ended, even in a later snapshot; pin the client to read all pages from one snapshot.
 #[derive(Debug)]
 pub struct Ordered<'c> {
     asking: Asking<'c>,
@@ -31,7 +31,7 @@ struct Asking<'c> {
 }
 
 impl Ordered<'_> {
-    /// The nodes after this cursor, which a page of the same query and order left.
+    /// The nodes after this cursor, which comes from a page of the same query and order.
     #[must_use]
     pub fn after(mut self, cursor: Cursor) -> Self {
         self.paging.set_after(cursor);
@@ -41,16 +41,16 @@ impl Ordered<'_> {
     /// The first `most` nodes as a page, 1 to 50,000.
     ///
     /// # Errors
-    /// As [`Client::page`].
+    /// Those of [`Client::page`].
     pub fn page(&mut self, most: usize) -> Result<Page> {
         Ok(self.rows(most, &[])?.page)
     }
 
-    /// As [`page`](Self::page), with these attributes of each node, in one request. It has fewer nodes if the rows of all don't fit
-    /// into a line; the page's `more` then is true.
+    /// Like [`page`](Self::page), with these attributes of each node, in one request. It has fewer nodes if not all rows fit on one
+    /// line; the page's `more` is then true.
     ///
     /// # Errors
-    /// As [`Client::page`].
+    /// Those of [`Client::page`].
     pub fn rows(&mut self, most: usize, columns: &[&str]) -> Result<PageOfRows> {
         self.asking.rows(self.paging.position(), most, columns)
     }
@@ -97,7 +97,7 @@ impl Iterator for Ordered<'_> {
 impl std::iter::FusedIterator for Ordered<'_> {}
 
 impl Client {
-    /// The nodes that a query finds, in an order: an iterator, which asks for page after page. A node without a value in the index
+    /// The nodes that a query finds, in an order: an iterator that reads page after page. A node without a value in the index
     /// isn't among them.
     ///
     /// ```no_run
@@ -122,8 +122,8 @@ impl Client {
     /// The first `most` nodes of a query in an order, 1 to 50,000, or those after a cursor.
     ///
     /// # Errors
-    /// `NoIndex`: the order's index isn't there. `BadCursor`: the cursor is of another order or query, or the index has another kind
-    /// now. `BadRequest`: `most` isn't 1 to 50,000. Otherwise as [`call`](Self::call).
+    /// `NoIndex`: the order's index doesn't exist. `BadCursor`: the cursor belongs to another order or query, or the index has
+    /// another kind now. `BadRequest`: `most` isn't 1 to 50,000. Otherwise as [`call`](Self::call).
     pub fn page(&mut self, text: &str, order: &Order, after: Option<&Cursor>, most: usize) -> Result<Page> {
         let mut ordered = self.ordered(text, order.clone());
         if let Some(cursor) = after {
@@ -135,7 +135,7 @@ impl Client {
     /// The first `most` nodes that the query finds, ascending from the number `from` on.
     ///
     /// # Errors
-    /// As [`call`](Self::call).
+    /// Those of [`call`](Self::call).
     pub fn first(&mut self, text: &str, from: u64, most: usize) -> Result<Vec<u64>> {
         let (mut found, mut next) = (Vec::new(), Some(from));
         while let (Some(from), true) = (next, found.len() < most) {
@@ -152,8 +152,8 @@ impl Client {
         Ok(found)
     }
 
-    /// Any `most` of the nodes that the query finds, 1 to 50,000, or all if there are fewer, in no order. Of a large answer it takes
-    /// less time than the whole.
+    /// Any `most` of the nodes that the query finds, 1 to 50,000, or all if there are fewer, in no particular order. If the answer
+    /// is large, this takes less time than finding all of it.
     ///
     /// # Errors
     /// `BadRequest`: `most` isn't 1 to 50,000. Otherwise as [`call`](Self::call).

@@ -19,13 +19,13 @@ fn check(answer: libc::c_int) -> io::Result<libc::c_int> {
     }
 }
 
-/// The user as whom this process acts.
+/// The effective user of this process.
 pub fn user() -> u32 {
     // SAFETY: the call takes nothing and always succeeds.
     unsafe { libc::geteuid() }
 }
 
-/// The user as whom the other end of the connection was made.
+/// The user that made the other end of the connection.
 ///
 /// # Errors
 /// Those of the system, if the connection isn't open.
@@ -33,10 +33,10 @@ pub fn peer_user(stream: &UnixStream) -> io::Result<u32> {
     Ok(credentials(stream)?.uid)
 }
 
-/// The number of the process that has connected, or that has begun to listen.
+/// The number of the process that connected, or that began to listen.
 ///
 /// # Errors
-/// As [`peer_user`].
+/// Those of [`peer_user`].
 pub fn peer_process(stream: &UnixStream) -> io::Result<u32> {
     Ok(credentials(stream)?.pid.unsigned_abs())
 }
@@ -57,10 +57,10 @@ fn credentials(stream: &UnixStream) -> io::Result<libc::ucred> {
     Ok(credentials)
 }
 
-/// Connects to a socket. Connecting, and later each write, fails with `WouldBlock` at the end of the time.
+/// Connects to a socket. Connecting, and later each write, fails with `WouldBlock` when the time is up.
 pub fn connect(path: &Path, within: Option<Duration>) -> io::Result<UnixStream> {
     let address = address(path)?;
-    // SAFETY: the call takes numbers alone, and nobody else has the new descriptor.
+    // SAFETY: the call takes only numbers, and nobody else has the new descriptor.
     let stream = unsafe {
         let kind = libc::SOCK_STREAM | libc::SOCK_CLOEXEC;
         UnixStream::from_raw_fd(check(libc::socket(libc::AF_UNIX, kind, 0))?)
@@ -77,7 +77,7 @@ pub fn connect(path: &Path, within: Option<Duration>) -> io::Result<UnixStream> 
 }
 
 fn address(path: &Path) -> io::Result<libc::sockaddr_un> {
-    // SAFETY: a `sockaddr_un` has numbers alone, and all may be zero.
+    // SAFETY: a `sockaddr_un` has only numbers, and all may be zero.
     let mut address: libc::sockaddr_un = unsafe { mem::zeroed() };
     address.sun_family = libc::AF_UNIX as libc::sa_family_t;
     let bytes = path.as_os_str().as_bytes();
@@ -102,7 +102,7 @@ mod tests {
     fn connecting_to_a_server_that_accepts_nobody_ends() {
         let path = std::env::temp_dir().join(format!("bestore-client-{}", std::process::id()));
         let listener = UnixListener::bind(&path).unwrap();
-        // SAFETY: the call takes numbers alone. One connection may wait from now on.
+        // SAFETY: the call takes only numbers. One connection may wait from now on.
         check(unsafe { libc::listen(listener.as_raw_fd(), 0) }).unwrap();
         let time = Some(Duration::from_millis(20));
         let waiting = connect(&path, time).unwrap();

@@ -23,7 +23,7 @@ impl Pushes {
         }
     }
 
-    /// Adds a push, whose line had so many bytes. If there is no room, all lines of its watch are lost, also those that come later.
+    /// Adds a push, whose line had this many bytes. If there is no room, all lines of its watch are lost, including later ones.
     pub fn add(&mut self, length: usize, push: Push) {
         if self.lost.contains(&push.watch) {
             return;
@@ -45,7 +45,7 @@ impl Pushes {
         Some(push)
     }
 
-    /// Whether this push, which has just come, is of a watch that has lost lines.
+    /// Whether this push, which has just come, belongs to a watch that has lost lines.
     pub fn is_lost(&self, push: &Push) -> bool {
         self.lost.contains(&push.watch)
     }
@@ -58,7 +58,7 @@ impl Pushes {
     /// The last push of a watch, which says that lines were lost.
     fn end_of(&self, push: Push) -> Push {
         let message = format!(
-            "more than {} bytes of pushes wait to be taken, and those of watch {} are lost; begin it anew",
+            "more than {} bytes of pushes wait to be taken, and those of watch {} are lost; begin it again",
             self.most, push.watch
         );
         Push {

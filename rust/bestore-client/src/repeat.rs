@@ -10,7 +10,7 @@ use std::time::{Duration, Instant, SystemTime};
 /// How often a write that the server can't keep now is sent again.
 const AGAIN: Duration = Duration::from_millis(50);
 
-/// A token that no other write has: of this machine's time, process and count.
+/// A token that no other write has: made from this machine's time, the process and a count.
 fn new_token() -> Option<Token> {
     static LAST: AtomicU64 = AtomicU64::new(0);
     let time = SystemTime::UNIX_EPOCH.elapsed().unwrap_or_default().as_nanos();
@@ -29,20 +29,20 @@ fn is_passing(error: &Error) -> bool {
 }
 
 impl Client {
-    /// Which run of the server the client has last connected to, if [`hello`](Self::hello) was called. Commit numbers begin anew
+    /// The run of the server that the client last connected to, if [`hello`](Self::hello) was called. Commit numbers start again
     /// with each run.
     #[must_use]
     pub fn run(&self) -> Option<&str> {
         self.run.as_deref()
     }
 
-    /// When writes that begin now are given up, if they are repeated at all.
+    /// When to give up on writes that begin now, if they are repeated at all.
     pub(crate) fn repeats_until(&self) -> Option<Instant> {
         self.options.repeat.map(|time| Instant::now() + time)
     }
 
-    /// Whether the call may be made again after this error, before that time: on this connection, or on a new one that this makes. A
-    /// client with live queries stays as it is, since these would be lost.
+    /// Whether the call may be made again after this error, before that time: on this connection, or on a new one that is made here.
+    /// A client with live queries stays as it is, since these would be lost.
     pub(crate) fn may_repeat(&mut self, error: &Error, until: Option<Instant>) -> bool {
         let until = match until {
             Some(until) if is_passing(error) && !self.has_watches && Instant::now() < until => until,
@@ -52,7 +52,7 @@ impl Client {
         error.refusal().is_some() && !error.is(ErrorName::NoPass) || self.connect_again(until)
     }
 
-    /// Connects to the same socket. Returns whether it did before that time.
+    /// Connects to the same socket. Returns whether it succeeded before that time.
     fn connect_again(&mut self, until: Instant) -> bool {
         while Instant::now() < until {
             let mut options = self.options;
@@ -73,7 +73,7 @@ impl Client {
         false
     }
 
-    /// Greets a server that the client has just connected to, if its run has to be known.
+    /// Sends `hello` to a server that the client has just connected to, if its run has to be known.
     pub(crate) fn greet_if_repeating(&mut self) -> Result<()> {
         match self.options.repeat {
             None => Ok(()),

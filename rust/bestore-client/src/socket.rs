@@ -1,4 +1,4 @@
-//! Where the socket of a server is, and whose server may be there. The server and all clients go by the same rule.
+//! Where the socket of a server is, and whose server may be there. The server and all clients follow the same rule.
 
 use crate::{os, Error, Result};
 use std::env;
@@ -13,7 +13,7 @@ pub use crate::os::{peer_process, peer_user, user};
 pub enum SocketPath {
     /// An option or the variable `BESTORE_SOCKET` names this path.
     Named(PathBuf),
-    /// Nothing names a socket, and servers listen at this path by default.
+    /// Nothing names a socket; servers listen at this path by default.
     Default(PathBuf),
 }
 
@@ -49,8 +49,8 @@ impl SocketPath {
         }
     }
 
-    /// Refuses a server of another user at a default path, since anybody can make a socket in the folder for temporary files. Who
-    /// names a path says whose server it is.
+    /// Refuses another user's server at a default path, since anybody can make a socket in the folder for temporary files. Naming
+    /// a path means trusting the server there.
     pub(crate) fn check_server(&self, stream: &UnixStream) -> Result<()> {
         let socket = match self {
             Self::Named(_) => return Ok(()),

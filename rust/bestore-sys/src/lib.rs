@@ -39,7 +39,7 @@ handles! {
     bes_pass, BES_PASS_INIT;
     /// A query that was parsed once.
     bes_prepared, BES_PREPARED_INIT;
-    /// A place in the operations that make a snapshot again.
+    /// A place in the operations that rebuild a snapshot.
     bes_place, BES_PLACE_INIT;
     /// What a pass has seen, for a pass of the same store in another thread.
     bes_witness, BES_WITNESS_INIT;

@@ -47,7 +47,7 @@ pub enum Operation<'a> {
     },
 }
 
-/// The operations of one transaction, 1 to 64: all are done or none.
+/// The operations of one transaction, 1 to 64: all of them are done, or none.
 ///
 /// ```
 /// use bestore_types::{Batch, Kind, Operation};
@@ -58,7 +58,7 @@ pub enum Operation<'a> {
 /// # Ok::<(), bestore_types::Error>(())
 /// ```
 ///
-/// No call here checks names and values. The store that it is applied to does, and says which operation is the first bad one.
+/// No call here checks names and values. The store that the batch is applied to does, and reports the first bad operation.
 ///
 /// # Panics
 /// A call that adds an operation panics if the names and values have 4 GiB or more.
@@ -126,8 +126,8 @@ impl Batch {
         self.len() >= OPERATIONS
     }
 
-    /// Gives the batch a token, by which whoever keeps it may know it again: a text of the caller's choice. The operations
-    /// are what they were, and so are [`to_bytes`](Self::to_bytes) and `==`.
+    /// Gives the batch a token, a text of the caller's choice that identifies the batch later. It changes
+    /// neither the operations, nor [`to_bytes`](Self::to_bytes), nor `==`.
     pub fn set_token(&mut self, token: &str) -> &mut Self {
         self.token = Some(token.into());
         self
@@ -146,7 +146,7 @@ impl Batch {
         self.list.bytes.clear();
     }
 
-    /// The operations, in their order.
+    /// The operations, in order.
     pub fn operations(&self) -> Operations<'_> {
         Operations {
             list: &self.list,
@@ -154,8 +154,8 @@ impl Batch {
         }
     }
 
-    /// Gives the operations that make nodes the numbers of these, in their order. With the nodes of [`Written`](crate::Written)
-    /// the batch is what the journal has.
+    /// Gives these numbers, in order, to the operations that make nodes. With the nodes of [`Written`](crate::Written) the
+    /// batch is what the journal has.
     pub fn set_nodes(&mut self, nodes: &[u64]) -> &mut Self {
         let made = self.list.operations.iter_mut();
         let made = made.filter(|operation| operation.kind == sys::BES_NEW_NODE);
@@ -165,8 +165,8 @@ impl Batch {
         self
     }
 
-    /// The nodes that operations name, with the indices of these. An operation that makes a node names it in a batch of the journal
-    /// alone.
+    /// The nodes that operations name, with the operations' indices. An operation that makes a node names it only in a batch of the
+    /// journal.
     pub(crate) fn named_nodes(&mut self) -> impl Iterator<Item = (usize, &mut u64)> {
         let operations = self.list.operations.iter_mut().enumerate();
         operations.filter_map(|(index, operation)| match operation.kind {
@@ -200,7 +200,7 @@ impl Batch {
         self
     }
 
-    /// The operations as the library for C takes them.
+    /// The operations in the form that the library for C takes.
     #[must_use]
     pub fn raw(&self) -> &List {
         &self.list
@@ -214,7 +214,7 @@ impl Batch {
     }
 }
 
-/// A length as the library for C takes it.
+/// A length in the form that the library for C takes.
 ///
 /// # Panics
 /// If it is 4 GiB or more.
@@ -261,7 +261,7 @@ pub struct Written {
     pub nodes: Vec<u64>,
 }
 
-/// The operations of a batch, by [`Batch::operations`].
+/// The operations of a batch, from [`Batch::operations`].
 #[derive(Clone, Debug)]
 pub struct Operations<'a> {
     list: &'a List,

@@ -1,6 +1,6 @@
-//! Batches as bytes, in the format that the libraries for C, C++ and Python have too. All numbers are little-endian.
+//! Batches as bytes, in the format that the libraries for C, C++ and Python also use. All numbers are little-endian.
 //!
-//! `BEB`, the format's version 1, and the count of the operations come first, a byte each. Of an operation:
+//! `BEB`, the format's version 1, and the count of the operations come first, a byte each. Then each operation has:
 //! - its kind, one byte;
 //! - kinds 0 to 3 (new node, remove node, set, unset): the node, 8 bytes;
 //! - kinds 2 to 5 (set, unset, make index, remove index): the length of the name, one byte, and the name;
@@ -99,7 +99,7 @@ struct Reader<'a> {
 }
 
 impl<'a> Reader<'a> {
-    /// The error at the byte that lies so far before the next one.
+    /// The error at the byte this far before the next one.
     fn bad<T>(&self, back: usize, why: &'static str) -> Result<T> {
         Err(Error::BadBatch {
             offset: self.at - back,
@@ -137,7 +137,7 @@ impl<'a> Reader<'a> {
                 return self.bad(
                     1,
                     if is_version {
-                        "the batch is of another version of the format; version 1 can be read"
+                        "the batch has another version of the format; version 1 can be read"
                     } else {
                         "the bytes don't begin with BEB, as those of a batch do"
                     },

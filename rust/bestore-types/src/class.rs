@@ -15,7 +15,7 @@ macro_rules! classes {
             /// Every class.
             pub const ALL: &'static [Class] = &[$(Class::$class),*];
 
-            /// The name of the class, as the protocol of the server has it.
+            /// The name of the class in the server's protocol.
             #[must_use]
             pub const fn name(self) -> &'static str {
                 match self {
@@ -28,7 +28,7 @@ macro_rules! classes {
 
 classes! {
     // surface.toml: classes
-    /// Another pass, client or write was in the way: call again, after a conflict with what is read anew.
+    /// Another pass, client or write was in the way: call again, and read again first after a conflict.
     Retry = "retry";
     /// The call isn't valid here: it fails again until the program or its input changes.
     Mine = "mine";
@@ -53,7 +53,7 @@ impl fmt::Display for Class {
     }
 }
 
-/// What is known of an error of the library.
+/// An error of the library, with its details.
 #[derive(Debug)]
 pub struct Meaning {
     /// The error's number in `bestore.h`.
@@ -66,7 +66,7 @@ pub struct Meaning {
     pub advice: &'static str,
 }
 
-/// The meaning of an error of a later version of the library: nothing says that the same call may succeed later.
+/// The meaning of an error from a later version of the library: nothing says that the same call may succeed later.
 const UNKNOWN: Meaning = Meaning {
     code: sys::BES_OK,
     class: Class::Mine,
@@ -139,12 +139,12 @@ pub const MEANINGS: &[Meaning] = &[
         code: sys::BES_NOT_INDEXABLE,
         class: Class::Mine,
         what: "an index can't have this kind",
-        advice: "it can have a kind of texts or integers, but not of MIME types or raw bytes",
+        advice: "it takes texts or integers, but not MIME types or raw bytes",
     },
     Meaning {
         code: sys::BES_COMMITS_SPENT,
         class: Class::Full,
-        what: "the journal is at the limit that the store was opened with",
+        what: "the journal has reached the limit that the store was opened with",
         advice: "copy the state into a new store",
     },
     Meaning {

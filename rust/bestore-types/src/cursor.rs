@@ -57,10 +57,10 @@ impl fmt::Display for Order {
     }
 }
 
-/// A position in the answer of a query in an order: that of the last node of a [`Page`](crate::Page). The next page has what comes
-/// after it, also in a later snapshot, whatever was written in between.
+/// A position in the ordered answer of a query: the position of a [`Page`](crate::Page)'s last node. The next page begins right
+/// after it, even in a later snapshot, whatever was written in between.
 ///
-/// It is printed as a short text, which [`str::parse`] reads, so it may be kept or sent elsewhere.
+/// It prints as a short text, which [`str::parse`] reads, so it can be kept or sent elsewhere.
 #[derive(Clone, Debug, PartialEq, Eq, Hash)]
 pub struct Cursor {
     order: Order,
@@ -115,7 +115,7 @@ impl Cursor {
         cursor
     }
 
-    /// An error if the cursor is of another order, or of another query.
+    /// An error if the cursor belongs to another order or another query.
     ///
     /// # Errors
     /// [`Error::BadCursor`].
@@ -147,22 +147,22 @@ impl Cursor {
     }
 }
 
-/// Why no page can go on from a cursor.
+/// Why a page can't continue from a cursor.
 #[non_exhaustive]
 #[derive(Clone, Debug, PartialEq, Eq)]
 pub enum CursorFault {
-    /// The text isn't one of a cursor.
+    /// The text isn't a cursor's.
     Text,
-    /// The cursor is of another order.
+    /// The cursor belongs to another order.
     OtherOrder {
         /// The order of the cursor.
         cursor: Order,
         /// The order of the page that was asked for.
         page: Order,
     },
-    /// The cursor is of another query.
+    /// The cursor belongs to another query.
     OtherQuery,
-    /// The index has another kind than it had when the cursor was made.
+    /// The index has a different kind from when the cursor was made.
     OtherKind {
         /// The name of the index.
         name: String,
@@ -179,11 +179,11 @@ impl fmt::Display for CursorFault {
             CursorFault::Text => f.write_str("this text isn't a cursor: it is cut off or changed"),
             CursorFault::OtherOrder { cursor, page } => write!(
                 f,
-                "the cursor is of the order by {cursor}, and this page is in the order by {page}: \
+                "the cursor belongs to the order by {cursor}, but this page is in the order by {page}: \
                  keep the order, or begin without a cursor"
             ),
             CursorFault::OtherQuery => f.write_str(
-                "the cursor is of another query: ask the query that it came from, or begin without a cursor",
+                "the cursor belongs to another query: ask the query that it came from, or begin without a cursor",
             ),
             CursorFault::OtherKind { name, cursor, index } => write!(
                 f,
@@ -195,12 +195,12 @@ impl fmt::Display for CursorFault {
 }
 
 // The text of a cursor is base64url, without padding, of these bytes: the format; 1 if it descends; the kind's number, or 0 at the
-// beginning; the name's length; the name; the check of the query; the key; and the check of all before.
+// beginning; the name's length; the name; the check of the query; the key; and the check of everything before it.
 
 /// The first byte of a cursor's text.
 const FORMAT: u8 = 1;
 
-/// The most bytes that a cursor's text stands for: those of the longest name and of the longest key.
+/// The maximum number of bytes that a cursor's text stands for: with the longest name and the longest key.
 const LONGEST: usize = 4 + 63 + 4 + 264 + 4;
 
 /// The number of a kind in a cursor's text, which is its place in [`Kind::ALL`], from 1.
@@ -302,7 +302,7 @@ fn decode_key(kind: Kind, key: &[u8]) -> Option<Position> {
     Some(Position { value, node })
 }
 
-/// The text that a zero byte ends, if no other one is in it.
+/// The text before a final zero byte, if it contains no other.
 fn text_of(front: &[u8]) -> Option<String> {
     let (last, text) = front.split_last()?;
     if *last != 0 || text.contains(&0) || text.len() > 255 {
@@ -333,7 +333,7 @@ fn to_base64(bytes: &[u8]) -> String {
     text
 }
 
-/// The bytes of a text that isn't longer than that of a cursor.
+/// The bytes of a text that isn't longer than a cursor's.
 fn of_base64(text: &str) -> Option<Vec<u8>> {
     if text.len() > LONGEST * 4 / 3 {
         return None;

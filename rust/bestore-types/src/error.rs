@@ -7,7 +7,7 @@ use std::fmt;
 /// The result of a call of this crate.
 pub type Result<T> = std::result::Result<T, Error>;
 
-/// Why a call did nothing, with what is known of it.
+/// Why a call did nothing, with details.
 #[non_exhaustive]
 #[derive(Debug)]
 pub enum Error {
@@ -26,7 +26,7 @@ pub enum Error {
     IndexExists,
     /// There is no index of this name.
     NoIndex,
-    /// There is no index of the name by which an order is.
+    /// There is no index of the name that an order uses.
     NoOrder {
         /// The name.
         name: String,
@@ -47,7 +47,7 @@ pub enum Error {
     OutOfMemory,
     /// No page is free.
     Full {
-        /// The oldest snapshot that a pass may still read, and for which pages are kept.
+        /// The oldest snapshot that a pass may still read, whose pages are kept.
         oldest: u64,
     },
     /// The query is refused.
@@ -69,11 +69,11 @@ pub enum Error {
     },
     /// A limit of the store is out of its range.
     BadLimits,
-    /// Each pass of the store is in use.
+    /// Every pass of the store is in use.
     NoPass,
     /// Another pass of the store is open, or another clone of it.
     InUse,
-    /// The witness is of a pass of another store.
+    /// The witness belongs to a pass of another store.
     OtherStore,
     /// A batch is empty or has more than 64 operations.
     BadCount {
@@ -87,7 +87,7 @@ pub enum Error {
         /// The length that was found.
         found: u64,
     },
-    /// The value is of another kind than the index of this name, which wouldn't take it.
+    /// The index of this name takes another kind, so it wouldn't hold the value.
     KindMismatch {
         /// The name of the attribute and of the index.
         name: String,
@@ -103,14 +103,14 @@ pub enum Error {
         /// How many there are.
         volumes: u32,
     },
-    /// An operation names a node of another volume than the one that is written.
+    /// An operation names a node that isn't in the volume that is written.
     OtherVolume {
         /// The volume that is written.
         volume: u32,
         /// Which operation of the batch, from 0. In a change it is the one that was to be added.
         operation: Option<u64>,
     },
-    /// An index is made or removed in all volumes of a shelf, by calls of its own, and not in the volume of a batch.
+    /// An index of a shelf is made or removed in all volumes, by separate calls, and not in the volume of a batch.
     PartialIndex {
         /// Which operation of the batch, from 0.
         operation: u64,
@@ -124,7 +124,7 @@ pub enum Error {
         /// What is wrong there.
         error: Box<Error>,
     },
-    /// Bytes that are no batch.
+    /// Bytes that aren't a batch.
     BadBatch {
         /// The offset of the first byte that is wrong, or the length of the bytes if they end too soon.
         offset: usize,
@@ -133,7 +133,7 @@ pub enum Error {
     },
     /// The handle was opened before this process was forked, and belongs to the parent.
     Forked,
-    /// The write was made in memory, and could not be saved. The store accepts no further write.
+    /// The write was made in memory, and couldn't be saved. The store accepts no more writes.
     #[cfg(feature = "saved")]
     NotSaved(std::sync::Arc<crate::saved::Error>),
     /// Nothing was written, because saving has failed before, or because the file is closed.
@@ -151,12 +151,12 @@ pub enum Error {
 }
 
 impl Error {
-    /// An error of the program's own, by which the closure of a change stops it.
+    /// An error of the program's own, with which the closure of a change stops it.
     pub fn other(error: impl Into<Box<dyn std::error::Error + Send + Sync>>) -> Self {
         Error::Other(error.into())
     }
 
-    /// The same error, of this volume of a shelf, if it depends on the volume and not on the call alone.
+    /// The same error with this volume of a shelf, unless it depends only on the call.
     #[must_use]
     pub fn in_volume(self, volume: u32) -> Self {
         match self {
@@ -180,7 +180,7 @@ impl Error {
         }
     }
 
-    /// The error without the volume that it is of.
+    /// The error without its volume.
     #[must_use]
     pub fn without_volume(self) -> Self {
         match self {
@@ -249,7 +249,7 @@ fn at_operation(f: &mut fmt::Formatter<'_>, operation: &Option<u64>) -> fmt::Res
     }
 }
 
-/// What was wrong, what is known of the place, and what would be right.
+/// What was wrong, what is known about the place, and what would be right.
 impl fmt::Display for Error {
     fn fmt(&self, f: &mut fmt::Formatter<'_>) -> fmt::Result {
         match self {
@@ -272,7 +272,7 @@ impl fmt::Display for Error {
     }
 }
 
-/// The library has a pass more.
+/// The library has one more pass.
 const BAD_LIMITS: &str =
     "a limit of the store is out of its range; it has 8 to 16,384 pages, 1 to 63 passes and 1 to 4,294,967,295 commits";
 
@@ -308,7 +308,7 @@ impl Error {
                 write!(f, "there is no volume {volume}; there are {volumes}, counted from 0")
             }
             Error::OtherVolume { volume, operation } => {
-                write!(f, "a node is in another volume than {volume}, which is written")?;
+                write!(f, "a node isn't in volume {volume}, which is written")?;
                 at_operation(f, operation)?;
                 f.write_str("; a batch has nodes of one volume")
             }
@@ -317,7 +317,7 @@ impl Error {
                 at_operation(f, &Some(*operation))?;
                 f.write_str("; it needs a batch without other operations")
             }
-            Error::OtherStore => f.write_str("the witness is of another store; join one of this store"),
+            Error::OtherStore => f.write_str("the witness belongs to another store; join one of this store"),
             Error::NodesSpent => f.write_str("the volume has used up its node numbers; write in another one"),
             _ => f.write_str("the handle belongs to the process that this one was forked from; open a store here"),
         }
@@ -362,7 +362,7 @@ pub enum QueryFault {
     TooDeep,
     /// The query has more than 256 comparisons.
     TooMany,
-    /// No index of the snapshot serves the query.
+    /// No index of the snapshot can answer the query.
     NotCovered,
 }
 
@@ -395,7 +395,7 @@ impl QueryFault {
         Self::ALL.into_iter().find(|fault| fault.code() == code)
     }
 
-    /// Whether the library says at which byte of the text it is.
+    /// Whether the library reports at which byte of the text it is.
     #[must_use]
     pub const fn has_offset(self) -> bool {
         matches!(self, QueryFault::Syntax | QueryFault::BadPattern)
@@ -442,7 +442,7 @@ impl QueryError {
         }
     }
 
-    /// The text of the query. Of a prepared one it is the canonical text, and of a predicate the pattern that is malformed.
+    /// The text of the query. For a prepared query it is the canonical text, and for a predicate the malformed pattern.
     #[must_use]
     pub fn text(&self) -> &str {
         &self.text
@@ -474,7 +474,7 @@ impl QueryError {
     }
 }
 
-/// What is wrong, the text, and a caret under the place. Of a long text the part round the place is shown.
+/// What is wrong, the text, and a caret under the place. If the text is long, only the part around the place is shown.
 impl fmt::Display for QueryError {
     fn fmt(&self, f: &mut fmt::Formatter<'_>) -> fmt::Result {
         let meaning = Meaning::of(self.fault.code());

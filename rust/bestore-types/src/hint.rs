@@ -3,8 +3,8 @@
 use crate::Kind;
 use std::fmt;
 
-/// A comparison that is never true: its name has an index of integers, and its value is no integer or out of their range. So is
-/// `size>1.5`.
+/// A comparison that is never true, because its name has an index of integers and its value isn't an integer or is out of
+/// range, as in `size>1.5`.
 #[derive(Clone, Debug, PartialEq, Eq)]
 pub struct Hint {
     /// The name of the attribute.

@@ -5,7 +5,7 @@ use std::fmt;
 
 macro_rules! kinds {
     ($($(#[$about:meta])* $kind:ident = $code:ident, $name:literal, $shown:literal, $indexable:literal, $number:literal;)*) => {
-        /// The kind of a value. An index takes values of one kind alone.
+        /// The kind of a value. An index takes values of only one kind.
         #[derive(Clone, Copy, Debug, PartialEq, Eq, Hash, PartialOrd, Ord)]
         pub enum Kind {
             $($(#[$about])* $kind),*
@@ -23,7 +23,7 @@ macro_rules! kinds {
                 }
             }
 
-            /// The four letters of the type code, as scripts and the journal's text have them.
+            /// The four letters of the type code, which scripts and the journal's text use.
             #[must_use]
             pub const fn name(self) -> &'static str {
                 match self {
@@ -79,7 +79,7 @@ kinds! {
 }
 
 impl Kind {
-    /// The least value of an index of integers of this kind. `None`: an index of it has no integers.
+    /// The lowest value of an index of this kind. `None` if its values aren't integers.
     #[must_use]
     pub fn least(self) -> Option<i64> {
         match self {

@@ -1,7 +1,7 @@
 //! What stores and clients of bestore share: values and their kinds, batches, nodes, orders and cursors, and errors with their texts.
 //!
 //! Nothing here opens a store or loads libbestore. The crate `bestore` has the store, and `bestore-client` the client of a server; both
-//! hand on what they use of this one.
+//! re-export what they use from this one.
 //!
 //! ```
 //! use bestore_types::{Batch, Kind, Node};

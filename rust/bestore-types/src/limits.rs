@@ -1,9 +1,9 @@
 //! How large a store may grow.
 
-/// The most passes of a store, beside its own.
+/// The maximum number of passes of a store, not counting its own.
 pub const MOST_PASSES: u64 = 63;
 
-/// The most volumes of a shelf.
+/// The maximum number of volumes in a shelf.
 pub const MOST_VOLUMES: u32 = 64;
 
 /// How large a store may grow.
@@ -15,17 +15,17 @@ pub const MOST_VOLUMES: u32 = 64;
 /// ```
 #[derive(Clone, Copy, Debug, PartialEq, Eq)]
 pub struct Limits {
-    /// Pages of 4 KiB, which are all taken at once: 8 to 16,384.
+    /// Pages of 4 KiB, all allocated at the start: 8 to 16,384.
     pub pages: u64,
-    /// Passes that are open at the same time: 1 to 63. The store itself has one more. Each takes 89 bytes, and 13 instructions of a
-    /// write, of some 12,000; a pin and a query cost the same with 8 and with 63 (28 November 2026).
+    /// Passes that are open at the same time: 1 to 63. The store itself has one more. Each takes 89 bytes, and adds 13 instructions
+    /// to a write's 12,000 or so; a pin and a query cost the same with 8 and with 63 (28 November 2026).
     pub passes: u64,
     /// Entries of the journal: 1 to 4,294,967,295.
     pub commits: u64,
 }
 
 impl Default for Limits {
-    /// 4,096 pages, and as many passes and entries as there may be.
+    /// 4,096 pages, and as many passes and entries as possible.
     fn default() -> Self {
         Self {
             pages: 4096,

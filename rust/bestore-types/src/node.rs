@@ -6,7 +6,7 @@ use std::fmt;
 /// How many numbers a volume has for its nodes. A power of ten, so that people can read the volume in a node's digits.
 const NUMBERS: u64 = 100_000_000_000_000;
 
-/// How many nodes a store can make: as many as transactions have operations, for each entry of the longest journal.
+/// How many nodes a store can make: one for each operation of each entry of the longest journal.
 const MADE: u64 = 64 << 32;
 
 /// Where a node of a shelf is: its volume, and its number in that.
@@ -81,8 +81,8 @@ impl Batch {
         }
     }
 
-    /// The volume in which a shelf's batch is written, and the batch with the numbers that its nodes have there. The volume is the
-    /// one that is `asked` for, otherwise that of the nodes which the operations name; `None` if they name none.
+    /// The volume that a shelf's batch is written to, and the batch with the numbers that its nodes have there. The volume is the
+    /// one that is `asked` for, otherwise that of the nodes that the operations name; `None` if they name none.
     ///
     /// # Errors
     /// [`Error::OtherVolume`] with the first operation that names a node of another volume.
@@ -103,7 +103,7 @@ impl Batch {
         Ok((found, within))
     }
 
-    /// The batch of a volume as one of its shelf. The inverse of [`to_volume`](Self::to_volume); nodes that were made have their
+    /// The batch of a volume as a batch of its shelf. The inverse of [`to_volume`](Self::to_volume); nodes that were made have their
     /// numbers in the shelf too.
     #[must_use]
     pub fn of_volume(mut self, volume: u32) -> Batch {

@@ -9,11 +9,11 @@ pub struct Page {
     pub nodes: Vec<u64>,
     /// Whether others come after these.
     pub more: bool,
-    /// The position of the last node, for the next page. Of an empty page it is where that began.
+    /// The position of the last node, for the next page. For an empty page, where it began.
     pub cursor: Cursor,
 }
 
-/// How many nodes the first page of an iterator has, and how many a page has at most.
+/// How many nodes an iterator's first page has, and the most that any page has.
 const FIRST_PAGE: usize = 64;
 const LARGEST_PAGE: usize = 4096;
 
@@ -49,7 +49,7 @@ impl Paging {
         self.after = Some(cursor);
     }
 
-    /// The next node. `page` is asked for the page after a cursor, of up to so many nodes.
+    /// The next node. `page` returns the page after a cursor, with up to this many nodes.
     pub fn next<E>(&mut self, page: impl FnOnce(Option<&Cursor>, usize) -> Result<Page, E>) -> Option<Result<u64, E>> {
         if let Some(node) = self.read.next() {
             return Some(Ok(node));

@@ -1,4 +1,4 @@
-//! What the crate `bestore` needs besides: the forms in which the library for C takes and returns things. Other programs have no use
+//! What else the crate `bestore` needs: the forms in which the library for C takes and returns things. Other programs have no use
 //! for it.
 
 pub use crate::batch::narrow;
@@ -6,7 +6,7 @@ pub use crate::class::{Meaning, MEANINGS};
 pub use crate::cursor::{crc32, encode_key};
 pub use crate::node::{extend, fits};
 
-/// The most operations of a batch.
+/// The maximum number of operations in a batch.
 pub const OPERATIONS: usize = 64;
 
 /// An operation, as `bes_operation` of `bestore.h`: its name and the bytes of its value are in those that go with all operations of a
@@ -26,7 +26,7 @@ pub struct RawOperation {
     pub name_at: u32,
     /// How many bytes it has.
     pub name_length: u32,
-    /// At which byte a value begins that isn't an integer.
+    /// At which byte the value begins, unless it is an integer.
     pub value_at: u32,
     /// How many bytes it has.
     pub value_length: u32,

@@ -1,10 +1,10 @@
-//! Texts of queries: what is put into one, and how one is shown.
+//! Query texts: how to put a text into one, and how to show one.
 
 use crate::Kind;
 
-/// The text with a backslash before each character that a query or a pattern may take for more than itself.
+/// The text with a backslash before each character that is special in a query or a pattern.
 ///
-/// It is the text itself both as a word of a query and between quotes. An empty text needs the quotes.
+/// The result stands for the text itself, both as a word of a query and between quotes. An empty text needs the quotes.
 ///
 /// ```
 /// assert_eq!(bestore_types::escape("[draft].txt"), r"\[draft\]\.txt");
@@ -21,7 +21,7 @@ pub fn escape(text: &str) -> String {
     escaped
 }
 
-/// The query for all that is in the index of this name, which has this kind.
+/// The query for everything in the index of this name, which has this kind.
 ///
 /// ```
 /// use bestore_types::{all_in, Kind};
@@ -36,7 +36,8 @@ pub fn all_in(name: &str, kind: Kind) -> String {
     }
 }
 
-/// The text on a line, and on the next one a caret under the character at this byte. Of a long text the part round that is shown.
+/// The text on a line, and on the next one a caret under the character at this byte. If the text is long, only the part around that is
+/// shown.
 ///
 /// ```
 /// assert_eq!(bestore_types::caret("size<5 || [", 10), "  size<5 || [\n            ^");
@@ -54,7 +55,8 @@ pub(crate) fn column_at(text: &str, offset: usize) -> usize {
 /// How many characters of a text are shown before and after the one that is wrong.
 pub(crate) const SHOWN: usize = 60;
 
-/// The text on a line, and a caret under its character with this index if there is one. Of a long text the part round that is shown.
+/// The text on a line, and a caret under its character with this index, if there is one. If the text is long, only the part around that
+/// is shown.
 pub(crate) fn with_caret(text: &str, column: Option<usize>) -> String {
     let first = column.unwrap_or(0).saturating_sub(SHOWN);
     let shown: String = text

@@ -3,7 +3,7 @@
 use crate::Kind;
 use std::fmt;
 
-/// A value of an attribute. Texts, integers of 32 and 64 bits, and bytes become one by `into`.
+/// A value of an attribute. `into` makes one of a text, of an integer of 32 or 64 bits, and of bytes.
 ///
 /// ```
 /// use bestore_types::{Kind, Value};
@@ -83,7 +83,7 @@ impl Value {
         }
     }
 
-    /// An integer as the library for C has it, otherwise 0.
+    /// An integer in the form of the library for C, otherwise 0.
     #[must_use]
     pub fn number(&self) -> u64 {
         match *self {
@@ -95,7 +95,7 @@ impl Value {
         }
     }
 
-    /// The value of parts that the library has written. These are valid: a text is UTF-8, and a number fits its kind.
+    /// The value made of parts that the library has written. They are valid: a text is UTF-8, and a number fits its kind.
     #[must_use]
     pub fn of_parts(kind: Kind, number: u64, bytes: &[u8]) -> Value {
         let text = || String::from_utf8_lossy(bytes).into_owned();

@@ -8,7 +8,7 @@ use bestore_sys as sys;
 
 /// What the closure of [`Pass::change`] reads, and the operations that it collects, up to 64.
 ///
-/// [`get`](Self::get) reads the snapshot as the operations so far leave it, and [`snapshot`](Self::snapshot) what they are made on.
+/// [`get`](Self::get) reads the snapshot with the operations so far, and [`snapshot`](Self::snapshot) the one that they are based on.
 #[derive(Debug)]
 pub struct Change<'a> {
     snapshot: &'a Snapshot<'a>,
@@ -18,7 +18,7 @@ pub struct Change<'a> {
     /// The nodes that it makes, and the number of the next one.
     nodes: Vec<u64>,
     next: u64,
-    /// Why an operation isn't collected whose call returns no error. It is the change's error.
+    /// Why an operation wasn't collected, if its call returns no error. It becomes the change's error.
     refused: Option<Error>,
 }
 
@@ -56,7 +56,7 @@ impl<'a> Change<'a> {
     /// An attribute as the operations so far leave it, or `None` if the node or the attribute doesn't exist then.
     ///
     /// # Errors
-    /// As [`Snapshot::get`].
+    /// Those of [`Snapshot::get`].
     pub fn get(&self, node: u64, name: &str) -> Result<Option<Value>> {
         let mut bytes = [0; 255];
         let answer = self
@@ -67,10 +67,10 @@ impl<'a> Change<'a> {
         crate::snapshot::value_read(answer, &bytes)
     }
 
-    /// Accepts values of any kind from now on. At first a value under an index of another kind is an error, since no query would find
-    /// it.
+    /// From now on, accepts values of any kind. Before this call, a value under an index of another kind is an error, since no query
+    /// would find it.
     pub fn any_kind(&mut self) -> &mut Self {
-        // Fails in a forked child alone, where each other call does.
+        // Fails only in a forked child, where each other call does.
         let _ = self.draft.any_kind();
         self
     }
@@ -116,7 +116,7 @@ impl<'a> Change<'a> {
         Ok(self)
     }
 
-    /// Sets the attributes of these nodes to the values that they have, if those are of this kind. Returns how many are.
+    /// Sets the attributes of these nodes to the values that they already have, if those are of this kind. Returns how many are.
     pub(crate) fn set_again(&mut self, nodes: &[u64], name: &str, kind: Kind) -> Result<u64> {
         let mut count = 0;
         for node in nodes {
@@ -152,7 +152,7 @@ impl<'a> Change<'a> {
     /// Removes the index of this name.
     ///
     /// # Errors
-    /// As [`make_index`](Self::make_index).
+    /// Those of [`make_index`](Self::make_index).
     pub fn remove_index(&mut self, name: &str) -> Result<&mut Self> {
         self.collect(&of_index(sys::BES_REMOVE_INDEX, name, 0))?;
         self.batch.remove_index(name);
@@ -180,7 +180,7 @@ impl<'a> Change<'a> {
         Err(of_write(at_operation, index + 1, None))
     }
 
-    /// Adds an operation without a value, and returns whether it is added. The first one that isn't ends the change by its error, and
+    /// Adds an operation without a value, and returns whether it was added. The first one that isn't ends the change with its error,
     /// so nothing is added after it.
     fn collect_or_keep_error(&mut self, kind: u32, node: u64, name: &str) -> bool {
         if self.refused.is_some() {
@@ -197,7 +197,7 @@ impl<'a> Change<'a> {
     /// Whether there is something to write.
     ///
     /// # Errors
-    /// Why an operation wasn't collected, if its call has returned no error.
+    /// The reason why an operation wasn't collected, if its call returned no error.
     pub(crate) fn has_operations(&mut self) -> Result<bool> {
         match self.refused.take() {
             Some(error) => Err(error),
@@ -211,7 +211,7 @@ impl<'a> Change<'a> {
         pass.end_change(&self.draft, self.snapshot.number(), &self.batch, self.nodes)
     }
 
-    /// Runs the closure on one snapshot after the other, until its operations are written on the one that it has read.
+    /// Runs the closure on one snapshot after another, until its operations are written on the one that it has read.
     pub(crate) fn run<T>(pass: &mut Pass, closure: &mut impl FnMut(&mut Change<'_>) -> Result<T>) -> Result<T> {
         let mut waits = Waits::of(pass);
         loop {

@@ -21,7 +21,7 @@ pub enum Form {
 pub struct Compared {
     /// The name of the attribute.
     pub name: String,
-    /// `==`, `!=`, `<`, `<=`, `>` or `>=`, as the text has it.
+    /// `==`, `!=`, `<`, `<=`, `>` or `>=`, as written in the text.
     pub operator: &'static str,
     /// What is compared with: a text without backslashes, or a pattern in its canonical form.
     pub value: String,
@@ -31,7 +31,7 @@ pub struct Compared {
     pub offset: usize,
     /// How many bytes it has.
     pub length: usize,
-    /// Whether a `!` turns it.
+    /// Whether a `!` negates it.
     pub is_negated: bool,
     /// The kinds of indices under which no node meets it, such as those of integers for `size>1.5`.
     pub never: Vec<Kind>,
@@ -48,7 +48,7 @@ pub struct Compared {
 /// ```
 ///
 /// # Errors
-/// [`Error::Query`](crate::Error::Query): the text is no query. [`Error::OutOfMemory`](crate::Error::OutOfMemory).
+/// [`Error::Query`](crate::Error::Query): the text isn't a query. [`Error::OutOfMemory`](crate::Error::OutOfMemory).
 pub fn compared(query: &str) -> Result<Vec<Compared>> {
     let found = comparisons(query).map_err(|refused| of_query(refused, || query.into()))?;
     Ok(found.list.iter().map(|one| read(&found, one)).collect())
@@ -95,7 +95,7 @@ const fn is_never(one: &bes_compared, kind: Kind) -> bool {
     }
 }
 
-/// The comparisons of a query that are never true, by the kinds of the indices, of which `kind_of` returns that of a name.
+/// The comparisons of a query that are never true, given the kinds of the indices: `kind_of` returns the kind of a name's index.
 ///
 /// ```
 /// use bestore::{hints, Kind};
@@ -106,7 +106,7 @@ const fn is_never(one: &bes_compared, kind: Kind) -> bool {
 /// ```
 ///
 /// # Errors
-/// As [`compared`].
+/// Those of [`compared`].
 pub fn hints(query: &str, kind_of: impl Fn(&str) -> Option<Kind>) -> Result<Vec<Hint>> {
     let hint = |one: Compared| {
         let kind = kind_of(&one.name).filter(|kind| one.never.contains(kind))?;

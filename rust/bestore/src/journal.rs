@@ -1,4 +1,4 @@
-//! The journal: the accepted transactions of a store, in their order.
+//! The journal: the accepted transactions of a store, in order.
 
 use crate::{Batch, Pass, Result};
 
@@ -13,9 +13,9 @@ pub struct Entry {
     pub batch: Batch,
 }
 
-/// The entries of a journal from one on, by [`Pass::journal_from`].
+/// The entries of a journal, starting at one of them: see [`Pass::journal_from`].
 ///
-/// It returns `None` at the end of the journal, and may be asked again when the journal has grown. Each entry is read for
+/// It returns `None` at the end of the journal, and may be asked again when the journal has grown. Each entry is read by
 /// itself, and other passes can't write meanwhile. After an error the same entry is read again.
 #[derive(Debug)]
 pub struct Entries<'a> {

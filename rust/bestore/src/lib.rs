@@ -26,11 +26,11 @@
 //! # What is promised
 //!
 //! Writes are serializable in one order, the journal. A snapshot is a beginning of that order, which includes all that its pass
-//! has written or seen. A write of [`Pass::change`] is made on exactly the snapshot that its closure has read.
+//! has written or seen. A write by [`Pass::change`] is made on exactly the snapshot that its closure has read.
 //!
 //! # Threads and processes
 //!
-//! A [`Store`] may be shared. A [`Pass`] may go to another thread, and isn't shared:
+//! A [`Store`] may be shared between threads. A [`Pass`] may move to another thread, but can't be shared:
 //!
 //! ```
 //! use bestore::{Limits, Store};
@@ -51,7 +51,7 @@
 //! shared(bestore::Store::open(bestore::Limits::default()).unwrap().pass().unwrap());
 //! ```
 //!
-//! In a forked child each handle of the parent is dead: its calls return [`Error::Forked`], and its end does nothing.
+//! In a forked child each handle of the parent is dead: its calls return [`Error::Forked`], and dropping it does nothing.
 //!
 //! # More than one store
 //!
@@ -59,7 +59,7 @@
 //!
 //! # Features
 //!
-//! - `saved`: the module `saved`, a store whose writes are kept in a file of SQLite.
+//! - `saved`: the module `saved`, a store whose writes are kept in an SQLite file.
 #![warn(missing_docs, missing_debug_implementations, rust_2018_idioms)]
 #![deny(unsafe_code)]
 
@@ -96,7 +96,7 @@ pub use snapshot::{Nodes, Snapshot, State};
 pub use store::Store;
 pub use text::any_case;
 
-/// The version of the library that runs: major, minor and patch.
+/// The version of the running library: major, minor and patch.
 #[must_use]
 pub fn library_version() -> (u32, u32, u32) {
     let version = raw::version();

@@ -1,4 +1,4 @@
-//! Parts of an answer: pages in the order of an index, the first nodes by number, and any few.
+//! Parts of an answer: pages in the order of an index, the first nodes by number, and any few nodes.
 
 use crate::raw::{cursor_of, of_cursor, Refused};
 use crate::refused::no_order;
@@ -7,7 +7,7 @@ use bestore_sys as sys;
 use bestore_types::Paging;
 
 impl Snapshot<'_> {
-    /// The nodes that the query finds, in an order: an iterator, which asks for page after page.
+    /// The nodes that the query finds, in an order: an iterator that reads page after page.
     ///
     /// ```
     /// # use bestore::{Kind, Limits, Order, Store};
@@ -36,8 +36,8 @@ impl Snapshot<'_> {
     /// A page of a later snapshot goes on where the last one ended, whatever was written in between.
     ///
     /// # Errors
-    /// [`Error::NoOrder`]: there is no such index. [`Error::BadCursor`]: the cursor is of another order or query, or the index has
-    /// another kind now. [`Error::NoRoom`]: `most` is 0. Otherwise as [`query`](Self::query).
+    /// [`Error::NoOrder`]: there is no such index. [`Error::BadCursor`]: the cursor belongs to another order or query, or the
+    /// index has another kind now. [`Error::NoRoom`]: `most` is 0. Otherwise as [`query`](Self::query).
     pub fn page(&self, prepared: &Prepared, order: &Order, after: Option<&Cursor>, most: usize) -> Result<Page> {
         let check = prepared.check()?;
         let after = begin(order, check, after, most)?;
@@ -86,17 +86,17 @@ impl Snapshot<'_> {
         answer.map_err(|refused| self.query_error(refused, || text.into()))
     }
 
-    /// As [`first`](Self::first), of a prepared query.
+    /// Like [`first`](Self::first), for a prepared query.
     ///
     /// # Errors
-    /// As `first`.
+    /// Those of `first`.
     pub fn first_prepared(&self, prepared: &Prepared, from: u64, most: usize) -> Result<Vec<u64>> {
         let answer = self.pass().raw().first(prepared.raw(), from, most);
         answer.map_err(|refused| self.query_error(refused, || prepared.text_or_empty()))
     }
 
-    /// Any `most` of the nodes that the query finds, or all if there are fewer, in no order. Of a large answer it takes less time
-    /// than the whole.
+    /// Any `most` of the nodes that the query finds, or all if there are fewer, in no particular order. If the answer is large,
+    /// this takes less time than finding all of it.
     ///
     /// # Errors
     /// [`Error::NoRoom`]: `most` is 0. Otherwise as [`query`](Self::query).
@@ -106,17 +106,17 @@ impl Snapshot<'_> {
         answer.map_err(|refused| self.query_error(refused, || text.into()))
     }
 
-    /// As [`any`](Self::any), of a prepared query.
+    /// Like [`any`](Self::any), for a prepared query.
     ///
     /// # Errors
-    /// As `any`.
+    /// Those of `any`.
     pub fn any_prepared(&self, prepared: &Prepared, most: usize) -> Result<Vec<u64>> {
         let answer = self.pass().raw().any(prepared.raw(), most);
         answer.map_err(|refused| self.query_error(refused, || prepared.text_or_empty()))
     }
 }
 
-/// The cursor after which a page begins, if it is one of this order and query and the page has room.
+/// The cursor after which a page begins, if it belongs to this order and query and the page has room.
 pub(crate) fn begin(order: &Order, check: u32, after: Option<&Cursor>, most: usize) -> Result<Cursor> {
     if most == 0 {
         return Err(Error::NoRoom);
@@ -157,7 +157,7 @@ impl<'a> Ordered<'a> {
         Self::new(Source::Shelf(shelf), prepared, order)
     }
 
-    /// The nodes after this cursor, which a page of the same query and order left.
+    /// The nodes after this cursor, which comes from a page of the same query and order.
     #[must_use]
     pub fn after(mut self, cursor: Cursor) -> Self {
         self.paging.set_after(cursor);
@@ -167,7 +167,7 @@ impl<'a> Ordered<'a> {
     /// The first `most` nodes as a page.
     ///
     /// # Errors
-    /// As [`Snapshot::page`].
+    /// Those of [`Snapshot::page`].
     pub fn page(&self, most: usize) -> Result<Page> {
         let after = self.paging.position();
         self.source.page(&self.prepared, &self.order, after, most)

@@ -16,11 +16,11 @@ use std::time::Duration;
 /// How often a call is tried again before its error is returned. [`Pass::change`] runs its closure again each time.
 #[derive(Clone, Copy, Debug, PartialEq, Eq)]
 pub struct Retry {
-    /// While another pass is writing. Between two tries other threads run, twice as often each time, up to 1,024 times.
+    /// While another pass is writing. Between two tries other threads can run, twice as often each time, up to 1,024 times.
     pub busy: u32,
-    /// While the store is full and another pass holds an older snapshot. Between two tries lie 1 to 64 milliseconds.
+    /// While the store is full and another pass holds an older snapshot. Between two tries it waits 1 to 64 milliseconds.
     pub full: u32,
-    /// Of [`Pass::change`], after a conflict with another write. Other threads run in between, as at `busy`.
+    /// For [`Pass::change`], after a conflict with another write. Other threads can run in between, as at `busy`.
     pub conflict: u32,
 }
 
@@ -44,7 +44,7 @@ impl Default for Retry {
     }
 }
 
-/// How a change waits after an attempt that has written nothing.
+/// How a change waits after an attempt that wrote nothing.
 pub(crate) struct Waits {
     left: Retry,
     pauses: u32,
@@ -87,7 +87,7 @@ impl Waits {
     }
 }
 
-/// Waits for pages, after so many pauses before.
+/// Waits for pages, after this many earlier pauses.
 fn pause_at_full(pauses: u32) {
     thread::sleep(Duration::from_millis(1 << pauses.min(6)));
 }
@@ -111,7 +111,7 @@ impl StandBack {
 }
 
 /// What a pass has seen of its store, for a pass of the same store in another thread: [`Pass::witness`] makes one, and
-/// [`Pass::join`] joins it. It may go to another thread, and isn't shared.
+/// [`Pass::join`] joins it. It may move to another thread, but can't be shared.
 ///
 /// ```
 /// use bestore::{Batch, Limits, Store};
@@ -142,7 +142,7 @@ pub struct Status {
     pub pages: u64,
     /// Those that a write may take.
     pub free: u64,
-    /// Those of older snapshots, which are kept because a pass may read them.
+    /// Those of older snapshots, kept because a pass may read them.
     pub retired: u64,
     /// How many entries the journal has.
     pub entries: u64,
@@ -163,7 +163,7 @@ pub struct Oldest {
 
 /// A pass: a session with the store, for one thread at a time.
 ///
-/// It writes, and pins the snapshots that it reads. It may go to another thread, and isn't shared. Calls on different passes
+/// It writes, and pins the snapshots that it reads. It may move to another thread, but can't be shared. Calls on different passes
 /// run at the same time.
 #[derive(Debug)]
 pub struct Pass {
@@ -181,9 +181,9 @@ pub struct Pass {
     _place: Option<Place>,
 }
 
-/// What keeps the writes of a store elsewhere too, such as in a log. [`Pass::kept_by`] makes the writes of a pass go by it.
+/// Keeps the writes of a store in another place too, such as a log. [`Pass::kept_by`] sends a pass's writes through it.
 ///
-/// A write is made in memory by `keep`, and its call returns after `wait`. So a snapshot may show a write that isn't kept yet.
+/// `keep` makes a write in memory, and the write's call returns after `wait`. So a snapshot may show a write that isn't kept yet.
 pub trait Keeper: Send + Sync + fmt::Debug {
     /// Makes a write of the batch by the pass with this number: calls `write` once, while no other write is made, and returns
     /// what it returned, with a number for [`wait`](Self::wait). The order of these calls is that of the journal.
@@ -228,7 +228,7 @@ impl Pass {
         }
     }
 
-    /// The pass, whose writes go by the keeper from now on. All passes that write have to have the same one.
+    /// The pass, whose writes go through the keeper from now on. All passes that write must have the same one.
     ///
     /// ```
     /// use bestore::{Batch, Keeper, Limits, Result, Store, Written};
@@ -358,7 +358,7 @@ impl Pass {
         self.retry = retry;
     }
 
-    /// The number of this pass, as the journal and [`Error::Busy`] have it.
+    /// The number of this pass, which the journal and [`Error::Busy`] use.
     ///
     /// # Errors
     /// [`Error::Forked`].
@@ -368,7 +368,7 @@ impl Pass {
 
     /// Pins the current snapshot, which can be read until it is dropped. Takes constant time.
     ///
-    /// Writes go on through [`Snapshot::pass`]; they leave the snapshot as it is.
+    /// You can still write, through [`Snapshot::pass`]; the snapshot stays as it is.
     ///
     /// # Errors
     /// [`Error::Forked`].
@@ -377,7 +377,7 @@ impl Pass {
     }
 
     /// Pins the current snapshot, and holds it until [`release`](Self::release): each [`pin`](Self::pin) in between returns it.
-    /// So a session can keep one without a borrow. One that is held already stays. Returns the number of the snapshot.
+    /// So a session can keep one without a borrow. A snapshot that is already held stays. Returns the number of the snapshot.
     ///
     /// ```
     /// # use bestore::{Limits, Store};
@@ -424,8 +424,8 @@ impl Pass {
         self.write(None, batch)
     }
 
-    /// Writes as [`apply`](Self::apply), if the journal has exactly `expected` entries. So what was read in the snapshot with
-    /// that number is still true.
+    /// Writes like [`apply`](Self::apply), but only if the journal has exactly `expected` entries. So what was read in the
+    /// snapshot with that number is still true.
     ///
     /// # Errors
     /// [`Error::Conflict`] if the journal has another length; otherwise as `apply`.
@@ -437,8 +437,8 @@ impl Pass {
         self.apply_with(expected, batch, |_| ())
     }
 
-    /// Writes as [`apply`](Self::apply), or with `expected` as [`apply_if`](Self::apply_if). `made` gets what was written once it is
-    /// in memory, before a [`Keeper`] has kept it.
+    /// Writes like [`apply`](Self::apply), or with `expected` like [`apply_if`](Self::apply_if). `made` gets what was written once
+    /// it is in memory, before a [`Keeper`] has kept it.
     ///
     /// # Errors
     /// As those calls.
@@ -468,7 +468,7 @@ impl Pass {
         }
     }
 
-    /// Writes the draft of a change in memory, whose operations are those of the batch, and make these nodes. It is tried once. Returns
+    /// Writes the draft of a change in memory. Its operations are those of the batch, and make these nodes. It is tried once. Returns
     /// the number for `end_write`.
     pub(crate) fn end_change(&self, draft: &RawDraft, expected: u64, batch: &Batch, nodes: Vec<u64>) -> Result<u64> {
         let mut write = || match self.write_draft(draft, expected, batch) {
@@ -538,8 +538,8 @@ impl Pass {
     }
 
     /// Reads and writes as one: runs the closure on the current snapshot, and writes the operations that it collects if no
-    /// other write came between. Otherwise it runs the closure again, on the next snapshot; and so if another pass is writing, or no page
-    /// is free while another pass holds an older snapshot.
+    /// other write came between. Otherwise it runs the closure again, on the next snapshot; likewise if another pass is writing, or if
+    /// no page is free while another pass holds an older snapshot.
     ///
     /// ```
     /// # use bestore::{Limits, Store, Kind};
@@ -570,10 +570,10 @@ impl Pass {
         Change::run(self, &mut change)
     }
 
-    /// Makes a node, and returns its number. As [`apply`](Self::apply), like the five calls after it.
+    /// Makes a node, and returns its number. It writes like [`apply`](Self::apply), as do the next five calls.
     ///
     /// # Errors
-    /// As `apply`.
+    /// Those of `apply`.
     pub fn new_node(&self) -> Result<u64> {
         Ok(self.apply(Batch::new().new_node())?.nodes[0])
     }
@@ -581,7 +581,7 @@ impl Pass {
     /// Removes the node and all its attributes.
     ///
     /// # Errors
-    /// As [`apply`](Self::apply).
+    /// Those of [`apply`](Self::apply).
     pub fn remove_node(&self, node: u64) -> Result<()> {
         self.apply(Batch::new().remove_node(node)).map(drop)
     }
@@ -589,7 +589,7 @@ impl Pass {
     /// Sets the attribute.
     ///
     /// # Errors
-    /// As [`apply`](Self::apply).
+    /// Those of [`apply`](Self::apply).
     pub fn set(&self, node: u64, name: &str, value: impl Into<Value>) -> Result<()> {
         self.apply(Batch::new().set(node, name, value)).map(drop)
     }
@@ -597,7 +597,7 @@ impl Pass {
     /// Removes the attribute.
     ///
     /// # Errors
-    /// As [`apply`](Self::apply).
+    /// Those of [`apply`](Self::apply).
     pub fn unset(&self, node: u64, name: &str) -> Result<()> {
         self.apply(Batch::new().unset(node, name)).map(drop)
     }
@@ -606,7 +606,7 @@ impl Pass {
     /// others again.
     ///
     /// # Errors
-    /// As [`apply`](Self::apply).
+    /// Those of [`apply`](Self::apply).
     pub fn make_index(&self, name: &str, kind: Kind) -> Result<()> {
         self.apply(Batch::new().make_index(name, kind)).map(drop)
     }
@@ -614,13 +614,13 @@ impl Pass {
     /// Removes the index.
     ///
     /// # Errors
-    /// As [`apply`](Self::apply).
+    /// Those of [`apply`](Self::apply).
     pub fn remove_index(&self, name: &str) -> Result<()> {
         self.apply(Batch::new().remove_index(name)).map(drop)
     }
 
-    /// Sets again, to the values that they have, the attributes that the index of this name lacks, because they were set before it was
-    /// made. Each change sets up to 64 of them, so no newer value is lost. Returns how many were set. Takes a read of each node, and a
+    /// Sets the attributes that the index of this name lacks, because they were set before it was made, to the same values again. Each
+    /// change sets up to 64 of them, so no newer value is lost. Returns how many were set. Takes a read of each node, and a
     /// write of each such attribute.
     ///
     /// ```
@@ -699,12 +699,12 @@ impl Pass {
     /// Meets a pass that was dropped: both have then seen what either had. Returns how many entries of the journal that is.
     ///
     /// # Errors
-    /// [`Error::NoPass`]: no pass waits to be met, or another thread is meeting it. [`Error::Forked`].
+    /// [`Error::NoPass`]: there is no pass to meet, or another thread is meeting it. [`Error::Forked`].
     pub fn meet(&self) -> Result<u64> {
         Ok(self.on_newest(|seat| seat.raw().meet().map(|seen| seat.outside(seen)))?)
     }
 
-    /// A witness of all entries of the journal that the pass has seen so far, its own among them. Send it to another thread, whose
+    /// A witness of all entries of the journal that the pass has seen so far, including its own. Send it to another thread, whose
     /// pass joins it.
     ///
     /// # Errors
@@ -717,11 +717,11 @@ impl Pass {
     }
 
     /// Joins a witness: the pass and the witness have then both seen what either had. So each later snapshot of the pass includes
-    /// all that the witness's pass had seen, and each later commit number of the pass is greater than those. Returns how many
+    /// everything that the witness's pass had seen, and each later commit number of the pass is greater than those. Returns how many
     /// entries of the journal both have seen.
     ///
     /// # Errors
-    /// [`Error::OtherStore`] if the witness is of a pass of another store; [`Error::Forked`].
+    /// [`Error::OtherStore`] if the witness belongs to another store; [`Error::Forked`].
     pub fn join(&self, witness: &mut Witness) -> Result<u64> {
         let is_of_store = Arc::ptr_eq(&self.succession, &witness.succession);
         let seen = self.on_newest(|seat| match seat.raw().join(&mut witness.raw)? {

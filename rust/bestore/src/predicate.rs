@@ -1,4 +1,4 @@
-//! Queries that are built, and not parsed.
+//! Queries that are built, not parsed.
 
 use crate::refused::{of_query, without_offset};
 use crate::{Error, Kind, Prepared, Result};
@@ -7,7 +7,7 @@ use bestore_types::raw::narrow;
 use std::ops::{BitAnd, BitOr, Not};
 use sys::bes_item;
 
-/// A query that is built from comparisons by `&`, `|` and `!`. Texts need no quotes and no backslashes.
+/// A query that is built from comparisons with `&`, `|` and `!`. Texts need no quotes or backslashes.
 ///
 /// ```
 /// use bestore::attribute;
@@ -22,7 +22,7 @@ pub struct Predicate {
     bytes: Vec<u8>,
 }
 
-/// The left side of a comparison, by [`attribute`].
+/// The left side of a comparison, from [`attribute`].
 #[derive(Clone, Debug)]
 pub struct Attribute(Predicate);
 
@@ -37,7 +37,7 @@ pub enum Operand {
     Uint64(u64),
 }
 
-/// The attribute of this name, to compare it.
+/// The attribute of this name, to be compared.
 #[must_use]
 pub fn attribute(name: &str) -> Attribute {
     let mut predicate = Predicate {
@@ -64,19 +64,19 @@ impl Attribute {
         eq by BES_ITEM_EQ;
         /// The attribute exists, and doesn't match the pattern.
         ne by BES_ITEM_NE;
-        /// The attribute is less.
+        /// The attribute is less than the value.
         lt by BES_ITEM_LT;
-        /// The attribute is less or equal.
+        /// The attribute is less than or equal to the value.
         le by BES_ITEM_LE;
-        /// The attribute is greater.
+        /// The attribute is greater than the value.
         gt by BES_ITEM_GT;
-        /// The attribute is greater or equal.
+        /// The attribute is greater than or equal to the value.
         ge by BES_ITEM_GE;
-        /// The attribute contains the text, which is no pattern.
+        /// The attribute contains the text, which isn't a pattern.
         contains by BES_ITEM_CONTAINS;
-        /// The attribute begins with the text, which is no pattern.
+        /// The attribute begins with the text, which isn't a pattern.
         begins_with by BES_ITEM_BEGINS_WITH;
-        /// The attribute ends with the text, which is no pattern.
+        /// The attribute ends with the text, which isn't a pattern.
         ends_with by BES_ITEM_ENDS_WITH;
     }
 
@@ -141,7 +141,7 @@ impl Predicate {
         })
     }
 
-    /// The text that lies before the item with this index, which is its value if it is a comparison.
+    /// The text before the item with this index, which is its value if it is a comparison.
     fn pattern_before(&self, item: u64) -> String {
         let index = usize::try_from(item).unwrap_or(usize::MAX).checked_sub(1);
         let value = index.and_then(|index| self.items.get(index));

@@ -7,8 +7,8 @@ use bestore_types::raw::crc32;
 use std::cell::Cell;
 use std::fmt;
 
-/// A query that was parsed once, or built by [`Predicate::prepare`](crate::Predicate::prepare). It belongs to no store, and any
-/// snapshot may be asked.
+/// A query that was parsed once, or built by [`Predicate::prepare`](crate::Predicate::prepare). It belongs to no store, and can
+/// be asked in any snapshot.
 ///
 /// ```
 /// use bestore::Prepared;
@@ -19,7 +19,7 @@ use std::fmt;
 #[derive(Debug)]
 pub struct Prepared {
     raw: RawPrepared,
-    /// The CRC-32 of the canonical text, once it was asked for.
+    /// The CRC-32 of the canonical text, once it has been asked for.
     check: Cell<Option<u32>>,
 }
 
@@ -54,7 +54,7 @@ impl Prepared {
         self.text().unwrap_or_default()
     }
 
-    /// What cursors of this query keep of it.
+    /// What cursors of this query keep about it.
     pub(crate) fn check(&self) -> Result<u32> {
         match self.check.get() {
             Some(check) => Ok(check),
@@ -92,7 +92,7 @@ impl fmt::Display for Prepared {
     }
 }
 
-/// What changed in the answer of a live query, each ascending.
+/// What changed in the answer of a live query; both lists ascend.
 #[derive(Clone, Debug, Default, PartialEq, Eq)]
 pub struct Updates {
     /// The nodes that came into the answer.
@@ -118,7 +118,7 @@ pub struct Updates {
 #[derive(Debug)]
 pub struct Live {
     prepared: Prepared,
-    /// The store of the last refresh, by the number that a pass of it has.
+    /// The store of the last refresh, by the number that its passes have.
     store: Option<u64>,
 }
 
@@ -131,24 +131,24 @@ impl Live {
         Prepared::new(text).map(Self::from)
     }
 
-    /// Asks the query, and compares with its answer at the last refresh. Snapshots of one store, or of another to which its
-    /// state was carried: nodes are compared by their numbers. It asks the whole query and takes no lock, so no write of another pass
-    /// is [`Error::Busy`] because of it.
+    /// Asks the query, and compares with its answer at the last refresh. Use snapshots of one store, or of another that its state was
+    /// carried on to: nodes are compared by their numbers. It asks the whole query and takes no lock, so it doesn't make another
+    /// pass's write [`Error::Busy`].
     ///
     /// # Errors
-    /// As [`Snapshot::query`]. The query stays as it was.
+    /// Those of [`Snapshot::query`]. The query stays as it was.
     pub fn refresh(&mut self, snapshot: &Snapshot<'_>) -> Result<Updates> {
         self.refresh_by(snapshot, RawPass::refresh)
     }
 
-    /// Returns what [`refresh`](Self::refresh) does. It asks the query only of the nodes that were written since the last refresh,
-    /// and takes less time where the answer has 96 nodes or more and few were written. It reads the journal's entries since then, and
-    /// other passes get [`Error::Busy`] meanwhile. Otherwise, and in another store than at the last refresh, it asks the whole query.
+    /// Returns what [`refresh`](Self::refresh) does. It checks only the nodes that were written since the last refresh, and takes
+    /// less time if the answer has 96 nodes or more and few were written. It reads the journal's entries since then, and
+    /// other passes get [`Error::Busy`] meanwhile. Otherwise, or if the last refresh was in another store, it asks the whole query.
     ///
     /// # Errors
-    /// As `refresh`.
+    /// Those of `refresh`.
     pub fn refresh_changed(&mut self, snapshot: &Snapshot<'_>) -> Result<Updates> {
-        // The library reads the entries of the last refresh in this store.
+        // The library requires that the last refresh was in this store, whose entries it reads.
         match self.store == Some(snapshot.pass().raw().store()) {
             true => self.refresh_by(snapshot, RawPass::refresh_changed),
             false => self.refresh(snapshot),
@@ -170,7 +170,7 @@ impl Live {
         }
     }
 
-    /// The query, to ask it without a refresh.
+    /// The query, for asking it without a refresh.
     #[must_use]
     pub fn prepared(&self) -> &Prepared {
         &self.prepared

@@ -6,7 +6,7 @@
 //! - a slice has a pointer that isn't null, even with a length of 0;
 //! - of a list the library writes as many items as it counts, up to the room that it is given;
 //! - a pass and a witness have the number of their store, and are joined only if it is the same;
-//! - a `Live` has the number of the store of its last refresh, and is refreshed by what changed only in that one.
+//! - a `Live` has the number of the store of its last refresh, and only in that one is it refreshed by what changed.
 #![allow(unsafe_code)]
 #![deny(unsafe_op_in_unsafe_fn)]
 
@@ -31,7 +31,7 @@ use sys::{
 /// The code of a call in a forked child, which no call of the library returns.
 pub(crate) const FORKED: u32 = u32::MAX;
 
-/// The most bytes of the names and values of a batch.
+/// The maximum number of bytes in the names and values of a batch.
 const BYTES: usize = OPERATIONS * (63 + 255);
 
 /// A code that isn't `BES_OK`, and the number that goes with it.
@@ -121,7 +121,7 @@ unsafe fn apply(pass: *mut bes_pass, expected: Option<u64>, list: &List, made: &
     let (operations, count) = (list.operations.as_ptr(), list.operations.len());
     let (bytes, length) = (list.bytes.as_ptr(), list.bytes.len());
     let (nodes, room) = (made.as_mut_ptr(), made.len());
-    // SAFETY: the slices are three, and outlive the call.
+    // SAFETY: these are three different slices, and they outlive the call.
     unsafe {
         match expected {
             None => sys::bes_apply(pass, operations, count, bytes, length, nodes, room, number),
@@ -143,9 +143,9 @@ fn found(room: &Cell<usize>, call: impl FnMut(*mut u64, usize, &mut u64) -> u32)
     Ok(nodes)
 }
 
-/// Up to `most` nodes, from a call that writes as many as it counts. There is room for no more than `all`, which is all there can be.
+/// Up to `most` nodes, from a call that counts them and writes as many as fit. Makes room for at most `all`, since there can't be more.
 fn some(all: u64, most: usize, call: impl FnOnce(*mut u64, usize, &mut u64) -> u32) -> Answer<Vec<u64>> {
-    // Room for one at least, so that a page of a store without nodes is empty, and no error.
+    // Room for at least one, so that a page of a store without nodes is empty, and not an error.
     let room = usize::try_from(all).unwrap_or(usize::MAX).max(1).min(most);
     let mut nodes = Vec::with_capacity(room);
     let mut count = 0;
@@ -186,7 +186,7 @@ impl RawPass {
         }
     }
 
-    /// The number of the store, which no other one of this process has.
+    /// The number of the store, which no other store of this process has.
     pub(crate) fn store(&self) -> u64 {
         self.store
     }
@@ -200,12 +200,12 @@ impl RawPass {
 
     pub(crate) fn another(&self) -> Answer<Self> {
         let other = Self::new(self.store);
-        // SAFETY: as the module says; the handles are two.
+        // SAFETY: as the module says; these are two different handles.
         let code = unsafe { sys::bes_another(self.handle.get()?, other.handle.get()?) };
         check(code, 0).map(|()| other)
     }
 
-    /// A number that a call of the pass alone writes.
+    /// A number that is written by a call that takes only the pass.
     fn number_by(&self, call: unsafe extern "C" fn(*mut bes_pass, *mut u64) -> u32) -> Answer<u64> {
         let mut number = 0;
         // SAFETY: as the module says, and `number` outlives the call.
@@ -231,7 +231,7 @@ impl RawPass {
         check(code, 0).map(|()| witness)
     }
 
-    /// Joins a witness, if it is of the same store.
+    /// Joins a witness, if it belongs to the same store.
     pub(crate) fn join(&self, witness: &mut RawWitness) -> Answer<Option<u64>> {
         let mut seen = 0;
         if witness.store != self.store {
@@ -255,7 +255,7 @@ impl RawPass {
         check(unsafe { sys::bes_unpin(self.handle.get()?) }, 0)
     }
 
-    /// Writes the list, on a journal of the expected length if one is given. Returns the commit number.
+    /// Writes the list, if a length is expected only on a journal of that length. Returns the commit number.
     pub(crate) fn apply(&self, expected: Option<u64>, list: &List, made: &mut [u64]) -> Answer<u64> {
         let mut number = 0;
         // SAFETY: as the module says.
@@ -267,12 +267,12 @@ impl RawPass {
     pub(crate) fn begin_change(&self) -> Answer<(RawDraft, u64)> {
         let draft = RawDraft(Handle::new());
         let (mut number, mut next) = (0, 0);
-        // SAFETY: as the module says; the handles are two.
+        // SAFETY: as the module says; these are two different handles.
         let code = unsafe { sys::bes_begin_change(self.handle.get()?, draft.0.get()?, &mut number, &mut next) };
         check(code, 0).map(|()| (draft, next))
     }
 
-    /// Writes the draft, and closes it, also after an error.
+    /// Writes the draft, and closes it, even after an error.
     pub(crate) fn end_change(&self, draft: &RawDraft) -> Answer<u64> {
         let mut number = 0;
         // SAFETY: as the module says; the draft is one of this pass, since a change has both.
@@ -321,7 +321,7 @@ impl RawPass {
     /// How many nodes the query finds.
     pub(crate) fn count(&self, text: &str) -> Answer<u64> {
         let (pass, mut count) = (self.handle.get()?, 0);
-        // SAFETY: as the module says; there is no room, so that nothing is written but the count.
+        // SAFETY: as the module says; there is no room, so only the count is written.
         let code = unsafe {
             sys::bes_query(
                 pass,
@@ -337,7 +337,7 @@ impl RawPass {
 
     pub(crate) fn count_prepared(&self, prepared: &RawPrepared) -> Answer<u64> {
         let (pass, prepared, mut count) = (self.handle.get()?, prepared.0.get()?, 0);
-        // SAFETY: as the module says; there is no room, so that nothing is written but the count.
+        // SAFETY: as the module says; there is no room, so only the count is written.
         let code = unsafe { sys::bes_query_prepared(pass, prepared, NonNull::dangling().as_ptr(), 0, &mut count) };
         check(code, count).map(|()| count)
     }
@@ -480,7 +480,7 @@ impl RawPass {
         })
     }
 
-    /// The next list of the operations that make the snapshot again.
+    /// The next list of the operations that rebuild the snapshot.
     pub(crate) fn state(&self, place: &RawPlace) -> Answer<List> {
         let (pass, place) = (self.handle.get()?, place.0.get()?);
         listed((OPERATIONS, BYTES), |counts, operations, room, bytes, bytes_room| {
@@ -507,7 +507,7 @@ impl RawPass {
         })
     }
 
-    /// The entry with this index and the pass that wrote it. It has no operations if the journal ends before.
+    /// The entry with this index, and the pass that wrote it. It has no operations if the journal is shorter.
     pub(crate) fn entry(&self, from: u64) -> Answer<(u64, List)> {
         let pass = self.handle.get()?;
         let (mut by, mut number) = (0, 0);
@@ -583,7 +583,7 @@ impl RawPrepared {
 #[derive(Debug)]
 pub(crate) struct RawDraft(Handle<bes_draft>);
 
-/// An operation by its parts.
+/// An operation, in parts.
 pub(crate) struct Parts<'a> {
     pub(crate) kind: u32,
     pub(crate) node: u64,
@@ -594,7 +594,7 @@ pub(crate) struct Parts<'a> {
 }
 
 impl RawDraft {
-    /// Takes values of any kind from now on.
+    /// From now on, takes values of any kind.
     pub(crate) fn any_kind(&self) -> Answer<()> {
         // SAFETY: as the module says.
         check(unsafe { sys::bes_change_any_kind(self.0.get()?) }, 0)
@@ -632,7 +632,7 @@ impl RawDraft {
     }
 }
 
-/// A length as the library takes it. What is longer is refused there.
+/// A length in the form that the library takes, which refuses anything longer.
 fn length_of(bytes: &[u8]) -> u32 {
     u32::try_from(bytes.len()).unwrap_or(u32::MAX)
 }
@@ -644,7 +644,7 @@ pub(crate) struct RawWitness {
     store: u64,
 }
 
-/// A place in the operations that make a snapshot again.
+/// A place in the operations that rebuild a snapshot.
 #[derive(Debug)]
 pub(crate) struct RawPlace(Handle<bes_place>);
 
@@ -654,7 +654,7 @@ impl RawPlace {
     }
 }
 
-/// The cursor as the library takes it.
+/// The cursor in the form that the library takes.
 pub(crate) fn cursor_of(cursor: &Cursor) -> bes_cursor {
     let mut raw = bes_cursor::BEGINNING;
     if let Some((kind, key)) = cursor.key() {

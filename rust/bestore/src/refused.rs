@@ -4,7 +4,7 @@ use crate::raw::{comparisons, Refused, FORKED};
 use crate::{CursorFault, Error, Kind, QueryError, QueryFault};
 use bestore_sys as sys;
 
-/// The error of an order by a name without an index, where there are these.
+/// The error of an order by a name without an index, where these are the indices.
 pub(crate) fn no_order(name: &str, indices: Vec<(String, Kind)>) -> Error {
     Error::NoOrder {
         name: name.into(),
@@ -24,7 +24,7 @@ pub(crate) fn of_query(refused: Refused, text: impl FnOnce() -> String) -> Error
     }
 }
 
-/// The same error, if the number that goes with it is no byte of the text.
+/// The same error, if the number that goes with it isn't a byte of the text.
 pub(crate) fn without_offset(error: Error) -> Error {
     match error {
         Error::Query(error) => Error::Query(QueryError::new(error.text(), error.fault(), None)),
@@ -32,7 +32,7 @@ pub(crate) fn without_offset(error: Error) -> Error {
     }
 }
 
-/// The same error, which names the first index that a query lacks, if that is what is wrong.
+/// The same error with the first index that the query lacks, if that is what is wrong.
 pub(crate) fn with_missing(error: Error, has_index: impl Fn(&str) -> bool) -> Error {
     match error {
         Error::Query(error) if error.fault() == QueryFault::NotCovered => {

@@ -23,7 +23,7 @@ impl<'a> Snapshot<'a> {
         }
         pass.follow()?;
         let number = match pass.raw().pin() {
-            // The last snapshot was forgotten, since nobody else can have the pass.
+            // The last snapshot was leaked by `mem::forget`, since nobody else can have the pass.
             Err(refused) if refused.code == sys::BES_PINNED => {
                 pass.raw().unpin()?;
                 pass.raw().pin()?
@@ -40,7 +40,7 @@ impl<'a> Snapshot<'a> {
         self.number
     }
 
-    /// The pass, to write by while the snapshot is read.
+    /// The pass, for writing while the snapshot is read.
     #[must_use]
     pub fn pass(&self) -> &Pass {
         self.pass
@@ -70,16 +70,16 @@ impl<'a> Snapshot<'a> {
     /// The nodes that the prepared query finds, ascending. Nothing is parsed.
     ///
     /// # Errors
-    /// As [`query`](Self::query).
+    /// Those of [`query`](Self::query).
     pub fn query_prepared(&self, prepared: &Prepared) -> Result<Vec<u64>> {
         let answer = self.pass.raw().query_prepared(prepared.raw());
         answer.map_err(|refused| self.query_error(refused, || prepared.text_or_empty()))
     }
 
-    /// How many nodes the query finds. Takes what the query takes, but for the list.
+    /// How many nodes the query finds. Costs what the query costs, except for the list.
     ///
     /// # Errors
-    /// As [`query`](Self::query).
+    /// Those of [`query`](Self::query).
     pub fn count(&self, text: &str) -> Result<u64> {
         let answer = self.pass.raw().count(text);
         answer.map_err(|refused| self.query_error(refused, || text.into()))
@@ -88,7 +88,7 @@ impl<'a> Snapshot<'a> {
     /// How many nodes the prepared query finds.
     ///
     /// # Errors
-    /// As [`query`](Self::query).
+    /// Those of [`query`](Self::query).
     pub fn count_prepared(&self, prepared: &Prepared) -> Result<u64> {
         let answer = self.pass.raw().count_prepared(prepared.raw());
         answer.map_err(|refused| self.query_error(refused, || prepared.text_or_empty()))
@@ -109,16 +109,16 @@ impl<'a> Snapshot<'a> {
         found.map(|(_, kind)| kind).ok_or(Error::NoIndex)
     }
 
-    /// The comparisons of a query that are never true in a store with these indices, as `size>1.5`.
+    /// The comparisons of a query that are never true in a store with these indices, such as `size>1.5`.
     ///
     /// # Errors
-    /// As [`hints`](crate::hints()); [`Error::Forked`].
+    /// Those of [`hints`](crate::hints()); [`Error::Forked`].
     pub fn hints(&self, text: &str) -> Result<Vec<Hint>> {
         let indices: BTreeMap<_, _> = self.indices()?.into_iter().collect();
         hints(text, |name| indices.get(name).copied())
     }
 
-    /// The nodes with an attribute of this name and kind that the index of the name lacks.
+    /// The nodes that have an attribute of this name and kind, but aren't in the name's index.
     pub(crate) fn not_indexed(&self, name: &str, kind: Kind) -> Result<Vec<u64>> {
         let held = self.query_prepared(&attribute(name).any(kind).prepare()?)?;
         let mut lacking = Vec::new();
@@ -143,10 +143,10 @@ impl<'a> Snapshot<'a> {
         }
     }
 
-    /// The chosen indices of the query, as comparisons joined by ` || `, and the cost: as in `"size"<"0" score 3`.
+    /// The chosen indices of the query, as comparisons joined by ` || `, and the cost, such as `"size"<"0" score 3`.
     ///
     /// # Errors
-    /// As [`query`](Self::query).
+    /// Those of [`query`](Self::query).
     pub fn explain(&self, text: &str) -> Result<String> {
         let answer = self.pass.raw().explain(text);
         let bytes = answer.map_err(|refused| self.query_error(refused, || text.into()))?;
@@ -193,17 +193,17 @@ impl<'a> Snapshot<'a> {
         value_read(answer, &bytes)
     }
 
-    /// The attributes of this name of many nodes: the value of each node, or `None` if it has none.
+    /// One attribute of many nodes: each node's value, or `None` if it has none.
     ///
     /// # Errors
-    /// As [`Snapshot::columns`].
+    /// Those of [`Snapshot::columns`].
     pub fn column(&self, nodes: &[u64], name: &str) -> Result<Vec<Option<Value>>> {
         Ok(self.columns(nodes, &[name])?.pop().unwrap_or_default())
     }
 
-    /// The attributes of these names of many nodes: for each name a list with the value of each node, or `None` if it has none. It
-    /// takes one search in a tree for a node whose attributes of these names follow one another, and less time than a
-    /// [`Snapshot::get`] for each.
+    /// Several attributes of many nodes: for each name a list with each node's value, or `None` if it has none. It
+    /// takes one search in a tree for each node, if its attributes of these names are next to each other, and less
+    /// time than a [`Snapshot::get`] for each.
     ///
     /// # Errors
     /// [`Error::NameLength`], [`Error::HasNul`], [`Error::BadCount`] if there are more than 2^32 values, [`Error::Forked`].
@@ -244,7 +244,7 @@ impl<'a> Snapshot<'a> {
         }))
     }
 
-    /// The batches that make the snapshot again on an empty store: its next node number, its nodes with their attributes, and
+    /// The batches that rebuild the snapshot on an empty store: its next node number, its nodes with their attributes, and
     /// its indices with what they hold.
     ///
     /// ```
@@ -268,13 +268,13 @@ impl<'a> Snapshot<'a> {
 impl Drop for Snapshot<'_> {
     fn drop(&mut self) {
         if self.pass.held().is_none() {
-            // Fails in a forked child alone, where nothing is pinned.
+            // Fails only in a forked child, where nothing is pinned.
             let _ = self.pass.raw().unpin();
         }
     }
 }
 
-/// The value of an attribute that was read, if it is there, and whose bytes are at the front of these.
+/// The value of an attribute that was read, if there is one; its bytes are at the start of these.
 pub(crate) fn value_read(answer: Answer<sys::bes_attribute>, bytes: &[u8; 255]) -> Result<Option<Value>> {
     match answer {
         Ok(attribute) => {
@@ -307,7 +307,7 @@ fn value_of(cell: &sys::bes_cell, bytes: &[u8]) -> Option<Value> {
 /// How many nodes are read at a time.
 const NODES: usize = 1024;
 
-/// The nodes of a snapshot, by [`Snapshot::nodes`]. An error ends them.
+/// The nodes of a snapshot, from [`Snapshot::nodes`]. An error ends the iteration.
 #[derive(Debug)]
 pub struct Nodes<'a> {
     snapshot: &'a Snapshot<'a>,
@@ -344,7 +344,7 @@ impl Iterator for Nodes<'_> {
 
 impl std::iter::FusedIterator for Nodes<'_> {}
 
-/// The batches that make a snapshot again, by [`Snapshot::state`]. An error ends them.
+/// The batches that rebuild a snapshot, from [`Snapshot::state`]. An error ends the iteration.
 #[derive(Debug)]
 pub struct State<'a> {
     snapshot: &'a Snapshot<'a>,

@@ -7,7 +7,7 @@ use bestore_types::MOST_PASSES;
 use std::ops::{Deref, DerefMut};
 use std::sync::{Arc, Mutex, MutexGuard, PoisonError};
 
-/// A store in memory. Clones are the same store, and each thread may make its pass from one.
+/// A store in memory. Clones are the same store; each thread can make its pass from one.
 ///
 /// The memory of the store is freed with the last clone and the last pass.
 #[derive(Clone, Debug)]
@@ -104,7 +104,7 @@ impl Store {
     /// Takes a pass, which goes back to the store when it is dropped.
     ///
     /// # Errors
-    /// [`Error::NoPass`] if as many are open as [`Limits::passes`] says; [`Error::OutOfMemory`]; [`Error::Forked`].
+    /// [`Error::NoPass`] if as many are open as [`Limits::passes`] allows; [`Error::OutOfMemory`]; [`Error::Forked`].
     pub fn pass(&self) -> Result<Pass> {
         self.check()?;
         match self.another() {
@@ -200,7 +200,7 @@ impl Store {
         &self.0.succession
     }
 
-    /// The pass of the store itself, from which the others are made.
+    /// The store's own pass, from which the others are made.
     pub(crate) fn own(&self) -> Result<MutexGuard<'_, Pass>> {
         self.check()?;
         Ok(self.0.own())

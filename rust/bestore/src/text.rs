@@ -2,7 +2,7 @@
 
 use crate::raw;
 
-/// A pattern that matches the text in upper and lower case, by Unicode's simple case folding. Each other character matches itself.
+/// A pattern that matches the text in upper and lower case, by Unicode's simple case folding. Every other character matches itself.
 ///
 /// ```
 /// assert_eq!(bestore::any_case("Ab*"), r"[aA][bB]\*");

@@ -18,7 +18,7 @@ fn kind_named(name: &str) -> Kind {
     }
 }
 
-/// `LONG64` is a text of so many bytes.
+/// `LONG64` is a text of this many bytes.
 fn text_of(word: &str) -> String {
     match word.strip_prefix("LONG") {
         Some(length) => "x".repeat(length.parse().unwrap()),

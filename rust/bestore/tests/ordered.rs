@@ -248,7 +248,7 @@ fn what_has_no_page_is_refused() {
         );
         assert_eq!(
             said(snapshot.page(&query, &other, Some(&cursor), 1)),
-            "the cursor is of the order by \"i64\" ascending, and this page is in the order by \"text\" ascending: \
+            "the cursor belongs to the order by \"i64\" ascending, but this page is in the order by \"text\" ascending: \
              keep the order, or begin without a cursor"
         );
         let reverse = snapshot.page(&query, &order.clone().descending(), Some(&cursor), 1);

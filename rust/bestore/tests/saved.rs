@@ -638,7 +638,7 @@ fn in_a_child() {
     }
 }
 
-/// Writes on three passes, says each write that has returned, and writes the state anew now and then.
+/// Writes on three passes, says each write that has returned, and rewrites the state now and then.
 fn write_for_ever(saved: &Saved, round: u64) {
     say("");
     thread::scope(|scope| {

@@ -177,7 +177,7 @@ class Writer(Client):
             self._take_late(0.0)
 
     def _take_late(self, seconds: float) -> None:
-        """Takes the reply that has been late for longest, if it comes in so many seconds."""
+        """Takes the reply that has been late for longest, if it comes in this many seconds."""
         connection, write = self._late.pop(0)
         connection.wait(max(seconds, 0.001))
         try:

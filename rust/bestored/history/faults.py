@@ -62,7 +62,7 @@ def _pause(servers: FileServers, dice: random.Random) -> float:
 
 
 def _stop_for(server: Server, seconds: float) -> float:
-    """Stops a server for so many seconds, and returns when that began."""
+    """Stops a server for this many seconds, and returns when that began."""
     server.send(signal.SIGSTOP)
     begin = time.monotonic()
     time.sleep(seconds)

@@ -26,7 +26,7 @@ class Refused(Exception):
 
 
 class Connection:
-    """A connection, whose replies are waited for so many seconds. `run` is the run of the server."""
+    """A connection, whose replies are waited for this many seconds. `run` is the run of the server."""
 
     def __init__(self, place: str, patience: float) -> None:
         self._socket = socket.socket(socket.AF_UNIX)

@@ -43,7 +43,7 @@ class Report:
         return sum(write.outcome is outcome for write in self.history.writes)
 
     def slow(self, times: float = 1.0) -> List[str]:
-        """Faults after which writes went on later than within so many times the fault's bound."""
+        """Faults after which writes went on later than within this many times the fault's bound."""
         return [f"{fault.name}: writes went on after {'more than the rest of the round' if wait is None else f'{wait:.1f} s'}"
                 for fault, wait in self.waits if wait is None or wait > times * fault.bound]
 

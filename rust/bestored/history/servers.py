@@ -25,7 +25,7 @@ LOOK = 0.02
 
 
 class Server:
-    """A program that is started again so many seconds after its end."""
+    """A program that is started again this many seconds after its end."""
 
     def __init__(self, command: List[str], place: Path, rest: float) -> None:
         self.place = str(place)

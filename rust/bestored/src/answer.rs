@@ -20,10 +20,10 @@ use std::io::{self, Write};
 use std::sync::Arc;
 use std::time::Instant;
 
-/// The most live queries of one connection.
+/// The maximum number of live queries on one connection.
 pub const WATCHES: usize = 32;
 
-/// What the server knows beyond the first version of the protocol.
+/// What the server can do beyond the first version of the protocol.
 const FEATURES: [&str; 7] = ["token", "run", "collect", "info", "clients", "kick", "text"];
 
 /// How many bytes of replies are collected before they are sent.
@@ -32,9 +32,9 @@ const COLLECTED: usize = 1 << 16;
 /// What the reads of a connection see.
 #[derive(Debug)]
 pub enum View<'v, 'p> {
-    /// For each read the current snapshot.
+    /// The current snapshot, for each read.
     Current(&'v mut ShelfPass),
-    /// One snapshot, since this time.
+    /// One snapshot, kept since this time.
     Kept {
         snapshot: &'v ShelfSnapshot<'p>,
         since: Instant,
@@ -116,7 +116,7 @@ impl<'v, 'p> View<'v, 'p> {
         }
     }
 
-    /// Refuses to wait for an entry while a snapshot is kept, which entries may need to be given back first.
+    /// Refuses to wait for an entry while a snapshot is kept, since the entries may need its pages.
     fn check_waits(&self, wanted: &wire::OfLog) -> Result<(), Failure> {
         match (self, wanted.entry) {
             (View::Kept { .. }, Some(_)) => Err(Failure::pinned()),
@@ -143,7 +143,7 @@ pub struct Desk<'a> {
     copy: Option<Copy<'a>>,
     outbox: Arc<Outbox>,
     out: Vec<u8>,
-    /// Whether the outbox has something left that was to be sent.
+    /// Whether the outbox still has something to send.
     is_left: bool,
     watches: Option<Arc<Watches>>,
     last_watch: u64,
@@ -173,8 +173,8 @@ impl<'a> Desk<'a> {
         }
     }
 
-    /// Sends the replies that were collected, and waits for the client to read them. If reads see a snapshot since this time, the
-    /// wait ends once it has to be given back, and what is left is sent later.
+    /// Sends the collected replies, and waits for the client to read them. If reads have seen a snapshot since this time, the
+    /// wait ends once it has to be unpinned, and the rest is sent later.
     pub fn send(&mut self, since: Option<Instant>) -> io::Result<()> {
         if self.out.is_empty() && !self.is_left {
             return Ok(());
@@ -192,7 +192,7 @@ impl<'a> Desk<'a> {
         self.add(Some(id), "ok", ok);
     }
 
-    /// Adds the reply of a request that did nothing.
+    /// Adds the reply to a request that did nothing.
     pub fn refuse(&mut self, id: Option<u64>, failure: Failure) {
         self.add(id, "error", &failure.0);
     }
@@ -206,7 +206,7 @@ impl<'a> Desk<'a> {
         let written = written.and_then(|()| Ok(serde_json::to_writer(&mut self.out, body)?));
         match written {
             Ok(()) => self.out.extend_from_slice(b"}\n"),
-            // Writing to memory doesn't fail.
+            // Writing to memory can't fail.
             Err(_) => self.out.truncate(length),
         }
     }
@@ -364,7 +364,7 @@ impl<'a> Desk<'a> {
         Ok(next)
     }
 
-    /// A page of the batches that make the kept snapshot again, or the copy.
+    /// A page of the batches that rebuild the kept snapshot, or the copy.
     fn state(&self, view: &mut View<'_, '_>, from: &wire::From) -> Result<wire::State, Failure> {
         match (view, &self.copy) {
             (View::Kept { snapshot, state, .. }, _) => page::state(snapshot, state, from),
@@ -402,7 +402,7 @@ impl<'a> Desk<'a> {
         Ok((reply, Watch::new(number, live, numbers, found)))
     }
 
-    /// Asks a live query in what reads see. The watch is out of the list until the reply is sent.
+    /// Asks a live query in what reads see. The watch is taken off the list until the reply is sent.
     fn refresh(&mut self, watching: &wire::Watching, view: &mut View<'_, '_>) -> Result<(wire::Push, Watch), Failure> {
         let watches = self.watches.as_ref().ok_or_else(Failure::no_watch)?;
         let mut watch = watches.take(watching.watch).ok_or_else(Failure::no_watch)?;

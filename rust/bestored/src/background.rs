@@ -15,11 +15,11 @@ pub enum Side {
     Server(Starter),
 }
 
-/// The process that was started, as the server sees it. It waits to hear where the server listens.
+/// The process that was started, from the server's side. It waits to hear where the server listens.
 #[derive(Debug)]
 pub struct Starter(UnixStream);
 
-/// Makes a process for the server, in a session of its own. To be called while there is one thread.
+/// Makes a process for the server, in a session of its own. To be called while there is only one thread.
 pub fn begin() -> io::Result<Side> {
     let (starter, server) = UnixStream::pair()?;
     match os::fork()? {
@@ -40,12 +40,12 @@ fn wait(mut starter: UnixStream, process: &Process) -> io::Result<ExitCode> {
     let mut said = String::new();
     starter.read_to_string(&mut said)?;
     if !said.is_empty() {
-        // Who has closed the output doesn't want to know.
+        // Whoever closed the output doesn't want to know.
         let _ = writeln!(io::stdout(), "bestored: process {} listens at {said}", process.number());
         return Ok(ExitCode::SUCCESS);
     }
     match process.wait()? {
-        // It has said why.
+        // The server has said why.
         Some(status) if status != 0 => Ok(ExitCode::from(status)),
         _ => Err(io::Error::new(
             io::ErrorKind::Other,
@@ -57,7 +57,7 @@ fn wait(mut starter: UnixStream, process: &Process) -> io::Result<ExitCode> {
 impl Starter {
     /// Says where the server listens.
     pub fn listens_at(mut self, path: &Path) -> io::Result<()> {
-        // Who has started the server may be gone, and the server stays.
+        // Whoever started the server may be gone; the server stays.
         let _ = write!(self.0, "{}", path.display());
         os::leave_errors()
     }

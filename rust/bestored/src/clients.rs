@@ -1,4 +1,4 @@
-//! The clients that are connected, and what each of them does.
+//! The clients that are connected, and what each of them is doing.
 
 use bestore_client::socket::peer_process;
 use bestore_client::wire;
@@ -10,7 +10,7 @@ use std::sync::atomic::{AtomicU64, Ordering};
 use std::sync::{Arc, Condvar, Mutex, MutexGuard, PoisonError};
 use std::time::{Duration, Instant};
 
-/// How long at the end clients may take to read their last replies.
+/// How long clients have, when the server ends, to read their last replies.
 const LAST: Duration = Duration::from_secs(5);
 
 fn lock<T>(mutex: &Mutex<T>) -> MutexGuard<'_, T> {
@@ -26,7 +26,7 @@ pub fn milliseconds(time: Duration) -> u64 {
 pub struct Client {
     /// Counts the connections.
     pub number: u64,
-    /// The number of its process, or 0 if the system doesn't say it.
+    /// The number of its process, or 0 if the system doesn't give it.
     pub process: u32,
     stream: Arc<UnixStream>,
     since: Instant,
@@ -34,10 +34,10 @@ pub struct Client {
     doing: Mutex<Doing>,
 }
 
-/// What a client does now.
+/// What a client is doing now.
 #[derive(Debug, Default)]
 struct Doing {
-    /// The numbers of its pass, of each volume.
+    /// The number of its pass in each volume.
     passes: Vec<u64>,
     /// The snapshot that it has pinned, and since when.
     pinned: Option<(u64, Instant)>,
@@ -61,12 +61,12 @@ impl Client {
         lock(&self.doing).command = Some(command);
     }
 
-    /// The command is carried out.
+    /// The command has been carried out.
     pub fn ends(&self) {
         lock(&self.doing).command = None;
     }
 
-    /// For how long it has pinned a snapshot.
+    /// How long it has had a snapshot pinned.
     pub fn pinned_for(&self) -> Option<Duration> {
         lock(&self.doing).pinned.map(|(_, since)| since.elapsed())
     }
@@ -103,7 +103,7 @@ pub struct Clients {
 struct Connected {
     last: u64,
     clients: BTreeMap<u64, Arc<Client>>,
-    /// How many requests those have sent that have gone.
+    /// How many requests were sent by clients that have gone.
     requests: u64,
 }
 
@@ -148,7 +148,7 @@ impl Clients {
         clients.find(|client| client.has_pass(volume, pass)).cloned()
     }
 
-    /// All of them, for the client with the number `own`.
+    /// All of them, as shown to the client with the number `own`.
     pub fn shown(&self, own: u64) -> wire::Clients {
         let connected = lock(&self.connected);
         wire::Clients {
@@ -165,11 +165,11 @@ impl Clients {
         }
     }
 
-    /// Lets the clients end: what they have sent is answered, and they get some time to read it.
+    /// Lets the clients finish: what they have sent is answered, and they get some time to read the answers.
     pub fn end(&self) {
         for how in [Shutdown::Read, Shutdown::Both] {
             for client in lock(&self.connected).clients.values() {
-                // A client that has gone needs no end.
+                // A client that has gone needs no ending.
                 let _ = client.stream.shutdown(how);
             }
             let until = Instant::now() + LAST;

@@ -1,4 +1,4 @@
-//! The connection of one client: its requests in their order, and the snapshot that it keeps.
+//! The connection of one client: its requests, in order, and the snapshot that it keeps.
 
 use crate::answer::{Desk, View};
 use crate::clients::{milliseconds, Client};
@@ -15,10 +15,10 @@ use std::os::unix::net::UnixStream;
 use std::sync::Arc;
 use std::time::{Duration, Instant};
 
-/// How long a visitor may stay: a client that came when all places were taken.
+/// How long a visitor may stay. A visitor is a client that came when all places were taken.
 const VISIT: Duration = Duration::from_secs(2);
 
-/// How long a visitor may take from a reply to the next request.
+/// How long a visitor may take from a reply to its next request.
 const IDLE: Duration = Duration::from_millis(250);
 
 /// How often a connection that rests looks whether its pass keeps memory that was carried on.
@@ -39,7 +39,7 @@ pub struct Connection<'a> {
     client: &'a Client,
     lines: Lines,
     desk: Desk<'a>,
-    /// When a visitor has to go.
+    /// When a visitor has to leave.
     visit: Option<Instant>,
 }
 
@@ -81,8 +81,8 @@ impl<'a> Connection<'a> {
         }
     }
 
-    /// Keeps a snapshot, and answers requests until the client gives it back or it has to. `None`: none is kept, and the client
-    /// knows why.
+    /// Keeps a snapshot, and answers requests until the client unpins it or has to. `None`: none is kept, and the client has
+    /// been given the reason.
     fn keep(&mut self, id: u64, pass: &mut ShelfPass) -> io::Result<Option<Turn>> {
         let pinned = pass.pin().map_err(Failure::from);
         let pinned = pinned.and_then(|snapshot| Ok((volumes::next(&snapshot)?, snapshot)));
@@ -143,7 +143,7 @@ impl<'a> Connection<'a> {
         }
     }
 
-    /// Sends the replies that were made, and waits for more requests, or a moment if a snapshot is kept since some time.
+    /// Sends the replies, and waits for more requests, or only a moment if a snapshot has been kept for some time.
     fn receive(&mut self, since: Option<Instant>) -> io::Result<Option<Turn>> {
         self.desk.send(since)?;
         let looks = since.map(|_| Instant::now() + pressure::LOOK);
@@ -188,7 +188,7 @@ fn answer(
     Ok(())
 }
 
-/// Whether the command goes on for long, so that no visitor may send it.
+/// Whether the command can take long, so that visitors may not send it.
 fn waits(command: &Command<'_>) -> bool {
     match command {
         Command::Watch(_) | Command::Reach(_) => true,

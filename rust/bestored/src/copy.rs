@@ -1,4 +1,4 @@
-//! Copies of snapshots: what `state` reads after `collect`. A client may read one slowly, as it keeps no pages of the store.
+//! Copies of snapshots: what `state` reads after `collect`. A client may read one slowly, since it keeps no pages of the store.
 
 use crate::answer::View;
 use crate::failure::Failure;
@@ -9,17 +9,17 @@ use bestore_client::wire::{self, ErrorName, ShownOperations};
 use std::sync::atomic::{AtomicUsize, Ordering};
 use std::time::Instant;
 
-/// How many copies there may be at the same time, of all clients. Each takes up to as much memory as the pages of the store.
+/// How many copies all clients together may have at the same time. Each takes up to as much memory as the pages of the store.
 const MOST: usize = 2;
 
 /// How often a volume is copied again after its snapshot was taken back.
 const TRIES: u32 = 5;
 
-/// Counts the copies that there are.
+/// Counts the existing copies.
 #[derive(Debug, Default)]
 pub struct Copies(AtomicUsize);
 
-/// The batches that make a snapshot again, of each volume.
+/// The batches that rebuild a snapshot, for each volume.
 #[derive(Debug)]
 pub struct Copy<'a> {
     copies: &'a Copies,
@@ -56,8 +56,8 @@ impl Copies {
     }
 }
 
-/// Copies what reads see. If nothing is pinned, each volume is copied from a snapshot of its own, which it keeps for a shorter time, and
-/// tried again if that is taken back.
+/// Copies what reads see. If nothing is pinned, each volume is copied from a snapshot of its own, which is kept for a shorter time, and
+/// copied again if that is taken back.
 pub fn collect<'a>(shared: &'a Shared, view: &mut View<'_, '_>) -> Result<(Copy<'a>, wire::Next), Failure> {
     let mut copy = shared.copies.begin()?;
     for volume in 0..view.volumes() as u32 {

@@ -1,5 +1,5 @@
-//! The disk of the files. A write is refused before it is made if there is little room, since what memory has and the file hasn't
-//! can't be taken back.
+//! The disk of the files. If there is little room, a write is refused before it is made, since a write in memory that isn't in
+//! the file can't be undone.
 
 use crate::os;
 use std::ffi::CString;
@@ -16,7 +16,7 @@ pub struct Disk {
 }
 
 impl Disk {
-    /// The disk of this file or folder, which is there.
+    /// The disk of this existing file or folder.
     pub fn of(path: &Path, spare: u64) -> io::Result<Self> {
         let path = path.canonicalize()?;
         let folder = match path.is_dir() {
@@ -29,13 +29,13 @@ impl Disk {
         })
     }
 
-    /// Whether so many bytes can be written without taking those that stay free.
+    /// Whether this many bytes can be written without using those that have to stay free.
     pub fn has_room(&self, bytes: u64) -> bool {
         let free = os::free_space(&self.folder).ok().flatten();
         free.map_or(true, |free| free >= self.spare.saturating_add(bytes))
     }
 
-    /// Why nothing is written now, if there is too little room. A disk that doesn't say how much it has is not asked.
+    /// Why nothing is written for now, if there is too little room. A disk that doesn't report its room is taken to have enough.
     pub fn trouble(&self) -> Option<String> {
         let free = os::free_space(&self.folder).ok().flatten()?;
         (free < self.spare).then(|| {

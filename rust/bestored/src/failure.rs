@@ -1,4 +1,4 @@
-//! Errors as the protocol has them.
+//! Errors in the form of the protocol.
 
 #[cfg(feature = "log")]
 use crate::log::Refused;
@@ -22,13 +22,13 @@ impl Failure {
         Self::new(name, message)
     }
 
-    /// Another class than that of the name.
+    /// A different class from that of the name.
     pub fn of_class(mut self, class: Class) -> Self {
         self.0.class = Some(class);
         self
     }
 
-    /// Adds what goes with the error.
+    /// Adds a detail to the error.
     pub fn with(mut self, name: &str, detail: impl Into<Value>) -> Self {
         self.0.details.insert(name.into(), detail.into());
         self
@@ -80,18 +80,18 @@ impl Failure {
         failure.with("found", found)
     }
 
-    /// A request that has to say a volume, and doesn't.
+    /// A request that has to name a volume, and doesn't.
     pub fn volume_missing(volumes: usize) -> Self {
-        let message = format!("the request has to say which of the {volumes} volumes, counted from 0");
+        let message = format!("the request has to name one of the {volumes} volumes, counted from 0");
         Self::new(ErrorName::NoVolume, message).with("volumes", volumes)
     }
 
-    /// Commit numbers that aren't those of the volumes.
+    /// Commit numbers that don't match the volumes.
     pub fn numbers(volumes: usize) -> Self {
         match volumes {
             1 => Self::bad_request("the server has one volume, so a commit number is one integer, not a list"),
             _ => Self::bad_request(&format!(
-                "the server has {volumes} volumes, so commit numbers are a list with that of each"
+                "the server has {volumes} volumes, so commit numbers are a list, one for each"
             )),
         }
     }

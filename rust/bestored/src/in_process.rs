@@ -1,4 +1,4 @@
-//! Parts of a server within the program that asks them, without a socket's file or a database: for the fuzz targets.
+//! Parts of a server within the calling program, without a socket file or a database: for the fuzz targets.
 
 use crate::connection::Connection;
 use crate::kept::Kept;
@@ -39,10 +39,10 @@ fn options(volumes: u32) -> Options {
     }
 }
 
-/// What a server with as many empty volumes replies to a client that sends these lines and goes.
+/// What a server with this many empty volumes replies to a client that sends these lines and leaves.
 ///
 /// # Errors
-/// There is no memory, no thread or no socket.
+/// There is no memory, thread or socket.
 pub fn replies_to(lines: &[u8], volumes: u32) -> Result<Vec<u8>, Box<dyn Error>> {
     let options = options(volumes);
     let kept = Kept::Memory(Shelf::open(volumes, options.limits())?);
@@ -62,7 +62,7 @@ pub fn replies_to(lines: &[u8], volumes: u32) -> Result<Vec<u8>, Box<dyn Error>>
     })?)
 }
 
-/// Sends the lines, which the socket has room for, and reads what comes.
+/// Sends the lines, for which the socket has room, and reads the replies.
 fn talk(mut client: UnixStream, lines: &[u8]) -> io::Result<Vec<u8>> {
     client.write_all(lines)?;
     client.shutdown(Shutdown::Write)?;
@@ -72,7 +72,7 @@ fn talk(mut client: UnixStream, lines: &[u8]) -> io::Result<Vec<u8>> {
 }
 
 /// The entries that a leader's writes add to the log, each with its number and its batch as bytes. The leader's store is empty, and
-/// the log has this many entries already.
+/// the log already has this many entries.
 ///
 /// # Errors
 /// There is no memory.
@@ -94,7 +94,7 @@ pub fn entries_of(batches: &[Batch], entries: u64) -> bestore::Result<Vec<(u64, 
     Ok(entries.clone())
 }
 
-/// A log that has each entry at once.
+/// A log that takes each entry at once.
 #[cfg(feature = "log")]
 #[derive(Debug)]
 struct Log {

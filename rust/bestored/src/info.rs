@@ -1,4 +1,4 @@
-//! What goes on in the server, for those who look after it.
+//! What the server is doing, for those who look after it.
 
 use crate::answer::View;
 use crate::clients::{milliseconds, Client};
@@ -34,7 +34,7 @@ pub fn info(shared: &Shared, view: &View<'_, '_>) -> Result<wire::Info, Failure>
     })
 }
 
-/// Who keeps the oldest snapshot of a volume: of several the one that was pinned first.
+/// Who keeps a volume's oldest snapshot. With several volumes, it is the one that was pinned first.
 fn oldest(shared: &Shared, all: &[Status]) -> Option<wire::OldestReader> {
     let read = (0_u32..).zip(all).filter_map(|(volume, status)| {
         let oldest = status.oldest?;

@@ -1,4 +1,4 @@
-//! The volumes of the server: in memory alone, kept in files, or one in a log that machines share.
+//! The volumes of the server: only in memory, kept in files, or one in a log that machines share.
 
 use crate::disk::Disk;
 use crate::failure::Failure;
@@ -39,7 +39,7 @@ pub struct InFiles {
     disk: Disk,
     /// Whether a commit has failed, so that the server ends.
     is_over: AtomicBool,
-    /// The thread that writes the states anew, if one does.
+    /// The thread that rewrites the states, if one does.
     compacting: Mutex<Option<JoinHandle<()>>>,
 }
 
@@ -81,7 +81,7 @@ impl InFiles {
         }
     }
 
-    /// Lets a thread write the states anew that are due, unless one does so or the disk has no room for them beside the files.
+    /// Has a thread rewrite the states that are due, unless one is doing so or the disk has no room for them beside the files.
     fn compact_if_due(&self) {
         if !self.saved.is_due() || !self.disk.has_room(self.sizes().bytes) {
             return;
@@ -93,24 +93,24 @@ impl InFiles {
         let saved = self.saved.clone();
         let thread = thread::Builder::new().name("compaction".into()).spawn(move || {
             if let Err(error) = saved.compact_if_due() {
-                eprintln!("bestored: the state isn't written anew: {error}");
+                eprintln!("bestored: the state couldn't be rewritten: {error}");
             }
         });
         match thread {
             Ok(thread) => *compacting = Some(thread),
-            Err(error) => eprintln!("bestored: no thread writes the state anew: {error}"),
+            Err(error) => eprintln!("bestored: no thread could be started to rewrite the state: {error}"),
         }
     }
 
-    /// Saves what was written, after a state that is being written.
+    /// Saves what was written, after any state that is being written.
     fn finish(&self) -> saved::Result<()> {
         let compacting = self.compacting.lock().unwrap_or_else(PoisonError::into_inner).take();
-        // If the thread has panicked, the file has its entries.
+        // If the thread has panicked, the file still has its entries.
         let _ = compacting.map(JoinHandle::join);
         self.saved.flush()
     }
 
-    /// Returns the outcome of a call of the files, after which the server ends if a commit has failed.
+    /// Returns the outcome of a call on the files. The server then ends if a commit has failed.
     fn checked(&self, outcome: saved::Result<()>) -> Result<(), Failure> {
         if outcome.is_err() {
             self.end_if_failed();
@@ -134,8 +134,8 @@ pub fn start(_: &Arc<Shared>) -> io::Result<()> {
 }
 
 impl Kept {
-    /// Opens the volumes of a server with this text of its run. `None`: one of the signals has come while the database of a log
-    /// could not be reached.
+    /// Opens the volumes of a server whose run has this text. `None`: a signal came while the database of a log couldn't be
+    /// reached.
     pub fn open(
         options: &Options,
         run: &str,
@@ -192,7 +192,7 @@ impl Kept {
         }
     }
 
-    /// When a write is in the file or the log, as `hello` says it.
+    /// When writes are in the file or the log, in the words of `hello`.
     pub fn when(&self) -> &'static str {
         match self {
             Kept::Memory(_) => "no",
@@ -201,7 +201,7 @@ impl Kept {
         }
     }
 
-    /// Refuses what would be read or written once a commit has failed.
+    /// Refuses reads and writes once a commit has failed.
     pub fn check(&self) -> Result<(), Failure> {
         match self {
             Kept::File(files) if files.is_over.load(Ordering::Relaxed) => Err(Failure::new(
@@ -212,7 +212,7 @@ impl Kept {
         }
     }
 
-    /// Refuses a write for which there is no room, or which another server has to make.
+    /// Refuses a write if there is no room for it, or if another server has to make it.
     pub fn check_write(&self) -> Result<(), Failure> {
         let trouble = match self {
             Kept::File(files) => files.disk.trouble(),
@@ -228,8 +228,8 @@ impl Kept {
         }
     }
 
-    /// Waits until it is certain that this server knows all that was written before the call. One of a log that was paused may have been
-    /// replaced meanwhile.
+    /// Waits until it is certain that this server knows everything written before the call. With a log, a server that was paused may
+    /// have been replaced meanwhile.
     pub fn confirm(&self) -> Result<(), Failure> {
         match self {
             #[cfg(feature = "log")]
@@ -246,7 +246,7 @@ impl Kept {
         }
     }
 
-    /// What the server does in the log, if there is one.
+    /// What the server is doing in the log, if there is one.
     pub fn role(&self) -> Option<wire::Role> {
         match self {
             #[cfg(feature = "log")]
@@ -255,7 +255,7 @@ impl Kept {
         }
     }
 
-    /// Why writes aren't kept now, if they aren't.
+    /// Why writes can't be kept for now, if they can't.
     pub fn trouble(&self) -> Option<String> {
         match self {
             Kept::Memory(_) => None,
@@ -275,14 +275,14 @@ impl Kept {
         }
     }
 
-    /// Lets the files be made smaller, if it is time.
+    /// Has the files made smaller, if it is time.
     pub fn compact_if_due(&self) {
         if let Kept::File(files) = self {
             files.compact_if_due();
         }
     }
 
-    /// Waits until all that was written is kept, if the replies to writes wait for that.
+    /// Waits until everything written is kept, if the replies to writes wait for that.
     pub fn flush_if_each(&self) -> Result<(), Failure> {
         match self {
             Kept::Memory(_) => Ok(()),
@@ -321,7 +321,7 @@ impl Kept {
         }
     }
 
-    /// What the server does in the log, after it has the entry that is wanted.
+    /// What the server is doing in the log, once it has the wanted entry.
     pub fn log_status(&self, wanted: &wire::OfLog) -> Result<wire::LogStatus, Failure> {
         match self {
             #[cfg(feature = "log")]
@@ -348,7 +348,7 @@ fn not_kept() -> Failure {
     Failure::named(ErrorName::NotKept)
 }
 
-/// Adds the tokens that the files of the volumes have.
+/// Adds the tokens in the files of the volumes.
 fn add_tokens(found: Vec<Vec<saved::Token>>, tokens: &Tokens) {
     let count = found.len();
     tokens.make_room(count);

@@ -1,6 +1,6 @@
-//! bestored: one store of attributes for the programs of a user. `docs/SERVER.md` describes it and its protocol.
+//! bestored: one attribute store for a user's programs. `docs/SERVER.md` describes it and its protocol.
 //!
-//! This is the program as a library, so that a fuzz target can link it. It promises no programs anything.
+//! This is the program as a library, so that a fuzz target can link it. Nothing in it is promised to other programs.
 #![warn(missing_debug_implementations, rust_2018_idioms)]
 #![deny(unsafe_code)]
 
@@ -48,7 +48,7 @@ use std::process::ExitCode;
 use std::sync::{Arc, Mutex};
 use tokens::Tokens;
 
-/// Runs the program, by its command line.
+/// Runs the program with its command line.
 pub fn main() -> ExitCode {
     start(Options::read()).unwrap_or_else(|error| {
         eprintln!("bestored: {error}");

@@ -12,15 +12,15 @@ use std::time::{Duration, Instant};
 /// How long half a line may wait for the rest.
 const PATIENCE: Duration = Duration::from_secs(30);
 
-/// For how many bytes there is room at first.
+/// How many bytes there is room for at first.
 const ROOM: usize = 1 << 14;
 
-/// What comes of reading.
+/// The outcome of reading.
 #[derive(Debug, PartialEq, Eq)]
 pub enum Received {
     /// Some bytes came.
     Some,
-    /// The time is over.
+    /// The time is up.
     Late,
     /// Half a line has waited too long.
     Half,
@@ -30,7 +30,7 @@ pub enum Received {
     End,
 }
 
-/// The bytes that were received, and which of them were taken.
+/// The bytes that were received, and which of them have been taken.
 #[derive(Debug)]
 pub struct Lines {
     stream: Arc<UnixStream>,
@@ -40,7 +40,7 @@ pub struct Lines {
     taken: usize,
     /// How many bytes were searched for the end of a line.
     searched: usize,
-    /// Since when there is half a line.
+    /// Since when there has been half a line.
     half_since: Option<Instant>,
     patience: Duration,
 }

@@ -5,13 +5,13 @@ use std::sync::atomic::{AtomicU64, Ordering};
 use std::sync::{Mutex, PoisonError};
 use std::time::{Duration, Instant};
 
-/// How many seconds are looked back on.
+/// How many past seconds are counted.
 const SECONDS: u64 = 10;
 
-/// How many sizes of times are counted: four for each power of two of µs, up to an hour.
+/// How many ranges of times are counted: four for each power of two of µs, up to an hour.
 const SIZES: usize = 128;
 
-/// The writes of one second, by the times that they took.
+/// The writes of one second, by how long they took.
 #[derive(Clone, Debug)]
 struct Second {
     number: u64,
@@ -59,14 +59,14 @@ impl Drop for Measured<'_> {
 }
 
 impl Measured<'_> {
-    /// The write is made and kept.
+    /// The write has been made and kept.
     pub fn finish(self) {
         let meter = self.meter;
         meter.count(meter.now(), self.begin.elapsed());
     }
 }
 
-/// Which size a time of so many µs has.
+/// The range of a time of this many µs.
 fn size_of(time: u64) -> usize {
     if time < 4 {
         return time as usize;
@@ -76,7 +76,7 @@ fn size_of(time: u64) -> usize {
     size.min(SIZES - 1)
 }
 
-/// The longest time of this size.
+/// The longest time in this range.
 fn longest_of(size: usize) -> u64 {
     match size {
         0..=3 => size as u64,
@@ -84,7 +84,7 @@ fn longest_of(size: usize) -> u64 {
     }
 }
 
-/// The time that this part of the writes took at most. There are some.
+/// The longest time that this share of the writes took. There must be some.
 fn percentile(sizes: &[u64; SIZES], hundredths: u64) -> u64 {
     let wanted = (sizes.iter().sum::<u64>() * hundredths + 99) / 100;
     let mut seen = 0;
@@ -105,7 +105,7 @@ impl Meter {
         }
     }
 
-    /// For how many seconds the server has run.
+    /// How many seconds the server has been running.
     pub fn now(&self) -> u64 {
         self.begin.elapsed().as_secs()
     }
@@ -119,7 +119,7 @@ impl Meter {
         }
     }
 
-    /// How many writes were made.
+    /// How many writes have been made.
     pub fn writes(&self) -> u64 {
         self.writes.load(Ordering::Relaxed)
     }
@@ -141,7 +141,7 @@ impl Meter {
         second.most = second.most.max(took);
     }
 
-    /// The last 10 seconds, with the one that has begun now.
+    /// The last 10 seconds, including the current one.
     pub fn rate(&self) -> Rate {
         self.rate_at(self.now())
     }

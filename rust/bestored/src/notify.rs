@@ -1,23 +1,23 @@
-//! What the service manager gets to know: that the server is ready, that it lives, and that it ends. See sd_notify(3).
+//! Messages to the service manager: that the server is ready, that it is alive, and that it is stopping. See sd_notify(3).
 
 use crate::os;
 use std::env;
 use std::ffi::OsString;
 use std::time::{Duration, Instant};
 
-/// How much longer the start may take from a message on, while the server waits for a database.
+/// How much more time each message asks for, while the server waits for a database.
 const EXTENSION: Duration = Duration::from_secs(30);
 
 /// Whom the server notifies, if anybody.
 #[derive(Debug)]
 pub struct Notifier {
     socket: Option<OsString>,
-    /// How often the watchdog gets to know that the server lives.
+    /// How often to tell the watchdog that the server is alive.
     every: Option<Duration>,
     last: Instant,
 }
 
-/// How often a watchdog that waits so many µs gets a message. `process` is the one that it watches, if it says so.
+/// How often a watchdog that waits this many µs gets a message. `process` is the process that it watches, if it names one.
 fn interval(wait: Option<&str>, process: Option<&str>, own: u32) -> Option<Duration> {
     let wait: u64 = wait?.parse().ok()?;
     let is_own = process.map_or(true, |process| process.parse() == Ok(own));
@@ -60,7 +60,7 @@ impl Notifier {
         self.send(&format!("EXTEND_TIMEOUT_USEC={more}\nSTATUS={why}"));
     }
 
-    /// The server lives. Returns when this is to be said again.
+    /// The server is alive. Returns when to report this again.
     pub fn lives(&mut self) -> Option<Duration> {
         let every = self.every?;
         if self.last.elapsed() >= every {
@@ -70,7 +70,7 @@ impl Notifier {
         Some(every.saturating_sub(self.last.elapsed()))
     }
 
-    /// The server ends.
+    /// The server is stopping.
     pub fn ends(&self) {
         self.send("STOPPING=1");
     }

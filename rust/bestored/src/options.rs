@@ -6,19 +6,19 @@ use clap::{value_parser, Arg, ArgAction, ArgGroup, Command};
 use std::path::PathBuf;
 use std::time::Duration;
 
-/// The most passes of a store.
+/// The maximum number of passes of a store.
 const MOST_PASSES: u64 = 63;
 
-/// Passes of the store that are the server's own: for live queries, and for clients that come when all places are taken.
+/// Passes of the store for the server's own use: for live queries, and for clients that come when all places are taken.
 const OWN_PASSES: u64 = 2;
 
 /// Passes of the store that a log of machines takes.
 const LOG_PASSES: u64 = 2;
 
-/// How many bytes of the disk of a kept file stay free if nothing is said.
+/// How many bytes of a kept file's disk stay free by default.
 const SPARE: u64 = 1 << 20;
 
-/// The log that machines share, and what this one begins with.
+/// The log that machines share, and whether this one begins as its leader.
 #[derive(Clone, Debug)]
 #[cfg_attr(not(feature = "log"), allow(dead_code))]
 pub struct InLog {
@@ -48,7 +48,7 @@ pub struct Options {
     /// After how many bytes of entries a volume's journal in memory is let go of, if that was given.
     pub journal: Option<u64>,
     pub hold: Duration,
-    /// A request that takes longer is reported.
+    /// Requests that take longer are reported.
     pub slow: Option<Duration>,
 }
 
@@ -70,7 +70,7 @@ fn command() -> Command {
     let url = |name, others: &[&'static str]| Arg::new(name).long(name).value_name("URL").conflicts_with_all(others);
     Command::new("bestored")
         .version(env!("CARGO_PKG_VERSION"))
-        .about("Shares a store of attributes between the programs of a user")
+        .about("Shares an attribute store between a user's programs")
         .arg(
             path("socket", "PATH").help(
                 "The socket; by default $BESTORE_SOCKET, $XDG_RUNTIME_DIR/bestore/socket or /tmp/bestore-UID/socket",
@@ -103,14 +103,14 @@ fn command() -> Command {
         .arg(url("follow", &["keep", "volumes"]).help("Follows such a log, and leads once nobody does"))
         .group(ArgGroup::new("database").args(["log", "follow"]))
         .arg(path("passfile", "FILE").requires("database").help(
-            "The password for PostgreSQL, in a line as of .pgpass; otherwise $PGPASSWORD, $PGPASSFILE or ~/.pgpass",
+            "The password for PostgreSQL, in a line as in .pgpass; otherwise $PGPASSWORD, $PGPASSFILE or ~/.pgpass",
         ))
         .arg(
             Arg::new("volumes")
                 .long("volumes")
                 .value_name("N")
                 .value_parser(value_parser!(u32).range(1..=i64::from(MOST_VOLUMES)))
-                .help("Stores that one query searches; by default those in the folder, or 1"),
+                .help("Stores that one query searches; by default as many as the folder has, or 1"),
         )
         .arg(number("pages", "N", 8..=16_384, "4096").help("Pages of 4 KiB, of each volume"))
         .arg(number("passes", "N", 1..=61, "61").help("Clients at the same time"))

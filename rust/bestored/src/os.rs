@@ -31,7 +31,7 @@ pub fn send_now(stream: &UnixStream, bytes: &[u8]) -> io::Result<usize> {
     usize::try_from(sent).map_err(|_| io::Error::last_os_error())
 }
 
-/// Copies what has been received, and leaves it to be received. Returns how many bytes these are.
+/// Copies what has been received without consuming it. Returns how many bytes that is.
 pub fn look_ahead(stream: &UnixStream, bytes: &mut [u8]) -> io::Result<usize> {
     let flags = libc::MSG_DONTWAIT | libc::MSG_PEEK;
     // SAFETY: the pointer and the length are those of the slice.
@@ -39,7 +39,7 @@ pub fn look_ahead(stream: &UnixStream, bytes: &mut [u8]) -> io::Result<usize> {
     usize::try_from(received).map_err(|_| io::Error::last_os_error())
 }
 
-/// Waits until one of the descriptors can be read, and says of each whether it can.
+/// Waits until one of the descriptors is readable, and returns which ones are.
 pub fn wait_readable<const N: usize>(descriptors: [RawFd; N], time: Option<Duration>) -> io::Result<[bool; N]> {
     wait(descriptors, libc::POLLIN, time)
 }
@@ -49,7 +49,7 @@ pub fn wait_writable(stream: &UnixStream, time: Duration) -> io::Result<()> {
     wait([stream.as_raw_fd()], libc::POLLOUT, Some(time)).map(drop)
 }
 
-/// Waits for one of these events of the descriptors, and says of each whether there is one.
+/// Waits for one of these events on the descriptors, and returns which ones have one.
 fn wait<const N: usize>(
     descriptors: [RawFd; N],
     events: libc::c_short,
@@ -68,8 +68,8 @@ fn wait<const N: usize>(
     }
 }
 
-/// A descriptor that can be read once one of the signals that end the program has come. Threads that are made later don't get
-/// these signals.
+/// A descriptor that becomes readable when a signal that ends the program comes. Threads that are made later don't get these
+/// signals.
 pub fn ending_signals() -> io::Result<File> {
     let mut signals = MaybeUninit::uninit();
     // SAFETY: `sigemptyset` initialises the set, which the others change or read.
@@ -84,7 +84,7 @@ pub fn ending_signals() -> io::Result<File> {
     }
 }
 
-/// How many bytes of the disk with this file this user may still take. `None`: the file system doesn't say it.
+/// How many bytes this user may still use on the disk with this file. `None`: the file system doesn't say.
 pub fn free_space(path: &CStr) -> io::Result<Option<u64>> {
     let mut found = MaybeUninit::<libc::statvfs>::uninit();
     // SAFETY: the path ends with a zero byte, and the call fills `found` if it succeeds.
@@ -101,11 +101,11 @@ pub fn free_space(path: &CStr) -> io::Result<Option<u64>> {
 
 /// Ends the program as a signal does.
 pub fn end_program() {
-    // SAFETY: the call takes numbers alone.
+    // SAFETY: the call takes only numbers.
     unsafe { libc::kill(libc::getpid(), libc::SIGTERM) };
 }
 
-/// Runs `make` so that the files that it makes have no rights in this mask. What other threads make meanwhile has none of them either.
+/// Runs `make` so that the files that it makes have none of the rights in this mask. Nor do files that other threads make meanwhile.
 pub fn with_mask<T>(mask: libc::mode_t, make: impl FnOnce() -> T) -> T {
     // SAFETY: the call always succeeds.
     let before = unsafe { libc::umask(mask) };
@@ -119,9 +119,9 @@ pub fn with_mask<T>(mask: libc::mode_t, make: impl FnOnce() -> T) -> T {
 #[derive(Debug)]
 pub struct Process(libc::pid_t);
 
-/// Makes a process that goes on as this one does: `None` there. To be called while there is one thread.
+/// Forks: the child, which continues from here like this process, gets `None`. Call it while there is only one thread.
 pub fn fork() -> io::Result<Option<Process>> {
-    // SAFETY: there is no other thread, so nothing of the program is in use but by this one.
+    // SAFETY: there is no other thread, so nothing in the program is in use by anyone else.
     let number = check(unsafe { libc::fork() })?;
     Ok((number != 0).then_some(Process(number)))
 }
@@ -146,7 +146,7 @@ impl Process {
     }
 }
 
-/// Begins a session of its own, which the end of a terminal doesn't end, and gives standard input and output up.
+/// Begins a session of its own, which doesn't end with a terminal, and closes standard input and output.
 pub fn leave_terminal() -> io::Result<()> {
     // SAFETY: the call takes nothing.
     check(unsafe { libc::setsid() })?;
@@ -154,7 +154,7 @@ pub fn leave_terminal() -> io::Result<()> {
     replace_by_nothing(libc::STDOUT_FILENO)
 }
 
-/// Gives standard error up, unless it is a file.
+/// Closes standard error, unless it is a file.
 pub fn leave_errors() -> io::Result<()> {
     let mut found = MaybeUninit::<libc::stat>::uninit();
     // SAFETY: the call writes a `stat`, which is read if it has done so.
@@ -174,7 +174,7 @@ fn replace_by_nothing(descriptor: RawFd) -> io::Result<()> {
     check(unsafe { libc::dup2(nothing.as_raw_fd(), descriptor) }).map(drop)
 }
 
-/// Takes the lock of a file or folder, if nobody has it. It is given back when the file is closed.
+/// Takes the lock of a file or folder, if nobody has it. It is released when the file is closed.
 pub fn try_lock(file: &File) -> io::Result<()> {
     // SAFETY: the descriptor is open.
     check(unsafe { libc::flock(file.as_raw_fd(), libc::LOCK_EX | libc::LOCK_NB) }).map(drop)
@@ -219,7 +219,7 @@ pub fn send_datagram(socket: &OsStr, bytes: &[u8]) -> io::Result<()> {
     }
 }
 
-/// The socket that systemd has passed to the process with this number, as its variables say. To be called once.
+/// The socket that systemd has passed to the process with this number, according to its variables. To be called once.
 pub fn passed_socket() -> io::Result<Option<UnixListener>> {
     let number = |name| std::env::var(name).ok().and_then(|text| text.parse::<u32>().ok());
     if number("LISTEN_PID") != Some(std::process::id()) {

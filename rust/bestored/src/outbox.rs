@@ -1,4 +1,4 @@
-//! What goes out to a client: replies by its own thread, which waits for the client, and pushes by a thread that doesn't.
+//! What is sent to a client: replies from its own thread, which waits for the client, and pushes from a thread that doesn't.
 
 use crate::os;
 use std::io::{self, ErrorKind};
@@ -10,19 +10,19 @@ use std::time::{Duration, Instant};
 /// How long a client may leave unread what is sent to it.
 const PATIENCE: Duration = Duration::from_secs(30);
 
-/// How often a thread that waits for a client looks whether it has to do something else.
+/// How often a thread that waits for a client checks whether it has something else to do.
 const LOOK: Duration = Duration::from_millis(50);
 
-/// The bytes that the socket didn't take yet. They go out before all others.
+/// The bytes that the socket hasn't taken yet. They are sent before all others.
 #[derive(Debug, Default)]
 struct Unsent {
     bytes: Vec<u8>,
-    /// When the socket last took something, or the bytes came.
+    /// When the socket last took something, or when the bytes came.
     since: Option<Instant>,
 }
 
 impl Unsent {
-    /// Adds lines. If nothing is before them, what the socket takes at once isn't copied.
+    /// Adds lines. If nothing is waiting before them, what the socket takes at once isn't copied.
     fn add(&mut self, stream: &UnixStream, lines: &[u8]) -> io::Result<()> {
         let sent = match self.bytes.is_empty() {
             true => send_some(stream, lines)?,
@@ -62,7 +62,7 @@ fn send_some(stream: &UnixStream, bytes: &[u8]) -> io::Result<usize> {
     }
 }
 
-/// The way out to one client. A line is never cut by another one.
+/// The way out to one client. Lines are never mixed.
 #[derive(Debug)]
 pub struct Outbox {
     stream: Arc<UnixStream>,
@@ -79,8 +79,8 @@ impl Outbox {
         }
     }
 
-    /// Sends whole lines, and waits until the socket has taken them, or until `is_over`. Returns whether nothing is left; the next
-    /// call sends what is.
+    /// Sends whole lines, and waits until the socket has taken them, or until `is_over`. Returns whether nothing is left;
+    /// otherwise the next call sends the rest.
     pub fn send(&self, lines: &[u8], is_over: impl Fn() -> bool) -> io::Result<bool> {
         let mut unsent = self.unsent.lock().unwrap_or_else(PoisonError::into_inner);
         unsent.add(&self.stream, lines)?;
@@ -96,7 +96,7 @@ impl Outbox {
         Ok(true)
     }
 
-    /// Whoever pushes lines, if nothing is on its way: after the rest of the last line is sent.
+    /// The right to push lines, if nothing is on its way: the rest of the last line is sent first.
     pub fn pusher(&self) -> Option<Pusher<'_>> {
         let unsent = match self.unsent.try_lock() {
             Ok(unsent) => unsent,
@@ -130,7 +130,7 @@ impl Pusher<'_> {
         self.send_rest()
     }
 
-    /// Whether nothing is left. The connection of a client that reads nothing for too long is closed.
+    /// Whether nothing is left. If the client has read nothing for too long, its connection is closed.
     fn send_rest(&mut self) -> bool {
         match self.unsent.send(self.stream) {
             Ok(true) => return true,
@@ -146,7 +146,7 @@ impl Pusher<'_> {
 
     /// Closes the connection, so that the client's own thread ends.
     fn give_up(&mut self) {
-        // It fails if the client has closed it, and then it needs no closing.
+        // This fails if the client has closed the connection, which then needs no closing.
         let _ = self.stream.shutdown(Shutdown::Both);
     }
 }

@@ -1,4 +1,4 @@
-//! Replies in pages: as much as a line may have.
+//! Replies in pages: as much as fits on a line.
 
 use crate::answer::View;
 use crate::failure::Failure;
@@ -6,7 +6,7 @@ use crate::watcher;
 use bestore::{ShelfSnapshot, State};
 use bestore_client::wire::{self, Json, ShownOperations};
 
-/// How many bytes of JSON a page has, except that its last item goes beyond.
+/// How many bytes of JSON a page has; its last item may go beyond that.
 const BYTES: usize = 1 << 20;
 
 /// What a page has room for.
@@ -32,7 +32,7 @@ impl Room {
     }
 }
 
-/// The values of the columns for each node, as far as there is room.
+/// The values of the columns for each node, for as many nodes as there is room for.
 pub fn rows_of(
     snapshot: &ShelfSnapshot<'_>,
     nodes: &[u64],
@@ -65,7 +65,7 @@ pub fn commits(snapshot: &ShelfSnapshot<'_>) -> Vec<u64> {
     }
 }
 
-/// The volume that a request says, which has to be there if there are several.
+/// The volume that a request names, which it has to do if there are several.
 pub fn volume(asked: Option<u32>, volumes: usize) -> Result<u32, Failure> {
     match asked {
         None if volumes > 1 => Err(Failure::volume_missing(volumes)),
@@ -116,7 +116,7 @@ pub fn journal(view: &View<'_, '_>, from: &wire::JournalFrom) -> Result<wire::Jo
     Ok(page)
 }
 
-/// How far the batches of a volume have been read, by the index of the next one.
+/// How far the batches of a volume have been read: the index of the next one.
 #[derive(Debug)]
 pub struct Reading<'s> {
     volume: u32,
@@ -124,7 +124,7 @@ pub struct Reading<'s> {
     batches: State<'s>,
 }
 
-/// A page of the batches that make the snapshot of a volume again. `read` is how far they have been read.
+/// A page of the batches that rebuild the snapshot of a volume. `read` is how far they have been read.
 pub fn state<'s>(
     snapshot: &'s ShelfSnapshot<'_>,
     read: &mut Option<Reading<'s>>,

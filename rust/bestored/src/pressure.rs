@@ -5,7 +5,7 @@ use std::sync::atomic::{AtomicU64, Ordering};
 use std::thread;
 use std::time::{Duration, Instant};
 
-/// How often a connection with a snapshot looks whether it has to give it back.
+/// How often a connection with a snapshot checks whether it has to unpin it.
 pub const LOOK: Duration = Duration::from_millis(50);
 
 /// How long a snapshot is kept although its memory is waited for.
@@ -18,10 +18,10 @@ const TRY: Duration = Duration::from_millis(10);
 /// Whether writes wait for memory that snapshots keep.
 #[derive(Debug)]
 pub struct Pressure {
-    /// How long a snapshot is kept if no write waits.
+    /// How long a snapshot is kept if no write is waiting.
     hold: Duration,
     begin: Instant,
-    /// When a write last waited, in milliseconds since the beginning. 0 if none did.
+    /// When a write last waited, in milliseconds since the start. 0 if none did.
     last: AtomicU64,
 }
 
@@ -40,7 +40,7 @@ impl Pressure {
             .max(1)
     }
 
-    /// Whether a snapshot that was pinned at this time has to be given back.
+    /// Whether a snapshot that was pinned at this time has to be unpinned.
     pub fn is_over(&self, since: Instant) -> bool {
         let age = since.elapsed();
         age >= self.hold || age >= AT_LEAST && self.is_on()
@@ -57,8 +57,8 @@ impl Pressure {
         last != 0 && self.now().saturating_sub(last) <= 2 * LOOK.as_millis() as u64
     }
 
-    /// Writes the batch. While snapshots of others keep the pages that it needs, it waits for them. `made` gets what was written once
-    /// it is in memory.
+    /// Writes the batch. While other clients' snapshots keep the pages that it needs, it waits for them. `made` gets what was written
+    /// once it is in memory.
     pub fn write(
         &self,
         pass: &Pass,
@@ -74,7 +74,7 @@ impl Pressure {
                     if !is_kept || Instant::now() > until {
                         return Err(Error::Full { oldest });
                     }
-                    // A snapshot may have been given back since the write failed, so it is tried once more in any case.
+                    // A snapshot may have been unpinned since the write failed, so it is tried once more in any case.
                     is_kept = is_kept_by_another(pass)?;
                     if is_kept {
                         self.waits();
@@ -87,7 +87,7 @@ impl Pressure {
     }
 }
 
-/// How often calls of a connection's pass are tried again by the library: at busy alone.
+/// How often the library tries calls of a connection's pass again: only at busy.
 pub fn retry() -> Retry {
     Retry {
         full: 0,

@@ -1,4 +1,4 @@
-//! The answers to `query`: counted, by the nodes' numbers, in the order of an index, or any nodes.
+//! The answers to `query`: a count, nodes by number, nodes in the order of an index, or any nodes.
 
 use crate::failure::Failure;
 use crate::page::{commits, rows_of, Room};
@@ -10,16 +10,16 @@ use std::collections::VecDeque;
 /// How many queries of a connection stay parsed.
 const KEPT: usize = 4;
 
-/// The queries that a connection has asked last, the last one first.
+/// The last queries of a connection, the latest first.
 #[derive(Debug, Default)]
 pub struct Queries(VecDeque<Parsed>);
 
-/// A query that was parsed.
+/// A parsed query.
 #[derive(Debug)]
 struct Parsed {
     text: String,
     prepared: Prepared,
-    /// What the page that comes next by number counts, so that the pages of an answer are counted once.
+    /// The count for the next page by number, so that an answer's pages are counted only once.
     next: Option<Count>,
 }
 
@@ -86,19 +86,21 @@ impl Queries {
     }
 }
 
-/// An error if parameters are given that don't go together. It says what would be right.
+/// An error if the given parameters don't go together. It says what would be right.
 fn check_together(query: &wire::Query<'_>) -> Result<(), Failure> {
     let by_number = query.from != 0 || query.uncounted;
     let wrong = match (&query.by, query.any) {
-        (Some(_), Some(_)) => "`any` goes without `by`, since any nodes have no order",
+        (Some(_), Some(_)) => "`any` can't be used with `by`, since the nodes that it finds have no order",
         (Some(_), None) if query.count => {
-            "`count` goes without `by`: a comparison finds the nodes with a value in the index"
+            "`count` can't be used with `by`: a comparison finds the nodes with a value in the index"
         }
-        (Some(_), None) if by_number => "`from` and `uncounted` go without `by`, whose pages go on `after` a cursor",
-        (None, _) if query.descending => "`descending` goes with `by`, the name of an index",
-        (None, _) if query.after.is_some() => "`after` goes with `by`, the name of the index whose cursor it is",
+        (Some(_), None) if by_number => {
+            "`from` and `uncounted` can't be used with `by`, whose pages continue `after` a cursor"
+        }
+        (None, _) if query.descending => "`descending` needs `by`, the name of an index",
+        (None, _) if query.after.is_some() => "`after` needs `by`, the name of the index whose cursor it is",
         (None, Some(_)) if query.count || by_number || query.limit.is_some() => {
-            "`any` goes only with `columns`: it is a number of nodes"
+            "`any` can be used only with `columns`: it is a number of nodes"
         }
         _ => return Ok(()),
     };
@@ -136,7 +138,7 @@ fn most_of(name: &str, nodes: u64) -> Result<usize, Failure> {
 }
 
 impl Parsed {
-    /// Asks. At an error of the query it is that of the text, which says where in the text it is.
+    /// Asks the query. An error is about the query's text, and says where in the text it is.
     fn ask<T>(
         &self,
         snapshot: &ShelfSnapshot<'_>,
@@ -188,7 +190,7 @@ impl Parsed {
         Ok(hits)
     }
 
-    /// The first so many nodes from this number on, or all of them.
+    /// The first this many nodes from this number on, or all of them.
     fn first(&self, snapshot: &ShelfSnapshot<'_>, from: u64, most: Option<usize>) -> Result<Vec<u64>, Failure> {
         if let Some(most) = most {
             return self.ask(snapshot, |prepared| snapshot.first_prepared(prepared, from, most));
@@ -198,8 +200,8 @@ impl Parsed {
         Ok(found)
     }
 
-    /// How many nodes the query finds from a number on, where a page has so many of them and the next one begins at `more`. It may
-    /// be known from the whole answer.
+    /// How many nodes the query finds from a number on, given that a page has this many of them and the next one begins at `more`.
+    /// It may be known from the whole answer.
     fn count_of_page(
         &mut self,
         snapshot: &ShelfSnapshot<'_>,

@@ -7,15 +7,15 @@ use bestore_client::wire::{self, ErrorName, Numbers};
 use std::thread;
 use std::time::{Duration, Instant};
 
-/// How long is waited if nothing is said, and at most.
+/// How long to wait by default, and at most.
 const WITHIN: Duration = Duration::from_secs(5);
 const MOST: Duration = Duration::from_secs(60);
 
-/// How often the journals are looked at.
+/// How often to look at the journals.
 const LOOK: Duration = Duration::from_millis(2);
 
-/// Waits until each volume has the entry with its number. Later reads of the current snapshot have them. If a snapshot is kept, the
-/// wait ends when it has to be given back.
+/// Waits until each volume has the entry with its number. Later reads of the current snapshot include them. If a snapshot is kept,
+/// the wait ends when it has to be unpinned.
 pub fn reach(view: &View<'_, '_>, pressure: &Pressure, reach: &wire::Reach) -> Result<wire::Commit, Failure> {
     let wanted = numbers(&reach.commit, view.volumes())?;
     let within = reach.within.map_or(WITHIN, Duration::from_millis).min(MOST);

@@ -27,22 +27,22 @@ use std::sync::{Arc, Mutex, MutexGuard, PoisonError, TryLockError};
 use std::thread;
 use std::time::{Duration, Instant, SystemTime};
 
-/// How many connections there may be beyond those that have a pass: they wait a moment for one.
+/// How many connections there may be beyond those that have a pass: these wait a moment for one.
 const WAITING: usize = 16;
 
-/// How long a connection waits for a pass, since a client that has just gone may leave one.
+/// How long a connection waits for a pass, since a client that is just leaving may free one.
 const FOR_PASS: Duration = Duration::from_millis(200);
 
-/// How long a connection waits for the pass of visitors, who come when all others are taken.
+/// How long a connection waits for the visitors' pass when all others are taken.
 const FOR_VISIT: Duration = Duration::from_secs(10);
 
-/// How often a pass that isn't free is tried again.
+/// How often to try again for a pass that isn't free.
 const AGAIN: Duration = Duration::from_millis(5);
 
-/// The most bytes of a first request by which a client asks for that place.
+/// The maximum number of bytes in a first request that asks for that place.
 const GREETING: usize = 256;
 
-/// How often at most is said that there is no place.
+/// How often to report, at most, that there is no place.
 const SAID: Duration = Duration::from_secs(10);
 
 /// What all connections share.
@@ -59,9 +59,9 @@ pub struct Shared {
     pub carrying: Carrying,
     /// When was said last that there is no place.
     pub is_full: Mutex<Option<Instant>>,
-    /// The pass of clients that find none: each has it for a moment.
+    /// The pass for clients that find no other: each has it for a moment.
     pub visits: Mutex<ShelfPass>,
-    /// Another text for each run.
+    /// A different text for each run.
     pub run: String,
 }
 
@@ -100,7 +100,7 @@ pub fn run(
     shared.kept.finish()
 }
 
-/// Listens, and says so to who has started the server.
+/// Listens, and reports that to whoever started the server.
 fn listen(place: Place, starter: Option<Starter>, run: &str) -> io::Result<Socket> {
     let path = place.path().map(PathBuf::from);
     let socket = place.listen()?;
@@ -121,16 +121,16 @@ fn accept(listener: &UnixListener, notifier: &mut Notifier, signals: &File, shar
             Ok([_, true]) => break,
             Ok([true, _]) => {}
             Ok(_) => continue,
-            Err(error) => eprintln!("bestored: waiting for clients: {error}"),
+            Err(error) => eprintln!("bestored: waiting for clients failed: {error}"),
         }
         take_client(listener, shared);
     }
-    // Those who have connected before the signal are answered too.
+    // Clients that connected before the signal are still answered.
     let most = shared.options.passes as usize + WAITING;
     (0..most).take_while(|_| take_client(listener, shared)).count();
 }
 
-/// Takes a client who has connected. Returns whether there was one.
+/// Accepts a client that has connected. Returns whether there was one.
 fn take_client(listener: &UnixListener, shared: &Arc<Shared>) -> bool {
     match listener.accept() {
         Ok((stream, _)) => welcome(shared, Arc::new(stream)),
@@ -152,7 +152,7 @@ fn welcome(shared: &Arc<Shared>, stream: Arc<UnixStream>) {
         other => {
             let other = other.map_or_else(|error| error.to_string(), |user| format!("user {user}"));
             let process = peer_process(&stream).unwrap_or(0);
-            eprintln!("bestored: process {process} of {other} is refused: the server is another user's");
+            eprintln!("bestored: process {process} of {other} is refused: the server belongs to another user");
             return refuse(&stream, &Failure::named(ErrorName::NotAllowed));
         }
     }
@@ -171,12 +171,12 @@ fn welcome(shared: &Arc<Shared>, stream: Arc<UnixStream>) {
         serve(&of_thread, &leaving.client, stream);
     });
     if let Err(error) = started {
-        eprintln!("bestored: no thread for a client: {error}");
+        eprintln!("bestored: no thread could be started for a client: {error}");
         shared.clients.leave(&client);
     }
 }
 
-/// Refuses a client for which there is no place, and says so now and then.
+/// Refuses a client for which there is no place, and reports that now and then.
 fn refuse_for_now(shared: &Shared, stream: &UnixStream) {
     let failure = no_pass(shared);
     let mut said = shared.is_full.lock().unwrap_or_else(PoisonError::into_inner);
@@ -189,7 +189,7 @@ fn refuse_for_now(shared: &Shared, stream: &UnixStream) {
     refuse(stream, &failure);
 }
 
-/// The end of a connection, also by a panic.
+/// The end of a connection, even by a panic.
 struct Leaving<'a> {
     shared: &'a Shared,
     client: Arc<Client>,
@@ -214,11 +214,11 @@ fn serve(shared: &Shared, client: &Client, stream: Arc<UnixStream>) {
 }
 
 fn talk(shared: &Shared, client: &Client, stream: Arc<UnixStream>, pass: &mut ShelfPass, is_visit: bool) {
-    // An error of the connection is its end, and nobody is left to report it to.
+    // An error ends the connection, and nobody is left to report it to.
     let _ = Connection::new(shared, client, stream, is_visit).run(pass);
 }
 
-/// Whether the first request that the client has sent says that it asks a few things and goes.
+/// Whether the client's first request says that it will ask a few things and leave.
 fn is_visit(stream: &UnixStream) -> bool {
     let mut bytes = [0; GREETING];
     let length = os::look_ahead(stream, &mut bytes).unwrap_or(0);
@@ -244,7 +244,7 @@ fn take_pass(shared: &Shared) -> bestore::Result<ShelfPass> {
     }
 }
 
-/// Takes the pass of visitors, once nobody else has it.
+/// Takes the visitors' pass, once nobody else has it.
 fn take_visit(shared: &Shared) -> Option<MutexGuard<'_, ShelfPass>> {
     let until = Instant::now() + FOR_VISIT;
     loop {
@@ -257,17 +257,17 @@ fn take_visit(shared: &Shared) -> Option<MutexGuard<'_, ShelfPass>> {
     }
 }
 
-/// All passes of clients are taken.
+/// All passes for clients are taken.
 pub fn no_pass(shared: &Shared) -> Failure {
     let clients = shared.options.passes;
     let message = format!("every place for a client is taken ({clients}); try again once one is free");
     Failure::new(ErrorName::NoPass, message).with("clients", clients)
 }
 
-/// Says why there is no connection, if the client takes it at once.
+/// Sends the client the reason why there is no connection, if it takes that at once.
 fn refuse(stream: &UnixStream, failure: &Failure) {
     if let Ok(body) = serde_json::to_string(&failure.0) {
-        // Whoever doesn't read it isn't waited for.
+        // A client that doesn't read it isn't waited for.
         let _ = os::send_now(stream, format!("{{\"id\":null,\"error\":{body}}}\n").as_bytes());
     }
 }

@@ -11,10 +11,10 @@ use std::path::{Path, PathBuf};
 use std::thread;
 use std::time::Duration;
 
-/// How often a lock that another server has while it starts is tried again, each .1 seconds.
+/// How often to try again for a lock that another starting server has, every 0.1 seconds.
 const TRIES: u32 = 50;
 
-/// A listening socket, which is removed at the end if this program has made it.
+/// A listening socket, which is removed at the end if this program made it.
 #[derive(Debug)]
 pub struct Socket {
     pub listener: UnixListener,
@@ -39,7 +39,7 @@ fn identity(file: &Metadata) -> (u64, u64) {
 }
 
 impl Place {
-    /// Looks whether a server can listen at this path. The folder is made, and the socket isn't yet.
+    /// Checks whether a server can listen at this path. Makes the folder, but not yet the socket.
     pub fn find(socket: &SocketPath) -> io::Result<Self> {
         let path = socket.path();
         let folder = folder_of(path);
@@ -52,7 +52,7 @@ impl Place {
         Ok(Self::Path(path.into()))
     }
 
-    /// Listens, in the place of a server that died. Clients are taken from then on, so this comes once the store is there.
+    /// Listens, replacing the socket of a server that died. Clients are accepted from then on, so the store must be ready.
     pub fn listen(self) -> io::Result<Socket> {
         match self {
             Self::Passed(listener) => {
@@ -75,7 +75,7 @@ impl Place {
 impl Socket {
     fn make(path: &Path) -> io::Result<Self> {
         let folder = folder_of(path);
-        // It is held until the end of this function.
+        // This is held until the end of the function.
         let _lock = lock(open_folder(folder)?).map_err(|error| wrong(folder, error))?;
         if look(path)? == Found::Dead {
             fs::remove_file(path)?;
@@ -108,7 +108,7 @@ fn folder_of(path: &Path) -> &Path {
     }
 }
 
-/// Opens the folder, or makes it. Others may not replace files in it.
+/// Opens the folder, or makes it. Others must not be able to replace files in it.
 fn open_folder(folder: &Path) -> io::Result<File> {
     let opened = open_or_make(folder, 0)?;
     let found = opened.metadata()?;
@@ -132,8 +132,8 @@ fn open_folder(folder: &Path) -> io::Result<File> {
     Ok(opened)
 }
 
-/// Opens the folder of a default path, or makes it. It is the user's own, since anybody may have made it before: others may not write
-/// in it, and it is no link to another folder.
+/// Opens the folder of a default path, or makes it. Since anybody may have made it before, it has to be the user's own: others may
+/// not write in it, and it must not be a link to another folder.
 fn open_own_folder(folder: &Path) -> io::Result<File> {
     let opened = open_or_make(folder, libc::O_NOFOLLOW)?;
     let found = opened.metadata()?;
@@ -170,7 +170,7 @@ fn open_or_make(folder: &Path, flags: libc::c_int) -> io::Result<File> {
     })
 }
 
-/// Takes the lock of the folder, so that of several servers that start one at a time looks for a dead socket.
+/// Takes the lock of the folder, so that only one starting server at a time looks for a dead socket.
 fn lock(folder: File) -> io::Result<File> {
     for _ in 0..TRIES {
         match os::try_lock(&folder) {

@@ -1,4 +1,4 @@
-//! The answer to `text`: what a query's text compares. It reads no store.
+//! The answer to `text`: what a query's text compares. No store is read.
 
 use crate::failure::Failure;
 use bestore::{compared, Compared, Form};

@@ -1,14 +1,14 @@
-//! The tokens of writes: a batch that comes again with its token isn't written again, and gets the first reply.
+//! The tokens of writes: a batch that comes again with its token isn't written again, but gets the first reply.
 
 use bestore::saved::TOKENS;
 use bestore_client::wire::Written;
 use std::collections::{HashMap, VecDeque};
 use std::sync::{Arc, Condvar, Mutex, MutexGuard, PoisonError};
 
-/// What is known of the write with a token.
+/// What is known about the write with a token.
 #[derive(Debug)]
 enum Known {
-    /// A connection writes it now.
+    /// A connection is writing it now.
     Writing,
     /// It is in memory, and may be on its way into the file or the log.
     Made(Written),
@@ -17,7 +17,7 @@ enum Known {
 #[derive(Debug, Default)]
 struct Table {
     known: HashMap<Arc<str>, Known>,
-    /// The tokens of what was made, in that order.
+    /// The tokens of the writes that were made, in that order.
     made: VecDeque<Arc<str>>,
     most: usize,
 }
@@ -32,13 +32,13 @@ pub struct Tokens {
 /// How a write with a token begins.
 #[derive(Debug)]
 pub enum Begun<'a> {
-    /// It is to be made.
+    /// It has to be made.
     First(Writing<'a>),
     /// It was made before.
     Repeated(Written),
 }
 
-/// A write that is being made. If it is dropped before that, the token is as good as new.
+/// A write that is being made. If it is dropped before it is made, the token can be used as if new.
 #[derive(Debug)]
 pub struct Writing<'a> {
     tokens: &'a Tokens,
@@ -46,7 +46,7 @@ pub struct Writing<'a> {
 }
 
 impl Tokens {
-    /// For a server with so many volumes.
+    /// For a server with this many volumes.
     pub fn new(volumes: usize) -> Self {
         let tokens = Self {
             table: Mutex::default(),
@@ -56,7 +56,7 @@ impl Tokens {
         tokens
     }
 
-    /// Remembers as many tokens as a server with so many volumes does.
+    /// Remembers as many tokens as a server with this many volumes.
     pub fn make_room(&self, volumes: usize) {
         self.lock().most = TOKENS * volumes.max(1);
     }
@@ -65,7 +65,7 @@ impl Tokens {
         self.table.lock().unwrap_or_else(PoisonError::into_inner)
     }
 
-    /// Begins the write with this token. While another connection makes it, this waits for its outcome.
+    /// Begins the write with this token. If another connection is making it, waits for its outcome.
     pub fn begin(&self, token: &str) -> Begun<'_> {
         let mut table = self.lock();
         loop {
@@ -88,7 +88,7 @@ impl Tokens {
         }
     }
 
-    /// Adds a write that was made: by an earlier run, or by another server.
+    /// Adds a write that was made by an earlier run or by another server.
     pub fn add(&self, token: Arc<str>, written: Written) {
         let mut table = self.lock();
         if let Some(Known::Made(_)) = table.known.insert(token.clone(), Known::Made(written)) {

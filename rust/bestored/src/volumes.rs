@@ -11,7 +11,7 @@ fn is_of_indices(operation: &Operation<'_>) -> bool {
     matches!(operation, Operation::MakeIndex { .. } | Operation::RemoveIndex { .. })
 }
 
-/// Whether the operations are made in each volume: they make and remove indices, and no volume is said.
+/// Whether the operations are made in each volume: they only make and remove indices, and no volume is given.
 pub fn is_for_all(write: &wire::Write, volumes: usize) -> bool {
     let mut operations = write.operations.batch.operations();
     volumes > 1 && write.volume.is_none() && operations.len() > 0 && operations.all(|one| is_of_indices(&one))
@@ -41,7 +41,7 @@ pub fn write(
     Ok(shown(Some(volume), &written.map_err(|error| error.in_volume(volume))?))
 }
 
-/// What was written, of this volume if there are several.
+/// What was written; with the volume, if there are several.
 pub fn shown(volume: Option<u32>, written: &Written) -> wire::Written {
     let node = |number: &u64| match volume {
         None => *number,
@@ -59,7 +59,7 @@ pub fn shown(volume: Option<u32>, written: &Written) -> wire::Written {
     }
 }
 
-/// The volume of the batch, and the batch with the numbers in it.
+/// The volume of the batch, and the batch with the volume's own node numbers.
 fn place(view: &View<'_, '_>, write: &wire::Write) -> Result<(u32, Batch), Failure> {
     if let Some(asked) = write.volume {
         view.pass(asked)?;
@@ -114,7 +114,7 @@ pub fn next(snapshot: &ShelfSnapshot<'_>) -> Result<wire::Next, Failure> {
     })
 }
 
-/// The indices, and those that aren't in each volume.
+/// The indices, and those that some volumes lack.
 pub fn indices(snapshot: &ShelfSnapshot<'_>) -> Result<wire::Indices, Failure> {
     let indices = snapshot.indices()?.into_iter();
     Ok(wire::Indices {
@@ -130,7 +130,7 @@ pub fn indices(snapshot: &ShelfSnapshot<'_>) -> Result<wire::Indices, Failure> {
     })
 }
 
-/// How full the volumes are, together and each.
+/// How full the volumes are, together and one by one.
 pub fn status(all: &[Status]) -> wire::Status {
     let sum = |number: fn(&Status) -> u64| all.iter().map(number).sum();
     let mut held = (0..)

@@ -1,8 +1,8 @@
 //! Live queries: one thread asks them after writes, and pushes what changed.
 //!
-//! They are refreshed by what was written since the last round. Between two rounds that is little, and then an answer of 96 nodes or
-//! more takes less time than by asking the whole query; of a smaller one the library asks the whole. Writers that meet the lock
-//! meanwhile try again.
+//! They are refreshed by what was written since the last round. That is little, so an answer of 96 nodes or more takes less time
+//! than asking the whole query; for a smaller answer the library asks the whole query. Writers that find the lock taken meanwhile
+//! try again.
 
 use crate::failure::Failure;
 use crate::kept::Kept;
@@ -15,37 +15,37 @@ use std::sync::{Arc, Condvar, Mutex, MutexGuard, PoisonError};
 use std::thread;
 use std::time::{Duration, Instant};
 
-/// The most nodes of a line.
+/// The maximum number of nodes on a line.
 pub const NODES: usize = wire::NODES;
 
-/// How often lines that a client doesn't take are tried again.
+/// How often to try lines again that a client doesn't take.
 const AGAIN: Duration = Duration::from_millis(20);
 
-/// How long the thread rests after a round: as long as the round took, within these.
+/// How long the thread rests after a round: as long as the round took, within these bounds.
 const REST: (Duration, Duration) = (Duration::from_millis(1), Duration::from_millis(200));
 
 fn lock<T>(mutex: &Mutex<T>) -> MutexGuard<'_, T> {
     mutex.lock().unwrap_or_else(PoisonError::into_inner)
 }
 
-/// A watch of a client. It asks again once all that it found has been pushed.
+/// A client's watch. It asks again once everything that it found has been pushed.
 #[derive(Debug)]
 pub struct Watch {
     pub number: u64,
     /// The query, or `None` if each commit is pushed.
     pub live: Option<ShelfLive>,
-    /// The snapshot of each volume to which all that was found leads.
+    /// The snapshot of each volume that the changes found so far lead to.
     pub numbers: Vec<u64>,
-    /// What wasn't pushed yet.
+    /// What hasn't been pushed yet.
     pub rest: Updates,
-    /// Whether all that was found was pushed.
+    /// Whether everything that was found has been pushed.
     is_pushed: bool,
     failed: Option<Refusal>,
     is_over: bool,
 }
 
 impl Watch {
-    /// A watch whose answer in the snapshot with these numbers was returned, except for the rest.
+    /// A watch whose answer in the snapshot with these numbers has been returned, except for the rest.
     pub fn new(number: u64, live: Option<ShelfLive>, numbers: Vec<u64>, rest: Updates) -> Self {
         Self {
             number,
@@ -58,8 +58,8 @@ impl Watch {
         }
     }
 
-    /// Whether the snapshot has all that was found, and more. One that has less of a volume was pinned before the watch, whose
-    /// first answer has begun another round already.
+    /// Whether the snapshot has everything that was found, and more. A snapshot that has less of a volume was pinned before
+    /// the watch, whose first answer has already begun another round.
     fn is_behind(&self, snapshot: &ShelfSnapshot<'_>) -> bool {
         let mut both = self.numbers.iter().copied().zip(snapshot.numbers());
         both.all(|(own, now)| own <= now) && snapshot.number() > self.commit()
@@ -80,7 +80,7 @@ impl Watch {
                 self.is_pushed = updates == Updates::default();
                 self.rest = updates;
             }
-            // It may go better next time.
+            // It may work next time.
             Some(Err(Error::OutOfMemory)) => return,
             Some(Err(error)) => self.failed = Some(Failure::from(error).0),
         }
@@ -92,8 +92,8 @@ impl Watch {
         !self.is_pushed || self.failed.is_some()
     }
 
-    /// Asks the query in this snapshot, also if it is an older one, and returns what changed. What was found before and wasn't
-    /// pushed comes first, and then there is `more`. An error leaves the watch as it was.
+    /// Asks the query in this snapshot, even if it is an older one, and returns what changed. What was found earlier and
+    /// hasn't been pushed comes first, and then there is `more`. An error leaves the watch as it was.
     pub fn refresh(&mut self, snapshot: &ShelfSnapshot<'_>) -> Result<Push, Failure> {
         let is_left = !self.is_pushed;
         if !is_left {
@@ -162,15 +162,15 @@ impl Watches {
         lock(&self.list).len()
     }
 
-    /// Takes a watch out of the list, so that nothing of it is pushed until it is added again.
+    /// Takes a watch off the list, so that none of it is pushed until it is added again.
     pub fn take(&self, number: u64) -> Option<Watch> {
         let mut list = lock(&self.list);
         let at = list.iter().position(|watch| watch.number == number)?;
         Some(list.swap_remove(at))
     }
 
-    /// Asks the queries in the current snapshot, and in a newer one whenever a write waits for pages. Returns whether something
-    /// has to be pushed.
+    /// Asks the queries in the current snapshot, and in a newer one whenever a write is waiting for pages. Returns whether
+    /// something has to be pushed.
     fn ask(&self, pass: &mut ShelfPass, pressure: &Pressure) -> bestore::Result<bool> {
         let mut list = lock(&self.list);
         let mut left = list.iter_mut().peekable();
@@ -186,7 +186,7 @@ impl Watches {
         Ok(list.iter().any(Watch::has_news))
     }
 
-    /// Pushes what was found. Returns whether something is left to be pushed.
+    /// Pushes what was found. Returns whether something is left to push.
     fn push(&self) -> bool {
         let mut list = lock(&self.list);
         let pusher = self.outbox.pusher();
@@ -232,7 +232,7 @@ pub struct Watcher {
 impl Watcher {
     /// Something was written.
     pub fn written(&self) {
-        // Either the count here has the client, or the round that its watch begins sees the write.
+        // Either the count here includes the client, or the round that its watch begins sees the write.
         fence(Ordering::SeqCst);
         if self.clients.load(Ordering::Relaxed) > 0 {
             self.wake();
@@ -258,7 +258,7 @@ impl Watcher {
         self.wake.notify_one();
     }
 
-    /// Ends a watch. Nothing of it is pushed after the call. Returns whether there was one.
+    /// Ends a watch. Nothing more is pushed for it after the call. Returns whether there was one.
     pub fn remove(&self, watches: &Watches, number: u64) -> bool {
         let mut list = lock(&watches.list);
         let before = list.len();
@@ -313,17 +313,16 @@ impl Watcher {
     }
 }
 
-/// Serves each client once. No snapshot is kept while the file or a client is waited for. Returns whether something is left to be
-/// pushed.
+/// Serves each client once. Keeps no snapshot while it waits for the file or a client. Returns whether something is left to push.
 fn round(clients: &[Arc<Watches>], pass: &mut ShelfPass, pressure: &Pressure, kept: &Kept) -> bool {
     let mut is_left = false;
     for client in clients {
         match client.ask(pass, pressure) {
-            // What the file or the log doesn't have isn't pushed. If a log can be written again, its thread says so.
+            // What isn't in the file or the log isn't pushed. Once a log can be written again, its thread says so.
             Ok(true) if kept.flush_if_each().is_err() => return false,
             Ok(_) => is_left |= client.push(),
             Err(error) => {
-                eprintln!("bestored: no snapshot for the live queries: {error}");
+                eprintln!("bestored: the live queries could not get a snapshot: {error}");
                 is_left = true;
             }
         }

@@ -38,7 +38,7 @@ fn write_once(
     match shared.tokens.begin(token.as_str()) {
         Begun::First(first) => match write_now(shared, write, view, |made| first.made(made)) {
             Err(failure) if failure.is_conflict() => {
-                // A client takes this as proof that the batch wasn't written, also not by another server that it was sent to before.
+                // A client takes this as proof that the batch wasn't written, not even by another server that it was sent to before.
                 shared.kept.confirm()?;
                 let made = shared.tokens.made(token.as_str());
                 made.map_or(Err(failure), |written| repeat(shared, written))
@@ -51,7 +51,7 @@ fn write_once(
 
 /// The reply to a batch that was written before.
 fn repeat(shared: &Shared, written: wire::Written) -> Result<wire::Written, Failure> {
-    // It may be in memory alone.
+    // It may be only in memory.
     shared.kept.flush_if_each()?;
     Ok(wire::Written {
         repeated: true,
@@ -100,7 +100,7 @@ fn check_run(shared: &Shared, write: &wire::Write, view: &View<'_, '_>) -> Resul
     let found: u64 = view.status()?.iter().map(|status| status.entries).sum();
     let failure = Failure::new(
         ErrorName::Conflict,
-        "the server was started again, and commit numbers begin anew",
+        "the server has been restarted, so commit numbers have started again",
     );
     let failure = failure.with("expected", expected).with("found", found);
     Err(failure.with("run", shared.run.clone()))

@@ -24,7 +24,7 @@ const DISKS: usize = 4;
 /// The size at which a disk isn't full, in KiB.
 const LARGE: u64 = 8 << 10;
 
-/// How many answered writes were found, and how often there was no room to write the state anew.
+/// How many answered writes were found, and how often there was no room to rewrite the state.
 #[derive(Debug, Default)]
 struct Tally {
     writes: AtomicU64,
@@ -72,7 +72,7 @@ impl<'a> Kept<'a> {
         start(self.disk, &self.folder, &["--spare", "0"])
     }
 
-    /// Lets the clients write until saving has failed, in some runs while the state is written anew. On a full disk the file can
+    /// Lets the clients write until saving has failed, in some runs while the state is rewritten. On a full disk the file can
     /// be opened.
     fn fill(&self, number: usize) {
         let server = match (self.start(), self.disk) {
@@ -123,7 +123,7 @@ fn is_of_saving(error: &Error) -> bool {
     error.is(ErrorName::NotSaved) || error.is(ErrorName::Stopped)
 }
 
-/// Writes the state anew again and again, until saving has failed. Returns how often there was no room for it.
+/// Rewrites the state again and again, until saving has failed. Returns how often there was no room for it.
 fn compact(client: &mut Client) -> u64 {
     let mut failed = 0;
     loop {

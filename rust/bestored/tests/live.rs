@@ -108,7 +108,7 @@ fn ask(talk: &mut Talk, request: &str, found: &mut BTreeSet<u64>) -> serde_json:
     }
 }
 
-/// What was pushed before, and the refresh, lead to the snapshot, also if newer changes were pushed already.
+/// What was pushed before, and the refresh, lead to the snapshot, even if newer changes were pushed already.
 #[test]
 fn a_refresh_leads_to_the_snapshot() {
     let (_folder, server) = start();

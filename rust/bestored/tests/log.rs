@@ -717,10 +717,10 @@ fn what_is_no_log_is_refused() {
             "UPDATE bestore_log SET format = 2",
             "the log has format 2, and format 1 is the one known here",
         ),
-        ("UPDATE bestore_log SET format = 0", "of another program"),
+        ("UPDATE bestore_log SET format = 0", "belong to another program"),
         (
             "ALTER TABLE bestore_log RENAME COLUMN format TO size",
-            "of another program",
+            "belong to another program",
         ),
     ] {
         database.sql(change);
@@ -732,7 +732,7 @@ fn what_is_no_log_is_refused() {
     for (change, why) in [
         (
             "UPDATE bestore_log SET log = 'another'",
-            "the database has another log than before",
+            "the database has a different log from before",
         ),
         (
             "UPDATE bestore_log SET last = 1",

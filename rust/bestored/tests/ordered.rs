@@ -114,19 +114,19 @@ fn what_a_page_can_not_be() {
         (r#""by":"size","limit":50001"#, count("limit", "50001")),
         (r#""any":0"#, count("any", "0")),
         (r#""any":18446744073709551615"#, count("any", "18446744073709551615")),
-        (r#""any":1,"limit":1"#, bad("`any` goes only with `columns`: it is a number of nodes")),
-        (r#""any":1,"uncounted":true"#, bad("`any` goes only with `columns`: it is a number of nodes")),
-        (r#""by":"size","any":1"#, bad("`any` goes without `by`, since any nodes have no order")),
+        (r#""any":1,"limit":1"#, bad("`any` can be used only with `columns`: it is a number of nodes")),
+        (r#""any":1,"uncounted":true"#, bad("`any` can be used only with `columns`: it is a number of nodes")),
+        (r#""by":"size","any":1"#, bad("`any` can't be used with `by`, since the nodes that it finds have no order")),
         (
             r#""by":"size","count":true"#,
-            bad("`count` goes without `by`: a comparison finds the nodes with a value in the index"),
+            bad("`count` can't be used with `by`: a comparison finds the nodes with a value in the index"),
         ),
         (
             r#""by":"size","from":1"#,
-            bad("`from` and `uncounted` go without `by`, whose pages go on `after` a cursor"),
+            bad("`from` and `uncounted` can't be used with `by`, whose pages continue `after` a cursor"),
         ),
-        (r#""descending":true"#, bad("`descending` goes with `by`, the name of an index")),
-        (r#""after":"AQ""#, bad("`after` goes with `by`, the name of the index whose cursor it is")),
+        (r#""descending":true"#, bad("`descending` needs `by`, the name of an index")),
+        (r#""after":"AQ""#, bad("`after` needs `by`, the name of the index whose cursor it is")),
         (
             r#""by":"kind""#,
             r#""name":"NoIndex","number":6,"message":"an order needs an index, but there is none named \"kind\"","class":"mine","missing":"kind""#.into(),
@@ -144,7 +144,7 @@ fn a_cursor_of_another_page_is_refused() {
     let fault = |why: &str| format!(r#""name":"BadCursor","number":78,"message":"{why}","class":"mine""#);
     let other_order = |order: &str| {
         fault(&format!(
-            r#"the cursor is of the order by \"size\" ascending, and this page is in the order by {order}: {}"#,
+            r#"the cursor belongs to the order by \"size\" ascending, but this page is in the order by {order}: {}"#,
             "keep the order, or begin without a cursor"
         ))
     };
@@ -164,7 +164,7 @@ fn a_cursor_of_another_page_is_refused() {
     ];
     check_errors(&mut talk, &errors);
     let other = format!(r#""query":{{"query":"size>1","by":"size","after":"{cursor}"}}"#);
-    let why = "the cursor is of another query: ask the query that it came from, or begin without a cursor";
+    let why = "the cursor belongs to another query: ask the query that it came from, or begin without a cursor";
     talk.check(&other, &format!(r#""error":{{{}}}"#, fault(why)));
 }
 

@@ -114,7 +114,7 @@ const READS: &[(&str, &str)] = &[
     ),
 ];
 
-/// A query's text is read without the store, also when the client's snapshot can't be read any more.
+/// A query's text is read without the store, even when the client's snapshot can't be read any more.
 #[test]
 fn a_text_is_read_without_a_snapshot() {
     let (_folder, server) = start(&["--hold", "1"]);

@@ -1,4 +1,4 @@
-//! Batches that clients send again by their tokens: each is written once, also if the server is killed.
+//! Batches that clients send again by their tokens: each is written once, even if the server is killed.
 
 use crate::common::{wait_until, Folder, Random, Server};
 use bestore::Batch;
@@ -91,7 +91,7 @@ fn numbers_of_another_run_are_refused() {
     let write = |run: &str| format!(r#""batch":{{"operations":[["new"]],"expected":0,"run":"{run}"}}"#);
     let refused = format!(
         r#""error":{{"name":"Conflict","number":76,"message":"{}","class":"retry","expected":0,"found":0,"run":"{run}"}}"#,
-        "the server was started again, and commit numbers begin anew"
+        "the server has been restarted, so commit numbers have started again"
     );
     talk.check(&write("1-1"), &refused);
     talk.check(&write(&run), r#""ok":{"commit":1,"nodes":[1]}"#);

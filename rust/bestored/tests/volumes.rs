@@ -14,7 +14,7 @@ fn start(options: &[&str]) -> (Folder, Server) {
     (folder, server)
 }
 
-/// A server with so many volumes and an index of sizes.
+/// A server with this many volumes and an index of sizes.
 fn sizes(volumes: &str) -> (Folder, Server) {
     let (folder, server) = start(&["--volumes", volumes, "--pages", "64"]);
     server

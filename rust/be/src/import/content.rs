@@ -42,9 +42,9 @@ pub const PARENT: &str = "FILE:parent";
 pub const ROOT: &str = "FILE:root";
 /// The bytes of a name that isn't UTF-8.
 pub const NAME: &str = "FILE:name";
-/// By what a file is known again, and whether it was changed.
+/// How to recognise a file, and whether it was changed.
 pub const STAT: &str = "FILE:stat";
-/// Which attributes are from extended attributes of the file: their names, with a zero byte between two.
+/// Which attributes come from extended attributes of the file: their names, separated by zero bytes.
 pub const XATTRS: &str = "FILE:xattrs";
 
 /// The indices that an import makes.
@@ -60,17 +60,17 @@ pub const INDICES: [(&str, Kind); 9] = [
     ("MAIL:status", Kind::Text),
 ];
 
-/// The most attributes of a node.
+/// The maximum number of attributes of a node.
 const MOST: usize = 64;
 
-/// The most bytes of a value, and of a name.
+/// The maximum number of bytes in a value, and in a name.
 const VALUE: usize = 255;
 const NAME_LENGTH: usize = 63;
 
-/// How many bytes of a file are read for its type.
+/// How many bytes of a file are read to find its type.
 const BEGIN: usize = 1 << 12;
 
-/// The attributes of a file, but for the folder that it is in.
+/// The attributes of a file, except for the folder that it is in.
 #[derive(Debug, Default)]
 pub struct Content {
     pub values: BTreeMap<String, Value>,
@@ -87,7 +87,7 @@ pub struct Reader {
 }
 
 impl Reader {
-    /// The attributes of a file. What can't be read of it is missing.
+    /// The attributes of a file. Whatever can't be read is missing.
     pub fn content(&self, found: &Found) -> Content {
         let Found { path, stat } = found;
         let mut content = Content::default();
@@ -115,7 +115,7 @@ impl Reader {
         content
     }
 
-    /// The type of a file, and the attributes that it has as a mail.
+    /// The type of a file, and the attributes that it has if it is a mail.
     fn mime(&self, path: &Path, stat: &Stat, name: &str) -> (String, Vec<(&'static str, Value)>) {
         if let Some(mime) = stat.form.mime() {
             return (mime.into(), Vec::new());
@@ -132,7 +132,7 @@ impl Reader {
         (mail::TYPE.into(), mail::attributes(&begin, side, name_in(path)))
     }
 
-    /// The type that the name says. If it says none or several, the content decides.
+    /// The type that the name gives. If it gives none or several, the content decides.
     fn mime_of_file(&self, path: &Path, name: &str) -> &str {
         match self.types.of_name(name)[..] {
             [mime] => mime,
@@ -179,7 +179,7 @@ impl Reader {
         Some((name.into(), value))
     }
 
-    /// The bytes as a value: as the index of this name takes it, otherwise a text, or raw if it is none.
+    /// The bytes as a value: of the kind that the index of this name takes, otherwise a text, or raw if they aren't text.
     fn value_of(&self, name: &str, bytes: Vec<u8>) -> Option<Value> {
         let kind = self.indices.get(name).copied().unwrap_or(Kind::Text);
         if let Some(value) = std::str::from_utf8(&bytes).ok().and_then(|text| number_of(kind, text)) {
@@ -194,7 +194,7 @@ impl Reader {
     }
 }
 
-/// The number of this kind that the text has.
+/// The text as a number of this kind.
 fn number_of(kind: Kind, text: &str) -> Option<Value> {
     match kind {
         Kind::Int32 => text.parse::<i32>().ok().map(Value::from),
@@ -205,7 +205,7 @@ fn number_of(kind: Kind, text: &str) -> Option<Value> {
     }
 }
 
-/// How many bytes of a list of names a value holds, in whole names.
+/// How many bytes of a list of names fit into a value, in whole names.
 pub fn whole_names(listed: &[u8]) -> usize {
     if listed.len() <= VALUE {
         return listed.len();
@@ -218,8 +218,8 @@ pub fn name_in(path: &Path) -> &OsStr {
     path.file_name().unwrap_or(path.as_os_str())
 }
 
-/// So many bytes of the file from its beginning. It isn't opened through a symlink, and nothing is waited for: a FIFO that has
-/// taken its place isn't read.
+/// The first bytes of the file, up to this many. It isn't opened through a symlink, and nothing is waited for: if a FIFO has
+/// taken its place, that isn't read.
 fn begin_of(path: &Path, most: usize) -> io::Result<Vec<u8>> {
     let flags = libc::O_NONBLOCK | libc::O_NOFOLLOW | libc::O_NOCTTY;
     let file: File = OpenOptions::new().read(true).custom_flags(flags).open(path)?;
@@ -230,14 +230,14 @@ fn begin_of(path: &Path, most: usize) -> io::Result<Vec<u8>> {
     Ok(begin)
 }
 
-/// The bytes of an extended attribute that has this value. Numbers are their digits.
+/// The bytes of an extended attribute with this value. Numbers become digits.
 pub fn bytes_of(value: &Value) -> Vec<u8> {
     value
         .as_bytes()
         .map_or_else(|| value.to_string().into_bytes(), <[u8]>::to_vec)
 }
 
-/// Whether the two are the same but for their kinds, which an extended attribute doesn't have.
+/// Whether the two are the same except for their kinds, which extended attributes don't have.
 pub fn is_same(one: &Value, other: &Value) -> bool {
     one == other || bytes_of(one) == bytes_of(other)
 }

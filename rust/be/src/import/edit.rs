@@ -1,11 +1,11 @@
-//! Changes of nodes that files have already.
+//! Changes to nodes that files already have.
 
 use super::content::{is_same, OWN, PARENT, ROOT, STAT, XATTRS};
 use bestore_types::{Batch, Value};
 use std::collections::{BTreeMap, BTreeSet};
 use std::path::PathBuf;
 
-/// What is changed at a node.
+/// What is changed on a node.
 #[derive(Clone, Debug, PartialEq)]
 pub enum Edit {
     Set(String, Value),
@@ -13,7 +13,7 @@ pub enum Edit {
     Remove,
 }
 
-/// The changes of a node.
+/// The changes to a node.
 #[derive(Clone, Debug)]
 pub struct Edits {
     pub path: PathBuf,
@@ -40,7 +40,7 @@ impl Edits {
     }
 }
 
-/// What makes the attributes that a node has into those of its file. Attributes that a user has set stay.
+/// The operations that turn a node's attributes into those of its file. Attributes that a user has set stay.
 pub fn between(had: &BTreeMap<String, Value>, wanted: &BTreeMap<String, Value>) -> Vec<Edit> {
     let listed = names_listed(had);
     let is_from_file = |name: &&String| OWN.contains(&name.as_str()) || listed.contains(name.as_str());
@@ -56,7 +56,7 @@ pub fn between(had: &BTreeMap<String, Value>, wanted: &BTreeMap<String, Value>) 
     unset.chain(set).collect()
 }
 
-/// The attributes with `FILE:stat` at the end: if they are more than a batch, a file has it once all others are written.
+/// The attributes with `FILE:stat` at the end: if they don't fit into one batch, it is written only once all others are.
 pub fn stat_last(values: &BTreeMap<String, Value>) -> impl Iterator<Item = (&String, &Value)> {
     let others = values.iter().filter(|(name, _)| *name != STAT);
     others.chain(values.get_key_value(STAT))
@@ -74,7 +74,7 @@ pub fn has_more(attributes: &BTreeMap<String, Value>) -> bool {
     attributes.keys().any(|name| !OWN.contains(&name.as_str()))
 }
 
-/// Says in which folder a file is: its node, or the path of one that is imported by itself.
+/// Records which folder a file is in: the folder's node, or its path if it is the imported folder itself.
 pub fn place(values: &mut BTreeMap<String, Value>, parent: Option<u64>, root: Option<Value>) {
     match (parent, root) {
         (Some(parent), _) => {

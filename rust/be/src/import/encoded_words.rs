@@ -1,9 +1,9 @@
-//! Encoded words of headers, as RFC 2047 has them.
+//! Encoded words in headers, as defined by RFC 2047.
 
 use encoding_rs::{Encoding, WINDOWS_1252};
 use std::borrow::Cow;
 
-/// The bytes as a text: they are UTF-8, or otherwise windows-1252.
+/// The bytes as a text: UTF-8 if they are valid, otherwise windows-1252.
 pub fn text_of(bytes: &[u8]) -> Cow<'_, str> {
     match std::str::from_utf8(bytes) {
         Ok(text) => text.into(),
@@ -31,7 +31,7 @@ pub fn decoded(text: &str) -> String {
     said.text
 }
 
-/// An encoded word: bytes, and how they are a text.
+/// An encoded word: bytes, and how they encode a text.
 struct Word {
     encoding: &'static Encoding,
     bytes: Vec<u8>,
@@ -74,7 +74,7 @@ fn quoted(text: &str) -> Option<Vec<u8>> {
     Some(bytes)
 }
 
-/// What was decoded. Blanks between two encoded words aren't part of the text, and a character may be divided among both.
+/// The decoded text. Blanks between two encoded words aren't part of it, and a character may be split between the two.
 #[derive(Default)]
 struct Said {
     text: String,

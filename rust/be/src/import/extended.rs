@@ -14,7 +14,7 @@ use std::io;
 use std::path::{Path, PathBuf};
 
 impl Import<'_> {
-    /// Writes what a user has set at nodes into their files, each attribute `NAME` as `user.NAME`.
+    /// Writes what a user has set on nodes into their files, each attribute `NAME` as `user.NAME`.
     pub fn write_extended(&mut self, mut summary: Summary) -> Result<Summary, Failure> {
         let nodes: Vec<(PathBuf, u64)> = self
             .tree
@@ -41,7 +41,7 @@ impl Import<'_> {
         Ok(summary)
     }
 
-    /// What the node has to say after its attributes were written into the file.
+    /// What has to be recorded on the node after its attributes were written into the file.
     fn written(&mut self, path: PathBuf, node: u64, attributes: &BTreeMap<String, Value>, stat: Stat) -> Edits {
         let text = stat.text();
         if let Some(known) = self.tree.files.get_mut(&path) {
@@ -63,7 +63,7 @@ fn users(attributes: &BTreeMap<String, Value>) -> impl Iterator<Item = (&String,
     attributes.iter().filter(|(name, _)| !OWN.contains(&name.as_str()))
 }
 
-/// Writes the attributes that the file doesn't have, and returns how many, and what the file system says of it then.
+/// Writes the attributes that the file lacks, and returns how many, and what the file system then says about the file.
 fn write_all(path: &Path, attributes: &BTreeMap<String, Value>) -> io::Result<(usize, Stat)> {
     let stat = Stat::from(&fs::symlink_metadata(path)?);
     if !matches!(stat.form, Form::File | Form::Folder) {

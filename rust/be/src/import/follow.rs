@@ -1,4 +1,4 @@
-//! `--follow`: what inotify(7) reports of the folder is written. If the server ends, it is waited for.
+//! `--follow`: writes what inotify(7) reports about the folder. If the server ends, waits for it.
 
 use super::known::Known;
 use super::summary::Summary;
@@ -16,22 +16,22 @@ use std::path::{Path, PathBuf};
 use std::thread;
 use std::time::{Duration, Instant};
 
-/// Changes that come one after the other are written together, after so long a time without one.
+/// Changes that come in quick succession are written together, once this long has passed without another.
 const QUIET: Duration = Duration::from_millis(60);
 
-/// But they wait no longer than this, so that files that are always written are followed too.
+/// But they wait no longer than this, so that files that are being written all the time are followed too.
 const LONGEST: Duration = Duration::from_millis(400);
 
-/// How long the second half of a move is waited for at most.
+/// How long to wait, at most, for the second half of a move.
 const MOVE: Duration = Duration::from_millis(100);
 
-/// What the store has refused is written again after the first of these pauses, which doubles up to the second one.
+/// What the store has refused is tried again after the first of these pauses, which doubles up to the second one.
 const PAUSES: (Duration, Duration) = (Duration::from_secs(1), Duration::from_secs(300));
 
-/// A server that is gone is looked for again after the first of these pauses, which doubles up to the second one.
+/// If the server is gone, it is tried again after the first of these pauses, which doubles up to the second one.
 const AWAY: (Duration, Duration) = (Duration::from_millis(100), Duration::from_secs(5));
 
-/// The bytes of events that are read at a time.
+/// How many bytes of events are read at a time.
 const EVENTS: usize = 1 << 16;
 
 /// The folders that are watched.
@@ -44,7 +44,7 @@ pub struct Watches {
 /// What has changed since the last write.
 #[derive(Debug, Default)]
 struct Dirty {
-    /// Files at these paths came, changed or went. `true`: all below is read too, if it is a folder.
+    /// Files at these paths were added, changed or removed. `true`: if it is a folder, everything below it is read too.
     paths: BTreeMap<PathBuf, bool>,
     /// Events were lost, so the whole folder has to be read.
     lost: bool,
@@ -56,7 +56,7 @@ struct Dirty {
     is_server_heard: bool,
 }
 
-/// When what the store has refused is written again.
+/// When to try again what the store has refused.
 #[derive(Debug)]
 struct Again {
     due: Option<Instant>,
@@ -102,12 +102,12 @@ impl Again {
 struct Seen {
     walked: Walked,
     known: Vec<(PathBuf, Known)>,
-    /// The last path that was read with all that is below it.
+    /// The last path that was read with everything below it.
     below: Option<PathBuf>,
 }
 
 impl Seen {
-    /// Whether the path was read with a folder above it. The paths are asked for in their order.
+    /// Whether the path was read along with a folder above it. To be called for paths in order.
     fn has(&self, path: &Path) -> bool {
         self.below.as_ref().map_or(false, |folder| path.starts_with(folder))
     }
@@ -147,7 +147,7 @@ impl Watches {
         }
     }
 
-    /// Waits for a change, or for the server, but no longer than the time that is given. Gathers changes until there is a pause.
+    /// Waits for a change, or for the server, but no longer than the given time. Gathers changes until there is a pause.
     fn wait(&mut self, server: RawFd, within: Option<Duration>) -> Result<Dirty, Failure> {
         let mut dirty = Dirty {
             is_server_heard: self.wait_readable(server, within),
@@ -169,8 +169,8 @@ impl Watches {
         }
     }
 
-    /// Waits until there are events or the server is heard, or for this time, and returns whether it is the server. A signal may end it
-    /// earlier.
+    /// Waits for events or for a message from the server, up to this time, and returns whether it was the server. A signal may end the
+    /// wait earlier.
     fn wait_readable(&self, server: RawFd, within: Option<Duration>) -> bool {
         let mut polled = [self.inotify.as_raw_fd(), server].map(|fd| libc::pollfd {
             fd,
@@ -236,7 +236,7 @@ impl Dirty {
 }
 
 impl Import<'_> {
-    /// Follows the folder until it is gone. `is_refused`: the store has refused something when the folder was read.
+    /// Follows the folder until it is gone. `is_refused`: the store refused something when the folder was read.
     pub fn follow(&mut self, mut watches: Watches, is_refused: bool, output: &mut Output) -> Result<(), Failure> {
         let mut again = Again::new();
         again.scanned(is_refused);
@@ -255,7 +255,7 @@ impl Import<'_> {
 
     /// Waits for changes, and writes them.
     fn turn(&mut self, watches: &mut Watches, again: &mut Again) -> Result<Summary, Failure> {
-        // What is missing is looked for once more before its node is removed.
+        // A missing file is looked for once more before its node is removed.
         let within = match self.missing.is_empty() {
             true => again.left(),
             false => Some(Duration::ZERO),
@@ -283,7 +283,7 @@ impl Import<'_> {
         }
     }
 
-    /// Waits for the server that is gone, and writes what has changed meanwhile.
+    /// Waits for the server to come back, and writes what has changed meanwhile.
     fn catch_up(&mut self, failure: &Failure, watches: &mut Watches, again: &mut Again) -> Result<Summary, Failure> {
         self.connect_again(failure)?;
         let summary = self.scan_until_done(watches, Self::scan)?;
@@ -291,7 +291,7 @@ impl Import<'_> {
         Ok(summary)
     }
 
-    /// Scans, and if the server goes meanwhile, waits for it and begins anew.
+    /// Scans the folder. If the server goes away meanwhile, waits for it and starts again.
     pub fn scan_until_done(
         &mut self,
         watches: &mut Watches,
@@ -305,7 +305,7 @@ impl Import<'_> {
         }
     }
 
-    /// Waits until the server is there again, and reads what it has of the folder.
+    /// Waits until the server is back, and reads what it has of the folder.
     fn connect_again(&mut self, failure: &Failure) -> Result<(), Failure> {
         complain(&format!("{failure}; waiting for the server"));
         let (mut pause, longest) = AWAY;
@@ -347,7 +347,7 @@ impl Import<'_> {
         }
     }
 
-    /// Looks what is at a path now: a folder that came is read as a whole.
+    /// Looks at what is at a path now: a new folder is read as a whole.
     fn see(&mut self, path: PathBuf, is_named: bool, walk: &mut Walk<'_>, seen: &mut Seen) {
         let there = fs::symlink_metadata(&path);
         let is_folder = there.as_ref().map_or(false, fs::Metadata::is_dir);

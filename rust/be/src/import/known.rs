@@ -1,4 +1,4 @@
-//! What the store knows of the files of a folder.
+//! What the store knows about the files of a folder.
 
 use super::content::STAT;
 use super::stat::Identity;
@@ -15,9 +15,9 @@ use std::path::{Path, PathBuf};
 #[derive(Clone, Debug, PartialEq, Eq)]
 pub struct Known {
     pub node: u64,
-    /// The folder's node. `None`: the folder was imported by itself.
+    /// The folder's node. `None`: this is the imported folder itself.
     pub parent: Option<u64>,
-    /// What `FILE:stat` has.
+    /// The value of `FILE:stat`.
     pub stat: String,
 }
 
@@ -30,7 +30,7 @@ impl Known {
 /// The files of a folder that have a node.
 #[derive(Debug, Default)]
 pub struct Tree {
-    /// By their paths: what is in a folder follows it.
+    /// By their paths: the contents of a folder follow it.
     pub files: BTreeMap<PathBuf, Known>,
     /// Further nodes at paths that `files` has already: a file was renamed onto another while an import read the folder, or two
     /// imports ran at the same time.
@@ -40,7 +40,7 @@ pub struct Tree {
 }
 
 impl Tree {
-    /// Reads what the store knows of the folder and what is below it, but for these nodes.
+    /// Reads what the store knows about the folder and everything below it, except for these nodes.
     pub fn read(client: &mut Client, folder: &Path, without: &HashSet<u64>) -> Result<Self, Failure> {
         let columns: Vec<&str> = COLUMNS.into_iter().chain([STAT]).collect();
         let (steps, mut stats) = pinned(client, |client| {
@@ -83,7 +83,7 @@ impl Tree {
         }
     }
 
-    /// Takes the file at this path, and what is below it, out of the tree.
+    /// Removes the file at this path, and everything below it, from the tree.
     pub fn take_below(&mut self, path: &Path) -> Vec<(PathBuf, Known)> {
         let range = self.files.range(path.to_path_buf()..);
         let below: Vec<PathBuf> = range

@@ -1,5 +1,5 @@
-//! What the contents of a type's files have in common, from `magic` in the Shared MIME-info Database. It decides between types
-//! that fit a name equally well.
+//! What files of a type have in common, from `magic` in the Shared MIME-info Database. It decides between types that fit a
+//! name equally well.
 
 use std::cmp::Reverse;
 use std::collections::HashMap;
@@ -10,10 +10,10 @@ use std::path::Path;
 /// What the file begins with.
 const HEAD: &[u8] = b"MIME-Magic\0\n";
 
-/// A content without control characters in so many bytes is a text, as the specification has it.
+/// According to the specification, a file without control characters in its first bytes, this many, is text.
 const TEXT: usize = 128;
 
-/// The most steps from a type to one above it. More would be a ring.
+/// The maximum number of steps from a type to one above it. More would be a ring.
 const STEPS: usize = 16;
 
 /// The type above all texts.
@@ -22,29 +22,29 @@ const PLAIN: &str = "text/plain";
 /// A line of the file: bytes that the content has from one of these places on.
 #[derive(Debug)]
 struct Line {
-    /// A line with a greater one is a further condition of the last line before it with a lesser one.
+    /// A line with a greater indent is a further condition of the last line before it with a smaller one.
     indent: usize,
     places: Range<usize>,
     value: Vec<u8>,
     mask: Option<Vec<u8>>,
 }
 
-/// What the contents of a type have.
+/// What files of a type contain.
 #[derive(Debug)]
 struct Section {
     priority: u32,
     lines: Vec<Line>,
 }
 
-/// The contents of types, and which type is a special form of which.
+/// What files of each type contain, and which type is a special form of which.
 #[derive(Debug, Default)]
 pub struct Magic {
     sections: HashMap<String, Vec<Section>>,
     parents: HashMap<String, Vec<String>>,
 }
 
-/// How well a content fits a type: by the priority of the section that it has, and then by how few steps it takes from the type to the
-/// one with that section. `Other` is what no section says anything of.
+/// How well a file's content fits a type: by the priority of the matching section, and then by how few steps it takes from the type to
+/// the one with that section. `Other` means that no section says anything about it.
 #[derive(Clone, Copy, Debug, PartialEq, Eq, PartialOrd, Ord)]
 enum Fit {
     /// The type is a text, and the content isn't.
@@ -55,7 +55,7 @@ enum Fit {
 }
 
 impl Magic {
-    /// What the database in this folder says. If it can't be read, nothing.
+    /// What the database in this folder says: nothing, if it can't be read.
     pub fn read(database: &Path) -> Self {
         let magic = fs::read(database.join("magic")).unwrap_or_default();
         let subclasses = fs::read_to_string(database.join("subclasses")).unwrap_or_default();
@@ -73,14 +73,14 @@ impl Magic {
         }
     }
 
-    /// The type that a file with this content has, of those that its name fits equally well: the one that its content fits best, and
-    /// if there are several, the first.
+    /// The type of a file with this content, out of those that its name fits equally well: the one that its content fits best, or
+    /// the first of several.
     pub fn choose<'a>(&self, mimes: &[&'a str], begin: &[u8]) -> Option<&'a str> {
         if begin.is_empty() {
             return mimes.first().copied();
         }
         let is_text = !begin.iter().take(TEXT).any(|byte| is_control(*byte));
-        // Of several that are equal, this takes the last.
+        // If several are equal, this takes the last.
         let from_last = mimes.iter().rev();
         from_last.copied().max_by_key(|mime| self.fit(mime, begin, is_text))
     }
@@ -103,7 +103,7 @@ impl Magic {
         })
     }
 
-    /// The type and those of which it is a special form, with the steps to each.
+    /// The type, and those that it is a special form of, with the number of steps to each.
     fn with_those_above<'a>(&'a self, mime: &'a str) -> Vec<(&'a str, usize)> {
         let mut all = vec![(mime, 0)];
         let mut next = 0;
@@ -118,7 +118,7 @@ impl Magic {
         all
     }
 
-    /// The greatest priority of the sections of this type that the content has.
+    /// The highest priority of this type's sections that match the content.
     fn priority(&self, mime: &str, begin: &[u8]) -> Option<u32> {
         let sections = self.sections.get(mime)?.iter();
         let had = sections.filter(|section| has_one(&section.lines, 0, begin));
@@ -126,12 +126,12 @@ impl Magic {
     }
 }
 
-/// Control characters that a text doesn't have.
+/// Control characters that text doesn't contain.
 fn is_control(byte: u8) -> bool {
     byte < b' ' && !matches!(byte, b'\t' | b'\n' | b'\r' | b'\x08' | b'\x0c' | b'\x1b')
 }
 
-/// Whether the content has one of the lines with this indent, and one of those below it if there are any.
+/// Whether the content matches one of the lines with this indent, and one of those below it if there are any.
 fn has_one(lines: &[Line], indent: usize, begin: &[u8]) -> bool {
     let places = (0..lines.len()).filter(|at| lines[*at].indent == indent);
     places.into_iter().any(|at| {
@@ -164,7 +164,7 @@ fn sections_of(file: &[u8]) -> HashMap<String, Vec<Section>> {
     sections
 }
 
-/// What of the file wasn't read yet.
+/// The part of the file that hasn't been read yet.
 struct Bytes<'a>(&'a [u8]);
 
 impl<'a> Bytes<'a> {
@@ -184,7 +184,7 @@ impl<'a> Bytes<'a> {
     }
 
     /// `1>28=`, the length of the value in two bytes, the value, and perhaps `&` and a mask, `~` and the size of a word, `+` and how
-    /// many places there are. Words have the order of this machine.
+    /// many places there are. Words have this machine's byte order.
     fn line(&mut self) -> Option<Line> {
         let indent = self.number().unwrap_or(0);
         self.skip(b">")?;

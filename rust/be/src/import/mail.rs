@@ -1,4 +1,4 @@
-//! What the head of a mail says, by the names that BeOS has for it.
+//! What the header of a mail says, under the names that BeOS uses.
 
 use super::encoded_words::{decoded, text_of};
 use bestore_types::Value;
@@ -7,13 +7,13 @@ use std::ffi::OsStr;
 use std::os::unix::ffi::OsStrExt;
 use std::path::Path;
 
-/// The type that BeOS has for a mail.
+/// The type that BeOS uses for mails.
 pub const TYPE: &str = "text/x-email";
 
-/// How many bytes of a mail are read. What its head has after them isn't seen.
+/// How many bytes of a mail are read. Headers beyond that aren't seen.
 pub const HEAD: usize = 1 << 18;
 
-/// The headers that are an attribute as they are, and those attributes.
+/// The headers that become attributes unchanged, and those attributes.
 const ATTRIBUTES: [(&str, &str); 5] = [
     ("from", "MAIL:from"),
     ("to", "MAIL:to"),
@@ -22,7 +22,7 @@ const ATTRIBUTES: [(&str, &str); 5] = [
     ("subject", "MAIL:subject"),
 ];
 
-/// Which of the folders of a Maildir has the file, if one has.
+/// Which folder of a Maildir the file is in, if any.
 #[derive(Clone, Copy, Debug, PartialEq, Eq)]
 pub enum Side {
     New,
@@ -30,7 +30,7 @@ pub enum Side {
 }
 
 impl Side {
-    /// The folder, if it is one of a Maildir: `cur` and `new`, beside which `tmp` is too.
+    /// The folder, if it belongs to a Maildir: `cur` or `new`, with a `tmp` beside it.
     pub fn of_folder(folder: &Path) -> Option<Self> {
         let side = match folder.file_name()?.as_bytes() {
             b"cur" => Side::Current,
@@ -42,7 +42,7 @@ impl Side {
         all.then_some(side)
     }
 
-    /// Whether the mail was read: the flag `S` in its name, which counts in `cur` alone.
+    /// Whether the mail was read: the flag `S` in its name, which counts only in `cur`.
     fn status(self, name: &OsStr) -> &'static str {
         let name = name.as_bytes();
         let flags = name
@@ -78,7 +78,7 @@ pub fn attributes(begin: &[u8], side: Option<Side>, name: &OsStr) -> Vec<(&'stat
     values
 }
 
-/// As much of a text as a value holds, without the bytes that it can't hold.
+/// As much of a text as fits into a value, without the bytes that a value can't hold.
 pub fn cut(text: &str) -> String {
     let mut kept = String::new();
     for character in text.chars().filter(|character| *character != '\0') {
@@ -90,7 +90,7 @@ pub fn cut(text: &str) -> String {
     kept
 }
 
-/// The headers of a head with their names in lower case. Lines that are no header are passed over.
+/// The headers, with their names in lower case. Lines that aren't headers are skipped.
 fn headers(begin: &[u8]) -> Vec<(String, String)> {
     let mut headers: Vec<(String, Vec<u8>)> = Vec::new();
     for line in begin.split(|byte| *byte == b'\n') {
@@ -128,7 +128,7 @@ fn name_of(from: &str) -> Option<String> {
     (!name.is_empty()).then_some(name)
 }
 
-/// The seconds since 1970 of a date as RFC 5322 has it. A weekday that is another one is no error.
+/// The seconds since 1970 of a date in the form of RFC 5322. A wrong weekday isn't an error.
 fn seconds(date: &str) -> Option<i64> {
     let without_weekday = date.split_once(',').map_or(date, |(_, rest)| rest);
     let without_comment = without_weekday

@@ -6,14 +6,14 @@ use super::walk::Found;
 use std::collections::{HashMap, HashSet};
 use std::path::PathBuf;
 
-/// A file with the node that it had, and the path that it had then.
+/// A file with its earlier node, and the path that it had then.
 #[derive(Debug)]
 pub struct Matched {
     pub found: Found,
     pub known: Option<(PathBuf, Known)>,
 }
 
-/// Files with their nodes, and those that no file has any more.
+/// Files with their nodes, and the nodes that no file has any more.
 #[derive(Debug, Default)]
 pub struct Matching {
     pub files: Vec<Matched>,
@@ -86,10 +86,11 @@ impl Left {
 ///
 /// 1. The same file at the same path keeps its node.
 /// 2. So does the same file at another path.
-/// 3. Another file at the same path has the node that was there, as after an editor has replaced it.
+/// 3. Another file at the same path takes over the node that was there, such as after an editor has replaced the file.
 /// 4. Others have none.
 ///
-/// If one file is moved onto another, 2 and 3 name two nodes. The first one counts, unless the second alone has what a user has set.
+/// If one file is moved onto another, 2 and 3 name two nodes. The first one counts, unless only the second has attributes that a user
+/// has set.
 ///
 /// If several nodes have one path, one with attributes that a user has set comes before the others, then the node of the same file,
 /// then the oldest.

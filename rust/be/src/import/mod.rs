@@ -38,10 +38,10 @@ use types::Types;
 use volume::Volume;
 use walk::Walk;
 
-/// The most bytes of the path of an imported folder: it is a value.
+/// The maximum number of bytes in an imported folder's path, which has to fit into a value.
 const ROOT: usize = 255;
 
-/// How often the folder is read at most until no file is missing. In a folder that never rests some may be missing each time.
+/// How often, at most, the folder is read until no file is missing. In a folder that keeps changing, some may be missing each time.
 const SCANS: u32 = 4;
 
 /// Connects to the server.
@@ -51,16 +51,16 @@ type Connect<'a> = &'a dyn Fn() -> Result<Client, Failure>;
 pub struct Import<'a> {
     folder: PathBuf,
     connect: Connect<'a>,
-    /// If it is given, folders of this file system alone are read.
+    /// If given, only folders of this file system are read.
     device: Option<u64>,
     line: &'a Line,
     client: Client,
     volumes: Vec<Volume>,
     reader: Reader,
     tree: Tree,
-    /// Files that weren't at their paths when these were read last.
+    /// Files that weren't at their paths when those were last read.
     missing: Vec<(PathBuf, Known)>,
-    /// Those that were missing again, and whose nodes the store has refused to remove.
+    /// Those that were missing again, and whose nodes the store refused to remove.
     unremoved: Vec<(PathBuf, Known)>,
 }
 
@@ -83,7 +83,7 @@ pub fn run(connect: Connect<'_>, line: &Line, output: &mut Output) -> Result<(),
     }
 }
 
-/// The path of the folder from the root of all files on, without symlinks.
+/// The absolute path of the folder, without symlinks.
 fn folder_of(folder: &Path) -> Result<PathBuf, Failure> {
     let failed = |error| Failure::File(folder.into(), error);
     let whole = fs::canonicalize(folder).map_err(failed)?;
@@ -137,7 +137,7 @@ impl<'a> Import<'a> {
         Ok(summary)
     }
 
-    /// Asks the store anew what it has of the folder, and scans that: after a refusal it may have less than is known here, or more.
+    /// Asks the store again what it has of the folder, and scans that: after a refusal it may have less than is known here, or more.
     fn scan_again(&mut self, watches: &mut Watches) -> Result<Summary, Failure> {
         self.missing = std::mem::take(&mut self.unremoved);
         let missing = self.missing.iter().map(|(_, known)| known.node).collect();
@@ -184,7 +184,7 @@ fn device_of(folder: &Path) -> Result<u64, Failure> {
     Ok(about.dev())
 }
 
-/// Makes the indices that are missing, and returns the kinds of all.
+/// Makes the missing indices, and returns the kinds of all indices.
 fn make_indices(client: &mut Client) -> Result<BTreeMap<String, Kind>, Failure> {
     let kinds = |names: BTreeMap<String, String>| -> BTreeMap<String, Kind> {
         let kind = |(name, kind): (String, String)| kind_named(&kind).map(|kind| (name, kind));
@@ -214,13 +214,13 @@ fn make_indices(client: &mut Client) -> Result<BTreeMap<String, Kind>, Failure> 
     Ok(all)
 }
 
-/// A sign on a terminal that something goes on, with a count.
+/// A spinner on a terminal, with a count.
 fn spinner(what: &'static str) -> ProgressBar {
     let style = ProgressStyle::with_template("{spinner} {msg}: {human_pos} folders").expect("it is a template");
     ProgressBar::new_spinner().with_style(style).with_message(what)
 }
 
-/// A bar on a terminal.
+/// A progress bar on a terminal.
 fn bar(what: &'static str, count: usize) -> ProgressBar {
     let style = ProgressStyle::with_template("{msg} {wide_bar} {human_pos} of {human_len}, {eta} left");
     ProgressBar::new(count as u64)

@@ -1,4 +1,4 @@
-//! What the file system says of a file, and how a file is known again.
+//! What the file system says about a file, and how a file is recognised.
 
 use std::fmt::{self, Write as _};
 use std::fs::Metadata;
@@ -31,7 +31,7 @@ impl Form {
         }
     }
 
-    /// The MIME type that the Shared MIME-info specification has for what is no regular file.
+    /// The MIME type that the Shared MIME-info specification gives to anything but a regular file.
     pub fn mime(self) -> Option<&'static str> {
         match self {
             Form::File => None,
@@ -46,7 +46,7 @@ impl Form {
 }
 
 /// Which file it is, whatever its name is: the device, the inode, and when the inode was made, if the file system knows that.
-/// An inode that is used again has another time.
+/// A reused inode has another time.
 #[derive(Clone, Copy, Debug, PartialEq, Eq, Hash)]
 pub struct Identity {
     device: u64,
@@ -56,7 +56,7 @@ pub struct Identity {
 }
 
 impl Identity {
-    /// The identity in the text that [`Stat::text`] has made.
+    /// The identity, from the text that [`Stat::text`] made.
     pub fn read(text: &str) -> Option<Self> {
         let mut parts = text.split(':');
         let device = u64::from_str_radix(parts.next()?, 16).ok()?;
@@ -79,7 +79,7 @@ impl fmt::Display for Identity {
     }
 }
 
-/// What lstat(2) says of a file.
+/// What lstat(2) says about a file.
 #[derive(Clone, Copy, Debug, PartialEq, Eq)]
 pub struct Stat {
     pub identity: Identity,
@@ -118,7 +118,7 @@ impl From<&Metadata> for Stat {
 }
 
 impl Stat {
-    /// What `FILE:stat` has: the identity, and the time of the last change. The text is another one if the file was changed.
+    /// The value of `FILE:stat`: the identity, and the time of the last change. The text differs if the file was changed.
     pub fn text(&self) -> String {
         let (seconds, nanoseconds) = self.change;
         format!("{}:{seconds}.{nanoseconds:09}", self.identity)

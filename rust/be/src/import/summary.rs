@@ -9,10 +9,10 @@ use bestore_client::{Error, ErrorName};
 use serde::Serialize;
 use std::path::{Path, PathBuf};
 
-/// The most pages of a store.
+/// The maximum number of pages in a store.
 const MOST_PAGES: u64 = 16_384;
 
-/// How many paths of each fault are printed.
+/// How many paths are printed for each fault.
 const SHOWN: usize = 10;
 
 /// Errors of the server after which the same write may be accepted.
@@ -26,12 +26,12 @@ const PASSING: [ErrorName; 7] = [
     ErrorName::NotLeader,
 ];
 
-/// What has become of a file.
+/// What has happened to a file.
 #[derive(Clone, Copy, Debug, PartialEq, Eq)]
 pub enum Fate {
     New,
     Changed,
-    /// Renamed or moved, and changed perhaps.
+    /// Renamed or moved, and perhaps changed.
     Renamed,
     Removed,
 }
@@ -68,10 +68,10 @@ pub struct Summary {
     pub volumes: u64,
     #[serde(serialize_with = "count")]
     pub unread: Vec<Unread>,
-    /// Files of which the store refused something, or which refused an attribute, and why.
+    /// Files for which the store refused something, or that refused an attribute, and why.
     #[serde(serialize_with = "count")]
     pub refused: Vec<(PathBuf, String)>,
-    /// Whether the store may accept later what it has refused.
+    /// Whether the store may later accept what it has refused.
     #[serde(skip)]
     is_passing: bool,
     #[serde(skip)]
@@ -93,13 +93,13 @@ impl Summary {
         self.fates.push((fate, path));
     }
 
-    /// The store has refused something of a file.
+    /// The store has refused something about a file.
     pub fn refuse(&mut self, path: PathBuf, error: &Error) {
         self.is_passing |= error.refusal().map_or(false, |refusal| PASSING.contains(&refusal.name));
         self.refused.push((path, message(error)));
     }
 
-    /// Whether the store may take later what it hasn't taken.
+    /// Whether the store may later accept what it has refused.
     pub fn is_worth_a_retry(&self) -> bool {
         self.is_passing || self.left > 0
     }
@@ -117,7 +117,7 @@ impl Summary {
         }
     }
 
-    /// Whether each file is in the store as it is.
+    /// Whether each file is in the store, up to date.
     pub fn is_whole(&self) -> bool {
         self.left == 0 && self.unread.is_empty() && self.refused.is_empty()
     }
@@ -146,7 +146,7 @@ impl Summary {
         Ok(())
     }
 
-    /// Prints a line for each file that came, changed or went.
+    /// Prints a line for each file that was added, changed or removed.
     pub fn print_fates(&self, output: &mut Output) -> Result<(), Failure> {
         for (fate, path) in &self.fates {
             output.bytes(fate.word().as_bytes())?;
@@ -156,7 +156,7 @@ impl Summary {
         Ok(())
     }
 
-    /// Says what isn't in the store.
+    /// Prints what isn't in the store.
     pub fn complain(&self) {
         let unread = self.unread.iter().map(|it| (it.path.as_path(), it.error.to_string()));
         complain_of(unread, "can't be read");
@@ -178,7 +178,7 @@ impl Summary {
     }
 }
 
-/// What would take all files, by what those in the store take.
+/// What would hold all files, judging by those in the store.
 fn what_helps(files: usize, left: usize, pages: u64, used: u64, volumes: u64) -> String {
     let (files, left, volumes) = (files.max(1) as u64, left as u64, volumes.max(1));
     // A tenth more, since files differ.

@@ -1,6 +1,6 @@
-//! The MIME types of files, by their names and, if those say nothing or fit several types, by how their contents begin.
+//! The MIME types of files: by name and, if the name fits no type or several, by how the content begins.
 //!
-//! The names are in `globs2` of the Shared MIME-info Database, as the package shared-mime-info has it. Without it the extensions
+//! The names are in `globs2` of the Shared MIME-info Database, which is in the package shared-mime-info. Without it the extensions
 //! are those of `/etc/mime.types` of the package media-types.
 
 use super::magic::Magic;
@@ -9,21 +9,21 @@ use std::collections::HashMap;
 use std::fs;
 use std::path::Path;
 
-/// The type of a file of which nothing is known.
+/// The type of a file about which nothing is known.
 pub const UNKNOWN: &str = "application/octet-stream";
 
 const DATABASE: &str = "/usr/share/mime";
 const EXTENSIONS: &str = "/etc/mime.types";
 
-/// How a glob is matched in upper and lower case, as the specification has it for those without the flag `cs`.
+/// Matching a glob without regard to case, which the specification demands for those without the flag `cs`.
 const ANY_CASE: MatchOptions = MatchOptions {
     case_sensitive: false,
     require_literal_separator: false,
     require_literal_leading_dot: false,
 };
 
-/// The types that a glob stands for, in the order in which they were listed. Among the globs that match a name the greatest weight
-/// counts, and then the longest glob.
+/// The types that a glob stands for, in the order in which they are listed. Of the globs that match a name, the one with the
+/// greatest weight counts, and then the longest.
 #[derive(Clone, Debug)]
 struct Rule {
     weight: u32,
@@ -37,18 +37,18 @@ impl Rule {
     }
 }
 
-/// The types by the names of files.
+/// The types, by file names.
 #[derive(Debug, Default)]
 pub struct Types {
-    /// By whole names, and by what follows a `*` that is the glob's only sign: in lower case, and in the case that counts.
+    /// By whole names, and by what follows a `*` that is the glob's only wildcard: in lower case, and in exact case.
     names: HashMap<String, Rule>,
     endings: HashMap<String, Rule>,
     exact_endings: HashMap<String, Rule>,
     others: Vec<(Pattern, Rule)>,
     magic: Magic,
-    /// The files that they are from, in words.
+    /// The files that they come from, in words.
     source: &'static str,
-    /// Whether the database has what contents begin with.
+    /// Whether the database says how files begin.
     has_contents: bool,
 }
 
@@ -98,7 +98,7 @@ impl Types {
         types
     }
 
-    /// Lines of a type and its extensions.
+    /// Lines with a type and its extensions.
     fn from_extensions(text: &str) -> Self {
         let mut types = Self::default();
         for line in text.lines().filter(|line| !line.starts_with('#')) {
@@ -118,7 +118,7 @@ impl Types {
         let is_plain = |text: &str| !text.contains(|sign| "*?[".contains(sign));
         match glob.strip_prefix('*') {
             Some(ending) if is_plain(ending) && exact => better(&mut self.exact_endings, ending.into(), rule),
-            // For programs that know no flags the database has such a glob once more, without it.
+            // For programs that don't know the flag, the database has such a glob again without it.
             Some(ending) if is_plain(ending) && self.exact_endings.contains_key(ending) => {}
             Some(ending) if is_plain(ending) => better(&mut self.endings, ending.to_lowercase(), rule),
             None if is_plain(glob) => better(&mut self.names, glob.to_lowercase(), rule),
@@ -126,7 +126,7 @@ impl Types {
         }
     }
 
-    /// The types that the name says: as it is, otherwise in any case. They are several if several fit it equally well.
+    /// The types that fit the name in exact case, otherwise in any case. There are several if they fit equally well.
     pub fn of_name(&self, name: &str) -> Vec<&str> {
         let best = self.best(name);
         if best.is_empty() {
@@ -153,7 +153,7 @@ impl Types {
         best.iter().flat_map(|rule| &rule.mimes).map(String::as_str).collect()
     }
 
-    /// The type of a file that begins with these bytes, and whose name says these types.
+    /// The type of a file that begins with these bytes and whose name fits these types.
     pub fn of_content<'a>(&self, mimes: &[&'a str], begin: &[u8]) -> &'a str {
         if let Some(mime) = self.magic.choose(mimes, begin) {
             return mime;
@@ -171,7 +171,7 @@ impl Types {
     }
 }
 
-/// Keeps the better one of two rules, or the types of both.
+/// Keeps the better of two rules, or the types of both.
 fn better(rules: &mut HashMap<String, Rule>, key: String, rule: Rule) {
     match rules.get_mut(&key) {
         Some(kept) if kept.rank() > rule.rank() => {}
@@ -184,7 +184,7 @@ fn better(rules: &mut HashMap<String, Rule>, key: String, rule: Rule) {
     }
 }
 
-/// The rules whose endings the name has.
+/// The rules whose endings match the name.
 fn endings<'a: 'n, 'n>(rules: &'a HashMap<String, Rule>, name: &'n str) -> impl Iterator<Item = &'a Rule> + 'n {
     let places = name.char_indices().map(|(at, _)| at);
     places.filter_map(move |at| rules.get(&name[at..]))

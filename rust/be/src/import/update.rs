@@ -19,21 +19,21 @@ use std::thread;
 /// How many files are read and written at a time.
 const SLICE: usize = 8_192;
 
-/// The most operations of a batch.
+/// The maximum number of operations in a batch.
 const OPERATIONS: usize = 64;
 
-/// About so many entries of the store's trees does a page have.
+/// About how many entries of the store's trees a page has.
 const ENTRIES: u64 = 8;
 
 impl Import<'_> {
-    /// Writes what was found. The node of a known file that wasn't is removed if that is so two times in turn: a file that is moved
-    /// while folders are read is at neither of its paths for once.
+    /// Writes what was found. The node of a known file that wasn't found is removed only if that happens twice in a row: a file
+    /// that is moved while folders are read can be missing at both of its paths once.
     pub fn update(&mut self, walked: Walked, known: Vec<(PathBuf, Known)>) -> Result<Summary, Failure> {
         let Walked { found, unread } = walked;
         self.refuse_another(&found, &known)?;
         let lost = std::mem::take(&mut self.tree.lost);
         let lost_nodes: Vec<u64> = lost.iter().map(|known| known.node).collect();
-        // A file that has lost its folder is known again by what it is.
+        // A file that has lost its folder is recognised by its identity.
         let lost = lost.into_iter().map(|known| (PathBuf::new(), known));
         let missing = std::mem::take(&mut self.missing);
         let missed: HashSet<u64> = missing.iter().map(|(_, known)| known.node).collect();
@@ -63,8 +63,8 @@ impl Import<'_> {
         Ok(summary)
     }
 
-    /// Removes those nodes that were missing already, and keeps the others as missing, and those that the store doesn't remove. What
-    /// is below a folder that can't be read stays.
+    /// Removes the nodes that were already missing, and remembers as missing the others and those that the store doesn't remove.
+    /// Whatever is below a folder that can't be read stays.
     fn remove(
         &mut self,
         gone: Vec<(PathBuf, Known)>,
@@ -79,7 +79,7 @@ impl Import<'_> {
         let (mut gone, missing): (Vec<_>, Vec<_>) =
             gone.into_iter().partition(|(_, known)| missed.contains(&known.node));
         self.missing = missing;
-        // What is in a folder goes before the folder.
+        // The contents of a folder are removed before the folder.
         gone.sort_unstable_by(|one, other| other.0.cmp(&one.0));
         let edits: Vec<Edits> = gone
             .iter()
@@ -94,7 +94,7 @@ impl Import<'_> {
         Ok(())
     }
 
-    /// Puts files into the tree, and returns those that differ from what the store has.
+    /// Puts files into the tree, and returns those that differ from what is in the store.
     fn keep_unchanged(&mut self, files: Vec<Matched>) -> Vec<Matched> {
         let mut nodes: HashMap<PathBuf, u64> = HashMap::new();
         for file in &files {
@@ -128,8 +128,8 @@ impl Import<'_> {
         changed
     }
 
-    /// Refuses a folder that is another one than before and is empty, as one on which no disk is mounted. The nodes of its files,
-    /// with what users have set, would go.
+    /// Refuses a folder that isn't the same one as before and is empty, such as one whose disk isn't mounted. The nodes of its
+    /// files, and everything users have set on them, would be removed.
     fn refuse_another(&self, found: &[Found], known: &[(PathBuf, Known)]) -> Result<(), Failure> {
         let was = known.iter().find(|(path, _)| self.is_root(path));
         match (was, found) {
@@ -152,7 +152,7 @@ impl Import<'_> {
         self.tree.files.get(path).map(|known| known.node)
     }
 
-    /// Says in which folder the file is. `false`: that folder has no node.
+    /// Records which folder the file is in. `false`: that folder has no node.
     fn place(&self, path: &Path, known: Option<&Known>, content: &mut Content) -> bool {
         let parent = match self.is_root(path) {
             true => known.and_then(|known| known.parent),
@@ -205,7 +205,7 @@ impl Import<'_> {
         Ok(())
     }
 
-    /// Keeps what the store has of a file now.
+    /// Remembers what the store now has of a file.
     fn keep(&mut self, found: &Found) {
         let parent = found.path.parent().and_then(|folder| self.node_at(folder));
         let is_root = self.is_root(&found.path);
@@ -217,13 +217,13 @@ impl Import<'_> {
         }
     }
 
-    /// Writes changes: those of several nodes as one batch, and one by one if it is refused. Returns the files of which something was
-    /// refused.
+    /// Writes changes: those of several nodes as one batch, and one by one if that is refused. Returns the files for which something
+    /// was refused.
     pub fn write(&mut self, edits: &[Edits], summary: &mut Summary) -> Result<HashSet<PathBuf>, Failure> {
         let mut refused = HashSet::new();
         let mut at = 0;
         while at < edits.len() {
-            // The last part of a file would say that all of it is written.
+            // The last part of a file would say that all of it has been written.
             if refused.contains(&edits[at].path) {
                 at += 1;
                 continue;
@@ -263,7 +263,7 @@ impl Import<'_> {
         Ok(refused)
     }
 
-    /// Takes a file whose node is gone out of the tree, unless it has another node there.
+    /// Removes a file whose node is gone from the tree, unless it has another node there.
     fn forget(&mut self, edits: &Edits) {
         if self.node_at(&edits.path) == Some(edits.node) {
             self.tree.files.remove(&edits.path);
@@ -325,7 +325,7 @@ fn volume_of(edits: &Edits) -> u32 {
     Node::from(edits.node).volume
 }
 
-/// The folders by how deep they are, the least deep first.
+/// The folders by depth, the shallowest first.
 fn by_depth(folders: Vec<Found>) -> impl Iterator<Item = Vec<Found>> {
     let mut levels: BTreeMap<usize, Vec<Found>> = BTreeMap::new();
     for folder in folders {
@@ -342,7 +342,7 @@ fn slices<T>(files: Vec<T>) -> impl Iterator<Item = Vec<T>> {
     })
 }
 
-/// Reads files, on each processor a part of them.
+/// Reads files, some of them on each processor.
 fn read(reader: &Reader, files: &[&Found]) -> Vec<Content> {
     let processors = thread::available_parallelism().map_or(1, |count| count.get());
     let part = (files.len() / processors).max(64);
@@ -359,7 +359,7 @@ fn read(reader: &Reader, files: &[&Found]) -> Vec<Content> {
     })
 }
 
-/// Makes nodes for these files in the volumes, all of them at the same time. What one has no room for goes to the others.
+/// Makes nodes for these files in all volumes at the same time. What one has no room for goes to the others.
 fn make_in(volumes: &mut [Volume], files: Vec<New>, done: &(dyn Fn(u64) + Sync)) -> Result<Made, Failure> {
     let mut all = Made {
         left: files,
@@ -388,7 +388,7 @@ fn make_in(volumes: &mut [Volume], files: Vec<New>, done: &(dyn Fn(u64) + Sync))
     Ok(all)
 }
 
-/// Which files each volume takes: the next one goes to the volume with the most room.
+/// Which files each volume takes: the next file goes to the volume with the most room.
 fn share(volumes: &[Volume], files: Vec<New>) -> Vec<Vec<New>> {
     let mut rooms: Vec<i64> = volumes
         .iter()

@@ -1,4 +1,4 @@
-//! A volume of the server: one of the stores that its queries search. A server of one store has one.
+//! A volume of the server: one of the stores that its queries search. A server with one store has one volume.
 
 use super::edit::stat_last;
 use crate::failure::Failure;
@@ -12,16 +12,16 @@ use std::sync::{Arc, Mutex, MutexGuard};
 use std::thread;
 use std::time::Duration;
 
-/// The most operations of a batch.
+/// The maximum number of operations in a batch.
 const OPERATIONS: usize = 64;
 
-/// The most connections, which the volumes share: a server has up to 62.
+/// The maximum number of connections, which the volumes share: a server has up to 62.
 const CONNECTIONS: u32 = 8;
 
-/// How many batches are written until the volume is asked again how full it is.
+/// How many batches are written before the volume is asked again how full it is.
 const LOOK: u32 = 16;
 
-/// One page of so many stays free, so that a full volume can still be written.
+/// One page in this many stays free, so that a full volume can still be written.
 const RESERVE: u64 = 64;
 
 /// How often a write is tried again if another client is writing.
@@ -34,7 +34,7 @@ pub struct New {
     pub values: BTreeMap<String, Value>,
 }
 
-/// What has become of files that had no node.
+/// What has happened to files that had no node.
 #[derive(Debug, Default)]
 pub struct Made {
     /// The nodes that were made.
@@ -114,7 +114,7 @@ impl Volume {
         Ok(())
     }
 
-    /// Writes the batch if nobody else has written this volume since it was met.
+    /// Writes the batch if nobody else has written to this volume since it was last asked.
     fn write(&mut self, batch: &Batch) -> Result<Written, Error> {
         let mut client = self.client();
         match self.number {
@@ -134,7 +134,7 @@ impl Volume {
                 operations += 1 + file.values.len();
                 together.push(file);
             }
-            // A file of 64 attributes is more than a batch.
+            // A file with 64 attributes doesn't fit into a batch.
             if together.is_empty() {
                 together.extend(files.next());
             }
@@ -146,7 +146,7 @@ impl Volume {
         Ok(made)
     }
 
-    /// Makes nodes for files that fit into a batch. If it is refused, they are made one by one.
+    /// Makes nodes for files that fit into a batch. If the batch is refused, they are made one by one.
     fn make_together(&mut self, files: Vec<New>, made: &mut Made) -> Result<(), Failure> {
         if self.batches % LOOK == 0 {
             self.look()?;
@@ -171,7 +171,7 @@ impl Volume {
         Ok(())
     }
 
-    /// Writes a batch on what is known of the volume. If another client has written meanwhile, it is made again.
+    /// Writes a batch based on what is known about the volume. If another client has written meanwhile, the batch is made again.
     fn try_to_make(&mut self, files: &[New]) -> Result<Vec<u64>, Failure> {
         let mut left = TRIES;
         loop {
@@ -195,7 +195,7 @@ impl Volume {
     }
 }
 
-/// A batch that makes a node for each file, from this number on, and the operations that it has no room for.
+/// A batch that makes a node for each file, from this number on, and the operations that don't fit into it.
 fn batch_of(files: &[New], first: u64) -> (Batch, Option<Batch>) {
     let (mut batch, mut rest) = (Batch::new(), Batch::new());
     for (node, file) in (first..).zip(files) {

@@ -8,10 +8,10 @@ use std::os::unix::ffi::OsStrExt;
 use std::os::unix::fs::MetadataExt;
 use std::path::{Path, PathBuf};
 
-/// How the names of files of kept stores end.
+/// How the names of kept stores' files end.
 const STORES: [&[u8]; 4] = [b".bestore", b".bestore-wal", b".bestore-shm", b".bestore-journal"];
 
-/// A file with what the file system says of it.
+/// A file, and what the file system says about it.
 #[derive(Clone, Debug)]
 pub struct Found {
     pub path: PathBuf,
@@ -25,14 +25,14 @@ pub struct Unread {
     pub error: io::Error,
 }
 
-/// What a walk has found: a folder before what is in it.
+/// What a walk has found: a folder comes before its contents.
 #[derive(Debug, Default)]
 pub struct Walked {
     pub found: Vec<Found>,
     pub unread: Vec<Unread>,
 }
 
-/// Whether a file is that of a kept store, or one that SQLite puts beside it. Such a file is left out: to keep what is written of it
+/// Whether a file belongs to a kept store, or is one that SQLite puts beside it. Such a file is left out: recording its changes
 /// would change it again.
 pub fn is_of_a_store(path: &Path) -> bool {
     let name = path.file_name().map_or(&b""[..], OsStrExt::as_bytes);
@@ -43,12 +43,12 @@ pub fn is_of_a_store(path: &Path) -> bool {
 pub struct Walk<'a> {
     /// Called with each folder before it is read.
     pub before: &'a mut dyn FnMut(&Path),
-    /// If it is given, folders of other file systems are found, but not read.
+    /// If given, folders of other file systems are found, but not read.
     pub device: Option<u64>,
 }
 
 impl Walk<'_> {
-    /// The folder, or file, and what is below it. What goes meanwhile isn't found.
+    /// The folder, or file, and everything below it. What disappears meanwhile isn't found.
     pub fn below(&mut self, path: &Path) -> Walked {
         let mut walked = Walked::default();
         match fs::symlink_metadata(path) {
@@ -82,14 +82,14 @@ impl Walk<'_> {
     }
 }
 
-/// Whether the folder is in another file system.
+/// Whether the folder is on another file system.
 fn is_elsewhere(folder: &Path, device: u64) -> bool {
     fs::symlink_metadata(folder).map_or(false, |about| about.dev() != device)
 }
 
 impl Walked {
-    /// Keeps, of files that were found several times, what was found last. A large folder may list a name again that was removed and
-    /// made anew while it was read.
+    /// For files that were found several times, keeps what was found last. A large folder may list a name again that was removed and
+    /// recreated while it was being read.
     fn keep_last(&mut self) {
         let mut seen = HashSet::new();
         self.found.reverse();
@@ -120,7 +120,7 @@ impl Walked {
         }
     }
 
-    /// Keeps why a file can't be read, unless it has gone.
+    /// Remembers why a file can't be read, unless it has gone.
     fn failed(&mut self, path: &Path, error: io::Error) {
         if error.kind() != ErrorKind::NotFound {
             self.unread.push(Unread {

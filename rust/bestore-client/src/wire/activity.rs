@@ -1,7 +1,7 @@
-//! Replies that say what goes on in the server.
+//! Replies that describe what the server is doing.
 
 replies! {
-    /// Of `info`.
+    /// The reply to `info`.
     Info {
         /// The version of the server.
         pub server: String,
@@ -9,7 +9,7 @@ replies! {
         pub run: String,
         /// The number of its process.
         pub process: u32,
-        /// For how many seconds it has run.
+        /// How many seconds it has been running.
         pub seconds: u64,
         /// How many clients are connected.
         pub clients: u64,
@@ -19,12 +19,12 @@ replies! {
         pub watches: u64,
         /// How many writes the server has made since it started.
         pub writes: u64,
-        /// How many of them a second in the last 10 seconds, rounded down.
+        /// How many of them per second in the last 10 seconds, rounded down.
         pub writes_per_second: u64,
-        /// How long these took, until they were kept. Missing if there were none.
+        /// How long these took, including being kept. Missing if there were none.
         #[serde(default, skip_serializing_if = "Option::is_none")]
         pub latency: Option<Latency>,
-        /// How many writes are being made now, or wait for others or for the disk.
+        /// How many writes are being made now, or are waiting for others or for the disk.
         pub writing: u64,
         /// All pages.
         pub pages: u64,
@@ -35,10 +35,10 @@ replies! {
         /// The oldest snapshot that is read.
         #[serde(default, skip_serializing_if = "Option::is_none")]
         pub oldest: Option<OldestReader>,
-        /// The files of a server that is kept.
+        /// The files of a kept server.
         #[serde(default, skip_serializing_if = "Option::is_none")]
         pub files: Option<Files>,
-        /// What the server does in a log.
+        /// What the server is doing in a log.
         #[serde(default, skip_serializing_if = "Option::is_none")]
         pub log: Option<Role>,
         /// Why writes aren't kept now, if they aren't.
@@ -46,7 +46,7 @@ replies! {
         pub trouble: Option<String>,
     }
 
-    /// How long writes took, in µs: half of them, and 99 of 100, took at most so long, within a fifth.
+    /// How long writes took, in µs: half of them, or 99 of 100, took at most that long, to within a fifth.
     Latency {
         /// Half of them.
         pub p50: u64,
@@ -56,7 +56,7 @@ replies! {
         pub most: u64,
     }
 
-    /// Who reads the oldest snapshot.
+    /// Who is reading the oldest snapshot.
     OldestReader {
         /// The snapshot, in its volume.
         pub commit: u64,
@@ -86,38 +86,38 @@ replies! {
     Role {
         /// `leader` or `follower`.
         pub role: String,
-        /// Which leader the server is, counted from the first one, if it is one.
+        /// Which leader the server is, counted from the first one, if it leads.
         #[serde(default, skip_serializing_if = "Option::is_none")]
         pub term: Option<u64>,
-        /// The last entry that the server has of the log.
+        /// The last log entry that the server has.
         pub entry: u64,
-        /// How many entries a follower still has to get, or a leader to add.
+        /// How many entries a follower still has to get, or a leader still has to add.
         pub lag: u64,
     }
 
-    /// Of `clients`.
+    /// The reply to `clients`.
     Clients {
-        /// The clients, by rising numbers.
+        /// The clients, by ascending numbers.
         pub clients: Vec<ClientInfo>,
     }
 
     /// A client.
     ClientInfo {
-        /// Its number, by which `kick` ends it.
+        /// Its number, which `kick` takes.
         pub client: u64,
         /// The number of its process.
         pub process: u32,
-        /// For how many seconds it has been connected.
+        /// How many seconds it has been connected.
         pub seconds: u64,
         /// How many requests it has sent.
         pub requests: u64,
-        /// The command that it waits for now.
+        /// The command that it is waiting for now.
         #[serde(default, skip_serializing_if = "Option::is_none")]
         pub command: Option<String>,
         /// The snapshot that it has pinned.
         #[serde(default, skip_serializing_if = "Option::is_none")]
         pub pinned: Option<PinnedBy>,
-        /// Whether it is the client that has asked.
+        /// Whether it is the client that is asking.
         #[serde(default, skip_serializing_if = "std::ops::Not::not")]
         pub own: bool,
     }

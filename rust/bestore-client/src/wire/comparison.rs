@@ -21,7 +21,7 @@ pub enum Form {
 pub struct Comparison {
     /// The name of the attribute.
     pub name: String,
-    /// `==`, `!=`, `<`, `<=`, `>` or `>=`, as the text has it.
+    /// `==`, `!=`, `<`, `<=`, `>` or `>=`, as written in the text.
     pub operator: String,
     /// What is compared with.
     pub value: String,
@@ -31,7 +31,7 @@ pub struct Comparison {
     pub offset: u64,
     /// How many bytes of the text it has.
     pub length: u64,
-    /// Whether it is within an odd number of `!`, which turn it.
+    /// Whether it is within an odd number of `!`, so that it is negated.
     #[serde(default, skip_serializing_if = "std::ops::Not::not")]
     pub negated: bool,
     /// The names of the kinds of indices under which no node meets it.
@@ -53,7 +53,7 @@ impl Comparison {
     }
 }
 
-/// Of `text`.
+/// The reply to `text`.
 #[derive(Clone, Debug, Default, PartialEq, Eq, Serialize, Deserialize)]
 pub struct Comparisons {
     /// The comparisons, from left to right.

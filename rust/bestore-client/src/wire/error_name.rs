@@ -20,7 +20,7 @@ macro_rules! names {
             /// Every error that this client knows.
             pub const ALL: &'static [ErrorName] = &[$(ErrorName::$name),*];
 
-            /// The name, as the protocol has it.
+            /// The name in the protocol.
             #[must_use]
             pub fn as_str(&self) -> &str {
                 match self {
@@ -38,7 +38,7 @@ macro_rules! names {
                 }
             }
 
-            /// What a program can do about the error. Of an unknown one nothing says that the same request may succeed later.
+            /// What a program can do about the error. If it is unknown, nothing says that the same request may succeed later.
             #[must_use]
             pub const fn class(&self) -> Class {
                 match self {
@@ -75,10 +75,10 @@ names! {
     NoIndex = Some(6), Mine, "there is no index of this name";
     /// The store has 32 indices, the most it can have; remove one first.
     TooManyIndices = Some(7), Full, "the store has 32 indices, the most it can have; remove one first";
-    /// An index can't have this kind; it can have a kind of texts or integers, but not of MIME types or raw bytes.
-    NotIndexable = Some(8), Mine, "an index can't have this kind; it can have a kind of texts or integers, but not of MIME types or raw bytes";
-    /// The journal is at the limit that the store was opened with; copy the state into a new store.
-    CommitsSpent = Some(9), Full, "the journal is at the limit that the store was opened with; copy the state into a new store";
+    /// An index can't have this kind; it takes texts or integers, but not MIME types or raw bytes.
+    NotIndexable = Some(8), Mine, "an index can't have this kind; it takes texts or integers, but not MIME types or raw bytes";
+    /// The journal has reached the limit that the store was opened with; copy the state into a new store.
+    CommitsSpent = Some(9), Full, "the journal has reached the limit that the store was opened with; copy the state into a new store";
     /// Out of memory; free some and call again.
     OutOfMemory = Some(10), Full, "out of memory; free some and call again";
     /// No page is free; unpin old snapshots, remove nodes, or open a store with more pages.
@@ -145,16 +145,16 @@ names! {
     Expired = None, Gone, "the snapshot was kept too long, and the server took it back; pin again";
     /// There is no such volume.
     NoVolume = None, Mine, "there is no such volume";
-    /// A node is in another volume than the one that is written.
-    OtherVolume = None, Mine, "a node is in another volume than the one that is written";
+    /// A node isn't in the volume that is written.
+    OtherVolume = None, Mine, "a node isn't in the volume that is written";
     /// An index is made in all volumes, in a batch of its own.
     PartialIndex = None, Mine, "an index is made in all volumes, in a batch of its own";
     /// The journal isn't that long yet; ask again.
     NotReached = None, Retry, "the journal isn't that long yet; ask again";
     /// The connection has no such live query; start it with watch.
     NoWatch = None, Gone, "the connection has no such live query; start it with watch";
-    /// The connection has as many live queries as it can have; end one with unwatch first.
-    TooManyWatches = None, Full, "the connection has as many live queries as it can have; end one with unwatch first";
+    /// The connection has as many live queries as it may have; end one with unwatch first.
+    TooManyWatches = None, Full, "the connection has as many live queries as it may have; end one with unwatch first";
     /// Too many clients are reading copies of snapshots; try again once one has finished.
     TooManyCopies = None, Retry, "too many clients are reading copies of snapshots; try again once one has finished";
     /// No client with this number is connected; `be clients` lists the numbers.
@@ -173,14 +173,14 @@ names! {
     Protocol = None, Mine, "the server doesn't speak this version of the protocol";
     /// The request has more than 1 MiB.
     LineTooLong = None, Mine, "the request has more than 1 MiB";
-    /// The rest of the request didn't come.
-    Timeout = None, Gone, "the rest of the request didn't come";
-    /// The server is another user's; start one of your own, or name its socket.
-    NotAllowed = None, Mine, "the server is another user's; start one of your own, or name its socket";
-    /// The pushes of a live query waited too long and are lost; begin it again.
-    PushesLost = None, Gone, "the pushes of a live query waited too long and are lost; begin it again";
-    /// The server has an error that it doesn't name.
-    Unexpected = None, Mine, "the server has an error that it doesn't name";
+    /// The rest of the request never came.
+    Timeout = None, Gone, "the rest of the request never came";
+    /// The server belongs to another user; start one of your own, or name its socket.
+    NotAllowed = None, Mine, "the server belongs to another user; start one of your own, or name its socket";
+    /// Pushes of a live query waited too long and were lost; begin it again.
+    PushesLost = None, Gone, "pushes of a live query waited too long and were lost; begin it again";
+    /// The server reported an error without a name.
+    Unexpected = None, Mine, "the server reported an error without a name";
     // surface.toml: end
 }
 
@@ -226,7 +226,7 @@ impl<'de> Deserialize<'de> for ErrorName {
     }
 }
 
-/// A class by its name. Of one that this client doesn't know nothing is kept.
+/// A class by its name. One that this client doesn't know is dropped.
 pub(super) mod class {
     use bestore_types::Class;
     use serde::{Deserialize, Deserializer, Serializer};

@@ -33,7 +33,7 @@ pub use request::{
 pub use token::Token;
 pub use value::{kind_name, kind_named, Json};
 
-/// The numbers of the volumes as replies have them: none if there is one volume.
+/// The volumes' numbers in the form of replies: none if there is one volume.
 #[must_use]
 pub fn several(numbers: &[u64]) -> Vec<u64> {
     match numbers {
@@ -45,14 +45,14 @@ pub fn several(numbers: &[u64]) -> Vec<u64> {
 /// The version of the protocol.
 pub const PROTOCOL: u64 = 1;
 
-/// The parameters of `query` that the first servers of this protocol refuse. The `features` of a server name those that it takes.
+/// The parameters of `query` that the first servers of this protocol refuse. A server's `features` name those that it accepts.
 pub const QUERY_FEATURES: [&str; 3] = ["by", "any", "uncounted"];
 
-/// The most nodes of a line.
+/// The maximum number of nodes on a line.
 pub const NODES: usize = 50_000;
 
-/// The most bytes of a request, with the end of the line.
+/// The maximum number of bytes in a request, including the end of its line.
 pub const LINE: usize = 1 << 20;
 
-/// The greatest integer that is written as a number of JSON. Some readers of JSON round greater ones.
+/// The greatest integer that is written as a JSON number. Some JSON readers round greater ones.
 pub const EXACT: u64 = (1 << 53) - 1;

@@ -6,10 +6,10 @@ use serde::de::{self, Deserialize, DeserializeSeed, Deserializer, IgnoredAny, Se
 use serde::ser::{Serialize, SerializeSeq, Serializer};
 use std::fmt;
 
-/// The most operations that are kept of a list that is too long.
+/// How many operations are kept if a list is too long.
 const KEPT: usize = 64;
 
-/// The operations of a batch, read from JSON. Of a list that is too long the first 64 are kept.
+/// The operations of a batch, read from JSON. If the list is too long, the first 64 are kept.
 #[derive(Clone, Debug, Default, PartialEq, Eq)]
 pub struct Operations {
     /// The operations.
@@ -55,7 +55,7 @@ pub(super) mod asked_operations {
     }
 }
 
-/// Reads a list of operations. New nodes have a number if they were made already.
+/// Reads a list of operations. New nodes have a number if they have already been made.
 struct ListVisitor {
     are_made: bool,
 }
@@ -86,7 +86,7 @@ impl<'de> Visitor<'de> for ListVisitor {
     }
 }
 
-/// Reads one operation to the end of a batch.
+/// Reads one operation, and adds it to the end of a batch.
 struct OneOperation<'a> {
     batch: &'a mut Batch,
     is_made: bool,
@@ -153,7 +153,7 @@ impl<'de> Visitor<'de> for OneOperation<'_> {
             }
             _ => {
                 return Err(de::Error::custom(
-                    "no operation has this name; they are new, remove, set, unset, index and unindex",
+                    "no operation has this name; the operations are new, remove, set, unset, index and unindex",
                 ))
             }
         }
@@ -174,7 +174,7 @@ fn kind<E: de::Error>(name: Text<'_>) -> Result<Kind, E> {
     kind_named(&name.0).ok_or_else(|| E::custom(super::value::NO_KIND))
 }
 
-/// Gives the last operation that makes a node this number.
+/// Gives this number to the last operation that makes a node.
 fn set_last_node(batch: &mut Batch, node: u64) {
     let mut made: Vec<u64> = made(batch).collect();
     if let Some(last) = made.last_mut() {
@@ -217,7 +217,7 @@ impl Serialize for ShownOperations<'_> {
 }
 
 impl ShownOperations<'_> {
-    /// How many bytes of JSON the operations take, or some more.
+    /// How many bytes of JSON the operations take, or a few more.
     #[must_use]
     pub fn length(&self) -> usize {
         let lengths = self.0.operations().map(|operation| match operation {

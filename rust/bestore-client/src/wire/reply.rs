@@ -6,7 +6,7 @@ use std::collections::BTreeMap;
 use std::fmt;
 
 replies! {
-    /// Of `hello`.
+    /// The reply to `hello`.
     Hello {
         /// The version of the protocol.
         pub protocol: u64,
@@ -14,23 +14,23 @@ replies! {
         pub server: String,
         /// The version of the library.
         pub library: String,
-        /// Another text for each run of a server. Commit numbers begin anew with each run.
+        /// A different text for each run of a server. Commit numbers start again with each run.
         pub run: String,
         /// The number of the connection's pass.
         pub pass: u64,
-        /// `no`, or when a write is in the file: at `each` write, or `every` so often.
+        /// When writes are in the file: after `each` write, `every` so often, or `no` if there is no file.
         pub kept: String,
         /// The limits.
         pub limits: Limits,
         /// How many volumes the server has.
         #[serde(default = "one", skip_serializing_if = "is_one")]
         pub volumes: u32,
-        /// What the server has that the first servers of this protocol don't.
+        /// What the server has that the first servers of this protocol lack.
         #[serde(default, skip_serializing_if = "Vec::is_empty")]
         pub features: Vec<String>,
     }
 
-    /// How large the store may grow, and a connection's requests.
+    /// The limits of the store, and of a connection's requests.
     Limits {
         /// Pages of 4 KiB.
         pub pages: u64,
@@ -46,7 +46,7 @@ replies! {
         pub watches: u64,
     }
 
-    /// Of `batch`.
+    /// The reply to `batch`.
     Written {
         /// The volume that was written, if there are several.
         #[serde(default, skip_serializing_if = "Option::is_none")]
@@ -61,30 +61,30 @@ replies! {
         /// The number of the entry in the log, if the server has one.
         #[serde(default, skip_serializing_if = "Option::is_none")]
         pub entry: Option<u64>,
-        /// Whether a batch with this token was written before. A snapshot with the number `commit` has it.
+        /// Whether a batch with this token was written before. A snapshot with the number `commit` includes it.
         #[serde(default, skip_serializing_if = "is_false")]
         pub repeated: bool,
     }
 
-    /// Of `log`.
+    /// The reply to `log`.
     LogStatus {
         /// `leader` or `follower`.
         pub role: String,
-        /// Who leads, as far as the server knows: its machine and its socket.
+        /// Which server leads, as far as this one knows: its machine and its socket.
         pub leader: String,
-        /// Which leader the server is, counted from the first one, if it is one.
+        /// Which leader the server is, counted from the first one, if it leads.
         #[serde(default, skip_serializing_if = "Option::is_none")]
         pub term: Option<u64>,
         /// The last entry of the log that is in the store.
         pub entry: u64,
         /// Its commit number in the store.
         pub commit: u64,
-        /// Why the log can't be reached now, if it can't.
+        /// Why the log can't be reached for now, if it can't.
         #[serde(default, skip_serializing_if = "Option::is_none")]
         pub trouble: Option<String>,
     }
 
-    /// A snapshot, and the number that the next node will have: of `pin` and `next`.
+    /// The reply to `pin` and `next`: a snapshot, and the number of the next node.
     Next {
         /// The snapshot.
         pub commit: u64,
@@ -98,7 +98,7 @@ replies! {
         pub nexts: Vec<u64>,
     }
 
-    /// Of `query`.
+    /// The reply to `query`.
     Hits {
         /// The snapshot.
         pub commit: u64,
@@ -108,10 +108,10 @@ replies! {
         /// How many nodes the query finds from `from` on. Missing if the request was uncounted.
         #[serde(default, skip_serializing_if = "Option::is_none")]
         pub count: Option<u64>,
-        /// The nodes of this page. Missing if the count alone was asked for.
+        /// The nodes of this page. Missing if only the count was asked for.
         #[serde(default, skip_serializing_if = "Option::is_none")]
         pub nodes: Option<Vec<u64>>,
-        /// Of each node the values of the columns.
+        /// Each node's values of the columns.
         #[serde(default, skip_serializing_if = "Option::is_none")]
         pub rows: Option<Vec<Vec<Option<Json>>>>,
         /// Where the next page begins.
@@ -119,27 +119,27 @@ replies! {
         pub more: Option<u64>,
     }
 
-    /// Of `query` in the order of an index, or for any nodes.
+    /// The reply to `query` in the order of an index, or for any nodes.
     Page {
         /// The snapshot.
         pub commit: u64,
         /// The snapshot of each volume, if there are several.
         #[serde(default, skip_serializing_if = "Vec::is_empty")]
         pub commits: Vec<u64>,
-        /// The nodes, in their order if they have one.
+        /// The nodes, in order if there is one.
         pub nodes: Vec<u64>,
-        /// Of each node the values of the columns.
+        /// Each node's values of the columns.
         #[serde(default, skip_serializing_if = "Option::is_none")]
         pub rows: Option<Vec<Vec<Option<Json>>>>,
-        /// Whether there are more, of any nodes because the rows of those that were asked for don't fit into a line.
+        /// Whether there are more. For any nodes: whether the rows of some didn't fit on the line.
         #[serde(default, skip_serializing_if = "is_false")]
         pub more: bool,
-        /// The position of the last node in the order. It is what the request had if the page is empty, and missing if that had none.
+        /// The position of the last node in the order. If the page is empty, it is the request's, and missing if that had none.
         #[serde(default, skip_serializing_if = "Option::is_none")]
         pub cursor: Option<String>,
     }
 
-    /// Of `get`.
+    /// The reply to `get`.
     Value {
         /// The snapshot.
         pub commit: u64,
@@ -150,18 +150,18 @@ replies! {
         pub value: Option<Json>,
     }
 
-    /// Of `columns`.
+    /// The reply to `columns`.
     Rows {
         /// The snapshot.
         pub commit: u64,
         /// The snapshot of each volume, if there are several.
         #[serde(default, skip_serializing_if = "Vec::is_empty")]
         pub commits: Vec<u64>,
-        /// The values of each node in the order of the names. If a line has no room for all, those of the first nodes.
+        /// Each node's values in the order of the names. If they don't all fit on the line, those of the first nodes.
         pub rows: Vec<Vec<Option<Json>>>,
     }
 
-    /// Of `attributes`.
+    /// The reply to `attributes`.
     Attributes {
         /// The snapshot.
         pub commit: u64,
@@ -172,21 +172,21 @@ replies! {
         pub attributes: BTreeMap<String, Json>,
     }
 
-    /// Of `indices`.
+    /// The reply to `indices`.
     Indices {
         /// The snapshot.
         pub commit: u64,
         /// The snapshot of each volume, if there are several.
         #[serde(default, skip_serializing_if = "Vec::is_empty")]
         pub commits: Vec<u64>,
-        /// The names of kinds by the names of the indices.
+        /// The names of the kinds, by the names of the indices.
         pub indices: BTreeMap<String, String>,
         /// The indices that some volumes lack or have with another kind, and the volumes that have them.
         #[serde(default, skip_serializing_if = "BTreeMap::is_empty")]
         pub partial: BTreeMap<String, Vec<u32>>,
     }
 
-    /// Of `nodes`.
+    /// The reply to `nodes`.
     Nodes {
         /// The snapshot.
         pub commit: u64,
@@ -200,7 +200,7 @@ replies! {
         pub more: Option<u64>,
     }
 
-    /// Of `explain`.
+    /// The reply to `explain`.
     Explained {
         /// The snapshot.
         pub commit: u64,
@@ -211,7 +211,7 @@ replies! {
         pub text: String,
     }
 
-    /// Of `watch`.
+    /// The reply to `watch`.
     Watched {
         /// The number of the watch.
         pub watch: u64,
@@ -228,7 +228,7 @@ replies! {
         pub more: bool,
     }
 
-    /// Of `status`.
+    /// The reply to `status`.
     Status {
         /// All pages.
         pub pages: u64,
@@ -246,7 +246,7 @@ replies! {
         pub clients: u64,
         /// How many live queries they have.
         pub watches: u64,
-        /// Why writes aren't kept now, if they aren't.
+        /// Why writes can't be kept for now, if they can't.
         #[serde(default, skip_serializing_if = "Option::is_none")]
         pub trouble: Option<String>,
         /// Each volume, if there are several. The numbers above are their sums.
@@ -281,7 +281,7 @@ replies! {
         pub volume: Option<u32>,
     }
 
-    /// Of `journal`.
+    /// The reply to `journal`.
     Journal {
         /// How many entries the journal has.
         pub length: u64,
@@ -302,7 +302,7 @@ replies! {
         pub operations: Operations,
     }
 
-    /// Of `state`.
+    /// The reply to `state`.
     State {
         /// The snapshot.
         pub commit: u64,
@@ -324,7 +324,7 @@ replies! {
         pub commits: Vec<u64>,
     }
 
-    /// A line that the server pushes for a watch, and the reply of `refresh`.
+    /// A line that the server pushes for a watch, and the reply to `refresh`.
     Push {
         /// The number of the watch.
         pub watch: u64,
@@ -347,7 +347,7 @@ replies! {
         pub error: Option<Refusal>,
     }
 
-    /// Why a request did nothing, with what is known of it.
+    /// Why a request did nothing, with details.
     Refusal {
         /// The name of the error.
         pub name: ErrorName,
@@ -356,13 +356,13 @@ replies! {
         pub number: Option<u32>,
         /// A text for people.
         pub message: String,
-        /// What a client can do about it, if the server says so. [`Refusal::class`] knows it otherwise.
+        /// What a client can do about it, if the server says so. Otherwise [`Refusal::class`] knows.
         #[serde(default, skip_serializing_if = "Option::is_none", with = "super::error_name::class")]
         pub class: Option<Class>,
-        /// What goes with it, by names.
+        /// The details that go with it, by name.
         #[serde(flatten)]
         pub details: BTreeMap<String, serde_json::Value>,
-        /// The text of the query that was refused, as this client has sent it.
+        /// The text of the refused query, as sent by this client.
         #[serde(skip)]
         pub query: Option<String>,
     }
@@ -406,7 +406,7 @@ impl Refusal {
     }
 }
 
-/// The name and the message. Of a query the text follows, with a caret under the place that is wrong.
+/// The name and the message. For a query, its text follows, with a caret under the place that is wrong.
 impl fmt::Display for Refusal {
     fn fmt(&self, f: &mut fmt::Formatter<'_>) -> fmt::Result {
         write!(f, "{}: {}", self.name, self.message)?;

@@ -27,7 +27,7 @@ macro_rules! parameters_with_texts {
     )*};
 }
 
-/// Reads a parameter that may be left out. `null` isn't the same as leaving it out.
+/// Reads an optional parameter. `null` isn't the same as leaving it out.
 fn given<'de, T: Deserialize<'de>, D: Deserializer<'de>>(from: D) -> Result<Option<T>, D::Error> {
     T::deserialize(from).map(Some)
 }
@@ -36,17 +36,17 @@ parameters! {
     /// The parameters of a command that has none.
     Nothing {}
 
-    /// Of `hello`.
+    /// The parameters of `hello`.
     Greeting {
         /// The version of the protocol that the client speaks.
         #[serde(default, deserialize_with = "given", skip_serializing_if = "Option::is_none")]
         pub protocol: Option<u64>,
-        /// Whether the client asks a few things and goes, so that it gets a place when all others are taken.
+        /// Whether the client asks a few things and leaves, so that it gets a place even when all others are taken.
         #[serde(default, skip_serializing_if = "std::ops::Not::not")]
         pub visit: bool,
     }
 
-    /// Of `batch`.
+    /// The parameters of `batch`.
     Write {
         /// The operations.
         #[serde(with = "asked_operations")]
@@ -57,42 +57,42 @@ parameters! {
         /// The volume that is written.
         #[serde(default, deserialize_with = "given", skip_serializing_if = "Option::is_none")]
         pub volume: Option<u32>,
-        /// By which the batch can be sent again: it is written once.
+        /// Lets the batch be sent again: it is written only once.
         #[serde(default, deserialize_with = "given", skip_serializing_if = "Option::is_none")]
         pub token: Option<Token>,
-        /// The run of the server whose commit numbers `expected` has.
+        /// The run of the server that `expected` belongs to.
         #[serde(default, deserialize_with = "given", skip_serializing_if = "Option::is_none")]
         pub run: Option<String>,
     }
 
-    /// Of `attributes`.
+    /// The parameters of `attributes`.
     Node {
         /// The node.
         pub node: u64,
     }
 
-    /// Of `nodes`.
+    /// The parameters of `nodes`.
     NodesFrom {
         /// The lowest node.
         #[serde(default)]
         pub from: u64,
-        /// The most nodes.
+        /// The maximum number of nodes.
         #[serde(default, deserialize_with = "given", skip_serializing_if = "Option::is_none")]
         pub limit: Option<u64>,
     }
 
-    /// Of `unwatch` and `refresh`.
+    /// The parameters of `unwatch` and `refresh`.
     Watching {
         /// The number of the watch.
         pub watch: u64,
     }
 
-    /// Of `journal`.
+    /// The parameters of `journal`.
     JournalFrom {
         /// The index of the first entry.
         #[serde(default)]
         pub from: u64,
-        /// The most entries.
+        /// The maximum number of entries.
         #[serde(default, deserialize_with = "given", skip_serializing_if = "Option::is_none")]
         pub limit: Option<u64>,
         /// The volume, if there are several.
@@ -100,17 +100,17 @@ parameters! {
         pub volume: Option<u32>,
     }
 
-    /// Of `log`.
+    /// The parameters of `log`.
     OfLog {
         /// The entry of the log that the server has to have.
         #[serde(default, deserialize_with = "given", skip_serializing_if = "Option::is_none")]
         pub entry: Option<u64>,
-        /// For how many milliseconds it is waited for.
+        /// How many milliseconds to wait for it.
         #[serde(default, deserialize_with = "given", skip_serializing_if = "Option::is_none")]
         pub within: Option<u64>,
     }
 
-    /// Of `state`.
+    /// The parameters of `state`.
     From {
         /// The index of the first batch.
         #[serde(default)]
@@ -120,23 +120,23 @@ parameters! {
         pub volume: Option<u32>,
     }
 
-    /// Of `kick`.
+    /// The parameters of `kick`.
     Kick {
-        /// The number of the client, as `clients` says it.
+        /// The number of the client, from the reply to `clients`.
         pub client: u64,
     }
 
-    /// Of `reach`.
+    /// The parameters of `reach`.
     Reach {
         /// How many entries the journal has to have.
         pub commit: Numbers,
-        /// How many milliseconds may pass.
+        /// How many milliseconds to wait.
         #[serde(default, deserialize_with = "given", skip_serializing_if = "Option::is_none")]
         pub within: Option<u64>,
     }
 }
 
-/// The most numbers of a list.
+/// The maximum length of a list of numbers.
 const NUMBERS: usize = 64;
 
 /// A commit number, or that of each volume.
@@ -167,7 +167,7 @@ impl<'de> Visitor<'de> for NumbersVisitor {
     type Value = Numbers;
 
     fn expecting(&self, f: &mut fmt::Formatter<'_>) -> fmt::Result {
-        f.write_str("a commit number, or a list with that of each volume")
+        f.write_str("a commit number, or a list with one for each volume")
     }
 
     fn visit_u64<E: de::Error>(self, number: u64) -> Result<Numbers, E> {
@@ -187,55 +187,55 @@ impl<'de> Visitor<'de> for NumbersVisitor {
 }
 
 parameters_with_texts! {
-    /// Of `query`.
+    /// The parameters of `query`.
     Query {
         /// The query.
         #[serde(borrow)]
         pub query: Cow<'a, str>,
-        /// The attributes of each node that the reply has.
+        /// The attributes that the reply has for each node.
         #[serde(borrow, default, deserialize_with = "given", skip_serializing_if = "Option::is_none")]
         pub columns: Option<Columns<'a>>,
-        /// The most nodes.
+        /// The maximum number of nodes.
         #[serde(default, deserialize_with = "given", skip_serializing_if = "Option::is_none")]
         pub limit: Option<u64>,
         /// The lowest node.
         #[serde(default)]
         pub from: u64,
-        /// Whether only the number of nodes is asked for.
+        /// Whether only the number of nodes is wanted.
         #[serde(default)]
         pub count: bool,
         /// Whether the reply has no `count`, which takes the whole answer.
         #[serde(default, skip_serializing_if = "std::ops::Not::not")]
         pub uncounted: bool,
-        /// The index in whose order the nodes come, those without a value there left out.
+        /// The index in whose order the nodes come; those without a value there are left out.
         #[serde(borrow, default, deserialize_with = "given", skip_serializing_if = "Option::is_none")]
         pub by: Option<Cow<'a, str>>,
         /// Whether the greatest values come first.
         #[serde(default, skip_serializing_if = "std::ops::Not::not")]
         pub descending: bool,
-        /// The cursor of the page before.
+        /// The cursor of the previous page.
         #[serde(borrow, default, deserialize_with = "given", skip_serializing_if = "Option::is_none")]
         pub after: Option<Cow<'a, str>>,
-        /// How many nodes are asked for, whichever they are.
+        /// How many nodes are wanted; any of them will do.
         #[serde(default, deserialize_with = "given", skip_serializing_if = "Option::is_none")]
         pub any: Option<u64>,
     }
 
-    /// Of `explain` and `text`.
+    /// The parameters of `explain` and `text`.
     QueryText {
         /// The query.
         #[serde(borrow)]
         pub query: Cow<'a, str>,
     }
 
-    /// Of `watch`.
+    /// The parameters of `watch`.
     Watch {
-        /// The query, if the nodes that it finds are watched.
+        /// The query, if its nodes are to be watched.
         #[serde(borrow, default, deserialize_with = "given", skip_serializing_if = "Option::is_none")]
         pub query: Option<Cow<'a, str>>,
     }
 
-    /// Of `get`.
+    /// The parameters of `get`.
     Get {
         /// The node.
         pub node: u64,
@@ -244,7 +244,7 @@ parameters_with_texts! {
         pub name: Cow<'a, str>,
     }
 
-    /// Of `columns`.
+    /// The parameters of `columns`.
     ColumnsOf {
         /// The nodes.
         pub nodes: Vec<u64>,
@@ -291,7 +291,7 @@ impl<'de: 'a, 'a> Deserialize<'de> for Columns<'a> {
     }
 }
 
-/// Parameters, which are an object: a list of their values in order would be read too otherwise.
+/// Parameters, which must be an object: otherwise a list of their values in order would be read too.
 struct Object<T>(T);
 
 impl<'de, T: Deserialize<'de>> Deserialize<'de> for Object<T> {
@@ -377,7 +377,7 @@ commands! {
     Text(QueryText<'a>) = "text";
     /// Begins a live query.
     Watch(Watch<'a>) = "watch";
-    /// Asks it now, and returns what changed.
+    /// Runs it now, and returns what changed.
     Refresh(Watching) = "refresh";
     /// Ends it.
     Unwatch(Watching) = "unwatch";
@@ -385,7 +385,7 @@ commands! {
     Status(Nothing) = "status";
     /// Entries of the journal.
     Journal(JournalFrom) = "journal";
-    /// The batches that make the snapshot again.
+    /// The batches that rebuild the snapshot.
     State(From) = "state";
     /// Copies the snapshot, so that `state` reads it without a pin.
     Collect(Nothing) = "collect";
@@ -393,11 +393,11 @@ commands! {
     Reach(Reach) = "reach";
     /// Waits for the file.
     Flush(Nothing) = "flush";
-    /// Writes the state into the file anew.
+    /// Rewrites the state in the file.
     Compact(Nothing) = "compact";
-    /// What the server does in the log that machines share. Waits for an entry.
+    /// What the server is doing in the log that machines share. Waits for an entry.
     Log(OfLog) = "log";
-    /// What goes on in the server.
+    /// What the server is doing.
     Info(Nothing) = "info";
     /// Who is connected.
     Clients(Nothing) = "clients";
@@ -463,7 +463,7 @@ impl<'de> Visitor<'de> for RequestVisitor {
     }
 }
 
-/// The `id` of a line that is no request, if it can be read.
+/// The `id` of a line that isn't a request, if it can be read.
 #[must_use]
 pub fn id_of(line: &[u8]) -> Option<u64> {
     struct Id;

@@ -3,16 +3,16 @@
 use serde::de::{self, Deserialize, Deserializer};
 use serde::Serialize;
 
-/// The most bytes of a token.
+/// The maximum number of bytes in a token.
 const MOST: usize = 64;
 
-/// A text of 1 to 64 bytes by which a batch can be sent again. The client chooses it, and another one for each batch.
+/// A text of 1 to 64 bytes that lets a batch be sent again. The client chooses a different one for each batch.
 #[derive(Clone, Debug, PartialEq, Eq, Serialize)]
 #[serde(transparent)]
 pub struct Token(String);
 
 impl Token {
-    /// Makes a token of the text. `None`: it has no bytes, or more than 64.
+    /// Makes the text a token. `None` if it has no bytes, or more than 64.
     #[must_use]
     pub fn new(text: impl Into<String>) -> Option<Self> {
         let text = text.into();

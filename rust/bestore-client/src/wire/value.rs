@@ -24,7 +24,7 @@ pub const fn kind_name(kind: Kind) -> &'static str {
     }
 }
 
-/// What is said of another name.
+/// The error for another name.
 // surface.toml: list of kinds
 pub(super) const NO_KIND: &str = "no kind has this name; they are text, int32, int64, mime, raw, uint32, uint64";
 // surface.toml: end
@@ -35,7 +35,7 @@ pub fn kind_named(name: &str) -> Option<Kind> {
     Kind::ALL.into_iter().find(|kind| kind_name(*kind) == name)
 }
 
-/// A value as the protocol has it: a text and an int64 as themselves, any other with the name of its kind.
+/// A value in the form of the protocol: a text and an int64 as themselves, any other with the name of its kind.
 #[derive(Clone, Debug, PartialEq, Eq)]
 pub struct Json(pub Value);
 
@@ -140,11 +140,11 @@ fn raw<E: de::Error>(text: Text<'_>) -> Result<Vec<u8>, E> {
     base64::decode(text.0.as_bytes()).map_err(|error| E::custom(format_args!("bytes are base64 with padding: {error}")))
 }
 
-/// A text that is borrowed from the line if it has no escapes.
+/// A text, borrowed from the line if it has no escapes.
 #[derive(serde::Deserialize)]
 pub(super) struct Text<'a>(#[serde(borrow)] pub(super) Cow<'a, str>);
 
-/// What an integer of a kind is in JSON.
+/// The JSON form of an integer with a kind.
 const INTEGER: &str = "an integer of its kind, or the digits of one as a text, such as \"-5\"";
 
 /// An integer, or its digits as a text.

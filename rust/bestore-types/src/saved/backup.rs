@@ -1,4 +1,4 @@
-//! Backups: a file, or a folder with one for each volume, that gets a state and appears once it is whole.
+//! Backups: a file, or a folder with one for each volume, that is filled with a state and appears once it is complete.
 
 use super::file::File;
 use super::{path_of, About, Error, Result};
@@ -49,7 +49,7 @@ struct Beside {
 
 impl Drop for Beside {
     fn drop(&mut self) {
-        // Nothing is left of a backup that is finished.
+        // A finished backup has nothing to remove.
         let _ = match self.is_folder {
             true => fs::remove_dir_all(&self.path),
             false => fs::remove_file(&self.path),
@@ -77,7 +77,7 @@ impl Beside {
         }
     }
 
-    /// Gives the whole backup its name, if nothing else has it.
+    /// Gives the finished backup its name, if nothing else has that name.
     fn publish(&self, path: &Path) -> io::Result<()> {
         if self.is_folder {
             // Only an empty folder could be in its place by now.
@@ -95,7 +95,7 @@ fn exists(path: &Path) -> bool {
     path.symlink_metadata().is_ok()
 }
 
-/// Waits until what the file or folder has is on the disk.
+/// Waits until the contents of the file or folder are on the disk.
 fn synchronise(path: &Path) -> Result<()> {
     let synchronised = fs::File::open(path).and_then(|file| file.sync_all());
     synchronised.map_err(|error| Error::folder(path, error))
@@ -110,7 +110,7 @@ fn parent(path: &Path) -> &Path {
 }
 
 impl Backup {
-    /// Begins a backup of so many volumes: a file for one, otherwise a folder. Nothing may be at the path.
+    /// Begins a backup of this many volumes: a file for one, otherwise a folder. Nothing may be at the path.
     ///
     /// # Errors
     /// [`Error::Exists`]; [`Error::Folder`]: it can't be made there; [`Error::DiskFull`], [`Error::Sqlite`].
@@ -132,7 +132,7 @@ impl Backup {
         Ok(Self { path, beside, files })
     }
 
-    /// Adds the next of the batches that make a volume's snapshot again, with the node numbers of that volume alone.
+    /// Adds the next of the batches that rebuild a volume's snapshot, with that volume's own node numbers.
     ///
     /// # Errors
     /// [`Error::DiskFull`], [`Error::Sqlite`]; [`Error::Store`]: there is no such volume, or the batch is bad.
@@ -145,10 +145,10 @@ impl Backup {
         Ok(())
     }
 
-    /// Ends the backup, whose volumes have these numbers, and gives it its name once the disk has it.
+    /// Ends the backup, whose volumes have these numbers, and gives it its name once it is on the disk.
     ///
     /// # Errors
-    /// [`Error::Exists`]: something has come to the path meanwhile. [`Error::Folder`], [`Error::DiskFull`], [`Error::Sqlite`].
+    /// [`Error::Exists`]: something has appeared at the path meanwhile. [`Error::Folder`], [`Error::DiskFull`], [`Error::Sqlite`].
     pub fn finish(self, about: &[About]) -> Result<()> {
         let Self { path, beside, files } = self;
         for ((volume, part), about) in (0..).zip(files).zip(about) {

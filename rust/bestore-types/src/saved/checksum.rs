@@ -8,7 +8,8 @@ pub(super) enum Column<'a> {
     Bytes(&'a [u8]),
 }
 
-/// The CRC-32 of these columns: of a number 8 bytes, little-endian, and of a text or blob its length as such a number, then its bytes.
+/// The CRC-32 of these columns: a number counts as 8 bytes, little-endian, and a text or blob as its length, as such a number, and its
+/// bytes.
 pub(super) fn checksum(columns: &[Column<'_>]) -> u32 {
     let mut hasher = Hasher::new();
     for column in columns {

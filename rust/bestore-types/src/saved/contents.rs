@@ -1,4 +1,4 @@
-//! What a file has, read without a store.
+//! The contents of a file, read without a store.
 
 use super::file::File;
 use super::{check_volumes, count, files_of, About, Error, Place, Result};
@@ -6,7 +6,7 @@ use crate::Batch;
 use std::collections::BTreeMap;
 use std::path::{Path, PathBuf};
 
-/// What the file of a volume has: the batches that make its store again on an empty one, one after another.
+/// What the file of a volume has: the batches that rebuild its store from an empty one, one after another.
 #[derive(Clone, Debug, PartialEq, Eq)]
 pub struct Contents {
     /// The numbers of the state.
@@ -35,7 +35,7 @@ impl Contents {
         Ok(Self { about, state, entries })
     }
 
-    /// The batches in their order, with the places that they have in the file.
+    /// The batches in order, with their places in the file.
     pub fn batches(&self) -> impl Iterator<Item = (Place, &Batch)> {
         let state = (0..).map(Place::State).zip(&self.state);
         state.chain((self.about.entries + 1..).map(Place::Entry).zip(&self.entries))
@@ -50,13 +50,13 @@ fn batch(place: Place, bytes: &[u8]) -> Result<Batch> {
 ///
 /// # Errors
 /// [`Error::Foreign`], [`Error::Newer`], [`Error::Held`], [`Error::Damaged`], [`Error::CutOff`], [`Error::Differs`],
-/// [`Error::Sqlite`]: of a folder in [`Error::OfVolume`]. [`Error::Folder`], [`Error::NoFile`].
+/// [`Error::Sqlite`]; for a folder these are in [`Error::OfVolume`]. [`Error::Folder`], [`Error::NoFile`].
 pub fn read(path: impl AsRef<Path>) -> Result<Vec<Contents>> {
     read_until(path, &BTreeMap::new())
 }
 
-/// The same, of each of these volumes up to an entry of its file, so that the part before a damaged one is read. The volume of a
-/// file is 0.
+/// The same, but reads each of these volumes only up to an entry of its file, such as the last one before a damaged entry. The
+/// volume of a single file is 0.
 ///
 /// # Errors
 /// Those of [`read`]. [`Error::NotWithin`]: the file hasn't the entry. [`Error::NoVolume`]: there is no such volume.

@@ -1,4 +1,4 @@
-//! Why a file can't be opened, or a write not be saved.
+//! Why a file can't be opened, or a write can't be saved.
 
 use rusqlite::ErrorCode;
 use std::fmt;
@@ -14,9 +14,9 @@ pub enum Place {
     Entry(u64),
     /// The token of the entry with this number.
     Token(u64),
-    /// What the file says of its state.
+    /// What the file says about its state.
     About,
-    /// The pages of SQLite.
+    /// SQLite's pages.
     Structure,
 }
 
@@ -36,22 +36,22 @@ impl fmt::Display for Place {
             Place::State(index) => write!(f, "batch {index} of the state"),
             Place::Entry(number) => write!(f, "entry {number}"),
             Place::Token(number) => write!(f, "the token of entry {number}"),
-            Place::About => f.write_str("what the file says of its state"),
+            Place::About => f.write_str("what the file says about its state"),
             Place::Structure => f.write_str("the structure of SQLite's pages"),
         }
     }
 }
 
-/// Why a file can't be opened, or a write not be saved.
+/// Why a file can't be opened, or a write can't be saved.
 #[non_exhaustive]
 #[derive(Debug)]
 pub enum Error {
-    /// The file is of another program.
+    /// The file belongs to another program.
     Foreign {
         /// The file.
         path: PathBuf,
     },
-    /// The file is of a newer format.
+    /// The file has a newer format.
     Newer {
         /// The file.
         path: PathBuf,
@@ -60,7 +60,7 @@ pub enum Error {
         /// The latest version that can be read.
         known: i64,
     },
-    /// Another process has the file, or another store of this one.
+    /// Another process, or another store of this one, has the file open.
     Held {
         /// The file.
         path: PathBuf,
@@ -81,7 +81,7 @@ pub enum Error {
         path: PathBuf,
         /// The first part that is found to be damaged.
         place: Place,
-        /// What comes before can be read by [`read_until`](super::read_until) with this number, if anything can.
+        /// Up to which entry [`read_until`](super::read_until) can read the file, if it can.
         until: Option<u64>,
         /// How it was found.
         why: Box<dyn std::error::Error + Send + Sync>,
@@ -92,7 +92,7 @@ pub enum Error {
         path: PathBuf,
         /// The last entry that it has.
         last: u64,
-        /// The last entry that it has had.
+        /// The last entry that it ever had.
         had: u64,
     },
     /// There is no such entry to read up to.
@@ -129,34 +129,34 @@ pub enum Error {
         /// The store's error.
         error: crate::Error,
     },
-    /// An error of SQLite.
+    /// An SQLite error.
     Sqlite {
         /// The file.
         path: PathBuf,
         /// The error.
         error: rusqlite::Error,
     },
-    /// The thread that saves could not be started.
+    /// The saving thread couldn't be started.
     Thread(std::io::Error),
-    /// The folder of a shelf can't be read or made, or a file or folder of a backup not be made.
+    /// The folder of a shelf can't be read or made, or a file or folder of a backup can't be made.
     Folder {
         /// The folder, or the file.
         path: PathBuf,
         /// The error.
         error: std::io::Error,
     },
-    /// The folder of a shelf has the file of a later volume, and not this one.
+    /// The folder of a shelf has the file of a later volume, but not this one.
     NoFile {
         /// The file.
         path: PathBuf,
     },
-    /// A shelf can't be opened with fewer volumes than its folder has, nor with none.
+    /// A shelf can't be opened with fewer volumes than its folder has, or with none.
     Fewer {
         /// The folder.
         folder: PathBuf,
         /// How many it has.
         found: u32,
-        /// How many were asked for, or `found` if no number was.
+        /// How many were asked for, or `found` if no number was given.
         wanted: u32,
     },
     /// The error of one volume of a shelf.
@@ -175,7 +175,7 @@ pub enum Error {
 }
 
 impl Error {
-    /// What is at this place isn't what a store did.
+    /// The error of a place whose contents no store wrote.
     pub fn differs(place: Place, why: impl Into<Box<dyn std::error::Error + Send + Sync>>) -> Self {
         Error::Differs { place, why: why.into() }
     }
@@ -229,7 +229,7 @@ impl Error {
         }
     }
 
-    /// The error of the system about a folder, or a file of a backup.
+    /// The system's error about a folder, or a file of a backup.
     #[must_use]
     pub fn folder(path: &Path, error: std::io::Error) -> Self {
         let path = path.to_owned();
@@ -243,7 +243,7 @@ impl Error {
         Error::OfVolume { volume, error }
     }
 
-    /// The error of SQLite about this file.
+    /// SQLite's error about this file.
     #[must_use]
     pub fn of_sqlite(path: &Path, error: rusqlite::Error) -> Self {
         let path = path.to_owned();

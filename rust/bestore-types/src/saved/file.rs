@@ -1,4 +1,4 @@
-//! The file: a database of SQLite with the last state and the entries since. docs/KEPT.md describes the format.
+//! The file: an SQLite database with the last state and the entries since then. docs/KEPT.md describes the format.
 
 use super::last::LastEntry;
 use super::tables::{self, APPLICATION, FORMAT, WITHOUT_CHECKSUMS};
@@ -13,7 +13,7 @@ use std::os::unix::fs::OpenOptionsExt;
 use std::path::{Path, PathBuf};
 use std::time::Duration;
 
-/// The WAL is written from its start again after 1,000 pages, 4.1 MB, so the limit cuts off only what a large commit has left.
+/// The WAL is reused from its start after 1,000 pages, 4.1 MB, so the limit cuts off only what a large commit has left.
 /// The last two statements take the lock.
 const SETTINGS: &str = "
     PRAGMA journal_mode = WAL;
@@ -26,7 +26,7 @@ const SETTINGS: &str = "
 /// The greatest number that an entry can have, as SQLite's integers end there.
 const LAST_NUMBER: u64 = i64::MAX as u64;
 
-/// What a file says of its state.
+/// What a file says about its state.
 #[derive(Clone, Copy, Debug, PartialEq, Eq)]
 pub struct About {
     /// The number of the last entry that the state contains.
@@ -35,17 +35,17 @@ pub struct About {
     pub next: u64,
 }
 
-/// How many tokens a file has at least before the oldest ones go, and how many go at once.
+/// How many tokens a file keeps before the oldest ones are removed, and how many are removed at once.
 const MOST_TOKENS: usize = super::TOKENS;
 const TOKENS_AT_ONCE: usize = 1_024;
 
-/// The state isn't written anew before the entries take so many bytes.
+/// The state isn't rewritten until the entries take this many bytes.
 const LEAST_DUE: u64 = 1 << 20;
 
-/// About as many bytes does a row of the file have beside its batch.
+/// About how many bytes a row of the file has besides its batch.
 const ROW_BYTES: u64 = 20;
 
-/// Of a file that nobody sees before it is whole. Its journal is that of SQLite by default, so the one file has all.
+/// For a file that nobody sees before it is complete. It uses SQLite's default journal, so one file has everything.
 const STATE_SETTINGS: &str = "
     PRAGMA auto_vacuum = FULL;
     PRAGMA journal_mode = MEMORY;
@@ -87,7 +87,7 @@ impl Token {
     }
 }
 
-/// Makes the file if it isn't there, so that the user alone may read it. SQLite gives the file with `-wal` the same mode.
+/// Makes the file if it isn't there, so that only the user may read it. SQLite gives the file with `-wal` the same mode.
 fn make_private(path: &Path) {
     let made = OpenOptions::new().write(true).create_new(true).mode(0o600).open(path);
     // If it can't be made, opening it says why.
@@ -100,9 +100,9 @@ pub struct File {
     path: PathBuf,
     /// Whether its rows have checksums. Those of the earlier format have none.
     has_checksums: bool,
-    /// The entries whose tokens the file has, by rising numbers.
+    /// The entries whose tokens the file has, by ascending numbers.
     with_token: VecDeque<u64>,
-    /// How many bytes the entries take, and from how many on the state is written anew.
+    /// How many bytes the entries take, and at how many the state is rewritten.
     entry_bytes: u64,
     due_bytes: u64,
     /// It is dropped after the connection.
@@ -110,7 +110,7 @@ pub struct File {
 }
 
 impl File {
-    /// Opens the file for this process alone, or makes it.
+    /// Opens or makes the file, for this process only.
     pub fn open(path: &Path) -> Result<Self> {
         let flags = OpenFlags::SQLITE_OPEN_READ_WRITE | OpenFlags::SQLITE_OPEN_CREATE | OpenFlags::SQLITE_OPEN_NO_MUTEX;
         // SQLite takes ":memory:" and an empty name for no file, and neither has a folder before it.
@@ -146,7 +146,8 @@ impl File {
         }
     }
 
-    /// Makes a file at `place` that gets a state. It is whole after [`end_state`](Self::end_state), and errors name it `path`.
+    /// Makes a file at `place`, to be filled with a state. It is complete after [`end_state`](Self::end_state), and errors name it
+    /// `path`.
     pub fn begin_state(place: &Path, path: &Path) -> Result<Self> {
         let made = OpenOptions::new().write(true).create_new(true).mode(0o600).open(place);
         made.map_err(|error| Error::folder(place, error))?;
@@ -186,7 +187,7 @@ impl File {
         self.sqlite(self.connection.pragma_query_value(None, name, |row| row.get(0)))
     }
 
-    /// Locks the file, looks whose it is, and makes the tables in an empty one, before it has a WAL that could lose them.
+    /// Locks the file, checks whose it is, and makes the tables in an empty one, before it has a WAL that could lose them.
     fn take(&mut self) -> Result<()> {
         self.sqlite(self.connection.busy_timeout(Duration::ZERO))?;
         self.sqlite(self.connection.pragma_update(None, "locking_mode", "EXCLUSIVE"))?;
@@ -198,7 +199,7 @@ impl File {
         self.sqlite(tables::make_tokens(&self.connection, self.has_checksums))
     }
 
-    /// Whether the file is new. One of another program, or of a newer format, is refused.
+    /// Whether the file is new. A file that belongs to another program, or has a newer format, is refused.
     fn check_format(&mut self) -> Result<bool> {
         let tables = self
             .connection
@@ -220,7 +221,7 @@ impl File {
         }
     }
 
-    /// Whether the file is of the earlier format, which has no checksums.
+    /// Whether the file has the earlier format, without checksums.
     pub fn lacks_checksums(&self) -> bool {
         !self.has_checksums
     }
@@ -258,8 +259,8 @@ impl File {
         })
     }
 
-    /// Refuses a file whose entries were read up to `last`, if that isn't the one that was asked for. If none was, the file may have had
-    /// no later entries, and its pages have to be whole.
+    /// Refuses a file whose entries were read up to `last`, if another one was asked for. If none was, refuses it if it once had later
+    /// entries, or if its pages are damaged.
     pub fn check_end(&self, until: Option<u64>, last: u64) -> Result<()> {
         match until {
             Some(until) if until != last => Err(Error::NotWithin {
@@ -276,7 +277,7 @@ impl File {
         }
     }
 
-    /// Refuses a file that ends with this entry and has had later ones.
+    /// Refuses a file that ends with this entry but once had later ones.
     fn check_last(&self, last: u64) -> Result<()> {
         if !self.has_checksums {
             return Ok(());
@@ -307,7 +308,7 @@ impl File {
         }
     }
 
-    /// Whether the entries take more than the state, and not a little.
+    /// Whether the entries take more than the state, and more than a little.
     pub fn is_due(&self) -> bool {
         self.entry_bytes > self.due_bytes
     }
@@ -325,7 +326,7 @@ impl File {
         Ok(())
     }
 
-    /// From now on the number of the last entry, which is this one, is also kept beside the file.
+    /// From now on, also keeps the number of the last entry beside the file. It is this one now.
     pub fn keep_last(&mut self, last: u64) -> Result<()> {
         if self.has_checksums {
             self.last = LastEntry::begin(&self.path, self.number("file")?, last);
@@ -333,9 +334,9 @@ impl File {
         Ok(())
     }
 
-    /// The file is refused: when it is closed, the WAL stays beside it.
+    /// Says that the file is refused: the WAL then stays beside it when it is closed.
     pub fn leave(&self) {
-        // Otherwise SQLite moves the part of the WAL that isn't damaged, and removes the rest.
+        // Otherwise SQLite would copy the undamaged part of the WAL into the file, and remove the rest.
         let _ = self
             .connection
             .set_db_config(DbConfig::SQLITE_DBCONFIG_NO_CKPT_ON_CLOSE, true);
@@ -363,7 +364,7 @@ impl File {
         }
     }
 
-    /// Hands each batch of the state to the closure, in their order, with its index.
+    /// Hands each batch of the state to the closure, in order, with its index.
     pub fn each_state(&self, take: impl FnMut(u64, &[u8]) -> Result<()>) -> Result<()> {
         let sql = format!(
             "SELECT place, NULL, batch, {} FROM state ORDER BY place",
@@ -372,7 +373,7 @@ impl File {
         self.each(&sql, 0..=u64::MAX, Place::State, take)
     }
 
-    /// Hands each entry after `after` and up to `until` to the closure, by rising numbers.
+    /// Hands each entry after `after` and up to `until` to the closure, by ascending numbers.
     pub fn each_entry(&self, after: u64, until: u64, take: impl FnMut(u64, &[u8]) -> Result<()>) -> Result<()> {
         let sql = format!(
             "SELECT number, pass, batch, {} FROM entry ORDER BY number",
@@ -381,8 +382,8 @@ impl File {
         self.each(&sql, after.wrapping_add(1)..=until, Place::Entry, take)
     }
 
-    /// Hands the batch of each row to the closure, of which there has to be one for each of the numbers up to the last row. The rows
-    /// after the numbers aren't looked at.
+    /// Hands the batch of each row to the closure. There has to be one for each of the numbers up to the last row. Rows beyond the
+    /// numbers aren't looked at.
     fn each(
         &self,
         sql: &str,
@@ -430,7 +431,7 @@ impl File {
         Ok((number, tables::fits(row, 3, sum)?))
     }
 
-    /// Adds the rows, all in one commit. One row alone is a transaction of its own, without statements that begin and end it.
+    /// Adds the rows, all in one commit. A single row is a transaction of its own, without statements that begin and end it.
     pub fn append(&mut self, rows: &[Row]) -> Result<()> {
         let added = match rows {
             [row] if row.token.is_none() => self.insert(row),
@@ -444,7 +445,7 @@ impl File {
         Ok(())
     }
 
-    /// The tokens that the file has, with the numbers of their entries, which rise. `last` is its last entry.
+    /// The tokens that the file has, with the numbers of their entries, in ascending order. `last` is its last entry.
     pub fn tokens(&mut self, last: u64) -> Result<Vec<(u64, Token)>> {
         let mut due = 0;
         let tokens = self.read_tokens(&mut due);
@@ -495,7 +496,7 @@ impl File {
         }
     }
 
-    /// Adds the token of an entry. Once there are too many, the oldest ones go.
+    /// Adds the token of an entry. Once there are too many, the oldest ones are removed.
     fn insert_token(&mut self, number: u64, token: &Token) -> rusqlite::Result<()> {
         let nodes = token.node_bytes();
         if self.has_checksums {
@@ -523,21 +524,21 @@ impl File {
         let inserted = rows.iter().try_for_each(|row| self.insert(row));
         let added = inserted.and_then(|()| run(&self.connection, "COMMIT"));
         if added.is_err() && !self.connection.is_autocommit() {
-            // What it returns is less than the error of the rows.
+            // The error of the rows matters more than what this returns.
             let _ = run(&self.connection, "ROLLBACK");
         }
         added
     }
 
-    /// Puts this state, which contains the entries up to `number`, in the place of the old one and of these entries. A file of the
-    /// earlier format gets checksums.
+    /// Replaces the old state, and the entries up to `number`, with this state, which contains them. A file of the earlier format
+    /// gets checksums.
     pub fn write_state(
         &mut self,
         number: u64,
         next: u64,
         batches: impl Iterator<Item = crate::Result<Batch>>,
     ) -> Result<()> {
-        // Until it succeeds, it isn't due again at once.
+        // If it fails, it isn't due again at once.
         self.due_bytes = self.due_bytes.max(self.entry_bytes) + LEAST_DUE;
         let mut failed = None;
         let batches = batches.map(|batch| batch.and_then(|batch| batch.to_bytes()));
@@ -555,7 +556,7 @@ impl File {
     }
 }
 
-/// Within a transaction that is returned: replaces the state, and the entries that this one contains.
+/// Replaces the state, and the entries that this one contains, within a transaction that is returned.
 fn replace_state(
     connection: &mut Connection,
     has_checksums: bool,

@@ -1,14 +1,15 @@
-//! The file with `-last`: the number of the last entry that a file has had.
+//! The file with `-last`: the number of a file's last entry.
 //!
-//! SQLite leaves out all that comes after a damaged frame of the WAL, and reports nothing. So the number is also kept beside the file while
-//! that is open, and after a crash. It is written after each commit and isn't waited for: after a power failure it may be too small.
+//! SQLite leaves out everything after a damaged frame of the WAL, and doesn't report that. So the number is also kept beside the file
+//! while that is open, and after a crash. It is written after each commit and isn't waited for: after a power failure it may be too
+//! small.
 
 use super::checksum::{checksum, Column};
 use std::fs::{self, OpenOptions};
 use std::os::unix::fs::{FileExt, OpenOptionsExt};
 use std::path::{Path, PathBuf};
 
-/// Keeps the number. Dropped after the file was closed, it is removed, unless a WAL is left.
+/// Keeps the number. The number's file is removed if this is dropped after the store's file was closed, unless a WAL is left.
 #[derive(Debug)]
 pub(super) struct LastEntry {
     file: fs::File,
@@ -21,13 +22,13 @@ pub(super) struct LastEntry {
 impl Drop for LastEntry {
     fn drop(&mut self) {
         if !self.wal.exists() {
-            // One that stays says less than the file has.
+            // One that stays only says less than the file has.
             let _ = fs::remove_file(&self.path);
         }
     }
 }
 
-/// The path of a file beside a store's, as SQLite names its own: a link is followed.
+/// The path of a file beside a store's, named as SQLite names its own: a link is followed.
 fn beside(path: &Path, ending: &str) -> PathBuf {
     let mut path = fs::canonicalize(path)
         .unwrap_or_else(|_| path.to_owned())
@@ -42,14 +43,14 @@ fn line(id: u64, number: u64) -> String {
 }
 
 impl LastEntry {
-    /// The last entry that the file with this id has had, if that is known.
+    /// The last entry that the file with this id had, if that is known.
     pub(super) fn read(path: &Path, id: u64) -> Option<u64> {
         let text = fs::read_to_string(beside(path, "-last")).ok()?;
         let number = text.split(' ').nth(1)?.parse().ok()?;
         (text == line(id, number)).then_some(number)
     }
 
-    /// Begins with this entry. `None`: the number can't be kept, as on a full disk.
+    /// Begins with this entry. `None`: the number can't be kept, for example because the disk is full.
     pub(super) fn begin(path: &Path, id: u64, number: u64) -> Option<Self> {
         let (path, wal) = (beside(path, "-last"), beside(path, "-wal"));
         let file = OpenOptions::new()

@@ -28,7 +28,7 @@ const COLUMNS: &str = "
 const TOKENS: &str =
     "CREATE TABLE IF NOT EXISTS token (number INTEGER PRIMARY KEY, token TEXT NOT NULL, nodes BLOB NOT NULL";
 
-/// Marks an empty file as one of a store, and makes its tables.
+/// Marks an empty file as a store's, and makes its tables.
 pub(super) fn make(connection: &Connection) -> rusqlite::Result<()> {
     connection.execute_batch(&format!(
         "BEGIN IMMEDIATE; PRAGMA application_id = {APPLICATION}; PRAGMA user_version = {FORMAT}; {TABLES}"
@@ -45,7 +45,7 @@ pub(super) fn make_tokens(connection: &Connection, has_checksums: bool) -> rusql
     connection.execute_batch(&format!("{TOKENS}{column})"))
 }
 
-/// Within a transaction: gives the rows of an earlier format checksums. Those of `about` are set by [`set_about`], and the state is
+/// Adds checksums to the rows of an earlier format, within a transaction. [`set_about`] sets those of `about`, and the state is
 /// empty.
 pub(super) fn add_checksums(connection: &Connection) -> rusqlite::Result<()> {
     connection.execute_batch(&format!("{COLUMNS} PRAGMA user_version = {FORMAT}"))?;

@@ -11,7 +11,7 @@ pub fn path_of(folder: &Path, volume: u32) -> PathBuf {
     folder.join(format!("{volume}.bestore"))
 }
 
-/// The files of so many volumes at a path: the path itself, or those within the folder.
+/// The files of this many volumes at a path: the path itself, or those within the folder.
 #[must_use]
 pub fn files_of(place: &Path, volumes: u32) -> Vec<PathBuf> {
     match place.is_dir() {

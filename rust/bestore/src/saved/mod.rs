@@ -1,7 +1,7 @@
 //! Stores whose writes are kept in a file.
 //!
-//! The store is in memory, and each accepted transaction goes into a file of SQLite before its call returns. Opening the file
-//! makes the store again.
+//! The store is in memory, and each accepted transaction goes into an SQLite file before its call returns. Opening the file
+//! rebuilds the store.
 //!
 //! ```
 //! use bestore::{saved, Kind};
@@ -22,13 +22,13 @@
 //! # Ok::<(), Box<dyn std::error::Error>>(())
 //! ```
 //!
-//! A write that has returned is in the file, also after `kill -9`. A snapshot may show a write before that. The format of
-//! the file, and all that is promised, are in `docs/KEPT.md` of the repository.
+//! A write that has returned is in the file, even after `kill -9`. A snapshot may show a write before that. The file's
+//! format, and everything that is promised, are in `docs/KEPT.md` of the repository.
 //!
-//! When a commit fails, as on a full disk, the writes that wait for it return [`NotSaved`](crate::Error::NotSaved), and later
-//! ones [`Stopped`](crate::Error::Stopped). Reads go on.
+//! When a commit fails, such as on a full disk, the writes that are waiting for it return [`NotSaved`](crate::Error::NotSaved), and
+//! later ones [`Stopped`](crate::Error::Stopped). Reads go on.
 //!
-//! Opening and [`Saved::compact`] write the state anew, so the file doesn't grow for ever.
+//! Opening and [`Saved::compact`] rewrite the state, so the file doesn't grow for ever.
 
 mod queue;
 mod shelf;
@@ -48,12 +48,12 @@ use std::time::Duration;
 /// Opens the file, or makes it, with the default limits. Each write is saved before its call returns.
 ///
 /// # Errors
-/// As [`Options::open`].
+/// Those of [`Options::open`].
 pub fn open(path: impl AsRef<Path>) -> Result<Saved> {
     Options::new().open(path)
 }
 
-/// The token of a write that the file has: see [`Batch::set_token`].
+/// The token of a write in the file: see [`Batch::set_token`].
 #[derive(Clone, Debug, PartialEq, Eq)]
 pub struct Token {
     /// The token.
@@ -76,7 +76,7 @@ pub struct Options {
 }
 
 impl Options {
-    /// The default limits, and each write is saved before its call returns.
+    /// The default limits; each write is saved before its call returns.
     #[must_use]
     pub fn new() -> Self {
         Self::default()
@@ -88,20 +88,20 @@ impl Options {
         self
     }
 
-    /// Saves a write at the latest when this time has passed since it returned. A crash within that time can lose it.
+    /// Saves a write within this time after it returned. A crash within that time can lose it.
     pub fn every(&mut self, time: Duration) -> &mut Self {
         self.every = Some(time.min(YEAR));
         self
     }
 
-    /// Lets [`load`](Self::load) read a volume up to this entry of its file, so that the part before a damaged one is read. The volume
-    /// of a file is 0. The other calls read all entries.
+    /// Makes [`load`](Self::load) read a volume only up to this entry of its file, such as the last one before a damaged entry. The
+    /// volume of a single file is 0. The other calls read all entries.
     pub fn until(&mut self, volume: u32, entry: u64) -> &mut Self {
         self.until.insert(volume, entry);
         self
     }
 
-    /// Opens the file, or makes it, and makes the store again. A file that is refused stays as it is.
+    /// Opens or makes the file, and rebuilds the store. A file that is refused stays as it is.
     ///
     /// # Errors
     /// [`Error::Foreign`], [`Error::Newer`], [`Error::Held`], [`Error::Damaged`], [`Error::CutOff`], [`Error::Differs`],
@@ -141,8 +141,8 @@ impl Options {
         Ok(Loaded { store, number, tokens })
     }
 
-    /// Makes the store again that a file has, or the volumes of a folder, and leaves the files as they are: what is written then is
-    /// kept nowhere. The limits are those of each volume.
+    /// Rebuilds the store of a file, or the volumes of a folder, and leaves the files as they are: what is written then isn't kept
+    /// anywhere. The limits are those of each volume.
     ///
     /// # Errors
     /// Those of [`open`](Self::open) and [`open_shelf`](Self::open_shelf), but for a full disk. [`Error::NotWithin`],
@@ -174,7 +174,7 @@ impl Options {
     }
 }
 
-/// A store that was made of a file, with the number of the file's last entry, and its tokens.
+/// A store that was rebuilt from a file, with the number of the file's last entry, and its tokens.
 struct Loaded {
     store: Store,
     number: u64,
@@ -194,7 +194,7 @@ fn load(file: &File, store: &Store, until: u64) -> Result<u64> {
     if own.pin()?.next_node()? != state.next {
         return Err(Error::differs(
             Place::State(0),
-            "the state has another next node than it says",
+            "the next node of the state differs from the one that it names",
         ));
     }
     let mut last = state.entries;
@@ -219,7 +219,8 @@ fn read(place: Place, bytes: &[u8]) -> Result<Batch> {
     Batch::from_bytes(bytes).map_err(|error| Error::differs(place, error))
 }
 
-/// Writes the state anew if there are entries since, or if the file has no checksums. On a full disk the file stays as it is, and the next write says so.
+/// Rewrites the state if there are entries since, or if the file has no checksums. On a full disk the file stays as it is, and
+/// the next write says so.
 fn renew(file: &mut File, snapshot: &Snapshot<'_>, number: u64) -> Result<()> {
     if number == file.state()?.entries && !file.lacks_checksums() {
         return Ok(());
@@ -254,18 +255,18 @@ impl Saved {
     /// Takes a pass, whose writes are saved.
     ///
     /// # Errors
-    /// As [`Store::pass`].
+    /// Those of [`Store::pass`].
     pub fn pass(&self) -> crate::Result<Pass> {
         Ok(self.store.pass()?.kept_by(self.queue.keeper()))
     }
 
-    /// Takes the tokens that the file had when it was opened, those of earlier writes first. Each is in the file from the same commit on
-    /// as its write. A second call returns none.
+    /// Takes the tokens that the file had when it was opened, those of earlier writes first. A token is saved in the same commit as its
+    /// write. A second call returns none.
     pub fn take_tokens(&mut self) -> Vec<Token> {
         std::mem::take(&mut self.tokens)
     }
 
-    /// Waits until all that was written before the call is in the file.
+    /// Waits until everything written before the call is in the file.
     ///
     /// # Errors
     /// The error of the commit that failed, in [`Error::Stopped`]; [`Error::Store`] in a forked child.
@@ -274,7 +275,7 @@ impl Saved {
         self.queue.flush(None)
     }
 
-    /// The error of the commit that failed, if one has. From then on the memory is ahead of the file.
+    /// The error of the commit that failed, if one has. Since then memory is ahead of the file.
     #[must_use]
     pub fn failure(&self) -> Option<Arc<Error>> {
         self.queue.failure()
@@ -295,7 +296,7 @@ impl Saved {
     }
 
     /// Whether the entries since the state take more bytes of the file than the state and 1 MiB, so that [`compact`](Self::compact)
-    /// makes the file smaller and its opening faster. After a `compact` that failed it needs 1 MiB more.
+    /// makes the file smaller and faster to open. After a `compact` that failed, it takes 1 MiB more.
     #[must_use]
     pub fn is_due(&self) -> bool {
         self.queue.is_due()
@@ -310,7 +311,7 @@ impl Saved {
     /// Saves what was written, and closes the file. Passes that are still open can read.
     ///
     /// # Errors
-    /// As [`flush`](Self::flush).
+    /// Those of [`flush`](Self::flush).
     pub fn close(mut self) -> Result<()> {
         self.store.check()?;
         self.queue.close()

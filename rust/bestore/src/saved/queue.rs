@@ -1,4 +1,4 @@
-//! The order of the writes, and who saves them: one of the writers that wait, or with a time a thread.
+//! The order of the writes, and who saves them: one of the waiting writers, or a thread if there is a time.
 
 use super::{Error, Result};
 use crate::pass::Keeper;
@@ -31,16 +31,16 @@ struct Line {
     due: Option<Instant>,
     written: u64,
     saved: u64,
-    /// Whether somebody makes a commit.
+    /// Whether somebody is making a commit.
     is_saving: bool,
-    /// Whether somebody waits for what is waiting, so that it is saved at once.
+    /// Whether somebody is waiting for what is queued, so that it is saved at once.
     is_urgent: bool,
     is_closed: bool,
     failed: Option<Arc<Error>>,
 }
 
 impl Line {
-    /// The rows that wait, which are to be saved now.
+    /// The waiting rows, which are to be saved now.
     fn take_rows(&mut self) -> Vec<Row> {
         self.due = None;
         self.is_urgent = false;
@@ -61,16 +61,16 @@ impl Line {
 #[derive(Debug)]
 struct Shared {
     line: Mutex<Line>,
-    /// Something waits to be saved, or the end has come.
+    /// Something waits to be saved, or the queue is closing.
     work: Condvar,
     /// Something was saved, or saving has failed.
     done: Condvar,
     /// Until the queue is closed.
     file: Mutex<Option<File>>,
-    /// Whether the state of the file is to be written anew.
+    /// Whether the state of the file is to be rewritten.
     is_due: AtomicBool,
     every: Option<Duration>,
-    /// What has to be added to a commit number of the store to have the number in the file.
+    /// What to add to a commit number of the store to get the number in the file.
     shift: i64,
 }
 
@@ -90,7 +90,7 @@ impl Shared {
         Ok(())
     }
 
-    /// Makes a commit of what waits, or waits until somebody else has made one.
+    /// Commits what is waiting, or waits until somebody else has done so.
     fn advance<'a>(&'a self, mut line: MutexGuard<'a, Line>) -> MutexGuard<'a, Line> {
         if self.every.is_none() && !line.is_saving {
             return self.save_rows(line);
@@ -102,7 +102,7 @@ impl Shared {
         wait(&self.done, line)
     }
 
-    /// Makes a commit of what waits. Meanwhile other writes come, and wait for the next one.
+    /// Commits what is waiting. Other writes that come meanwhile wait for the next commit.
     fn save_rows<'a>(&'a self, mut line: MutexGuard<'a, Line>) -> MutexGuard<'a, Line> {
         let rows = line.take_rows();
         drop(line);
@@ -137,7 +137,7 @@ impl Shared {
         }
     }
 
-    /// Saves what waits, again and again, until the end or until a commit fails.
+    /// Keeps saving what is waiting, until the end or until a commit fails.
     fn save(&self) {
         while let Some(line) = self.next_work() {
             if self.save_rows(line).failed.is_some() {
@@ -158,7 +158,7 @@ impl Shared {
     }
 }
 
-/// A commit that is being made. If a panic ends it, nobody waits for it any more.
+/// A commit that is being made. If it ends in a panic, nobody waits for it any more.
 struct Saving<'a>(&'a Shared);
 
 impl Drop for Saving<'_> {
@@ -217,7 +217,7 @@ impl Keeper for Shared {
     }
 }
 
-/// The queue of one file, and with a time the thread that saves.
+/// The queue of one file, and its saving thread if there is a time.
 #[derive(Debug)]
 pub(super) struct Queue {
     shared: Arc<Shared>,
@@ -289,21 +289,21 @@ impl Queue {
         self.shared.wait_for(line, number).map_err(Error::Stopped)
     }
 
-    /// Saves what waits, and ends the thread.
+    /// Saves what is waiting, and ends the thread.
     pub(super) fn close(&mut self) -> Result<()> {
         if mem::replace(&mut self.is_closed, true) {
             return Ok(());
         }
         let saving = self.saving.take();
         if !self.birthplace.is_here() {
-            // A forked child has no such thread, and the file belongs to the parent: it may not be closed here.
+            // A forked child has no such thread, and the file belongs to the parent: it must not be closed here.
             mem::forget((saving, self.shared.clone()));
             return Ok(());
         }
         lock(&self.shared.line).is_closed = true;
         if let Some(saving) = saving {
             self.shared.work.notify_one();
-            // If the thread has panicked, what it hasn't saved is an error below.
+            // If the thread has panicked, whatever it hasn't saved is an error below.
             let _ = saving.join();
         }
         let flushed = self.flush(None);

@@ -1,4 +1,4 @@
-//! Shelves that are kept: each volume in a file of its own, in one folder.
+//! Kept shelves: each volume has a file of its own, in one folder.
 
 use super::{Error, Options, Result, Saved};
 use crate::{Shelf, ShelfPass, MOST_VOLUMES};
@@ -16,13 +16,14 @@ pub struct SavedShelf {
 }
 
 impl Options {
-    /// Opens the volumes that the folder has, each in a file of its own: `0.bestore`, `1.bestore` and so on. With a number of
-    /// `volumes`, 1 to 64, it makes the folder, and those that are missing. A volume that is new gets the indices that the others
-    /// have. The options are those of each volume.
+    /// Opens the volumes that the folder has, each in a file of its own: `0.bestore`, `1.bestore` and so on. If `volumes` is
+    /// given, 1 to 64, it makes the folder and the missing volumes. A new volume gets the indices that the others have. The
+    /// options are for each volume.
     ///
     /// # Errors
-    /// As [`open`](Self::open), in [`Error::OfVolume`]. [`Error::Folder`]: the folder can't be read or made. [`Error::Fewer`]: it
-    /// has more volumes than `volumes`, or none and no number is given. [`Error::NoFile`]: a volume before another is missing.
+    /// Those of [`open`](Self::open), in [`Error::OfVolume`]. [`Error::Folder`]: the folder can't be read or made. [`Error::Fewer`]: it
+    /// has more volumes than `volumes`, or none and no number is given. [`Error::NoFile`]: a volume is missing and a later one is
+    /// there.
     pub fn open_shelf(&self, folder: impl AsRef<Path>, volumes: Option<u32>) -> Result<SavedShelf> {
         let folder = folder.as_ref();
         if !(1..=MOST_VOLUMES).contains(&volumes.unwrap_or(1)) {
@@ -60,7 +61,7 @@ impl SavedShelf {
     /// A shelf of these volumes. One that never had a node gets the indices that all the others have.
     ///
     /// # Errors
-    /// As [`Shelf::of_volumes`]; those of a write.
+    /// Those of [`Shelf::of_volumes`]; those of a write.
     pub fn of_volumes(volumes: Vec<Saved>) -> Result<Self> {
         let shelf = Shelf::of_volumes(volumes.iter().map(|saved| saved.store.clone()).collect())?;
         let saved = Self { shelf, volumes };
@@ -88,7 +89,7 @@ impl SavedShelf {
     /// Takes a pass, whose writes are saved.
     ///
     /// # Errors
-    /// As [`Shelf::pass`].
+    /// Those of [`Shelf::pass`].
     pub fn pass(&self) -> crate::Result<ShelfPass> {
         self.shelf.pass_of(self.volumes.iter().map(Saved::pass))
     }
@@ -109,23 +110,23 @@ impl SavedShelf {
         }
     }
 
-    /// Waits until all that was written before the call is in the files.
+    /// Waits until everything written before the call is in the files.
     ///
     /// # Errors
-    /// As [`Saved::flush`], of the first volume that can't be saved. The others are saved.
+    /// Those of [`Saved::flush`], for the first volume that can't be saved. The others are saved.
     pub fn flush(&self) -> Result<()> {
         self.each(Saved::flush)
     }
 
-    /// Writes the current snapshots into the files, as [`Saved::compact`], one after another.
+    /// Writes the current snapshots into the files, like [`Saved::compact`], one after another.
     ///
     /// # Errors
-    /// As `Saved::compact`, of the first volume that can't be written. The others are.
+    /// Those of `Saved::compact`, for the first volume that can't be written. The others are written.
     pub fn compact(&self) -> Result<()> {
         self.each(Saved::compact)
     }
 
-    /// Whether a volume is to be compacted, as [`Saved::is_due`].
+    /// Whether a volume needs compacting, by [`Saved::is_due`].
     #[must_use]
     pub fn is_due(&self) -> bool {
         self.volumes.iter().any(Saved::is_due)
@@ -134,7 +135,7 @@ impl SavedShelf {
     /// Compacts the volumes for which that [is due](Self::is_due).
     ///
     /// # Errors
-    /// As [`compact`](Self::compact).
+    /// Those of [`compact`](Self::compact).
     pub fn compact_if_due(&self) -> Result<()> {
         self.each(|volume| match volume.is_due() {
             true => volume.compact(),
@@ -145,7 +146,7 @@ impl SavedShelf {
     /// Saves what was written, and closes the files. Passes that are still open can read.
     ///
     /// # Errors
-    /// As [`flush`](Self::flush).
+    /// Those of [`flush`](Self::flush).
     pub fn close(self) -> Result<()> {
         let outcome = self.flush();
         let closed = self.volumes.into_iter().map(Saved::close);

@@ -6,7 +6,7 @@ use crate::{Change, Error, Node, Result, Value};
 /// What the closure of [`ShelfPass::change`] reads, and the operations that it collects. All of them are in one volume: the one
 /// that was asked for, otherwise that of the first operation.
 ///
-/// [`get`](Self::get) reads the snapshot as the operations so far leave it, and [`snapshot`](Self::snapshot) what they are made on.
+/// [`get`](Self::get) reads the snapshot with the operations so far, and [`snapshot`](Self::snapshot) the one that they are based on.
 #[derive(Debug)]
 pub struct ShelfChange<'a> {
     snapshot: &'a ShelfSnapshot<'a>,
@@ -58,7 +58,7 @@ impl<'a> ShelfChange<'a> {
     /// An attribute as the operations so far leave it, or `None` if the node or the attribute doesn't exist then.
     ///
     /// # Errors
-    /// As [`ShelfSnapshot::get`].
+    /// Those of [`ShelfSnapshot::get`].
     pub fn get(&self, node: u64, name: &str) -> Result<Option<Value>> {
         let Node { volume, number } = node.into();
         match &self.change {
@@ -76,11 +76,11 @@ impl<'a> ShelfChange<'a> {
         self
     }
 
-    /// Makes a node, and returns what it will be. If no volume was asked for, and this is the first operation, the volume is the one
+    /// Makes a node, and returns its future number. If no volume was asked for, and this is the first operation, the volume is the one
     /// with the most free pages.
     ///
     /// # Errors
-    /// [`Error::NoVolume`]: the volume that was asked for isn't there; those of [`ShelfSnapshot::roomiest`].
+    /// [`Error::NoVolume`]: the volume that was asked for doesn't exist; those of [`ShelfSnapshot::roomiest`].
     pub fn new_node(&mut self) -> Result<u64> {
         let volume = self.volume.map_or_else(|| self.snapshot.roomiest(), Ok)?;
         let number = self.in_volume(volume)?.new_node();
@@ -117,7 +117,7 @@ impl<'a> ShelfChange<'a> {
         Ok(self)
     }
 
-    /// Runs the closure on one snapshot after the other, until its operations are written on the one that it has read.
+    /// Runs the closure on one snapshot after another, until its operations are written on the one that it has read.
     pub(super) fn run<T>(
         pass: &mut ShelfPass,
         volume: Option<u32>,

@@ -21,7 +21,7 @@ use std::collections::BTreeSet;
 #[derive(Debug)]
 pub struct ShelfLive {
     text: String,
-    /// The query of each volume, as far as volumes were asked.
+    /// The query of each volume that has been asked.
     volumes: Vec<Live>,
     /// What was found by a refresh that then failed in another volume.
     pending: Updates,
@@ -31,7 +31,7 @@ impl ShelfLive {
     /// Parses the query.
     ///
     /// # Errors
-    /// As [`Live::new`].
+    /// Those of [`Live::new`].
     pub fn new(text: &str) -> Result<Self> {
         Ok(Self {
             text: text.into(),
@@ -40,10 +40,10 @@ impl ShelfLive {
         })
     }
 
-    /// Asks the whole query in each volume, and compares with its answer at the last refresh. Snapshots of one shelf.
+    /// Asks the whole query in each volume, and compares with its answer at the last refresh. Use snapshots of one shelf.
     ///
     /// # Errors
-    /// As [`ShelfSnapshot::query`]. What changed until then is returned by the next refresh that succeeds.
+    /// Those of [`ShelfSnapshot::query`]. What changed until then is returned by the next refresh that succeeds.
     pub fn refresh(&mut self, snapshot: &ShelfSnapshot<'_>) -> Result<Updates> {
         self.refresh_by(snapshot, Live::refresh)
     }
@@ -51,7 +51,7 @@ impl ShelfLive {
     /// Returns what [`refresh`](Self::refresh) does, in each volume by [`Live::refresh_changed`], which says when that is faster.
     ///
     /// # Errors
-    /// As [`Live::refresh_changed`]. What changed until then is returned by the next refresh that succeeds.
+    /// Those of [`Live::refresh_changed`]. What changed until then is returned by the next refresh that succeeds.
     pub fn refresh_changed(&mut self, snapshot: &ShelfSnapshot<'_>) -> Result<Updates> {
         self.refresh_by(snapshot, Live::refresh_changed)
     }

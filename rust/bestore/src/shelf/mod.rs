@@ -1,7 +1,7 @@
 //! Shelves: several stores that one query searches.
 //!
-//! A [`Shelf`] has 1 to 64 stores, its *volumes*, so it has room for more nodes than one store does. A query is answered from all of
-//! them, and a [node](crate::Node) says which volume it is in. A node never leaves its volume.
+//! A [`Shelf`] has 1 to 64 stores, its *volumes*, so it has room for more nodes than one store. A query searches all of them, and a
+//! [node](crate::Node) says which volume it is in. A node never leaves its volume.
 //!
 //! ```
 //! use bestore::{Kind, Limits, Node, Shelf};
@@ -27,14 +27,14 @@
 //!
 //! # What is promised
 //!
-//! Each volume keeps its own promise: its writes are serializable in its journal, and what is read of it is one snapshot. Across
-//! volumes there is no order:
+//! Each volume by itself keeps the promises of a store: its writes are serializable in its journal, and what is read from it is one
+//! snapshot. Across volumes there is no order:
 //!
 //! - A [`ShelfSnapshot`] has a snapshot of each volume, which are pinned one after another. It may have a later write to one
-//!   volume, and not an earlier one to another. It has all that its pass has written or seen.
+//!   volume, and not an earlier one to another. It has everything that its pass has written or seen.
 //! - A batch is in one volume. A [change](ShelfPass::change) writes one volume, only if nothing else was written there. What it
-//!   read of other volumes may have changed meanwhile.
-//! - Indices are made in one volume after another. A query that a volume doesn't cover is refused, so no answer is a part.
+//!   read from other volumes may have changed meanwhile.
+//! - Indices are made in one volume after another. A query that one volume can't answer is refused, so no answer is partial.
 
 mod change;
 mod live;
@@ -55,12 +55,12 @@ use std::sync::{Arc, Mutex};
 #[derive(Clone, Debug)]
 pub struct Shelf {
     volumes: Vec<Store>,
-    /// Taken while indices are made or removed.
+    /// Held while indices are made or removed.
     indexing: Arc<Mutex<()>>,
 }
 
 impl Shelf {
-    /// Opens so many empty volumes, 1 to 64. The limits are those of each.
+    /// Opens this many empty volumes, 1 to 64. The limits are for each volume.
     ///
     /// # Errors
     /// [`Error::BadLimits`], [`Error::OutOfMemory`].
@@ -70,7 +70,7 @@ impl Shelf {
         Self::of_volumes(volumes)
     }
 
-    /// A shelf of these stores, 1 to 64. Passes of the stores themselves may be in use too.
+    /// A shelf of these stores, 1 to 64. You may use passes of the stores themselves as well.
     ///
     /// # Errors
     /// [`Error::BadLimits`]: there are no volumes or too many. [`Error::NodesSpent`] with the volume whose next node can't have its
@@ -131,7 +131,7 @@ impl Shelf {
     /// Takes a pass of each volume.
     ///
     /// # Errors
-    /// As [`Store::pass`]. No pass is taken then.
+    /// Those of [`Store::pass`]. No pass is taken then.
     pub fn pass(&self) -> Result<ShelfPass> {
         self.pass_of(self.volumes.iter().map(Store::pass))
     }

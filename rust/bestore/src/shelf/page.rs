@@ -9,20 +9,20 @@ use std::cmp::Ordering;
 use std::collections::VecDeque;
 
 impl<'a> ShelfSnapshot<'a> {
-    /// The nodes of all volumes that the query finds, in an order: an iterator, which asks for page after page.
+    /// The nodes of all volumes that the query finds, in an order: an iterator that reads page after page.
     ///
     /// # Errors
-    /// As [`Snapshot::ordered`].
+    /// Those of [`Snapshot::ordered`].
     pub fn ordered(&self, text: &str, order: Order) -> Result<Ordered<'_>> {
         Ok(Ordered::of_shelf(self, Prepared::new(text)?, order))
     }
 
-    /// A page of all volumes, as [`Snapshot::page`]. If values are equal, nodes are in the order of their integers. It takes about
-    /// what a page of each volume takes.
+    /// A page of all volumes, like [`Snapshot::page`]. Nodes with equal values are in the order of their integers. It costs about
+    /// as much as a page of each volume.
     ///
     /// # Errors
-    /// As [`Snapshot::page`], with the volume. [`Error::NoOrder`] of the first volume that lacks the index, or has it with
-    /// another kind than the first one.
+    /// Those of [`Snapshot::page`], with the volume. [`Error::NoOrder`] for the first volume that lacks the index, or whose index
+    /// has a different kind from the first volume's.
     pub fn page(&self, prepared: &Prepared, order: &Order, after: Option<&Cursor>, most: usize) -> Result<Page> {
         if let [only] = self.volumes() {
             return only.page(prepared, order, after, most);
@@ -44,7 +44,7 @@ impl<'a> ShelfSnapshot<'a> {
         })
     }
 
-    /// An error if the volumes don't have the index with one kind.
+    /// An error unless all volumes have the index, with the same kind.
     fn check_kinds(&self, order: &Order) -> Result<()> {
         let mut first = None;
         for (volume, snapshot) in (0..).zip(self.volumes()) {
@@ -61,15 +61,15 @@ impl<'a> ShelfSnapshot<'a> {
     /// The first `most` nodes of all volumes that the query finds, ascending from this one on.
     ///
     /// # Errors
-    /// As [`Snapshot::first`].
+    /// Those of [`Snapshot::first`].
     pub fn first(&self, text: &str, from: u64, most: usize) -> Result<Vec<u64>> {
         self.first_prepared(&Prepared::new(text)?, from, most)
     }
 
-    /// As [`first`](Self::first), of a prepared query.
+    /// Like [`first`](Self::first), for a prepared query.
     ///
     /// # Errors
-    /// As `first`.
+    /// Those of `first`.
     pub fn first_prepared(&self, prepared: &Prepared, from: u64, most: usize) -> Result<Vec<u64>> {
         let from = Node::from(from);
         self.some(most, |volume, snapshot, most| match volume.cmp(&from.volume) {
@@ -79,18 +79,18 @@ impl<'a> ShelfSnapshot<'a> {
         })
     }
 
-    /// Any `most` of the nodes of all volumes that the query finds, or all if there are fewer, in no order.
+    /// Any `most` of the nodes of all volumes that the query finds, or all if there are fewer, in no particular order.
     ///
     /// # Errors
-    /// As [`Snapshot::any`].
+    /// Those of [`Snapshot::any`].
     pub fn any(&self, text: &str, most: usize) -> Result<Vec<u64>> {
         self.any_prepared(&Prepared::new(text)?, most)
     }
 
-    /// As [`any`](Self::any), of a prepared query.
+    /// Like [`any`](Self::any), for a prepared query.
     ///
     /// # Errors
-    /// As `any`.
+    /// Those of `any`.
     pub fn any_prepared(&self, prepared: &Prepared, most: usize) -> Result<Vec<u64>> {
         self.some(most, |_, snapshot, most| snapshot.any_prepared(prepared, most))
     }
@@ -122,14 +122,14 @@ struct Merge<'s, 'a> {
     last: Cursor,
 }
 
-/// What was read of a volume, and isn't taken yet.
+/// What was read from a volume, and hasn't been taken yet.
 struct Ahead {
     nodes: VecDeque<Keyed>,
     /// The position from which the volume goes on, if it has more.
     after: Option<Cursor>,
 }
 
-/// A node with its value, and with its key, in which it is the shelf's integer.
+/// A node with its value, and with its key, which contains the shelf's integer for it.
 struct Keyed {
     key: Vec<u8>,
     value: Value,
@@ -203,7 +203,7 @@ impl<'s, 'a> Merge<'s, 'a> {
     }
 }
 
-/// A volume is asked for at least so many nodes, if the page may have them.
+/// A volume is asked for at least this many nodes, if the page has room for them.
 const LEAST_ASKED: usize = 8;
 
 fn keyed_in(volume: u32, number: u64, value: Value) -> Option<Keyed> {
@@ -212,8 +212,8 @@ fn keyed_in(volume: u32, number: u64, value: Value) -> Option<Keyed> {
     Some(Keyed { key, value, node })
 }
 
-/// The position in a volume of a shelf's cursor. Of the nodes with the cursor's value those of lower volumes come before it in the
-/// ascending order, and those of higher volumes after it.
+/// The position in a volume of a shelf's cursor. Among the nodes with the cursor's value, those of lower volumes come before it in
+/// the ascending order, and those of higher volumes after it.
 fn of_volume(after: &Cursor, volume: u32) -> Cursor {
     match after.node().map(Node::from) {
         None => after.clone(),

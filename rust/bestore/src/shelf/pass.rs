@@ -24,7 +24,7 @@ pub struct ShelfWritten {
 
 /// A pass of a shelf: a pass of each volume, for one thread at a time.
 ///
-/// Errors of one volume say which, by [`Error::volume`], if there are several.
+/// If there are several volumes, [`Error::volume`] says which one an error comes from.
 #[derive(Debug)]
 pub struct ShelfPass {
     volumes: Vec<Pass>,
@@ -36,8 +36,8 @@ impl ShelfPass {
         Self { volumes, indexing }
     }
 
-    /// The pass, whose writes go by the keeper of their volume from now on, as those of [`Pass::kept_by`]. Keepers are given numbers
-    /// of nodes in the volume.
+    /// The pass, whose writes go through the keeper of their volume from now on, as with [`Pass::kept_by`]. Keepers get the volume's
+    /// own node numbers.
     #[must_use]
     pub fn kept_by(self, keeper: impl Fn(u32) -> Arc<dyn Keeper>) -> Self {
         let passes = (0..).zip(self.volumes);
@@ -47,7 +47,7 @@ impl ShelfPass {
         }
     }
 
-    /// The pass of each volume, whose nodes have their numbers in the volume. It may write, too.
+    /// The pass of each volume, which uses the volume's own node numbers. It may also write.
     #[must_use]
     pub fn volumes(&self) -> &[Pass] {
         &self.volumes
@@ -86,7 +86,7 @@ impl ShelfPass {
         ShelfSnapshot::pin(&mut self.volumes, &self.indexing)
     }
 
-    /// Holds a snapshot of each volume, as [`Pass::hold`], until [`release`](Self::release). Returns its [numbers].
+    /// Holds a snapshot of each volume, like [`Pass::hold`], until [`release`](Self::release). Returns its [numbers].
     ///
     /// [numbers]: ShelfSnapshot::numbers
     ///
@@ -117,9 +117,9 @@ impl ShelfPass {
     /// most free pages is taken.
     ///
     /// # Errors
-    /// [`Error::OtherVolume`] with the first operation that names a node of another volume. [`Error::NoNode`] if that volume isn't
-    /// there. [`Error::PartialIndex`]: one makes or removes an index, and there are several volumes; [`make_index`](Self::make_index)
-    /// does. Otherwise as [`Pass::apply`].
+    /// [`Error::OtherVolume`] with the first operation that names a node of another volume. [`Error::NoNode`] if that volume doesn't
+    /// exist. [`Error::PartialIndex`]: one makes or removes an index, and there are several volumes; use
+    /// [`make_index`](Self::make_index). Otherwise as [`Pass::apply`].
     pub fn apply(&self, batch: &Batch) -> Result<ShelfWritten> {
         batch.check_no_index(self.volumes.len())?;
         let (volume, within) = batch.to_volume(None)?;
@@ -130,7 +130,7 @@ impl ShelfPass {
         }
     }
 
-    /// Writes as [`apply`](Self::apply), in this volume. It may make an index there alone.
+    /// Writes like [`apply`](Self::apply), in this volume. It may make an index only there.
     ///
     /// # Errors
     /// [`Error::NoVolume`]; otherwise as `apply`.
@@ -138,8 +138,8 @@ impl ShelfPass {
         self.write(volume, None, &self.within(volume, batch)?)
     }
 
-    /// Writes as [`apply_in`](Self::apply_in), if the volume's journal has exactly `expected` entries. What was read from other
-    /// volumes may have changed.
+    /// Writes like [`apply_in`](Self::apply_in), but only if the volume's journal has exactly `expected` entries. What was read from
+    /// other volumes may have changed.
     ///
     /// # Errors
     /// [`Error::Conflict`] if the journal has another length; otherwise as `apply_in`.
@@ -172,8 +172,8 @@ impl ShelfPass {
         kept.map_err(|error| self.error(volume, error))
     }
 
-    /// Reads and writes as one, as [`Pass::change`]: the closure reads all volumes, and its operations are written to one, if
-    /// nothing else was written there since. What it read of other volumes may have changed.
+    /// Reads and writes as one, like [`Pass::change`]: the closure reads all volumes, and its operations are written to one,
+    /// if nothing else was written there since. What it read from other volumes may have changed.
     ///
     /// # Errors
     /// Those of the closure; [`Error::Conflict`] after as many tries as [`Retry::conflict`] says; otherwise as
@@ -195,10 +195,10 @@ impl ShelfPass {
         ShelfChange::run(self, Some(volume), &mut change)
     }
 
-    /// Makes a node in the volume with the most free pages. As [`apply`](Self::apply), like the three calls after it.
+    /// Makes a node in the volume with the most free pages. It writes like [`apply`](Self::apply), as do the next three calls.
     ///
     /// # Errors
-    /// As `apply`.
+    /// Those of `apply`.
     pub fn new_node(&self) -> Result<u64> {
         Ok(self.apply(Batch::new().new_node())?.nodes[0])
     }
@@ -206,7 +206,7 @@ impl ShelfPass {
     /// Removes the node and all its attributes.
     ///
     /// # Errors
-    /// As [`apply`](Self::apply).
+    /// Those of [`apply`](Self::apply).
     pub fn remove_node(&self, node: u64) -> Result<()> {
         self.apply(Batch::new().remove_node(node)).map(drop)
     }
@@ -214,7 +214,7 @@ impl ShelfPass {
     /// Sets the attribute.
     ///
     /// # Errors
-    /// As [`apply`](Self::apply).
+    /// Those of [`apply`](Self::apply).
     pub fn set(&self, node: u64, name: &str, value: impl Into<Value>) -> Result<()> {
         self.apply(Batch::new().set(node, name, value)).map(drop)
     }
@@ -222,24 +222,24 @@ impl ShelfPass {
     /// Removes the attribute.
     ///
     /// # Errors
-    /// As [`apply`](Self::apply).
+    /// Those of [`apply`](Self::apply).
     pub fn unset(&self, node: u64, name: &str) -> Result<()> {
         self.apply(Batch::new().unset(node, name)).map(drop)
     }
 
-    /// Makes an index of this name for values of this kind in each volume, as [`ShelfSnapshot::make_index`] on a new snapshot.
+    /// Makes an index of this name for values of this kind in each volume, like [`ShelfSnapshot::make_index`] on a new snapshot.
     ///
     /// # Errors
-    /// As that.
+    /// Those of that call.
     pub fn make_index(&mut self, name: &str, kind: Kind) -> Result<()> {
         self.pin()?.make_index(name, kind)
     }
 
-    /// Sets again, to the values that they have, the attributes that the index of this name lacks, as [`Pass::reindex`] in each volume.
-    /// Returns how many were set.
+    /// Sets the attributes that the index of this name lacks to the same values again, like [`Pass::reindex`] in each volume. Returns
+    /// how many were set.
     ///
     /// # Errors
-    /// [`Error::NoIndex`]: not each volume has the index. Otherwise as `Pass::reindex`.
+    /// [`Error::NoIndex`]: some volume lacks the index. Otherwise as `Pass::reindex`.
     pub fn reindex(&mut self, name: &str) -> Result<u64> {
         let indices = self.pin()?.indices()?;
         if !indices.iter().any(|(index, _)| index == name) {
@@ -254,10 +254,10 @@ impl ShelfPass {
         .sum()
     }
 
-    /// Removes the index from each volume that has it, as [`ShelfSnapshot::remove_index`].
+    /// Removes the index from each volume that has it, like [`ShelfSnapshot::remove_index`].
     ///
     /// # Errors
-    /// As that.
+    /// Those of that call.
     pub fn remove_index(&mut self, name: &str) -> Result<()> {
         self.pin()?.remove_index(name)
     }
@@ -265,24 +265,24 @@ impl ShelfPass {
     /// How full each volume is.
     ///
     /// # Errors
-    /// As [`Pass::status`].
+    /// Those of [`Pass::status`].
     pub fn status(&self) -> Result<Vec<Status>> {
         let all = (0..).zip(&self.volumes);
         let all = all.map(|(volume, pass)| pass.status().map_err(|error| self.error(volume, error)));
         all.collect()
     }
 
-    /// The volume with the most free pages, the first one of several. It asks each for its status if there is more than one.
+    /// The volume with the most free pages, or the first of several. If there is more than one volume, it asks each for its status.
     ///
     /// # Errors
-    /// As [`Pass::status`].
+    /// Those of [`Pass::status`].
     pub fn roomiest(&self) -> Result<u32> {
         roomiest(self.volumes.iter())
     }
 
-    /// Waits up to this time until the journal of each volume has at least so many entries; volumes without a number aren't waited
-    /// for. Snapshots that the pass pins then have them. Returns whether they are there. It asks each volume for its status every
-    /// 2 milliseconds.
+    /// Waits up to this time until the journal of each volume has at least this many entries; volumes without a number aren't waited
+    /// for. Snapshots that the pass pins after that include them. Returns whether the entries came in time. It asks each volume for its
+    /// status every 2 milliseconds.
     ///
     /// # Errors
     /// [`Error::NoVolume`]: there are more numbers than volumes; otherwise as [`Pass::status`].

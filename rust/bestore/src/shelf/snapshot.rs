@@ -5,10 +5,10 @@ use bestore_types::raw::extend;
 use std::collections::BTreeMap;
 use std::sync::{Mutex, PoisonError};
 
-/// A snapshot of each volume. They are pinned one after another, so writes to different volumes may be in it in another order than
-/// that in which they were made.
+/// A snapshot of each volume. They are pinned one after another, so it may have a later write to one volume and lack an earlier
+/// one to another.
 ///
-/// Errors of one volume say which, by [`Error::volume`], if there are several.
+/// If there are several volumes, [`Error::volume`] says which one an error comes from.
 #[derive(Debug)]
 pub struct ShelfSnapshot<'a> {
     volumes: Vec<Snapshot<'a>>,
@@ -21,7 +21,7 @@ impl<'a> ShelfSnapshot<'a> {
         Ok(Self { volumes, indexing })
     }
 
-    /// How many entries the journals of all volumes have in it together.
+    /// How many entries of all volumes' journals it contains in total.
     #[must_use]
     pub fn number(&self) -> u64 {
         self.numbers().sum()
@@ -32,7 +32,7 @@ impl<'a> ShelfSnapshot<'a> {
         self.volumes.iter().map(Snapshot::number)
     }
 
-    /// The snapshot of each volume, whose nodes have their numbers in the volume.
+    /// The snapshot of each volume, which uses the volume's own node numbers.
     #[must_use]
     pub fn volumes(&self) -> &[Snapshot<'a>] {
         &self.volumes
@@ -76,7 +76,7 @@ impl<'a> ShelfSnapshot<'a> {
     /// The nodes of all volumes that the query finds, ascending. The text is parsed once.
     ///
     /// # Errors
-    /// As [`Snapshot::query`]. If volumes don't cover the query, the error has the first of them.
+    /// Those of [`Snapshot::query`]. If volumes can't answer the query, the error names the first of them.
     pub fn query(&self, text: &str) -> Result<Vec<u64>> {
         if let [only] = &self.volumes[..] {
             return only.query(text);
@@ -84,7 +84,7 @@ impl<'a> ShelfSnapshot<'a> {
         let prepared = Prepared::new(text)?;
         self.found(|snapshot| {
             let found = snapshot.query_prepared(&prepared);
-            // The error of the text has the place in it that is wrong.
+            // The error for the text has the place that is wrong in it.
             found.or_else(|_| snapshot.query(text))
         })
     }
@@ -92,7 +92,7 @@ impl<'a> ShelfSnapshot<'a> {
     /// The nodes of all volumes that the prepared query finds, ascending.
     ///
     /// # Errors
-    /// As [`query`](Self::query).
+    /// Those of [`query`](Self::query).
     pub fn query_prepared(&self, prepared: &Prepared) -> Result<Vec<u64>> {
         self.found(|snapshot| snapshot.query_prepared(prepared))
     }
@@ -100,12 +100,12 @@ impl<'a> ShelfSnapshot<'a> {
     /// How many nodes the query finds in all volumes. It costs as much as the query, except for the list.
     ///
     /// # Errors
-    /// As [`query`](Self::query).
+    /// Those of [`query`](Self::query).
     pub fn count(&self, text: &str) -> Result<u64> {
         let prepared = Prepared::new(text)?;
         self.sum(|snapshot| {
             let counted = snapshot.count_prepared(&prepared);
-            // The error of the text has the place in it that is wrong.
+            // The error for the text has the place that is wrong in it.
             counted.or_else(|_| snapshot.count(text))
         })
     }
@@ -113,7 +113,7 @@ impl<'a> ShelfSnapshot<'a> {
     /// How many nodes the prepared query finds in all volumes.
     ///
     /// # Errors
-    /// As [`query`](Self::query).
+    /// Those of [`query`](Self::query).
     pub fn count_prepared(&self, prepared: &Prepared) -> Result<u64> {
         self.sum(|snapshot| snapshot.count_prepared(prepared))
     }
@@ -121,7 +121,7 @@ impl<'a> ShelfSnapshot<'a> {
     /// How many pairs of a value and a node the index of this name has in all volumes.
     ///
     /// # Errors
-    /// As [`Snapshot::pairs`].
+    /// Those of [`Snapshot::pairs`].
     pub fn pairs(&self, name: &str) -> Result<u64> {
         self.sum(|snapshot| snapshot.pairs(name))
     }
@@ -134,10 +134,10 @@ impl<'a> ShelfSnapshot<'a> {
         counts.sum()
     }
 
-    /// The comparisons of a query that are never true, by the indices that each volume has with one kind.
+    /// The comparisons of a query that are never true, judging by the indices that every volume has with the same kind.
     ///
     /// # Errors
-    /// As [`Snapshot::hints`].
+    /// Those of [`Snapshot::hints`].
     pub fn hints(&self, text: &str) -> Result<Vec<Hint>> {
         let indices: BTreeMap<_, _> = self.indices()?.into_iter().collect();
         hints(text, |name| indices.get(name).copied())
@@ -147,7 +147,7 @@ impl<'a> ShelfSnapshot<'a> {
     /// indices.
     ///
     /// # Errors
-    /// As [`query`](Self::query).
+    /// Those of [`query`](Self::query).
     pub fn explain(&self, text: &str) -> Result<String> {
         let explained = self.each().map(|(volume, snapshot)| {
             let text = snapshot.explain(text);
@@ -170,7 +170,7 @@ impl<'a> ShelfSnapshot<'a> {
     /// Whether the node exists.
     ///
     /// # Errors
-    /// As [`Snapshot::contains`].
+    /// Those of [`Snapshot::contains`].
     pub fn contains(&self, node: u64) -> Result<bool> {
         self.place(node)
             .map_or(Ok(false), |(snapshot, number)| snapshot.contains(number))
@@ -179,11 +179,11 @@ impl<'a> ShelfSnapshot<'a> {
     /// An attribute, or `None` if the node or the attribute doesn't exist.
     ///
     /// # Errors
-    /// As [`Snapshot::get`].
+    /// Those of [`Snapshot::get`].
     pub fn get(&self, node: u64, name: &str) -> Result<Option<Value>> {
         match self.place(node) {
             Some((snapshot, number)) => snapshot.get(number, name),
-            // The first volume has no node 0, so that the name alone is checked.
+            // The first volume has no node 0, so only the name is checked.
             None => self.volumes[0].get(0, name),
         }
     }
@@ -191,13 +191,13 @@ impl<'a> ShelfSnapshot<'a> {
     /// The attributes of a node, by ascending names.
     ///
     /// # Errors
-    /// As [`Snapshot::attributes`].
+    /// Those of [`Snapshot::attributes`].
     pub fn attributes(&self, node: u64) -> Result<Vec<(String, Value)>> {
         let (snapshot, number) = self.place(node).ok_or(Error::NoNode)?;
         snapshot.attributes(number)
     }
 
-    /// Of each index, by ascending names, the volumes that have it, with its kind there.
+    /// For each index, by ascending names, the volumes that have it, with its kind there.
     fn all_indices(&self) -> Result<BTreeMap<String, Vec<(u32, Kind)>>> {
         let mut indices: BTreeMap<String, Vec<(u32, Kind)>> = BTreeMap::new();
         for (volume, snapshot) in self.each() {
@@ -208,17 +208,17 @@ impl<'a> ShelfSnapshot<'a> {
         Ok(indices)
     }
 
-    /// The kind of an index that each volume has with one kind.
+    /// The kind of an index, if every volume has it with the same kind.
     fn common_kind(&self, volumes: &[(u32, Kind)]) -> Option<Kind> {
         let (_, kind) = volumes[0];
         let is_common = volumes.len() == self.volumes.len() && volumes.iter().all(|(_, other)| *other == kind);
         is_common.then_some(kind)
     }
 
-    /// The indices that each volume has with one kind, by ascending names.
+    /// The indices that every volume has with the same kind, by ascending names.
     ///
     /// # Errors
-    /// As [`Snapshot::indices`].
+    /// Those of [`Snapshot::indices`].
     pub fn indices(&self) -> Result<Vec<(String, Kind)>> {
         if let [only] = &self.volumes[..] {
             return only.indices();
@@ -231,7 +231,7 @@ impl<'a> ShelfSnapshot<'a> {
     /// The indices that some volumes lack or have with another kind, with the volumes that have them.
     ///
     /// # Errors
-    /// As [`Snapshot::indices`].
+    /// Those of [`Snapshot::indices`].
     pub fn partial_indices(&self) -> Result<BTreeMap<String, Vec<u32>>> {
         let indices = self.all_indices()?.into_iter();
         let partial = indices.filter(|(_, volumes)| self.common_kind(volumes).is_none());
@@ -267,7 +267,8 @@ impl<'a> ShelfSnapshot<'a> {
         self.write_each(&batch, Error::NoIndex, |error| matches!(error, Error::NoIndex))
     }
 
-    /// Writes the batch in each volume, but for those where it has this error. `all` is the error if it has that everywhere.
+    /// Writes the batch in each volume, except those where it fails with this error. `all` is the error if it fails with that
+    /// everywhere.
     fn write_each(&self, batch: &Batch, all: Error, is_done: impl Fn(&Error) -> bool) -> Result<()> {
         let _turn = self.indexing.lock().unwrap_or_else(PoisonError::into_inner);
         let mut outcome = Err(all);
@@ -281,10 +282,10 @@ impl<'a> ShelfSnapshot<'a> {
         outcome
     }
 
-    /// The volume with the most free pages, the first one of several. It asks each for its status if there is more than one.
+    /// The volume with the most free pages, or the first of several. If there is more than one volume, it asks each for its status.
     ///
     /// # Errors
-    /// As [`Pass::status`].
+    /// Those of [`Pass::status`].
     pub fn roomiest(&self) -> Result<u32> {
         roomiest(self.volumes.iter().map(Snapshot::pass))
     }
@@ -292,7 +293,7 @@ impl<'a> ShelfSnapshot<'a> {
     /// How full each volume is.
     ///
     /// # Errors
-    /// As [`Pass::status`].
+    /// Those of [`Pass::status`].
     pub fn status(&self) -> Result<Vec<Status>> {
         let all = self.each().map(|(volume, snapshot)| {
             let status = snapshot.pass().status();
@@ -304,7 +305,7 @@ impl<'a> ShelfSnapshot<'a> {
     /// The number that the next node of this volume will have, if it is made on this snapshot.
     ///
     /// # Errors
-    /// As [`Snapshot::next_node`]; [`Error::NoVolume`].
+    /// Those of [`Snapshot::next_node`]; [`Error::NoVolume`].
     pub fn next_node(&self, volume: u32) -> Result<u64> {
         let number = self.volume(volume)?.next_node()?;
         Ok(Node { volume, number }.into())
@@ -334,7 +335,7 @@ pub(super) fn roomiest<'p>(passes: impl ExactSizeIterator<Item = &'p Pass>) -> R
     Ok(roomiest)
 }
 
-/// The nodes of a shelf, by [`ShelfSnapshot::nodes_from`]. An error ends those of its volume.
+/// The nodes of a shelf, from [`ShelfSnapshot::nodes_from`]. After an error it goes on with the next volume.
 #[derive(Debug)]
 pub struct ShelfNodes<'a> {
     snapshot: &'a ShelfSnapshot<'a>,

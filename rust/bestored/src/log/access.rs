@@ -1,4 +1,4 @@
-//! How to reach the database of a log: its URL, and the password, which may be in a file as that of PostgreSQL's own programs.
+//! How to reach the database of a log: its URL, and the password, which may be in a file like that of PostgreSQL's own programs.
 
 use super::database::Database;
 use super::error::{Error, Result};
@@ -13,16 +13,16 @@ use tokio_postgres::Config;
 /// The port of PostgreSQL if the URL has none.
 const PORT: u16 = 5432;
 
-/// What `sslmode` says if no TLS is needed.
+/// The values of `sslmode` that don't need TLS.
 const PLAIN: [&str; 3] = ["disable", "allow", "prefer"];
 
 /// How to reach the log, and who this server is.
 #[derive(Clone, Debug)]
 pub struct Access {
     pub config: Config,
-    /// Names this server for people: its machine and its socket.
+    /// A name of this server for people: its machine and its socket.
     pub name: String,
-    /// Another text for each run.
+    /// A different text for each run.
     pub run: String,
 }
 
@@ -119,7 +119,7 @@ fn private_text(path: &Path) -> std::result::Result<String, String> {
     fs::read_to_string(path).map_err(|error| error.to_string())
 }
 
-/// The beginnings of the lines that have a password for this database: a machine, a port, a database and a user, for each machine.
+/// How the lines with a password for this database begin: a machine, a port, a database and a user, for each machine.
 fn wanted(config: &Config) -> Vec<String> {
     let user = config.get_user().unwrap_or_default();
     let database = config.get_dbname().unwrap_or(user);
@@ -154,7 +154,7 @@ fn is_for(fields: &[String], wanted: &str) -> bool {
     both.all(|(field, wanted)| field == "*" || field == wanted)
 }
 
-/// The fields of a line, between `:`. A `\` makes the character after it a part of the field.
+/// The fields of a line, separated by `:`. A `\` makes the character after it part of the field.
 fn fields(line: &str) -> Vec<String> {
     let mut fields = vec![String::new()];
     let mut characters = line.chars();

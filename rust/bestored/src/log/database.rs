@@ -19,14 +19,14 @@ const FORMAT: i32 = 1;
 /// How long a call may take. PostgreSQL gives a statement up a little sooner.
 const LIMIT: Duration = Duration::from_secs(7);
 
-/// The most entries that are read at once.
+/// The maximum number of entries that are read at once.
 pub const ENTRIES: usize = 500;
 
 /// How many entries before the state stay in the log, for followers that are a little late.
 const SPARE: u64 = 10_000;
 
-/// A leader whose machine is gone is given up by PostgreSQL after some 11 seconds, so that another one can lead. An answered
-/// write is on PostgreSQL's disk, whatever the default of the database is.
+/// PostgreSQL gives up on a leader whose machine is gone after about 11 seconds, so that another one can lead. A confirmed
+/// write is on PostgreSQL's disk, whatever the database's default is.
 const SETTINGS: &str = "
     SET statement_timeout = '6s';
     SET tcp_keepalives_idle = 5;
@@ -56,8 +56,8 @@ const TABLES: &str = "
     );
 ";
 
-/// Adds entries if the log ends with `$2`, and this term is still the last one: in one statement, so no other leader can add
-/// between. The row of `bestore_log` is locked until the commit.
+/// Adds entries if the log ends with `$2` and this term is still the last one. It is one statement, so no other leader can
+/// add entries in between. The row of `bestore_log` is locked until the commit.
 const APPEND: &str = "
     WITH head AS (
         UPDATE bestore_log SET last = last + cardinality($3::bigint[]), touched = clock_timestamp(), touched_term = term
@@ -69,31 +69,31 @@ const APPEND: &str = "
     )
     SELECT pg_notify('bestore_log', last::text) FROM head";
 
-/// What earlier versions made without.
+/// What earlier versions lacked.
 const COLUMNS: &str = "
     ALTER TABLE bestore_entry ADD COLUMN IF NOT EXISTS token text;
     ALTER TABLE bestore_log ADD COLUMN IF NOT EXISTS touched timestamptz, ADD COLUMN IF NOT EXISTS touched_term bigint;
 ";
 
-/// The head, and for how many seconds its leader has said nothing, if it is one that says it lives.
+/// The head, and how many seconds its leader has been silent, if it is one that reports that it is alive.
 const HEAD: &str = "
     SELECT *, CASE WHEN touched_term = term THEN extract(epoch FROM clock_timestamp() - touched)::float8 END AS silence
     FROM bestore_log";
 
-/// Says that the leader of the term `$1` lives. This needn't be on a standby's disk.
+/// Reports that the leader of the term `$1` is alive. This needn't be on a standby's disk.
 const TOUCH: &str = "
     UPDATE bestore_log SET touched = clock_timestamp(), touched_term = term
     FROM (SELECT set_config('synchronous_commit', 'local', true)) AS once
     WHERE term = $1 RETURNING bestore_log.*";
 
-/// Ends the session that has the lock, if it has done nothing for `$1` seconds. So a follower that has just got it stays.
+/// Ends the session that has the lock, if it has done nothing for `$1` seconds, so that a follower that has just taken it stays.
 const END_LEADER: &str = "
     SELECT pg_terminate_backend(pid) FROM pg_locks JOIN pg_stat_activity USING (pid)
     WHERE locktype = 'advisory' AND datname = current_database() AND granted
         AND classid = 1650815860 AND objid = 'bestore_log'::regclass::oid
         AND state_change < clock_timestamp() - $1::float8 * interval '1 second'";
 
-/// Removes the entries up to `$1`, but for the last ones that have a token: so many as `$2`.
+/// Removes the entries up to `$1`, except for the last `$2` that have a token.
 const REMOVE: &str = "
     DELETE FROM bestore_entry WHERE number <= $1 AND (token IS NULL OR number <= (
         SELECT number FROM bestore_entry WHERE token IS NOT NULL ORDER BY number DESC OFFSET $2 LIMIT 1
@@ -105,10 +105,10 @@ const LOCK: &str = "SELECT pg_try_advisory_lock(1650815860, 'bestore_log'::regcl
 /// Also locks out others that make the tables.
 const MAKE_LOCK: &str = "SELECT pg_advisory_xact_lock(1650815860, 0)";
 
-/// What the log says of itself.
+/// What the log says about itself.
 #[derive(Clone, Debug)]
 pub struct Head {
-    /// Another text for each log.
+    /// A different text for each log.
     pub log: String,
     /// The number of the last entry.
     pub last: u64,
@@ -122,7 +122,7 @@ pub struct Head {
     pub entries: u64,
     /// The number of the next node after the state.
     pub next: u64,
-    /// For how many seconds the leader has said nothing, if that is known.
+    /// How many seconds the leader has been silent, if that is known.
     pub silence: Option<f64>,
 }
 
@@ -222,7 +222,7 @@ impl Database {
             while let Some(Ok(_)) = NextMessage(&mut connection).await {
                 of_task.notify_one();
             }
-            // The client's calls say what has happened.
+            // The client's calls report what has happened.
             of_task.notify_one();
         });
         let database = Self {
@@ -235,8 +235,8 @@ impl Database {
         Ok(database)
     }
 
-    /// Closes the connection without waiting for a reply. PostgreSQL then ends the session, and gives its lock back, once the
-    /// statement that it runs has ended.
+    /// Closes the connection without waiting for a reply. PostgreSQL then ends the session, and releases its lock, once the
+    /// running statement has ended.
     pub fn close(&self) {
         self.receiving.abort();
     }
@@ -293,12 +293,12 @@ impl Database {
         }
     }
 
-    /// Lets PostgreSQL send a message for new entries.
+    /// Makes PostgreSQL send a message for new entries.
     pub async fn listen(&self) -> Result<()> {
         limited(self.client.batch_execute("LISTEN bestore_log")).await
     }
 
-    /// Ends that.
+    /// Stops those messages.
     pub async fn unlisten(&self) -> Result<()> {
         limited(self.client.batch_execute("UNLISTEN *")).await
     }
@@ -313,24 +313,24 @@ impl Database {
         Head::of(&self.one(HEAD, &[]).await?)
     }
 
-    /// Says that the leader of this term lives. `None`: there is a later term.
+    /// Reports that the leader of this term is alive. `None`: there is a later term.
     pub async fn touch(&self, term: u64) -> Result<Option<Head>> {
         let touched = limited(self.client.query_opt(TOUCH, &[&(term as i64)])).await?;
         touched.as_ref().map(Head::of).transpose()
     }
 
-    /// Ends the session of a leader that has done nothing for so many seconds. Returns whether there was one.
+    /// Ends the session of a leader that has done nothing for this many seconds. Returns whether there was one.
     pub async fn end_leader(&self, silence: f64) -> Result<bool> {
         let ended = limited(self.client.query(END_LEADER, &[&silence])).await?;
         Ok(!ended.is_empty())
     }
 
-    /// Takes the lock by which a server leads, if nobody has it. It is given back when the connection ends.
+    /// Takes the leader's lock, if nobody has it. It is released when the connection ends.
     pub async fn try_lock(&self) -> Result<bool> {
         Ok(self.one(LOCK, &[]).await?.try_get(0)?)
     }
 
-    /// Begins the next term. From then on no other server can add entries. With `again` the last leader has to be this run.
+    /// Begins the next term. From then on no other server can add entries. With `again`, the last leader has to be this run.
     pub async fn take_term(&self, leader: &str, run: &str, again: bool) -> Result<Option<Head>> {
         let sql = "UPDATE bestore_log SET term = term + 1, leader = $1, run = $2, touched = clock_timestamp(),
             touched_term = term + 1 WHERE run = $2 OR NOT $3 RETURNING *";
@@ -339,7 +339,7 @@ impl Database {
     }
 
     /// Adds the entries, all in one commit, if the log ends with the one before them and the term is the last one. Returns
-    /// whether it did.
+    /// whether it did so.
     pub async fn append(&mut self, term: u64, last: u64, rows: &[Row]) -> Result<bool> {
         let statement = match &self.append {
             Some(statement) => statement.clone(),
@@ -352,14 +352,14 @@ impl Database {
         Ok(limited(self.client.query_opt(&statement, &parameters)).await?.is_some())
     }
 
-    /// Some of the entries after this one, by rising numbers.
+    /// Some of the entries after this one, by ascending numbers.
     pub async fn entries(&self, after: u64) -> Result<Vec<Entry>> {
         let sql = "SELECT number, batch, token FROM bestore_entry WHERE number > $1 ORDER BY number LIMIT $2";
         let rows = limited(self.client.query(sql, &[&(after as i64), &(ENTRIES as i64)])).await?;
         rows.iter().map(Entry::of).collect()
     }
 
-    /// Some of the entries after this one and up to `last` that have a token, by rising numbers.
+    /// Some of the entries after this one and up to `last` that have a token, by ascending numbers.
     pub async fn entries_with_token(&self, after: u64, last: u64) -> Result<Vec<Entry>> {
         let sql = "SELECT number, batch, token FROM bestore_entry
             WHERE token IS NOT NULL AND number > $1 AND number <= $2 ORDER BY number LIMIT $3";
@@ -368,7 +368,7 @@ impl Database {
         rows.iter().map(Entry::of).collect()
     }
 
-    /// The head and the state, as one.
+    /// The head and the state, read together.
     pub async fn state(&mut self) -> Result<(Head, Vec<Vec<u8>>)> {
         let begin = "BEGIN ISOLATION LEVEL REPEATABLE READ READ ONLY; SET LOCAL statement_timeout = 0";
         self.client.batch_execute(begin).await?;
@@ -382,8 +382,8 @@ impl Database {
         Ok((head, batches?))
     }
 
-    /// Puts this state, which contains the entries up to `number`, in the place of the old one. The entries long before it go.
-    /// Returns whether the term is still the last one; otherwise nothing has changed.
+    /// Replaces the old state with this one, which contains the entries up to `number`, and removes entries from long before
+    /// it. Returns whether the term is still the last one; otherwise nothing has changed.
     pub async fn write_state(&self, term: u64, number: u64, next: u64, batches: &[Vec<u8>]) -> Result<bool> {
         let begin =
             "BEGIN; SET LOCAL statement_timeout = 0; LOCK bestore_state IN EXCLUSIVE MODE; DELETE FROM bestore_state";
@@ -395,7 +395,7 @@ impl Database {
         }
         let spared = number.saturating_sub(SPARE) as i64;
         self.client.execute(REMOVE, &[&spared, &(TOKENS as i64)]).await?;
-        // Last, as from here to the commit no entry can be added.
+        // This comes last, since no entry can be added from here to the commit.
         let update = "UPDATE bestore_log SET entries = $1, next = $2 WHERE term = $3 AND entries <= $1 AND last >= $1";
         let parameters: [&(dyn ToSql + Sync); 3] = [&(number as i64), &(next as i64), &(term as i64)];
         let is_leading = self.client.execute(update, &parameters).await? == 1;

@@ -8,7 +8,7 @@ use std::path::PathBuf;
 use std::sync::Arc;
 use std::time::Duration;
 
-/// Classes of PostgreSQL's errors: the connection is lost, resources are missing, somebody starts or ends the database.
+/// Classes of PostgreSQL's errors: the connection is lost, resources are missing, or the database is starting or stopping.
 const NOT_NOW: [&str; 3] = ["08", "53", "57"];
 
 /// The result of a call of this module.
@@ -21,7 +21,7 @@ pub enum Error {
     Url(tokio_postgres::Error),
     /// TLS is asked for.
     NoTls { mode: String },
-    /// The file with the password has none, or others may read it.
+    /// The password file has no password for it, or others may read it.
     Passfile { path: PathBuf, why: String },
     /// An error of PostgreSQL, or of the connection to it.
     Database(tokio_postgres::Error),
@@ -29,32 +29,32 @@ pub enum Error {
     Slow(Duration),
     /// The database has no log.
     NoLog,
-    /// A table of the log's name is of another program.
+    /// A table with the log's name belongs to another program.
     Foreign,
-    /// The log is of a newer format.
+    /// The log has a newer format.
     Newer { format: i32, known: i32 },
     /// Another server leads.
     Led { leader: String },
     /// An earlier session of this server still has the lock.
     OldSession,
-    /// Another server leads now, though this one did.
+    /// Another server has taken over from this one.
     Deposed { leader: String, unsaved: u64 },
-    /// The database has another log than before.
+    /// The database has a different log from before.
     Replaced,
-    /// The log has fewer entries than it had, or more than anybody may have added.
+    /// The log has fewer entries than before, or more than anybody can have added.
     Length { known: u64, found: u64 },
-    /// The log has what no store did.
+    /// The log has something that no store wrote.
     Differs {
         place: Place,
         why: Box<dyn std::error::Error + Send + Sync>,
     },
-    /// What the log has doesn't fit the limits of the store.
+    /// The contents of the log don't fit the limits of the store.
     TooLarge { place: Place, error: bestore::Error },
     /// An error of the store.
     Store(bestore::Error),
-    /// There is no thread or no runtime for the log.
+    /// There is no thread or runtime for the log.
     Thread(io::Error),
-    /// The thread of the log has ended by a fault.
+    /// The thread of the log has panicked.
     Fault,
 }
 
@@ -72,12 +72,12 @@ impl Error {
         }
     }
 
-    /// Whether it may go better later.
+    /// Whether it may work later.
     pub fn is_passing(&self) -> bool {
         matches!(self, Error::Database(_) | Error::Slow(_) | Error::OldSession)
     }
 
-    /// Whether the database isn't there, or takes no connections or statements for now, as while it starts.
+    /// Whether the database is missing, or doesn't accept connections or statements for now, such as while it starts.
     pub fn is_unreachable(&self) -> bool {
         match self {
             Error::Slow(_) => true,
@@ -114,7 +114,7 @@ impl fmt::Display for Error {
             Error::Database(error) => write!(f, "the database of the log: {}", Shown(error)),
             Error::Slow(time) => write!(f, "the database of the log didn't reply within {} s", time.as_secs()),
             Error::NoLog => f.write_str("the database has no log; --log makes one"),
-            Error::Foreign => f.write_str("the database has tables of the log's names that are of another program"),
+            Error::Foreign => f.write_str("the database has tables with the log's names that belong to another program"),
             Error::Newer { format, known } => {
                 write!(f, "the log has format {format}, and format {known} is the one known here")
             }
@@ -124,7 +124,7 @@ impl fmt::Display for Error {
                 f,
                 "{leader} leads the log now; {unsaved} writes of this server, none of them confirmed, may be missing there"
             ),
-            Error::Replaced => f.write_str("the database has another log than before"),
+            Error::Replaced => f.write_str("the database has a different log from before"),
             Error::Length { known, found } => {
                 write!(f, "the log has {found} entries, and {known} of them are known here")
             }
@@ -134,7 +134,7 @@ impl fmt::Display for Error {
             }
             Error::Store(error) => error.fmt(f),
             Error::Thread(error) => write!(f, "the thread of the log can't be started: {error}"),
-            Error::Fault => f.write_str("the thread of the log has ended by a fault"),
+            Error::Fault => f.write_str("the thread of the log has panicked"),
         }
     }
 }
@@ -163,14 +163,14 @@ impl fmt::Display for Shown<'_> {
     }
 }
 
-/// Why a write isn't made, or not confirmed.
+/// Why a write isn't made, or isn't confirmed.
 #[derive(Clone, Debug)]
 pub enum Refused {
     /// This server follows.
     NotLeader { leader: String },
     /// The write was made in memory, and may be in the log or not.
     NotSaved(Arc<Error>),
-    /// Nothing was written, since the log can't be written.
+    /// Nothing was written, because the log can't be written.
     Stopped(Arc<Error>),
 }
 

@@ -1,4 +1,4 @@
-//! The writes on their way into the log, and what is known of the log here.
+//! The writes on their way into the log, and what is known about the log here.
 
 use super::database::Row;
 use super::error::{Error, Refused};
@@ -18,14 +18,14 @@ const PATIENCE: Duration = Duration::from_secs(10);
 #[derive(Clone, Copy, Debug, PartialEq, Eq)]
 pub enum Role {
     Follower,
-    /// Since when, as the log counts the leaders.
+    /// In which term, by the log's count of leaders.
     Leader {
         term: u64,
     },
 }
 
 impl Role {
-    /// Says what the server does from now on.
+    /// Reports what the server does from now on.
     pub fn say(self, leader: &str) {
         match self {
             Role::Leader { term } => eprintln!("bestored: this server leads the log, in term {term}"),
@@ -34,7 +34,7 @@ impl Role {
     }
 }
 
-/// Since when the log can't be read or written, and why.
+/// Since when the log hasn't been readable or writable, and why.
 #[derive(Clone, Debug)]
 pub struct Trouble {
     pub since: Instant,
@@ -56,14 +56,14 @@ pub struct State {
     pub written: u64,
     /// The number of the last entry that is in memory and in the log.
     pub saved: u64,
-    /// The number of the last entry that the log was known to have, of a follower.
+    /// For a follower: the number of the last entry that the log was known to have.
     pub last: u64,
     pub trouble: Option<Trouble>,
     waiting: Vec<Row>,
     waiting_bytes: usize,
     /// The server ends.
     is_closing: bool,
-    /// How many times it was asked whether this server still leads, and how many of these it did.
+    /// How often it was asked whether this server still leads, and up to which of these questions it did.
     asked: u64,
     confirmed: u64,
     /// Nothing more is read or written.
@@ -72,7 +72,7 @@ pub struct State {
 }
 
 impl State {
-    /// Why nothing can be written, if it can't.
+    /// Why nothing can be written, if so.
     fn refused(&self) -> Option<Refused> {
         if let Some(error) = &self.failed {
             return Some(Refused::Stopped(error.clone()));
@@ -86,7 +86,7 @@ impl State {
         }
     }
 
-    /// Why the writes that wait are no longer waited for.
+    /// Why the waiting writes are given up.
     fn given_up(&self) -> Option<Arc<Error>> {
         let trouble = self.trouble.as_ref().filter(|trouble| trouble.is_long());
         self.failed
@@ -95,18 +95,18 @@ impl State {
     }
 }
 
-/// The writes in their order. The thread of the log takes them.
+/// The writes, in order. The thread of the log takes them.
 #[derive(Debug)]
 pub struct Line {
     state: Mutex<State>,
     changed: Condvar,
     work: Notify,
-    /// What has to be added to a commit number of the store to have the number in the log.
+    /// What to add to a commit number of the store to get the number in the log.
     shift: u64,
 }
 
 impl Line {
-    /// For a store whose last commit has the number `commit`, and in which the log's entries up to `entry` are.
+    /// For a store whose last commit has the number `commit`, and which has the log's entries up to `entry`.
     pub fn new(role: Role, leader: String, entry: u64, commit: u64) -> Self {
         role.say(&leader);
         let state = State {
@@ -141,7 +141,7 @@ impl Line {
         waited.unwrap_or_else(PoisonError::into_inner).0
     }
 
-    /// Changes the state, and wakes all who wait for a change.
+    /// Changes the state, and wakes everybody who is waiting for a change.
     pub fn change<T>(&self, change: impl FnOnce(&mut State) -> T) -> T {
         let changed = change(&mut self.lock());
         self.changed.notify_all();
@@ -180,7 +180,7 @@ impl Line {
         });
     }
 
-    /// The log can't be read or written since then. Returns whether that is new.
+    /// The log hasn't been readable or writable since then. Returns whether that is new.
     pub fn trouble(&self, error: Error, since: Instant) -> bool {
         let why = Arc::new(error);
         self.change(|state| match &mut state.trouble {
@@ -200,7 +200,8 @@ impl Line {
         self.lock().refused().map_or(Ok(()), Err)
     }
 
-    /// Waits until it is certain that this server led at a moment after the call, so that it knows all that the log had before.
+    /// Waits until it is certain that this server led at some moment after the call, so that it knows everything that was in the log
+    /// before.
     pub fn confirm(&self) -> Result<(), Refused> {
         let mut state = self.lock();
         state.asked += 1;
@@ -218,20 +219,20 @@ impl Line {
         Ok(())
     }
 
-    /// How many times it was asked, if somebody waits for an answer.
+    /// The number of the last question, if somebody is waiting for an answer.
     pub fn asked(&self) -> Option<u64> {
         let state = self.lock();
         (state.confirmed < state.asked).then_some(state.asked)
     }
 
-    /// This server has led since it was asked so many times.
+    /// This server has led since the question with this number.
     pub fn confirmed(&self, asked: Option<u64>) {
         if let Some(asked) = asked {
             self.change(|state| state.confirmed = state.confirmed.max(asked));
         }
     }
 
-    /// Waits until all that was written before the call is in the log.
+    /// Waits until everything written before the call is in the log.
     pub fn flush(&self) -> Result<(), Refused> {
         let state = self.lock();
         let number = state.written;
@@ -248,7 +249,7 @@ impl Line {
         Ok(state)
     }
 
-    /// Waits until the entry with this number is here, for a limited time. Returns the last one that is.
+    /// Waits until the entry with this number is here, for a limited time. Returns the last one that is here.
     pub fn wait_for(&self, number: u64, within: Duration) -> u64 {
         let until = Instant::now() + within;
         let mut state = self.lock();
@@ -267,13 +268,13 @@ impl Line {
         self.change(|state| state.failed = Some(Arc::new(error)));
     }
 
-    /// Lets the thread of the log end after the writes that wait.
+    /// Lets the thread of the log end after the waiting writes.
     pub fn close(&self) {
         self.change(|state| state.is_closing = true);
         self.work.notify_one();
     }
 
-    /// Whether the thread has to end: there is nothing left to write, or it has been waited for too long.
+    /// Whether the thread has to end: there is nothing left to write, or the wait has been too long.
     pub fn is_at_end(&self) -> bool {
         let state = self.lock();
         state.is_closing && (state.written == state.saved || state.given_up().is_some())
@@ -294,7 +295,7 @@ impl Line {
         });
     }
 
-    /// Waits for the end of the thread. Returns why it has failed, if it has.
+    /// Waits for the end of the thread. Returns why it failed, if it did.
     pub fn wait_end(&self) -> Result<(), Arc<Error>> {
         let mut state = self.lock();
         while !state.is_over {
@@ -332,7 +333,7 @@ impl Keeper for Line {
                     token,
                 });
             }
-            // What the store has accepted has bytes, if there is memory. Nothing may follow an entry that is missing.
+            // A batch that the store has accepted can be encoded, if there is memory. Nothing may follow a missing entry.
             Err(error) => {
                 let error = state.failed.insert(Arc::new(Error::Store(error)));
                 return Err(Refused::NotSaved(error.clone()).into());

@@ -14,10 +14,10 @@ use std::sync::Arc;
 use std::thread;
 use std::time::{Duration, Instant};
 
-/// How often a follower looks whether anybody leads.
+/// How often a follower checks whether anybody leads.
 const LOOK: Duration = Duration::from_millis(100);
 
-/// How often a leader that has nothing to write looks whether it still leads.
+/// How often a leader that has nothing to write checks whether it still leads.
 const LEADING: Duration = Duration::from_secs(1);
 
 /// After so many seconds without a word of the leader a follower takes over, so that one leads 10 seconds after a leader was paused. A call
@@ -27,13 +27,13 @@ const LEASE: f64 = 9.0;
 /// How long a follower lets the leader come back after the connection to the database has broken.
 const GRACE: Duration = Duration::from_secs(3);
 
-/// How long entries that find no page are tried again, while snapshots of clients keep pages.
+/// How long entries that find no free page are tried again, while clients' snapshots keep pages.
 const FOR_PAGES: Duration = Duration::from_secs(60);
 
-/// After so many entries the leader writes the state.
+/// After this many entries the leader writes the state.
 const STATE_EVERY: u64 = 100_000;
 
-/// When a turn of the thread ends.
+/// Why a turn of the thread ends.
 #[derive(Clone, Copy, Debug, PartialEq, Eq)]
 enum Turn {
     /// The role has changed.
@@ -42,7 +42,7 @@ enum Turn {
     End,
 }
 
-/// A server as a member of those that share a log.
+/// A server as a member of the group that shares a log.
 #[derive(Debug)]
 pub struct Member {
     access: Access,
@@ -56,14 +56,14 @@ pub struct Member {
     sending: Vec<Row>,
     /// The number of the last entry that the state contains, as far as is known here.
     state: u64,
-    /// From when on a follower may lead.
+    /// When a follower may lead, at the earliest.
     may_lead: Instant,
-    /// When the last call of the database that may fail began.
+    /// When the last database call that may fail began.
     tried: Instant,
 }
 
 impl Member {
-    /// Connects, and makes the store again. To lead is refused while another server does.
+    /// Connects, and rebuilds the store. Leading is refused while another server leads.
     pub async fn begin(access: Access, mut pass: Pass, tokens: Arc<Tokens>, leads: bool) -> Result<(Self, Arc<Line>)> {
         let mut database = Database::connect(&access.config).await?;
         if leads {
@@ -118,7 +118,7 @@ impl Member {
         }
     }
 
-    /// Says once that the log can't be read or written.
+    /// Reports once that the log can't be read or written.
     fn note(&self, error: Error) {
         let text = error.to_string();
         if self.line.trouble(error, self.tried) {
@@ -126,9 +126,9 @@ impl Member {
         }
     }
 
-    /// Connects until it succeeds. A leader then has to find the log as it left it.
+    /// Tries to connect until it succeeds. A leader then has to find the log as it left it.
     async fn connect_again(&mut self, role: Role) -> Result<Turn> {
-        // Otherwise a session that hangs and goes on would keep the lock.
+        // Otherwise a session that hangs and later goes on would keep the lock.
         self.database.close();
         loop {
             if self.line.is_at_end() || role == Role::Follower && self.line.is_closing() {
@@ -200,8 +200,8 @@ impl Member {
         Ok(Turn::End)
     }
 
-    /// Takes the lock if nobody has it, or if who has it has been silent for too long, as on a machine that is paused. What such a leader
-    /// adds later isn't of the last term, and so isn't added.
+    /// Takes the lock if nobody has it, or if its owner has been silent for too long, such as on a paused machine. Whatever such a
+    /// leader tries to add later has an old term, and so isn't added.
     async fn gets_lock(&self, head: &Head) -> Result<bool> {
         if head.silence.map_or(false, |silence| silence >= LEASE) && self.database.end_leader(LEASE).await? {
             eprintln!(
@@ -212,7 +212,7 @@ impl Member {
         self.database.try_lock().await
     }
 
-    /// Ends the term of the last leader, applies all that it has added, and leads.
+    /// Ends the term of the last leader, applies everything that it has added, and leads.
     async fn take_over(&mut self, shared: &Shared) -> Result<()> {
         let head = take_term(&self.database, &self.access, false).await?;
         self.check(&head)?;
@@ -242,13 +242,13 @@ impl Member {
         }
     }
 
-    /// Applies the entries that the log has.
+    /// Applies the entries in the log.
     async fn apply_new(&mut self, shared: Option<&Shared>) -> Result<()> {
         while self.apply_some(shared).await? == ENTRIES {}
         Ok(())
     }
 
-    /// Applies some of the entries that the log has. Returns how many.
+    /// Applies some of the entries in the log. Returns how many.
     async fn apply_some(&mut self, shared: Option<&Shared>) -> Result<usize> {
         let known = self.line.lock().saved;
         let entries = self.database.entries(known).await?;
@@ -293,7 +293,7 @@ impl Member {
         }
     }
 
-    /// Applies a batch, also if snapshots of clients keep pages for a while.
+    /// Applies a batch, waiting for a while if clients' snapshots keep pages.
     fn apply_with(&self, pressure: &Pressure, batch: &Batch) -> bestore::Result<Written> {
         let until = Instant::now() + FOR_PAGES;
         loop {
@@ -308,8 +308,8 @@ impl Member {
         }
     }
 
-    /// Adds what is written to the log, until another server leads or the server ends. The live queries may have given up waiting
-    /// for what the log has then.
+    /// Adds what is written to the log, until another server leads or this one ends. The live queries may have given up waiting
+    /// for what is in the log by then.
     async fn lead(&mut self, term: u64, shared: &Arc<Shared>) -> Result<Turn> {
         shared.watcher.written();
         loop {
@@ -347,7 +347,7 @@ impl Member {
                 let head = self.database.head().await?;
                 self.settle(&head, term)
             }
-            // PostgreSQL has refused the statement, as on a full disk: nothing was added.
+            // PostgreSQL has refused the statement, such as on a full disk: nothing was added.
             Err(error @ Error::Database(_)) if !self.database.is_closed() && is_refusal(&error) => {
                 self.note(error);
                 tokio::time::sleep(REST).await;
@@ -357,7 +357,7 @@ impl Member {
         }
     }
 
-    /// Waits for writes, and looks whether this server still leads.
+    /// Waits for writes, and checks whether this server still leads.
     async fn rest(&mut self, term: u64) -> Result<()> {
         let begin = Instant::now();
         self.line.work(LEADING).await;
@@ -389,8 +389,8 @@ impl Member {
         }
     }
 
-    /// Finds out by the head whether the entries that were sent are in the log, if this server leads in this term. Then nobody else
-    /// may have added any.
+    /// Finds out from the head whether the entries that were sent are in the log, if this server still leads in this term. In that
+    /// case nobody else can have added any.
     fn settle(&mut self, head: &Head, term: u64) -> Result<()> {
         self.check(head)?;
         if (&head.run, head.term) != (&self.access.run, term) {
@@ -430,7 +430,7 @@ impl Member {
         Ok(())
     }
 
-    /// Lets another thread write the state, if there are many entries since the last one.
+    /// Has another thread write the state, if there are many entries since the last one.
     fn write_state_if_due(&mut self, shared: &Arc<Shared>) {
         let saved = self.line.lock().saved;
         if saved - self.state < STATE_EVERY {
@@ -440,16 +440,19 @@ impl Member {
         let shared = shared.clone();
         let writing = thread::Builder::new().name("log-state".into()).spawn(move || {
             if let Err(failure) = shared.kept.compact() {
-                eprintln!("bestored: the state of the log isn't written: {}", failure.0.message);
+                eprintln!(
+                    "bestored: the state of the log couldn't be written: {}",
+                    failure.0.message
+                );
             }
         });
         if let Err(error) = writing {
-            eprintln!("bestored: no thread writes the state of the log: {error}");
+            eprintln!("bestored: no thread could be started to write the state of the log: {error}");
         }
     }
 }
 
-/// Whether PostgreSQL has refused the statement, and the connection goes on.
+/// Whether PostgreSQL has refused the statement but the connection still works.
 fn is_refusal(error: &Error) -> bool {
     matches!(error, Error::Database(error) if error.code().is_some())
 }
@@ -459,7 +462,7 @@ async fn take_term(database: &Database, access: &Access, again: bool) -> Result<
     taken.ok_or(Error::Foreign)
 }
 
-/// Takes the lock for a server that starts.
+/// Takes the lock for a server that is starting.
 async fn lead_first(database: &Database, access: &Access) -> Result<Role> {
     let until = Instant::now() + FOR_LOCK;
     while !database.try_lock().await? {

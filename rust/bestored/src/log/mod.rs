@@ -1,8 +1,8 @@
 //! A log in PostgreSQL that several machines share. One server leads: it writes, and adds each accepted transaction to the log
 //! before the reply. The others follow: they apply the entries in order, and compare each outcome with the leader's.
 //!
-//! The leader has an advisory lock of the database, so that there is one. That nothing is written by another one rests on the
-//! statement that adds entries: it adds them only in the last term, and only after the last entry.
+//! The leader has an advisory lock of the database, so that there is only one. But what ensures that nobody else writes is
+//! the statement that adds entries: it adds them only in the last term, and only after the last entry.
 
 mod access;
 mod database;
@@ -34,10 +34,10 @@ use std::thread;
 use std::time::Duration;
 use tokio::runtime::{Builder, Runtime};
 
-/// How long a leader waits for the lock when it starts, since the session of one that was killed may end a little later.
+/// How long a leader waits for the lock when it starts, since the session of a killed one may end a little later.
 const FOR_LOCK: Duration = Duration::from_secs(5);
 
-/// How long is rested before what has failed is tried again.
+/// How long to rest before trying again after a failure.
 const REST: Duration = Duration::from_millis(200);
 
 fn runtime() -> Result<Runtime> {
@@ -55,15 +55,15 @@ pub struct Log {
     shelf: Shelf,
     line: Arc<Line>,
     access: Access,
-    /// Who writes the state has it.
+    /// Whoever writes the state holds this.
     writing_state: Mutex<()>,
     /// What the thread begins with.
     begun: Mutex<Option<(Runtime, Member)>>,
 }
 
 impl Log {
-    /// Connects, again and again while the database can't be reached, and makes the store again to the end of the log. `None`: a
-    /// signal has come first.
+    /// Connects, trying again while the database can't be reached, and rebuilds the store up to the end of the log. `None`: a
+    /// signal came first.
     pub fn open(
         options: &Options,
         run: &str,
@@ -90,7 +90,7 @@ impl Log {
         }
     }
 
-    /// Connects once. To lead is refused while another server does.
+    /// Connects once. Leading is refused while another server leads.
     fn begin(options: &Options, access: &Access, tokens: &Arc<Tokens>, leads: bool) -> Result<Self> {
         let store = Store::open(options.limits())?;
         let pass = store.pass()?;
@@ -156,12 +156,12 @@ impl Log {
         self.line.confirm()
     }
 
-    /// Waits until all that was written is in the log.
+    /// Waits until everything written is in the log.
     pub fn flush(&self) -> std::result::Result<(), Refused> {
         self.line.flush()
     }
 
-    /// Waits until the entry with this number is here, for a limited time, and says what the server does.
+    /// Waits until the entry with this number is here, for a limited time, and returns what the server is doing.
     pub fn status(&self, wanted: &wire::OfLog) -> std::result::Result<wire::LogStatus, Failure> {
         if let Some(entry) = wanted.entry {
             let found = self.line.wait_for(entry, within(wanted.within)?);
@@ -184,7 +184,7 @@ impl Log {
         })
     }
 
-    /// What the server does, and how many entries it is late.
+    /// What the server is doing, and how many entries it still lacks.
     pub fn role(&self) -> wire::Role {
         let state = self.line.lock();
         let (role, term, last) = match state.role {
@@ -205,7 +205,7 @@ impl Log {
         state.trouble.as_ref().map(|trouble| trouble.why.to_string())
     }
 
-    /// Writes the state of now into the log, if this server leads.
+    /// Writes the current state into the log, if this server leads.
     pub fn compact(&self) -> std::result::Result<(), Refused> {
         let _one = lock(&self.writing_state);
         let (role, leader) = {
@@ -238,14 +238,14 @@ impl Log {
         })
     }
 
-    /// Ends the thread after the writes that wait.
+    /// Ends the thread after the waiting writes.
     pub fn finish(&self) -> std::result::Result<(), Arc<Error>> {
         self.line.close();
         self.line.wait_end()
     }
 }
 
-/// The end of the thread, also by a panic.
+/// The end of the thread, even by a panic.
 struct Ending<'a>(&'a Line);
 
 impl Drop for Ending<'_> {
@@ -258,7 +258,7 @@ impl Drop for Ending<'_> {
     }
 }
 
-/// How long an entry is waited for, of so many milliseconds.
+/// How long to wait for an entry, given in milliseconds.
 fn within(milliseconds: Option<u64>) -> std::result::Result<Duration, Failure> {
     match milliseconds.unwrap_or(5_000) {
         time @ 0..=60_000 => Ok(Duration::from_millis(time)),

@@ -1,4 +1,4 @@
-//! The state: batches that make a store again, so that a start needn't repeat all entries.
+//! The state: batches that rebuild a store, so that a start needn't repeat all entries.
 
 use super::database::{Database, ENTRIES};
 use super::error::{Error, Result};
@@ -7,7 +7,7 @@ use crate::volumes;
 use bestore::saved::Place;
 use bestore::{Batch, Operation, Pass, Written};
 
-/// A snapshot as it goes into the log.
+/// A snapshot in the form in which it goes into the log.
 #[derive(Debug)]
 pub struct State {
     /// The commit number of the snapshot.
@@ -38,12 +38,15 @@ pub async fn load(database: &mut Database, pass: &mut Pass) -> Result<u64> {
     }
     let last = Place::State((batches.len() as u64).saturating_sub(1));
     if pass.pin()?.next_node()? != head.next {
-        return Err(Error::differs(last, "the state has another next node than it says"));
+        return Err(Error::differs(
+            last,
+            "the next node of the state differs from the one that it names",
+        ));
     }
     Ok(head.entries)
 }
 
-/// Adds the tokens of entries that the state contains. `entries` is the last one, and `commit` that of the state.
+/// Adds the tokens of entries that the state contains. `entries` is the last one, and `commit` is the state's commit number.
 pub async fn load_tokens(database: &Database, entries: u64, commit: u64, tokens: &Tokens) -> Result<()> {
     let mut after = 0;
     loop {

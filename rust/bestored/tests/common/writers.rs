@@ -125,7 +125,7 @@ impl Writers {
         found
     }
 
-    /// As `check`, after the server has ended and another one has opened its file. From here on what it has is known.
+    /// Like `check`, after the server has ended and another one has opened its file. From here on what it has is known.
     pub fn go_on(&self, client: &mut Client) {
         for (known, found) in self.known.iter().zip(self.check(client)) {
             if found > known.answered.swap(found, Relaxed) {
