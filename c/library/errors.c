@@ -30,9 +30,9 @@ static const meaning meanings[] = {
       "remove one first" },
     { BES_NOT_INDEXABLE, BES_CLASS_MINE, "BES_NOT_INDEXABLE",
       "an index can't have this kind; "
-      "it can have a kind of texts or integers, but not of MIME types or raw bytes" },
+      "it takes texts or integers, but not MIME types or raw bytes" },
     { BES_COMMITS_SPENT, BES_CLASS_FULL, "BES_COMMITS_SPENT",
-      "the journal is at the limit that the store was opened with; "
+      "the journal has reached the limit that the store was opened with; "
       "copy the state into a new store" },
     { BES_NO_MEMORY, BES_CLASS_FULL, "BES_NO_MEMORY",
       "out of memory; "
