@@ -97,8 +97,26 @@ static void ranges(void)
     count("range", ask, 1);
 }
 
+/* The first page of an answer in the order of an index. */
+static void ask_page(void)
+{
+    enum { PAGE = 50 };
+    bes_cursor cursor = {0, 0, {0}};
+    bes_name by = {0, {0}};
+    uint32_t more = 0;
+    OK(bes_check_name_text("t", &by));
+    OK(bes_ordered(&mine, &prepared, &by, 1, &cursor, found, PAGE, &found_count, &more));
+    CHECK(found_count == PAGE && more == 1);
+}
+
+static void ask_any(void)
+{
+    OK(bes_any(&mine, &prepared, found, 1, &found_count));
+    CHECK(found_count == 1);
+}
+
 /* Prepared queries with few nodes in a large store: by a range of texts, and 70 nodes that are asked for another attribute, which all
- * nodes have. */
+ * nodes have; and a page and any one of all nodes. */
 static void queries(void)
 {
     char query[200], after[TEXT + 10];
@@ -112,6 +130,9 @@ static void queries(void)
     count("range of texts", ask, 1);
     prepare("few==1&&k>0", 70);
     count("two indices", ask, 1);
+    prepare("k>0", nodes_count);
+    count("page in order", ask_page, 1);
+    count("any node", ask_any, 1);
 }
 
 static void refresh(void)
