@@ -109,8 +109,8 @@ impl Store {
         self.check()?;
         match self.another() {
             Err(Error::NoPass) => {
-                // A task of the store may have had the last one.
-                drop(lock(&self.0.task));
+                // A task of the store may have had the last one. While the lock is held, no other task takes it.
+                let _no_task = lock(&self.0.task);
                 self.another()
             }
             pass => pass,
