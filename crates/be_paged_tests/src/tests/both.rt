@@ -42,6 +42,11 @@ impl Model for Both {
         × IsWriteStart (⟦<VecRoom as Look>⟧.standing b.room) };
 }
 
+/// What a test says that goes on after a call that failed.
+fn none_left() -> Fail {
+    Fail::new("the forms are gone")
+}
+
 /// An answer that both forms gave, if they did.
 fn agreed<T: Drop>(same: bool, answer: T, otherwise: &str) -> Result<T, Fail> {
     if same {
@@ -140,5 +145,103 @@ impl Both {
     /// Up to `most` nodes of the form over pages, from a number on.
     pub(crate) fn nodes(&mut self, alloc: Global, from: u64, most: usize) -> Nodes {
         again!(nodes(alloc, &mut self.room, self.page, from, most))
+    }
+}
+
+/// Both forms in the hands of a test, which goes from call to call by a reference. A call that
+/// fails leaves none.
+#[derive(Drop)]
+pub(crate) struct Forms {
+    both: Option<Both>,
+}
+
+impl Forms {
+    pub(crate) fn of(both: Both) -> Forms {
+        Forms { both: Some(both) }
+    }
+
+    /// Both forms of the empty volume, the one in a room of that many pages.
+    pub(crate) fn new(alloc: Global, pages: u64) -> Result<Forms, Refusal> {
+        Ok(Forms::of(Both::new(alloc, pages)?))
+    }
+
+    pub(crate) fn into_both(self) -> Result<Both, Fail> {
+        match self.both {
+            Some(both) => Ok(both),
+            None => Err(none_left()),
+        }
+    }
+
+    fn take(&mut self) -> Result<Both, Fail> {
+        match self.both.take() {
+            Some(both) => Ok(both),
+            None => Err(none_left()),
+        }
+    }
+
+    fn held(&mut self) -> Result<&mut Both, Fail> {
+        match &mut self.both {
+            Some(both) => Ok(both),
+            None => Err(none_left()),
+        }
+    }
+
+    /// Applies a list, and returns the outcomes of both.
+    pub(crate) fn write(
+        &mut self,
+        ops: &[Op],
+    ) -> Result<Result<ArrayVec<Done, 64>, Refusal>, Fail> {
+        let (both, answer) = self.take()?.write(ops)?;
+        self.both = Some(both);
+        Ok(answer)
+    }
+
+    /// The answer to a query, from one pick or from what is chosen.
+    pub(crate) fn query(
+        &mut self,
+        alloc: Global,
+        query: &Query,
+        pick: Option<usize>,
+    ) -> Result<Nodes, Fail> {
+        let (both, answer) = self.take()?.query(alloc, query, pick)?;
+        self.both = Some(both);
+        Ok(answer)
+    }
+
+    pub(crate) fn get(&mut self, node: u64, name: &Name) -> Result<Option<Value>, Fail> {
+        self.held()?.get(node, name)
+    }
+
+    pub(crate) fn attrs(
+        &mut self,
+        alloc: Global,
+        node: u64,
+    ) -> Result<Result<Vec<(Name, Value)>, Refusal>, Fail> {
+        self.held()?.attrs(alloc, node)
+    }
+
+    pub(crate) fn indices(&mut self, alloc: Global) -> Result<Vec<(Name, Kind)>, Fail> {
+        self.held()?.indices(alloc)
+    }
+
+    /// Up to `most` nodes of the form over pages, from a number on.
+    pub(crate) fn nodes(&mut self, alloc: Global, from: u64, most: usize) -> Result<Nodes, Fail> {
+        Ok(self.held()?.nodes(alloc, from, most))
+    }
+
+    /// The number of the next node.
+    pub(crate) fn next(&self) -> u64 {
+        match &self.both {
+            Some(both) => both.plain.next(),
+            None => 0,
+        }
+    }
+
+    /// How many pages of the room are free.
+    pub(crate) fn free(&self) -> u64 {
+        match &self.both {
+            Some(both) => both.room.free(),
+            None => 0,
+        }
     }
 }

@@ -10,7 +10,7 @@ ghost use Rattle.be_volume.specs.Volume.{State};
 ghost use Rattle.be_paged_reading.specs.Version.{IsVersion};
 
 use crate::tests::asking::read_query;
-use crate::tests::both::Both;
+use crate::tests::both::{Both, Forms};
 use crate::tests::lines::request_of;
 use crate::tests::run_lines;
 use crate::tests::sizes::{accepted, numbered};
@@ -40,22 +40,31 @@ fn node_text(alloc: Global, node: u64) -> Result<String, AllocError> {
     )
 }
 
-fn make_node(alloc: Global, both: Both, node: u64) -> Result<Both, Fail> {
+fn make_node(alloc: Global, forms: &mut Forms, node: u64) -> Result<(), Fail> {
     let text = match node_text(alloc, node) {
         Err(_) => node_text(alloc, node)?,
         Ok(text) => text,
     };
-    accepted(both, &list_of(alloc, text.as_str())?)
+    accepted(forms, &list_of(alloc, text.as_str())?)
+}
+
+fn fill(alloc: Global, forms: &mut Forms) -> Result<(), Fail> {
+    run_lines(
+        alloc,
+        forms,
+        "mkindex name CSTR / mkindex size LONG => ok / ok",
+    )?;
+    for node in 1..=NODES {
+        make_node(alloc, forms, node)?;
+    }
+    run_lines(alloc, forms, "new => node 301")
 }
 
 /// The volume that each row is about.
 pub(crate) fn filled(alloc: Global) -> Result<Both, Fail> {
-    let indices = "mkindex name CSTR / mkindex size LONG => ok / ok";
-    let mut both = run_lines(alloc, Both::new(alloc, 1024)?, indices)?;
-    for node in 1..=NODES {
-        both = make_node(alloc, both, node)?;
-    }
-    run_lines(alloc, both, "new => node 301")
+    let mut forms = Forms::new(alloc, 1024)?;
+    fill(alloc, &mut forms)?;
+    forms.into_both()
 }
 
 /// What a request costs.
