@@ -154,7 +154,7 @@ if echo '#include <valgrind/callgrind.h>' | cc -E - >"$work/said" 2>&1; then
     build -O2 costs.c -o "$work/costs"
     run_if_there "C, costs" python3 ../tests/costs "$work/costs"
 else
-    echo "C, costs: skipped, there is no valgrind/callgrind.h"
+    echo "C, costs: skipped, valgrind/callgrind.h is not installed"
 fi
 
 build -O2 ../examples/c/first.c -o "$work/first"

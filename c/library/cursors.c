@@ -3,7 +3,7 @@
 
 #include <string.h>
 
-/* How many bytes a number of this type code has in a key of an index, or 0 if its values are no numbers. */
+/* How many bytes a number of this type code takes in an index's key; 0 if its values aren't numbers. */
 static size_t key_size(uint32_t code)
 {
     return bits_of(code) / 8;

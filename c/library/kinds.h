@@ -1,4 +1,4 @@
-/* What is known of a type code. For the helpers of this folder alone. */
+/* Facts about type codes. Only the helpers in this folder use them. */
 #ifndef BESTORE_LIBRARY_KINDS_H
 #define BESTORE_LIBRARY_KINDS_H
 
