@@ -1,5 +1,5 @@
-/* Queries of texts by a pattern and a bound, at each bound of a store of any size, compared with the list itself. BESTORE_SEED draws the
- * size of an earlier run again; `short` draws a smaller one. */
+/* Queries on texts by a pattern and a bound, at each bound in a store of random size, compared with the list itself. BESTORE_SEED repeats
+ * an earlier run's size; `short` draws a smaller size. */
 #include "tests.h"
 #include <time.h>
 
@@ -8,7 +8,7 @@ enum { MOST = 700 };
 static bes_pass pass = BES_PASS_INIT;
 static uint64_t count, found[MOST], found_count, number;
 
-/* The text of a node, in the order of the numbers. */
+/* A node's text; the texts are in the order of the nodes' numbers. */
 static const char *text_of(uint64_t node)
 {
     static char text[16];
@@ -16,7 +16,7 @@ static const char *text_of(uint64_t node)
     return text;
 }
 
-/* Asks for the nodes whose text has this digit and is within the bound, which is one of the texts or lies between two. */
+/* Queries the nodes whose text has this digit and is within the bound, which is one of the texts or lies between two of them. */
 static void ask(char digit, uint64_t bound, bool is_upper, int past)
 {
     char query[80], end[16];

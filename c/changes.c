@@ -1,11 +1,11 @@
-/* Changes that are begun and ended: what they collect and refuse, what they read of their own operations, how they end, and two threads
- * that move amounts by them. */
+/* Changes between bes_begin_change and bes_end_change: what they collect and refuse, how they read their own operations, how they end, and
+ * two threads that use changes to move amounts. Changes in one call of bes_apply_change: which kinds they refuse, and how they end. */
 #include "tests.h"
 #include <pthread.h>
 
 #define NAME(text) (const uint8_t *)(text), strlen(text)
 
-/* A draft of a store's pass, which a test reads and writes by. */
+/* A store's pass and a draft, through which a test reads and writes. */
 typedef struct user {
     bes_pass pass;
     bes_draft draft;
@@ -53,26 +53,27 @@ static uint32_t add_remove(bes_draft *draft, uint64_t removed)
     return add_last(draft, &batch, &node);
 }
 
+/* Adds the last operation of a batch, which is a set. If the kind is wrong, the error gives the index's kind. */
+static uint32_t add_set(bes_draft *draft, const bes_batch *batch, uint32_t indexed)
+{
+    uint64_t node = 7;
+    uint32_t error = add_last(draft, batch, &node);
+    CHECK(node == (error == BES_WRONG_KIND ? indexed : 0));
+    return error;
+}
+
 static uint32_t add_number(bes_draft *draft, uint64_t changed, const char *name, int64_t number)
 {
     bes_batch batch = BES_BATCH_INIT;
-    uint64_t node = 7;
-    uint32_t error;
     CHECK(bes_batch_set_int64(&batch, changed, name, number) == BES_OK);
-    error = add_last(draft, &batch, &node);
-    CHECK(node == (error == BES_WRONG_KIND ? BES_STRING_TYPE : 0));
-    return error;
+    return add_set(draft, &batch, BES_STRING_TYPE);
 }
 
 static uint32_t add_text(bes_draft *draft, uint64_t changed, const char *name, const char *text)
 {
     bes_batch batch = BES_BATCH_INIT;
-    uint64_t node = 7;
-    uint32_t error;
     CHECK(bes_batch_set_text(&batch, changed, name, text) == BES_OK);
-    error = add_last(draft, &batch, &node);
-    CHECK(node == (error == BES_WRONG_KIND ? BES_INT64_TYPE : 0));
-    return error;
+    return add_set(draft, &batch, BES_INT64_TYPE);
 }
 
 static uint32_t add_unset(bes_draft *draft, uint64_t changed, const char *name)
@@ -109,7 +110,7 @@ static uint64_t count_of(bes_draft *draft)
     return counts.operations;
 }
 
-/* The number that a node has in a change, or -1 if it has none. */
+/* Returns a node's number attribute in a change, or -1 if the node has none. */
 static int64_t number_in(user *it, uint64_t node, const char *name)
 {
     bes_attribute read = {0, 0, 0};
@@ -119,7 +120,7 @@ static int64_t number_in(user *it, uint64_t node, const char *name)
     return error == BES_OK ? (int64_t)read.number : -1;
 }
 
-/* The number that a node has in a store. */
+/* Returns a node's number attribute in a store. */
 static int64_t number_of(bes_pass *pass, uint64_t node, const char *name)
 {
     bes_attribute read = {0, 0, 0};
@@ -138,7 +139,7 @@ static bool is_pinned(bes_pass *pass)
     return bes_next(pass, &node) == BES_OK;
 }
 
-/* Handles that are closed, and one that is open already. */
+/* Tries closed handles, and a handle that is already open. */
 static void handles(void)
 {
     user it = {BES_PASS_INIT, BES_DRAFT_INIT, 7, 7};
@@ -170,7 +171,7 @@ static void handles(void)
     CHECK(bes_close(&it.pass) == BES_OK);
 }
 
-/* New nodes get their numbers, and 64 operations are all that a draft takes. */
+/* New nodes get their numbers, and a draft takes at most 64 operations. */
 static void sizes(uint64_t count)
 {
     user it = open_user();
@@ -220,7 +221,7 @@ static void invalid(void)
     CHECK(bes_abandon_change(&it.pass, &it.draft) == BES_OK && bes_close(&it.pass) == BES_OK);
 }
 
-/* A value has the kind of the index of its name, as the operations before leave that index. */
+/* A value must have the kind of the index with its name, as the earlier operations leave that index. */
 static void kinds(void)
 {
     user it = open_user();
@@ -266,7 +267,7 @@ static void own_reads(void)
     CHECK(bes_close(&it.pass) == BES_OK);
 }
 
-/* What a draft lists is the batch that was added, as far as there is room. */
+/* A draft lists the operations that were added, up to the given sizes. */
 static void batches(void)
 {
     static bes_batch added, listed;
@@ -287,7 +288,7 @@ static void batches(void)
     CHECK(bes_close(&it.pass) == BES_OK);
 }
 
-/* If another pass writes in between, nothing is written, and the next attempt is on what that wrote. */
+/* If another pass writes in between, nothing is written, and the next attempt builds on what that pass wrote. */
 static void begins_anew(void)
 {
     static view before;
@@ -307,7 +308,7 @@ static void begins_anew(void)
     CHECK(bes_close(&it.pass) == BES_OK && bes_close(&other) == BES_OK);
 }
 
-/* What the store refuses shows at the end, and nothing is written. */
+/* What the store refuses is reported at the end, and nothing is written. */
 static void refused(void)
 {
     user it = open_user();
@@ -324,7 +325,7 @@ static void refused(void)
     CHECK(bes_close(&it.pass) == BES_OK);
 }
 
-/* A pin that a change made goes with it, and another stays. */
+/* If a change made the pin, the change's end removes it; any other pin stays. */
 static void pins(void)
 {
     user it = open_user();
@@ -349,13 +350,84 @@ static void pins(void)
     CHECK(add_new(&it.draft, &node) == BES_OK);
     CHECK(bes_end_change(&it.pass, &it.draft, &number) == BES_NOT_PINNED && number == 0 && !it.draft.live && is_pinned(&it.pass));
     CHECK(bes_unpin(&it.pass) == BES_OK);
-    /* A second draft of a pass is on the first one's pin. */
+    /* A second draft of a pass uses the first one's pin. */
     begin(&it);
     CHECK(bes_begin_change(&it.pass, &second, &number, &node) == BES_OK && number == 1 && node == 2);
     CHECK(bes_abandon_change(&it.pass, &it.draft) == BES_OK && !is_pinned(&it.pass));
     CHECK(bes_abandon_change(&it.pass, &second) == BES_OK && !second.live);
     begin(&it);
     CHECK(bes_close(&it.pass) == BES_OK && bes_abandon_change(&it.pass, &it.draft) == BES_CLOSED && !it.draft.live);
+}
+
+static uint32_t apply_change(bes_pass *pass, const bes_batch *batch, uint64_t *number)
+{
+    return bes_apply_change(pass, batch->operations, batch->count, batch->bytes, batch->used, number);
+}
+
+/* Opens a store that has an index "a" of texts and node 1, and pins it. */
+static bes_pass open_indexed(void)
+{
+    bes_pass pass = open_store(1);
+    uint64_t number = 0;
+    CHECK(bes_make_index(&pass, "a", BES_STRING_TYPE) == BES_OK && bes_new_node(&pass, &number) == BES_OK);
+    CHECK(bes_pin(&pass, &number) == BES_OK && number == 2);
+    return pass;
+}
+
+/* The first set whose kind differs from its index's is refused with its position in the batch, wherever that is. */
+static void places_of_wrong_kinds(void)
+{
+    bes_pass pass = open_indexed();
+    bes_usage usage = {0, 0, 0, 0, 0, false, 0, 0};
+    uint64_t number = 0;
+    for (uint64_t place = 0; place < 64; place++) {
+        bes_batch batch = BES_BATCH_INIT;
+        for (uint64_t i = 0; i < place; i++)
+            CHECK((i % 2 == 0 ? bes_batch_set_text(&batch, 1, "a", "x") : bes_batch_set_int64(&batch, 1, "b", 1)) == BES_OK);
+        while (batch.count < 64)
+            CHECK(bes_batch_set_int64(&batch, 1, "a", 1) == BES_OK);
+        number = 99;
+        CHECK(apply_change(&pass, &batch, &number) == BES_WRONG_KIND && number == place && is_pinned(&pass));
+    }
+    CHECK(bes_status(&pass, &usage, &number) == BES_OK && usage.entries == 2);
+    CHECK(bes_close(&pass) == BES_OK);
+}
+
+/* A set is compared with the index as the earlier operations leave it, and a refused batch leaves no trace. */
+static void kinds_of_own_indices(void)
+{
+    bes_pass pass = open_indexed();
+    bes_batch batch = BES_BATCH_INIT, longer;
+    uint64_t number = 0;
+    CHECK(bes_batch_remove_index(&batch, "a") == BES_OK && bes_batch_set_int64(&batch, 1, "a", 5) == BES_OK);
+    CHECK(bes_batch_make_index(&batch, "a", BES_INT64_TYPE) == BES_OK && bes_batch_set_int64(&batch, 1, "a", 6) == BES_OK);
+    longer = batch;
+    CHECK(bes_batch_set_text(&longer, 1, "a", "x") == BES_OK);
+    CHECK(apply_change(&pass, &longer, &number) == BES_WRONG_KIND && number == 4);
+    CHECK(bes_unpin(&pass) == BES_OK && number_of(&pass, 1, "a") == -1);
+    CHECK(bes_pin(&pass, &number) == BES_OK && apply_change(&pass, &batch, &number) == BES_OK && number == 3);
+    CHECK(bes_unpin(&pass) == BES_OK && number_of(&pass, 1, "a") == 6);
+    CHECK(bes_close(&pass) == BES_OK);
+}
+
+/* New nodes have the snapshot's next numbers; another write in between is a conflict; what the store refuses comes last. */
+static void writes_at_once(void)
+{
+    bes_pass pass = open_indexed();
+    bes_batch batch = BES_BATCH_INIT;
+    uint64_t next = 0, number = 0;
+    CHECK(bes_next(&pass, &next) == BES_OK && next == 2);
+    CHECK(bes_batch_new_node(&batch) == BES_OK && bes_batch_new_node(&batch) == BES_OK);
+    CHECK(bes_batch_set_int64(&batch, next + 1, "b", 7) == BES_OK);
+    CHECK(apply_change(&pass, &batch, &number) == BES_OK && number == 3 && is_pinned(&pass));
+    CHECK(apply_change(&pass, &batch, &number) == BES_CONFLICT && number == 3);
+    CHECK(bes_unpin(&pass) == BES_OK && number_of(&pass, 3, "b") == 7);
+    CHECK(apply_change(&pass, &batch, &number) == BES_NOT_PINNED && number == 0);
+    bes_batch_clear(&batch);
+    CHECK(bes_pin(&pass, &number) == BES_OK && apply_change(&pass, &batch, &number) == BES_BAD_COUNT && number == 0);
+    CHECK(bes_batch_unset(&batch, 1, "a") == BES_OK);
+    CHECK(apply_change(&pass, &batch, &number) == BES_NO_ATTRIBUTE && number == 0);
+    CHECK(bes_close(&pass) == BES_OK);
 }
 
 /* One of two threads that move amounts between two nodes. */
@@ -366,7 +438,7 @@ typedef struct mover {
     unsigned rounds, attempts;
 } mover;
 
-/* One attempt to move, by what the change reads. */
+/* One attempt to move an amount, based on what the change reads. */
 static uint32_t move_once(mover *it, uint64_t *number)
 {
     user change = {BES_PASS_INIT, BES_DRAFT_INIT, 0, 0};
@@ -424,6 +496,9 @@ int main(int argc, char **argv)
     begins_anew();
     refused();
     pins();
+    places_of_wrong_kinds();
+    kinds_of_own_indices();
+    writes_at_once();
     moves(is_short ? 200 : 5000);
     return 0;
 }

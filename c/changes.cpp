@@ -61,7 +61,7 @@ static Value value_of(Kind kind, const std::string &word)
 static Node make(Change &change) { return change.create(); }
 static Node make(Pass &pass) { return pass.new_node(); }
 
-// Adds an operation to a change, or writes it by a pass.
+// Adds an operation to a change, or writes it through a pass.
 template <class Target> static void collect(Target &target, const Words &words)
 {
     const std::string &what = words[0];
@@ -97,7 +97,7 @@ static void refused(Change &change, const Words &words, std::size_t mark)
     CHECK(change.batch().size() == size);
 }
 
-// Does a line within a change.
+// Runs a line within a change.
 static void step(Change &change, Pass &other, const Words &words)
 {
     const auto mark = std::find(words.begin(), words.end(), "!");
@@ -121,7 +121,7 @@ static void step(Change &change, Pass &other, const Words &words)
     }
 }
 
-// One attempt of a change that does the lines up to `end`, which says how it ends. Returns where the lines go on.
+// One attempt at a change that runs the lines up to `end`, which says how it ends. Returns the line after that.
 static std::size_t change_by(Pass &pass, Pass &other, const Lines &lines, std::size_t at)
 {
     std::size_t end = at;

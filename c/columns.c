@@ -6,7 +6,8 @@ enum { NODES = 40, NAMES = 6 };
 static bes_batch batch;
 static const char *const names[NAMES] = {"flag", "mime", "name", "none", "raw", "size"};
 
-/* Whether the node of this number has the name's attribute: each lacks another one, and none has "none". */
+/* Returns whether the node with this number has an attribute with the name. Each node lacks a different attribute, and no node has
+ * "none". */
 static bool has(uint64_t node, size_t name)
 {
     return name != 3 && (node % 8 >= NAMES || node % 8 != name);
@@ -25,7 +26,7 @@ static void set_attribute(uint64_t node, size_t name)
     }
 }
 
-/* Nodes 1 to NODES; every fifth is removed again. */
+/* Makes nodes 1 to NODES; every fifth node is removed again. */
 static void fill(bes_pass *pass)
 {
     uint64_t made[64], number = 0;
@@ -48,7 +49,7 @@ static void hold(bes_name *held, const char *name)
     CHECK(held->length == again.length && memcmp(held->bytes, again.bytes, again.length) == 0);
 }
 
-/* A cell tells what bes_get reads; and bes_get_named reads the same. */
+/* A cell has what bes_get reads, and bes_get_named reads the same. */
 static void compare(bes_pass *pass, uint64_t node, const char *name, const bes_name *held, const bes_cell *cell, const uint8_t *bytes)
 {
     bes_attribute told = {0, 0, 0}, again = {0, 0, 0};
@@ -87,7 +88,7 @@ static void read_all(bes_pass *pass, const size_t *order, size_t width)
     CHECK(count == end);
 }
 
-/* As many cells and bytes are written as there is room for, and the count is that of all bytes. */
+/* As many cells and bytes are written as fit, and the count covers all bytes. */
 static void too_little_room(bes_pass *pass)
 {
     static const uint64_t nodes[] = {1, 2, 5};
@@ -112,7 +113,7 @@ static void too_little_room(bes_pass *pass)
     CHECK(bes_columns(pass, nodes, 3, held, 0, cells, 6, bytes, 64, &count) == BES_OK && count == 0);
 }
 
-/* Bytes that no call has checked name no attribute. */
+/* Names that no call has checked name no attribute. */
 static void unchecked_names(bes_pass *pass)
 {
     static const uint64_t nodes[] = {1, 5};

@@ -12,7 +12,7 @@ static bes_prepared prepared = BES_PREPARED_INIT;
 static bes_batch batch;
 static uint64_t nodes_count, turn, number, found_count, found[MOST_NODES];
 
-/* Counts so many calls, under the name of the step. */
+/* Counts this many calls under the step's name. */
 static void count(const char *step, void (*call)(void), int calls)
 {
     CALLGRIND_DUMP_STATS_AT("between");
@@ -29,7 +29,7 @@ static void apply(void)
     bes_batch_clear(&batch);
 }
 
-/* A text of 48 bytes, in the order of its number. */
+/* A text of 48 bytes. The texts sort in the order of their numbers. */
 static const char *text_of(uint64_t n)
 {
     static char text[TEXT + 10];
@@ -38,7 +38,7 @@ static const char *text_of(uint64_t n)
     return text;
 }
 
-/* Opens a store of nodes with their number as `k` and the text of it as `t`, both indexed, and the number `v`. */
+/* Opens a store whose nodes have their number as `k` and its text as `t`, both indexed, and the number `v`. */
 static void open_filled(void)
 {
     OK(bes_open(PAGES, 2, 1000000, &mine));
@@ -62,7 +62,7 @@ static uint64_t some_node(void)
 
 static void set(void) { OK(bes_set_int64(&mine, some_node(), "v", (int64_t)turn)); }
 
-/* Single writes, and the same once one was refused. */
+/* Single writes, and the same writes after one was refused. */
 static void sets(void)
 {
     open_filled();
@@ -74,9 +74,35 @@ static void sets(void)
     count("set after a refusal", set, CALLS);
 }
 
+static void set_indexed(void) { OK(bes_set_int32(&mine, some_node(), "k", (int32_t)turn)); }
+
+/* Adds 1 to a node's `k`. */
+static uint32_t count_up(bes_pass *pass, bes_batch *batch, uint64_t next, void *with)
+{
+    const uint64_t node = some_node();
+    bes_attribute read = {0, 0, 0};
+    uint8_t none = 0;
+    (void)next;
+    (void)with;
+    OK(bes_read(pass, node, "k", &read, &none, 0));
+    return bes_batch_set_int32(batch, node, "k", (int32_t)read.number + 1);
+}
+
+static void change(void) { OK(bes_change(&mine, 1, count_up, NULL, &number)); }
+
+/* A set of an indexed attribute by itself, and after a read in a change. */
+static void changes(void)
+{
+    open_filled();
+    set_indexed();
+    count("indexed set", set_indexed, CALLS);
+    change();
+    count("change", change, CALLS);
+}
+
 static void ask(void) { OK(bes_query_prepared(&mine, &prepared, found, MOST_NODES, &found_count)); }
 
-/* Prepares a query that so many nodes meet, and asks it once. */
+/* Prepares a query that this many nodes match, and runs it once. */
 static void prepare(const char *query, uint64_t count_met)
 {
     uint64_t place = 0;
@@ -86,7 +112,7 @@ static void prepare(const char *query, uint64_t count_met)
     CHECK(found_count == count_met);
 }
 
-/* A prepared query that a range decides, which half of the nodes meet. */
+/* A prepared query that a range decides, and that half of the nodes match. */
 static void ranges(void)
 {
     char query[40];
@@ -97,7 +123,7 @@ static void ranges(void)
     count("range", ask, 1);
 }
 
-/* The first page of an answer in the order of an index. */
+/* The first page of a result in an index's order. */
 static void ask_page(void)
 {
     enum { PAGE = 50 };
@@ -116,7 +142,7 @@ static void ask_any(void)
 }
 
 /* Prepared queries with few nodes in a large store: by a range of texts, and 70 nodes that are asked for another attribute, which all
- * nodes have; and a page and any one of all nodes. */
+ * nodes have; and of all nodes a page, any one, and a page where a second index has some of them too. */
 static void queries(void)
 {
     char query[200], after[TEXT + 10];
@@ -133,6 +159,8 @@ static void queries(void)
     prepare("k>0", nodes_count);
     count("page in order", ask_page, 1);
     count("any node", ask_any, 1);
+    prepare("few==1||k>0", nodes_count);
+    count("page by two indices", ask_page, 1);
 }
 
 static void refresh(void)
@@ -147,7 +175,7 @@ static void refresh_changed(void)
     OK(bes_refresh_changed(&mine, &prepared, &updates));
 }
 
-/* Writes one node so many times, and pins what is then current. */
+/* Writes one node this many times, and then pins the current version. */
 static void write_one(uint64_t times)
 {
     OK(bes_unpin(&mine));
@@ -156,7 +184,8 @@ static void write_one(uint64_t times)
     OK(bes_pin(&mine, &number));
 }
 
-/* Refreshes of a large answer: all of it, by one node that was written, and by as many writes of one as the answer has nodes. */
+/* Refreshes of a large result: of the whole result, after a write to one node, and after as many writes to one node as the result has
+ * nodes. */
 static void live(void)
 {
     open_filled();
@@ -174,7 +203,7 @@ static void live(void)
 static const struct row {
     const char *name;
     void (*run)(void);
-} cases[] = {{"sets", sets}, {"ranges", ranges}, {"queries", queries}, {"live", live}};
+} cases[] = {{"sets", sets}, {"changes", changes}, {"ranges", ranges}, {"queries", queries}, {"live", live}};
 
 int main(int argc, char **argv)
 {

@@ -1,12 +1,12 @@
-/* What calls store and ask for, counted: words of pages that a write changes, bytes that a call asks malloc for, and what is free again at
- * the end. No contract bounds these. The sizes are drawn at random; BESTORE_SEED draws those of an earlier run again. Linked by
- * -Wl,--wrap=malloc,--wrap=realloc,--wrap=free, so that each request of the library comes by here. */
+/* What calls store and ask for, counted: words of pages that a write changes, bytes that a call asks malloc for, and blocks that are
+ * free again once a handle is closed. No contract bounds these. The sizes are drawn at random; BESTORE_SEED draws those of an earlier
+ * run again. Linked by -Wl,--wrap=malloc,--wrap=realloc,--wrap=free, so that each request of the library comes by here. */
 #include "tests.h"
 #include <time.h>
 
 #define OK(call) CHECK((call) == BES_OK)
 
-enum { LIST = 64, PAGE_WORDS = 512, LEAST_NODES = 1000, MOST_NODES = 2500, MOST_PAGES = 2048 };
+enum { LIST = 64, PAGE_WORDS = 512, LEAST_NODES = 1000, MOST_NODES = 2500, MOST_PAGES = 2048, MOST_FOUND = 26000, LEAST_FOUND = 200 };
 
 void *__real_malloc(size_t bytes);
 void *__real_realloc(void *old, size_t bytes);
@@ -15,15 +15,22 @@ void *__wrap_malloc(size_t bytes);
 void *__wrap_realloc(void *old, size_t bytes);
 void __wrap_free(void *block);
 
-static uint64_t asked;  /* how many bytes were asked for */
-static int64_t in_use;  /* how many blocks are in use */
-static uint64_t *words; /* the last block that has room for the words of all pages */
+static uint64_t asked;   /* how many bytes were asked for */
+static uint64_t longest; /* how many by the largest request */
+static int64_t in_use;   /* how many blocks are in use */
+static uint64_t *words;  /* the last block that has room for the words of all pages */
 static size_t words_count;
+
+static void ask(size_t bytes)
+{
+    asked += bytes;
+    longest = bytes > longest ? bytes : longest;
+}
 
 void *__wrap_malloc(size_t bytes)
 {
     void *block = __real_malloc(bytes);
-    asked += bytes;
+    ask(bytes);
     in_use += block != NULL;
     if (words_count > 0 && bytes >= 8 * words_count) {
         words = block;
@@ -35,7 +42,7 @@ void *__wrap_malloc(size_t bytes)
 void *__wrap_realloc(void *old, size_t bytes)
 {
     void *block = __real_realloc(old, bytes);
-    asked += bytes;
+    ask(bytes);
     in_use += old == NULL && block != NULL;
     return block;
 }
@@ -61,9 +68,19 @@ static uint64_t draw(uint64_t least, uint64_t most)
     return least + (drawn >> 33) % (most - least + 1);
 }
 
+/* The same, but as likely a small number as a large one. */
+static uint64_t draw_by_power(uint64_t least, uint64_t most)
+{
+    uint64_t powers = 1, low = 0;
+    while (least << powers < most)
+        powers++;
+    low = least << draw(0, powers - 1);
+    return draw(low, 2 * low < most ? 2 * low : most);
+}
+
 static bes_pass pass = BES_PASS_INIT;
 static bes_batch batch;
-static uint64_t nodes_count, made[LIST], number;
+static uint64_t nodes_count, made[LIST], number, nodes[MOST_FOUND], found;
 
 static void apply(void)
 {
@@ -217,7 +234,7 @@ static void entry_alone(void)
     bes_counts counts = {0, 0};
     OK(bes_pin(&pass, &number) || bes_unpin(&pass));
     for (int i = 0; i < 20; i++) {
-        uint64_t entry = draw(0, number - 1);
+        uint64_t entry = i == 0 ? 0 : draw(0, number - 1);
         asked = 0;
         OK(bes_journal_from(&pass, entry, &by, &counts, NULL, 0, NULL, 0, &next));
         CHECK(asked < 100000 && counts.operations <= LIST);
@@ -239,6 +256,145 @@ static void lists_of_state(void)
     CHECK(operations == 32 + 4 * nodes_count && most < 400000);
     OK(bes_leave(&place) || bes_unpin(&pass));
     bes_batch_clear(&batch);
+}
+
+/* Opens a store with as many nodes as an answer may have, whose numbers are the indexed `k`. */
+static void open_large(void)
+{
+    words_count = 0;
+    OK(bes_open(16384, 2, 100000, &pass) || bes_make_index(&pass, "k", BES_INT32_TYPE));
+    bes_batch_clear(&batch);
+    for (uint64_t node = 1; node <= MOST_FOUND; node++) {
+        apply_if_full(2);
+        OK(bes_batch_new_node(&batch) || bes_batch_set_int32(&batch, node, "k", (int32_t)node));
+    }
+    apply();
+    OK(bes_pin(&pass, &number));
+}
+
+/* Prepares a query that so many nodes meet. */
+static void prepare(bes_prepared *query, uint64_t size)
+{
+    char text[20];
+    snprintf(text, sizeof text, "k<=%d", (int)size);
+    OK(bes_prepare_text(text, query, &number));
+}
+
+static void find(bes_prepared *query) { OK(bes_query_prepared(&pass, query, nodes, MOST_FOUND, &found)); }
+static void find_first(bes_prepared *query) { OK(bes_first(&pass, query, 0, nodes, MOST_FOUND, &found)); }
+static void find_any(bes_prepared *query) { OK(bes_any(&pass, query, nodes, MOST_FOUND, &found)); }
+
+static void find_page(bes_prepared *query)
+{
+    bes_cursor cursor = {0, 0, {0}};
+    bes_name by = {0, {0}};
+    uint32_t more = 7;
+    OK(bes_check_name_text("k", &by) || bes_ordered(&pass, query, &by, 1, &cursor, nodes, MOST_FOUND, &found, &more));
+}
+
+static void refresh(bes_prepared *query)
+{
+    bes_updates updates = {0, 0};
+    OK(bes_refresh(&pass, query, &updates));
+    found = updates.created;
+}
+
+/* A prepared query gives all its memory back, however many nodes a call found. */
+static void queries_are_released(void)
+{
+    static void (*const calls[])(bes_prepared *) = {find, find_first, find_any, find_page, refresh};
+    for (size_t i = 0; i < sizeof calls / sizeof *calls; i++)
+        for (int time = 0; time < 4; time++) {
+            bes_prepared query = BES_PREPARED_INIT, moved = BES_PREPARED_INIT;
+            const int64_t before = in_use;
+            const uint64_t size = time == 0 ? MOST_FOUND : draw_by_power(1, MOST_FOUND);
+            prepare(&query, size);
+            calls[i](&query);
+            CHECK(found == size);
+            OK(bes_move_prepared(&query, &moved) || bes_release(&moved));
+            CHECK(in_use == before);
+        }
+}
+
+/* So does a change that is abandoned, whatever it has collected. */
+static void changes_are_abandoned(void)
+{
+    for (int time = 0; time < 8; time++) {
+        bes_draft draft = BES_DRAFT_INIT;
+        const int64_t before = in_use;
+        uint64_t next = 0;
+        OK(bes_begin_change(&pass, &draft, &number, &next));
+        for (uint64_t left = time == 0 ? LIST : draw(1, LIST); left > 0; left--) {
+            char value[256] = "";
+            memset(value, 'x', draw(0, 255));
+            bes_batch_clear(&batch);
+            OK(bes_batch_set_text(&batch, draw(1, MOST_FOUND), "t", value));
+            OK(bes_change_add(&draft, batch.operations, batch.bytes, batch.used, &number));
+        }
+        OK(bes_abandon_change(&pass, &draft));
+        CHECK(in_use == before);
+    }
+    bes_batch_clear(&batch);
+}
+
+/* So do a place in the state, wherever it is left, a witness, and a pass that goes back. */
+static void others_are_closed(void)
+{
+    for (int time = 0; time < 8; time++) {
+        bes_place place = BES_PLACE_INIT;
+        bes_witness witness = BES_WITNESS_INIT;
+        bes_pass other = BES_PASS_INIT;
+        int64_t before = in_use;
+        for (uint64_t lists = time == 0 ? 2 * MOST_FOUND / LIST + 2 : draw_by_power(1, MOST_FOUND / LIST); lists > 0; lists--)
+            OK(bes_batch_state(&pass, &place, &batch));
+        OK(bes_leave(&place));
+        CHECK(in_use == before);
+        OK(bes_witness_of(&pass, &witness) || bes_dismiss(&witness));
+        CHECK(in_use == before);
+        OK(bes_another(&pass, &other) || bes_close(&other));
+        before = in_use;
+        OK(bes_another(&pass, &other) || bes_close(&other));
+        CHECK(in_use == before);
+    }
+    bes_batch_clear(&batch);
+}
+
+/* A few nodes of a large answer take memory for themselves. A list that grows to them asks for four times their bytes at most, which is
+ * less than the whole answer has. */
+static void any_few(void)
+{
+    const uint64_t most = MOST_FOUND / 4;
+    for (int time = 0; time < 10; time++) {
+        bes_prepared query = BES_PREPARED_INIT;
+        const uint64_t few = time == 0 ? most : draw_by_power(1, most);
+        prepare(&query, MOST_FOUND);
+        asked = 0;
+        OK(bes_any(&pass, &query, nodes, few, &found));
+        CHECK(found == few && asked < sizeof nodes);
+        OK(bes_release(&query));
+    }
+}
+
+/* A refresh by what was written makes no list of the whole answer, up to as many writes as bestore.h names. A shorter answer than these
+ * takes no more memory than an entry of the journal. */
+static void refreshed_by_writes(void)
+{
+    for (int time = 0; time < 10; time++) {
+        bes_prepared query = BES_PREPARED_INIT;
+        bes_updates updates = {7, 7};
+        const uint64_t size = time == 0 ? MOST_FOUND : time == 1 ? LEAST_FOUND : draw_by_power(LEAST_FOUND, MOST_FOUND);
+        const uint64_t most = size / 32 < 60 ? 4 + size / 32 : 64;
+        prepare(&query, size);
+        refresh(&query);
+        OK(bes_unpin(&pass));
+        for (uint64_t left = time % 2 == 0 ? most : draw(1, most); left > 0; left--)
+            OK(bes_set_int64(&pass, draw(1, size), "v", (int64_t)left));
+        OK(bes_pin(&pass, &number));
+        longest = 0;
+        OK(bes_refresh_changed(&pass, &query, &updates));
+        CHECK(updates.created == 0 && updates.removed == 0 && longest < 8 * size);
+        OK(bes_release(&query));
+    }
 }
 
 /* A write asks for a block of the journal only if the last one is full. */
@@ -299,6 +455,13 @@ int main(int argc, char **argv)
         all_pages_are_free(pages);
         end(i % 2 == 0);
     }
+    open_large();
+    queries_are_released();
+    changes_are_abandoned();
+    others_are_closed();
+    any_few();
+    refreshed_by_writes();
+    end(false);
     blocks_of_journal();
     CHECK(in_use == 0);
     printf("ok, BESTORE_SEED=%d\n", (int)seed);

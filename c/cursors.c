@@ -1,4 +1,4 @@
-/* The helpers of positions in an index: a position that they make is the one that bes_ordered leaves, and is read back. */
+/* The helpers for positions in an index: a position that they make equals the one that bes_ordered leaves, and can be read back. */
 #include "tests.h"
 
 static const uint32_t codes[] = { BES_STRING_TYPE, BES_INT32_TYPE, BES_INT64_TYPE, BES_UINT32_TYPE, BES_UINT64_TYPE };
@@ -12,7 +12,7 @@ static const uint64_t numbers[5][3] = {
 static char longest[256];
 static const char *const texts[3] = { "", "a", longest };
 
-/* The value of a kind that a node has. */
+/* A node's value of a kind. */
 static bes_attribute value_of(int kind, int at)
 {
     bes_attribute value = { codes[kind], kind == 0 ? strlen(texts[at]) : 0, numbers[kind][at] };
@@ -39,7 +39,7 @@ static void is_read_back(const bes_cursor *cursor, const bes_attribute *value, c
     CHECK(memcmp(bytes, text, value->length) == 0);
 }
 
-/* Each position of a store whose three nodes have rising values of one kind. */
+/* Each position in a store whose three nodes have ascending values of one kind. */
 static void positions(int kind)
 {
     static bes_batch batch;

@@ -1,5 +1,5 @@
-/* Which error a call returns if two hold at once: the one that the header names first. Each line has two reasons to be refused, and each
- * reason alone is tried in test.c. */
+/* Which error a call returns if two errors apply: the error that the header names first. Each line has two reasons to be refused; test.c
+ * tries each reason by itself. */
 #include "tests.h"
 
 #define RETURNS(error, call) CHECK((call) == (error))
@@ -19,22 +19,29 @@ static bes_operation listed[64];
 static uint8_t bytes[64 * 318];
 static const bes_item no_item = {99, 0, 0, 0};
 
-/* A text of so many bytes that is no UTF-8, and one that has a zero byte. */
+/* A text of this many bytes that isn't valid UTF-8, and a text that has a zero byte. */
 static uint8_t no_text[LONG_TEXT], zero_text[LONG_TEXT];
 
 #define NAME(text) (const uint8_t *)(text), strlen(text)
 
-/* A write of one operation with this name and value, both from `parts`, which has 4097 bytes. */
-static uint32_t write_one(uint32_t kind, uint32_t code, const uint8_t *parts, uint32_t name_length, uint32_t value_length,
-                          uint64_t integer)
+/* An operation on a node. Its name and its value both begin at the first byte. */
+static bes_operation operation_of(uint32_t kind, uint32_t code, uint64_t node, uint32_t name_length, uint32_t value_length)
 {
     bes_operation one = {0, 0, 0, 0, 0, 0, 0, 0};
     one.kind = kind;
     one.code = code;
-    one.node = 9;
-    one.number = integer;
+    one.node = node;
     one.name_length = name_length;
     one.value_length = value_length;
+    return one;
+}
+
+/* Writes one operation with this name and value, both from `parts`, which has 4097 bytes. */
+static uint32_t write_one(uint32_t kind, uint32_t code, const uint8_t *parts, uint32_t name_length, uint32_t value_length,
+                          uint64_t integer)
+{
+    bes_operation one = operation_of(kind, code, 9, name_length, value_length);
+    one.number = integer;
     return bes_apply(&pass, &one, 1, parts, LONG_TEXT, nodes, 0, &number);
 }
 
@@ -58,7 +65,7 @@ static void of_handles(void)
     RETURNS(BES_OPEN, bes_prepare_items(&no_item, 0, bytes, 0, &prepared, &count));
 }
 
-/* Writes: the number of operations, then what is wrong with one of them by its parts, and then what the store refuses. */
+/* Writes: the number of operations is checked first, then the parts of each operation, and then what the store refuses. */
 static void of_writes(void)
 {
     static bes_operation many[65];
@@ -81,7 +88,7 @@ static void of_writes(void)
     RETURNS(BES_NO_VALUE, write_one(BES_SET, BES_INT32_TYPE, bytes, 1, 0, 1ull << 40));
     no_text[0] = 0xff;
     zero_text[0] = 0;
-    /* Of two operations the first, and what is invalid before what the store refuses. */
+    /* If two operations have errors, the first is reported; an invalid operation is reported before an operation that the store refuses. */
     two[0].kind = BES_REMOVE_NODE;
     two[0].node = 9;
     two[1].kind = 99;
@@ -91,26 +98,21 @@ static void of_writes(void)
     two[1].node = 1;
     two[1].name_length = 1;
     RETURNS(BES_NO_NODE, bes_apply(&pass, two, 2, bytes, 1, nodes, 0, &number));
-    /* BES_CONFLICT after what is invalid, and before what the store refuses. */
+    /* BES_CONFLICT comes after what is invalid, and before what the store refuses. */
     RETURNS(BES_CONFLICT, bes_apply_if(&pass, 7, two, 2, bytes, 1, nodes, 0, &number));
     two[1].kind = 99;
     RETURNS(BES_NO_OPERATION, bes_apply_if(&pass, 7, two, 2, bytes, 1, nodes, 0, &number));
     RETURNS(BES_BAD_COUNT, bes_apply_if(&pass, 7, two, 0, bytes, 1, nodes, 0, &number));
     RETURNS(BES_CLOSED, bes_apply_if(&closed, 7, two, 0, bytes, 1, nodes, 0, &number));
-    /* The store's limits come last, that of the journal before that of the pages. */
+    /* The store's limits come last: first the journal's, then the pages'. */
     RETURNS(BES_NO_NODE, bes_remove_node(&single, 9));
     RETURNS(BES_COMMITS_SPENT, bes_new_node(&single, &number));
 }
 
-/* An operation of a change: what is wrong with it, then its kind, then how many there are. */
+/* Adds an operation to a change: its validity is checked first, then its kind, then the number of operations. */
 static uint32_t add_one(uint32_t kind, uint32_t code, const uint8_t *parts, uint32_t name_length, uint32_t value_length)
 {
-    bes_operation one = {0, 0, 0, 0, 0, 0, 0, 0};
-    one.kind = kind;
-    one.code = code;
-    one.node = 1;
-    one.name_length = name_length;
-    one.value_length = value_length;
+    bes_operation one = operation_of(kind, code, 1, name_length, value_length);
     return bes_change_add(&draft, &one, parts, LONG_TEXT, &number);
 }
 
@@ -136,14 +138,40 @@ static void of_changes(void)
     RETURNS(BES_NOT_PINNED, bes_change_get(&pass, &draft, 9, NAME("a"), &attribute, bytes, 0));
     RETURNS(BES_OK, bes_new_node(&pass, &number));
     RETURNS(BES_NOT_PINNED, bes_end_change(&pass, &draft, &number));
-    /* BES_CONFLICT before what the store refuses. */
+    /* BES_CONFLICT comes before what the store refuses. */
     RETURNS(BES_OK, bes_begin_change(&pass, &draft, &number, &count));
     RETURNS(BES_OK, add_one(BES_UNSET, 0, name, 1, 0));
     RETURNS(BES_OK, bes_new_node(&pass, &number));
     RETURNS(BES_CONFLICT, bes_end_change(&pass, &draft, &number));
 }
 
-/* Queries: their text, then the pin, then what serves them. */
+/* A change of one operation in one call. */
+static uint32_t change_one(bes_pass *by, uint32_t kind, uint32_t code)
+{
+    bes_operation one = {0, 0, 0, 0, 0, 0, 0, 0};
+    one.kind = kind;
+    one.code = code;
+    one.node = 99;
+    one.name_length = one.value_length = 1;
+    return bes_apply_change(by, &one, 1, bytes, 2, &number);
+}
+
+/* Changes in one call: validity is checked first, then the pin, the kind, what others wrote, and what the store refuses. */
+static void of_changes_at_once(void)
+{
+    bytes[0] = 'a';
+    RETURNS(BES_OK, bes_make_index(&pass, "a", BES_INT64_TYPE));
+    RETURNS(BES_CLOSED, change_one(&closed, 99, 0));
+    RETURNS(BES_NO_OPERATION, change_one(&pass, 99, 0));
+    RETURNS(BES_NOT_PINNED, change_one(&pass, BES_SET, BES_STRING_TYPE));
+    RETURNS(BES_OK, bes_pin(&pass, &number));
+    RETURNS(BES_OK, bes_new_node(&pass, &number));
+    RETURNS(BES_WRONG_KIND, change_one(&pass, BES_SET, BES_STRING_TYPE));
+    RETURNS(BES_CONFLICT, change_one(&pass, BES_SET, BES_INT64_TYPE));
+    RETURNS(BES_OK, bes_unpin(&pass));
+}
+
+/* Queries: the text comes first, then the pin, then the indices. */
 static void of_queries(void)
 {
     const bes_item alone = {BES_ITEM_ATTRIBUTE, 0, 1, 0};
@@ -173,7 +201,7 @@ static void of_queries(void)
     RETURNS(BES_NOT_PINNED, bes_refresh(&pass, &prepared, &updates));
 }
 
-/* Reads: the name, then the pin, then what isn't there. */
+/* Reads: the name comes first, then the pin, then what doesn't exist. */
 static void of_reads(void)
 {
     RETURNS(BES_CLOSED, bes_get(&closed, 9, no_text, 1, &attribute, bytes, 0));
@@ -211,6 +239,7 @@ int main(void)
     CHECK(bes_begin_change(&pass, &draft, &number, &count) == BES_OK);
     RETURNS(BES_OPEN, bes_begin_change(&pass, &draft, &number, &count));
     of_changes();
+    of_changes_at_once();
     of_queries();
     of_reads();
     CHECK(bes_release(&prepared) == BES_OK && bes_leave(&begun) == BES_OK && bes_dismiss(&witness) == BES_OK);

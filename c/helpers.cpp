@@ -1,5 +1,5 @@
-// Changes, typed attributes, the journal's entries, batches as bytes, and texts of queries, by the objects of bestore.hpp; and objects in
-// a forked child.
+// Changes, typed attributes, the journal's entries, batches as bytes, and texts of queries, with the objects of bestore.hpp; and
+// objects in a forked child.
 #define BES_FULL_SECONDS 60 // so that a thread comes to unpin also on a loaded machine
 #include "bestore.hpp"
 #include "tests.hpp"
@@ -60,7 +60,7 @@ static void change_begins_again()
     with.length = 7;
     refused(BES_CONFLICT, with, [&] { store.change(add, 2); });
     CHECK(other.pin().get<std::int64_t>(1, "count") == 51);
-    // What the function throws ends it, and the pass isn't pinned any more.
+    // An exception from the function ends the change, and the pass is unpinned.
     try {
         store.change([](Change &change) -> int { throw std::runtime_error(std::to_string(change.create())); });
         CHECK(!"thrown");
@@ -155,7 +155,7 @@ static void nodes_are_reserved()
     refused(BES_BAD_COUNT, [&] { store.new_nodes(65); });
 }
 
-// An index that is made late holds all once it was made anew, in each kind; other kinds stay outside.
+// An index that is made late holds all values of its kind once they are set again; other kinds stay outside.
 static void reindexed()
 {
     Store store({2048, 2, 10000});
@@ -199,7 +199,7 @@ static void journal_is_read()
     CHECK(first[1].value == Value(std::int64_t{-5}) && first[1].kind == Kind::int64 && first[1].node == 1);
     CHECK(second.size() == 4 && second[0].value == Value(Raw{0, 255}) && second[1].action == Action::unset && !second[1].kind);
     CHECK(second[2].action == Action::remove_node && second[2].node == 2 && second[3].action == Action::remove_index);
-    // From a number on, and on again with what was written since.
+    // From a number on, and then again with what was written since.
     auto rest = store.journal_from(2);
     CHECK(rest.begin()->number == 3 && rest.begin() == rest.end());
     other.new_node();
@@ -254,7 +254,7 @@ static void texts()
     CHECK(Refusal(BES_FULL).error_class() == ErrorClass::full && Refusal(63).error_class() == ErrorClass::mine);
 }
 
-// A text finds those that are equal in upper and lower case, whatever letters they have.
+// A text finds those that are equal apart from case, whatever letters they have.
 static void any_case_finds()
 {
     Store store({512, 1, 100000});
@@ -334,7 +334,7 @@ static void full_store_waits()
     CHECK(std::chrono::steady_clock::now() - begin < std::chrono::seconds(BES_FULL_SECONDS));
 }
 
-// In a forked child the parent's objects throw, and their ends do nothing; a store of the child's own is as ever.
+// In a forked child the parent's objects throw, and their destructors do nothing; the child's own store works as usual.
 static void forked()
 {
     Store store({64, 3, 100});

@@ -71,7 +71,7 @@ def macro(name):
 
 
 def marked(text):
-    """A text with each sentence on a line, and each name of the headers on a line of its own."""
+    """A text with each sentence on its own line, and each name from the headers on its own line."""
     lines = []
     for part in re.split(rf"((?:^|(?<= ))\(?{NAME}[.,:;)]*(?= |$))", text):
         name = re.fullmatch(rf"(\(?)({NAME})([.,:;)]*)", part)
@@ -119,7 +119,7 @@ def between(begin, end):
 
 
 def description():
-    """What the head of the header says, by its words in capitals."""
+    """What the beginning of the header says, under its words in capitals."""
     text = described(re.match(COMMENT, HEADER)[1].replace("bestore: a", "A", 1))
     titled = re.sub(r"^\.Pp\n([A-Z]{2,})\.\n", lambda word: f".Ss {word[1].capitalize()}\n", text, flags=re.MULTILINE)
     return ".Sh DESCRIPTION\n" + titled
@@ -137,7 +137,7 @@ def types():
 
 
 def helpers(title, header):
-    """The functions of a header, which it has whole or declares: what it says of itself, their prototypes, and each that has a
+    """The functions that a header defines or declares: what it says about itself, their prototypes, and each function with a
     comment. Names that end with _ are left out."""
     listed = re.findall(r"^(?:static inline )?((?!typedef)\w[\w ]* \*?\w+\([^{;]*\))(?:;|\n\{)", header, re.MULTILINE)
     lines = "".join(re.sub(r"\n +", "\n    ", it) + ";\n" for it in listed if "_(" not in it)

@@ -1,6 +1,6 @@
-/* What calls return if malloc returns NULL, and if they come in the middle of another call. Linked by -Wl,--wrap=malloc,
- * --wrap=realloc,--wrap=sched_yield, so that each request of the library comes by here, and each turn that a write leaves to
- * others. */
+/* What calls return if malloc returns NULL, and if they are made in the middle of another call. Linked by -Wl,--wrap=malloc,
+ * --wrap=realloc,--wrap=sched_yield, so that each request of the library passes through here, and so does each turn that a
+ * write leaves to others. */
 #include "tests.h"
 
 void *__real_malloc(size_t size);
@@ -79,7 +79,7 @@ static uint32_t call_apply_if(void)
 {
     return bes_apply_if(&mine, journal_length, list, 2, parts, 11, out.nodes, 4, &out.number);
 }
-/* A whole change of a pass that isn't pinned, and that is left so. */
+/* A whole change of a pass that isn't pinned before or after it. */
 static uint32_t call_change(void)
 {
     bes_draft draft = BES_DRAFT_INIT;
@@ -97,6 +97,16 @@ static uint32_t call_change(void)
     if (error == BES_OK)
         return bes_end_change(&theirs, &draft, &out.number);
     bes_abandon_change(&theirs, &draft);
+    return error;
+}
+/* A change at once, of a pass that is pinned for it. */
+static uint32_t call_change_at_once(void)
+{
+    uint64_t number = 0;
+    uint32_t error;
+    CHECK(bes_pin(&theirs, &number) == BES_OK);
+    error = bes_apply_change(&theirs, list, 2, parts, 11, &out.number);
+    CHECK(bes_unpin(&theirs) == BES_OK);
     return error;
 }
 static uint32_t call_query(void) { return bes_query(&mine, query, sizeof query - 1, out.nodes, 4, &out.count); }
@@ -163,7 +173,7 @@ static uint32_t call_move_witness(void)
 }
 static uint32_t call_move(void) { return bes_move(&mine, &opened) == BES_OK ? bes_move(&opened, &mine) : BES_OPEN; }
 
-/* Whether nothing was written, except 0 to the number of a call. */
+/* Whether nothing was written, except 0 as the number of a call. */
 static bool is_untouched(void)
 {
     outs seen = out;
@@ -174,8 +184,8 @@ static bool is_untouched(void)
     return memcmp(&seen, &untouched, sizeof seen) == 0;
 }
 
-/* Refuses each of the requests that a call makes, in turn: the call does nothing then, or goes on by a way without it, if it may. At last
- * it is made with memory for all. Returns how many requests it made. */
+/* Refuses each of the requests that a call makes, in turn: the call then does nothing, or goes on without the memory where it can. In
+ * the end it gets all its memory. Returns how many requests it made. */
 static unsigned refuse_each_of(uint32_t (*call)(void), bool may_go_on)
 {
     look(&mine, &before);
@@ -223,14 +233,15 @@ static void refuse_all(void)
     CHECK(refuse_each(call_apply_if) > 0 && out.number == 7 && out.nodes[0] == 4);
     CHECK(call_apply_if() == BES_CONFLICT && out.number == 7);
     CHECK(refuse_each(call_change) > 0 && out.number == 8);
+    CHECK(refuse_each(call_change_at_once) > 0 && out.number == 9);
     for (size_t i = 0; i < sizeof without / sizeof *without; i++)
         CHECK(refuse_each(without[i]) == 0);
 }
 
 enum { MADE = 100, MOST = 4 * MADE };
 
-/* Reads a whole state, with this request refused of each first try to read a list. Returns how many operations there were, and
- * how many tries were in vain. */
+/* Reads a whole state. In each first attempt to read a list, this request is refused. Returns how many operations there were, and
+ * how many attempts failed. */
 static size_t read_state(bes_pass *pass, unsigned request, bes_operation *told, unsigned *vain)
 {
     static bes_batch batch;
@@ -286,7 +297,7 @@ static void tries_again(uint32_t retries, unsigned left)
     CHECK(turns == left);
 }
 
-/* The end of a change is one try, which leaves no turn to others, and nothing of the change. */
+/* The end of a change is a single attempt, which gives no turn to others and leaves nothing of the change. */
 static void ends_busy(void)
 {
     bes_draft draft = BES_DRAFT_INIT;
@@ -298,8 +309,18 @@ static void ends_busy(void)
     CHECK(turns == 0 && bes_next(&theirs, &next) == BES_NOT_PINNED);
 }
 
-/* What calls of another pass return: its writes BES_BUSY while the first is writing, with the number of that, 1, and its reads as
- * ever. */
+/* A change at once is one try too, and its pin stays. */
+static void change_is_busy(void)
+{
+    uint64_t number = 7;
+    CHECK(bes_pin(&theirs, &number) == BES_OK);
+    turns = 0;
+    CHECK(bes_apply_change(&theirs, list, 2, parts, 11, &number) == BES_BUSY && number == 1);
+    CHECK(turns == 0 && bes_unpin(&theirs) == BES_OK);
+}
+
+/* What calls of another pass return: its writes return BES_BUSY while the first is writing, with that pass's number, 1, and its
+ * reads return what they always do. */
 static void go_between(void)
 {
     uint64_t number = 7, count = 7, nodes[4];
@@ -315,6 +336,7 @@ static void go_between(void)
         ends_busy();
         CHECK(bes_journal(&theirs, text, 4, &count) == BES_BUSY && count == 1);
         CHECK(bes_apply_if(&theirs, 0, list, 2, parts, 11, nodes, 0, &number) == BES_BUSY && number == 1);
+        change_is_busy();
         CHECK(bes_journal_from(&theirs, 0, &count, &counts, list_room, 1, text, 4, &number) == BES_BUSY && number == 1);
     }
     accepted += answer == BES_OK;
@@ -323,7 +345,7 @@ static void go_between(void)
     CHECK(count == 1 && nodes[0] == 1 && bes_unpin(&theirs) == BES_OK);
 }
 
-/* The journal's text is made while its pass holds the lock. What a write asks for is asked in part before it takes the lock. */
+/* The journal's text is made while its pass holds the lock. A write makes some of its requests before it takes the lock. */
 static void meet_busy(void)
 {
     between = go_between;
@@ -332,14 +354,14 @@ static void meet_busy(void)
     busy = 0;
     CHECK(call_apply() == BES_OK);
     between = NULL;
-    CHECK(accepted + busy > 0 && out.number == 9 + accepted);
-    CHECK(bes_unpin(&mine) == BES_OK && bes_pin(&mine, &out.number) == BES_OK && out.number == 9 + accepted);
+    CHECK(accepted + busy > 0 && out.number == 10 + accepted);
+    CHECK(bes_unpin(&mine) == BES_OK && bes_pin(&mine, &out.number) == BES_OK && out.number == 10 + accepted);
 }
 
 static bes_pass second;
 static unsigned met;
 
-/* Meets the pass that was given back, while the first pass holds the lock. */
+/* Meets the returned pass while the first pass holds the lock. */
 static void meet_between(void)
 {
     uint64_t number = 7, node = 7;
@@ -407,7 +429,7 @@ int main(void)
     finish_later();
     CHECK(bes_release(&kept) == BES_OK && bes_release(&by_text) == BES_OK && bes_release(&by_items) == BES_OK);
     CHECK(bes_dismiss(&witness) == BES_OK);
-    /* A pass that was given back isn't lost if there is no memory for its handle. */
+    /* If there is no memory for its handle, a pass that was returned can still be taken again. */
     CHECK(bes_close(&theirs) == BES_OK && refuse_each(call_another) > 0);
     CHECK(bes_close(&mine) == BES_OK && bes_close(&theirs) == BES_OK);
     puts("ok");

@@ -1,5 +1,6 @@
-/* Answers a part at a time: pages in the order of an index beside the plain way, which asks the whole query, reads the values,
- * sorts them and cuts the list; the first by number; any few; and a refresh by what was written. The argument `short` asks less. */
+/* Results in parts: pages in an index's order, compared with the plain way, which runs the whole query, reads the values, sorts them and
+ * cuts the list; the first nodes by number; any few nodes; and a refresh from what was written. With the argument `short` it runs fewer
+ * queries. */
 #include "tests.h"
 
 enum { NODES = 300, INDICES = 5, LATE = NODES / 3 };
@@ -82,7 +83,7 @@ static void prepare(bes_prepared *prepared, const char *text)
     CHECK(bes_prepare((const uint8_t *)text, strlen(text), prepared, &place) == BES_OK);
 }
 
-/* Less than 0, 0 or more: two values of one kind. */
+/* Compares two values of one kind. Returns less than 0, 0, or more. */
 static int compare_values(const row *a, const row *b)
 {
     size_t shorter = a->value.length < b->value.length ? a->value.length : b->value.length;
@@ -106,7 +107,7 @@ static int compare_reversed(const void *left, const void *right)
     return compare_rows(right, left);
 }
 
-/* The plain way: the nodes of the query that have a pair in the index, in its order. Returns how many there are. */
+/* The plain way: the query's nodes that have a pair in the index, in the index's order. Returns how many there are. */
 static size_t plain(bes_pass *pass, bes_prepared *prepared, size_t index, bool descending, row *rows)
 {
     static uint64_t nodes[2 * NODES];
@@ -133,7 +134,7 @@ static void check_kept(bes_prepared *prepared, const uint64_t *nodes, uint64_t c
     CHECK(memcmp(again, nodes, (size_t)count * sizeof *again) == 0);
 }
 
-/* All pages of a size, one after the other, are the plain list. */
+/* All pages of one size, put together, are the plain list. */
 static void read_pages(bes_pass *pass, bes_prepared *prepared, size_t index, bool descending, size_t room)
 {
     static row rows[2 * NODES];
@@ -193,7 +194,7 @@ static void both_ways(bes_pass *pass)
     CHECK(bes_release(&prepared) == BES_OK);
 }
 
-/* A page at a later snapshot goes on from the position, whatever was written between. */
+/* A page at a later snapshot continues from the position, whatever was written in between. */
 static void writes_between(bes_pass *pass)
 {
     bes_prepared prepared = BES_PREPARED_INIT;
@@ -209,8 +210,8 @@ static void writes_between(bes_pass *pass)
     CHECK(bes_ordered(pass, &prepared, &by, 1, &cursor, nodes, 3, &count, &more) == BES_OK && count == 3 && more == 1);
     CHECK(nodes[0] == node + 5 && nodes[1] == node + 4 && nodes[2] == node + 3);
     CHECK(bes_unpin(pass) == BES_OK);
-    CHECK(bes_set_int32(pass, node, "size", 160) == BES_OK);     /* moved before the cursor: not met any more */
-    CHECK(bes_set_int32(pass, node + 5, "size", 105) == BES_OK); /* met, and moved after it: comes again */
+    CHECK(bes_set_int32(pass, node, "size", 160) == BES_OK);     /* moved before the cursor: missed */
+    CHECK(bes_set_int32(pass, node + 5, "size", 105) == BES_OK); /* returned, and moved after the cursor: comes again */
     CHECK(bes_remove_node(pass, node + 3) == BES_OK);            /* the cursor's own node */
     CHECK(bes_pin(pass, &number) == BES_OK);
     CHECK(bes_ordered(pass, &prepared, &by, 1, &cursor, nodes, 8, &count, &more) == BES_OK && count == 3 && more == 0);
@@ -219,7 +220,7 @@ static void writes_between(bes_pass *pass)
     CHECK(bes_unpin(pass) == BES_OK && bes_release(&prepared) == BES_OK);
 }
 
-/* Some nodes get other values, one goes now and then, and another one comes. */
+/* Some nodes get other values, and now and then one is removed and another one is made. */
 static void write_some(bes_pass *pass)
 {
     for (int write = 0; write < 3; write++) {
@@ -234,7 +235,7 @@ static void write_some(bes_pass *pass)
     }
 }
 
-/* Where the rows that come after a row begin; if there is none, at the first. */
+/* Returns where the rows after a row begin; without a row, the first row. */
 static size_t begin_after(const row *rows, size_t count, const row *last, bool descending)
 {
     size_t at = 0;
@@ -243,7 +244,7 @@ static size_t begin_after(const row *rows, size_t count, const row *last, bool d
     return at;
 }
 
-/* Each page is what the plain list of its own snapshot has after the cursor. */
+/* Each page is what its own snapshot's plain list has after the cursor. */
 static void pages_between_writes(bes_pass *pass, bes_prepared *prepared, size_t index, bool descending)
 {
     static row rows[2 * NODES], last;
@@ -348,7 +349,7 @@ static bes_cursor cursor_of(uint32_t kind, uint32_t length)
     return cursor;
 }
 
-/* Each error, and the one that comes first if two hold. The pass is pinned. */
+/* Each error, and which error is returned if two apply. The pass is pinned. */
 static void errors(bes_pass *pass)
 {
     static const bes_name no_name = {3, "\xff=!"}, too_long = {UINT64_MAX, "size"};
@@ -392,7 +393,8 @@ static void errors(bes_pass *pass)
     CHECK(bes_release(&prepared) == BES_OK && bes_release(&uncovered) == BES_OK);
 }
 
-/* A refresh by what was written finds what a refresh of the whole finds, of as many nodes, and while another pass reads. */
+/* A refresh from what was written finds what a refresh of the whole query finds, with just as many nodes, and while another pass reads.
+ * */
 static void refresh_changed(bes_pass *pass)
 {
     bes_prepared whole = BES_PREPARED_INIT, changed = BES_PREPARED_INIT;

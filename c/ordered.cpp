@@ -1,4 +1,4 @@
-// Pages in the order of an index, in C++, beside the whole answer, sorted and cut.
+// Pages in the order of an index, in C++, compared with the whole answer, sorted and cut.
 #include "tests.hpp"
 #include <algorithm>
 #include <atomic>
@@ -57,7 +57,7 @@ void set(bestore::Batch &batch, Node node, const char *name, const bestore::Valu
     std::visit([&](const auto &held) { batch.set(node, name, held); }, value);
 }
 
-// A store, what makes its values, and its nodes.
+// A store, the generator of its values, and its nodes.
 struct Written {
     bestore::Store pass;
     std::mt19937 chance{5};
@@ -201,7 +201,7 @@ void refusals()
     refused(BES_BAD_CURSOR, [&] { later.page(query, cursor, 1); });
 }
 
-// A store whose query size>=0 finds 96 nodes and more, as refreshes by what was written need, and a write to it.
+// A store in which size>=0 finds at least 96 nodes, as a refresh from what was written needs, and a write to it.
 constexpr unsigned sized = 300;
 
 void resize(bestore::Pass &pass, std::mt19937 &chance)
@@ -228,7 +228,7 @@ void compare(bestore::Live &whole, bestore::Live &changed, bestore::Snapshot &sn
     CHECK(one.created == other.created && one.removed == other.removed);
 }
 
-// A refresh by what was written returns what one of the whole query does, also in another store, and while another thread writes.
+// A refresh from what was written returns the same as one of the whole query, even in another store and while another thread writes.
 void refreshes()
 {
     std::mt19937 chance(0x11fe);

@@ -5,7 +5,7 @@
  * - what any handle has written is in the journal that bes_finish returns, at its commit number, if the last handle has joined its
  *   witness.
  *
- * Each round opens a store, and closes it with all these looked at. The argument is how many rounds there are; `short` is few. */
+ * Each round opens a store, closes it, and checks all three. The argument is the number of rounds; `short` means a few. */
 #include "tests.h"
 #include <pthread.h>
 
@@ -18,7 +18,7 @@ typedef struct writer {
     uint64_t written[WRITES];       /* the commit number of each of its writes */
 } writer;
 
-/* Counts the nodes of the pinned snapshot by a query, in pages of the list of nodes, and by the number of the next one. */
+/* Counts the pinned snapshot's nodes by a query, by reading the list of nodes page by page, and by the next node's number. */
 static uint64_t nodes_counted(bes_pass *pass)
 {
     uint64_t nodes[8 * WRITERS * WRITES], found = 0, listed = 0, next = 0;
@@ -38,7 +38,7 @@ static void read_one_prefix(bes_pass *pass, uint64_t least)
     CHECK(bes_unpin(pass) == BES_OK);
 }
 
-/* Makes a node with the number of the writer, and returns the commit number. */
+/* Makes a node with the writer's number, and returns the commit number. */
 static uint64_t write_node(writer *it)
 {
     bes_batch batch;
@@ -55,7 +55,7 @@ static uint64_t write_node(writer *it)
     return number;
 }
 
-/* Looks for what its maker wrote, then writes and reads, and leaves a witness of it all. */
+/* Looks for what the pass that made it wrote, then writes and reads, and leaves a witness of it all. */
 static void *run(void *arg)
 {
     writer *it = arg;
@@ -68,7 +68,7 @@ static void *run(void *arg)
     return NULL;
 }
 
-/* Whether the entry with this commit number is by the pass with this number. */
+/* Returns whether the pass with this number wrote the entry with this commit number. */
 static bool is_by(const char *journal, uint64_t commit, uint64_t number)
 {
     char line[64];

@@ -1,5 +1,5 @@
-/* Two threads write to a store, each by its own pass, and both to a variable that nothing guards. That is a race, which
- * ThreadSanitizer has to find while it passes over the library: test.sh looks for it. */
+/* Two threads write to a store, each through its own pass, and both write to an unguarded variable. That is a race. ThreadSanitizer must
+ * report this race and none in the library: test.sh checks the report. */
 #include "tests.h"
 #include <pthread.h>
 

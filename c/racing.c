@@ -1,5 +1,5 @@
-/* Four threads make nodes with attributes and count them in one shared attribute. By a guessed number and a plain write, nodes get the
- * attributes of others and counts are lost, each write being accepted. By bes_change neither happens. */
+/* Four threads make nodes with attributes and count them in one shared attribute. With a guessed number and a plain write, nodes get the
+ * attributes of others and counts are lost, although each write is accepted. With bes_change neither happens. */
 #include "tests.h"
 #include <pthread.h>
 
@@ -10,7 +10,7 @@ typedef struct racer {
     uint64_t number, rounds, mixed;
 } racer;
 
-/* Adds a node with its maker, and one to the count of node 1. */
+/* Adds a node with its maker, and adds one to node 1's count. */
 static uint32_t add_node(bes_pass *pass, bes_batch *batch, uint64_t next, void *with)
 {
     racer *it = with;
@@ -22,7 +22,7 @@ static uint32_t add_node(bes_pass *pass, bes_batch *batch, uint64_t next, void *
     return BES_OK;
 }
 
-/* What a program does that has no condition: guesses what its node will be, and writes whatever has come between. */
+/* What a program without conditional writes does: it guesses which node it will get, and writes whatever was committed in between. */
 static void guess(racer *it)
 {
     bes_batch batch;
@@ -51,7 +51,7 @@ static void *changer(void *with)
     return NULL;
 }
 
-/* Whether each entry's pass is the maker of the node that the entry made, from the entry with this index on. */
+/* Returns whether, from the entry with this index on, each entry's pass is the maker of the node that the entry made. */
 static bool are_own(bes_pass *pass, uint64_t from)
 {
     bes_batch batch;

@@ -1,4 +1,5 @@
-// As racing.c: four threads make nodes and count them, by a guessed number and by Pass::change. And an index is filled beside a writer.
+// Like racing.c: four threads make nodes and count them, with a guessed number and with Pass::change. And an index is filled while
+// another thread writes.
 #include "bestore.hpp"
 #include "tests.hpp"
 #include <atomic>

@@ -1,5 +1,5 @@
-/* Each list, text and number that a call takes or writes, at the sizes that tests/sizes names: what grows, and then sizes or ranges
- * of them, ascending, as in `sizes nodes 1-255 256 511-513`. malloc refuses nothing here, so no call has a reason to return
+/* Each list, text and number that a call takes or writes, at the sizes that tests/sizes gives: what grows, and then sizes or ranges,
+ * ascending, such as `sizes nodes 1-255 256 511-513`. malloc refuses nothing here, so no call has a reason to return
  * BES_NO_MEMORY. */
 #include "tests.h"
 
@@ -13,7 +13,7 @@ static uint8_t told[MOST_BYTES];
 static bes_batch batch;
 static bes_operation listed[LONGEST_BATCH];
 
-/* The size that is tried, which a failed check ends with. */
+/* The size under test, which a failed check prints last. */
 static uint64_t tried;
 
 #define AT_EACH_SIZE for (uint64_t at_ = 0, size; at_ < sizes_count && (tried = size = sizes[at_], true); at_++)
@@ -41,7 +41,7 @@ static bool are_from_one(const uint64_t *list, uint64_t count)
     return true;
 }
 
-/* A query that `count` nodes meet: by its text, by its items, prepared and refreshed. */
+/* A query that `count` nodes match: by its text, by its items, prepared and refreshed. */
 static void found(bes_pass *pass, const char *query, const bes_item *items, size_t items_count, uint64_t count)
 {
     bes_prepared prepared = BES_PREPARED_INIT, other = BES_PREPARED_INIT;
@@ -82,7 +82,7 @@ static void add_comparison(const char *attribute, uint64_t value)
     snprintf(expected + length, sizeof expected - length, "%s\"%s\"==\"%d\"", at > 0 ? " || " : "", attribute, (int)value);
 }
 
-/* What the query in `text` is answered from: what is expected, which is its canonical text, and then this score. */
+/* What the query in `text` is answered from: its canonical text, as expected, followed by this score. */
 static void explained(bes_pass *pass, uint64_t score)
 {
     bes_prepared prepared = BES_PREPARED_INIT;
@@ -101,15 +101,17 @@ static void explained(bes_pass *pass, uint64_t score)
 
 static const bes_item K = {BES_ITEM_ATTRIBUTE, 0, 1, 0}, EQ = {BES_ITEM_EQ, 0, 0, 0}, OR = {BES_ITEM_OR, 0, 0, 0};
 
-/* Opens a store in which node i has the attribute k with the number i, and the first node j with 1. So `k<=n` finds n nodes. */
-static void open_numbered(bes_pass *pass, uint64_t count)
+/* Opens a store in which node i has the attribute k with the number i, and the first node j with 1. So `k<=n` finds n nodes. With `d`,
+ * node i has -i as d instead of j, in a second index. */
+static void open_numbered(bes_pass *pass, bool has_d)
 {
     OK(bes_open(16384, 1, 2000, pass) || bes_make_index(pass, "k", BES_INT32_TYPE));
+    OK(has_d ? bes_make_index(pass, "d", BES_INT32_TYPE) : BES_OK);
     bes_batch_clear(&batch);
-    for (uint64_t node = 1; node <= count; node++) {
-        OK(bes_batch_new_node(&batch) || bes_batch_set_uint64(&batch, node, node == 1 ? "j" : "i", 1));
-        OK(bes_batch_set_int32(&batch, node, "k", (int32_t)node));
-        if (batch.count > LONGEST_BATCH - 3 || node == count)
+    for (uint64_t node = 1; node <= MOST_NODES; node++) {
+        OK(bes_batch_new_node(&batch) || bes_batch_set_int32(&batch, node, "k", (int32_t)node));
+        OK(has_d ? bes_batch_set_int32(&batch, node, "d", -(int32_t)node) : bes_batch_set_uint64(&batch, node, node == 1 ? "j" : "i", 1));
+        if (batch.count > LONGEST_BATCH - 3 || node == MOST_NODES)
             write_list(pass);
     }
 }
@@ -130,12 +132,12 @@ static void came_and_went(bes_pass *pass, bes_pass *empty, const char *query, ui
     CHECK(are_from_one(others, count));
 }
 
-/* Nodes of a result, and what a live query finds and loses. */
+/* Nodes in a result, and what a live query finds and loses. */
 static void many_nodes(void)
 {
     bes_pass pass = BES_PASS_INIT, empty = BES_PASS_INIT;
     uint64_t number = 0, count = 0;
-    open_numbered(&pass, MOST_NODES);
+    open_numbered(&pass, false);
     OK(bes_open(64, 1, 1, &empty) || bes_make_index(&empty, "k", BES_INT32_TYPE));
     OK(bes_pin(&pass, &number) || bes_pin(&empty, &number));
     AT_EACH_SIZE {
@@ -150,28 +152,38 @@ static void many_nodes(void)
     OK(bes_close(&pass) || bes_close(&empty));
 }
 
-/* The same nodes in one page and in two, from the first on, and as any few; and as what came by a refresh of what was written. */
+/* What a prepared query finds in the order of an index, in one page and in two. */
+static void paged(bes_pass *pass, bes_prepared *prepared, const char *index, uint32_t descending, uint64_t size)
+{
+    bes_name by = {0, {0}};
+    bes_cursor cursor = {0, 0, {0}};
+    uint64_t front = 0, count = 0;
+    uint32_t more = 7;
+    OK(bes_check_name_text(index, &by));
+    OK(bes_ordered(pass, prepared, &by, descending, &cursor, nodes, size, &count, &more));
+    CHECK(count == size && more == 0 && are_from_one(nodes, count));
+    memset(&cursor, 0, sizeof cursor);
+    OK(bes_ordered(pass, prepared, &by, descending, &cursor, nodes, (size + 1) / 2, &front, &more));
+    CHECK(front == (size + 1) / 2 && more == (size > 1));
+    OK(bes_ordered(pass, prepared, &by, descending, &cursor, nodes + front, MOST_NODES - front, &count, &more));
+    CHECK(front + count == size && more == 0 && are_from_one(nodes, size));
+}
+
+/* The same nodes in the order of the index that finds them and of another one, from the first on, and as any few; and as what a refresh
+ * from what was written adds. */
 static void nodes_in_parts(void)
 {
     bes_pass pass = BES_PASS_INIT;
-    bes_name by = {0, {0}};
     uint64_t number = 0, count = 0;
-    uint32_t more = 7;
-    open_numbered(&pass, MOST_NODES);
-    OK(bes_check_name_text("k", &by) || bes_pin(&pass, &number));
+    open_numbered(&pass, true);
+    OK(bes_pin(&pass, &number));
     AT_EACH_SIZE {
         bes_prepared prepared = BES_PREPARED_INIT;
         bes_updates updates = {7, 7};
-        bes_cursor cursor = {0, 0, {0}};
         snprintf(text, sizeof text, "k<=%d", (int)size);
         OK(bes_prepare_text(text, &prepared, &place));
-        OK(bes_ordered(&pass, &prepared, &by, 0, &cursor, nodes, size, &count, &more));
-        CHECK(count == size && more == 0 && are_from_one(nodes, count));
-        memset(&cursor, 0, sizeof cursor);
-        OK(bes_ordered(&pass, &prepared, &by, 0, &cursor, nodes, (size + 1) / 2, &number, &more));
-        CHECK(number == (size + 1) / 2 && more == (size > 1));
-        OK(bes_ordered(&pass, &prepared, &by, 0, &cursor, nodes + number, MOST_NODES - number, &count, &more));
-        CHECK(number + count == size && more == 0 && are_from_one(nodes, size));
+        paged(&pass, &prepared, "k", 0, size);
+        paged(&pass, &prepared, "d", 1, size);
         OK(bes_first(&pass, &prepared, 0, nodes, size, &count));
         CHECK(count == size && are_from_one(nodes, count));
         OK(bes_any(&pass, &prepared, nodes, size, &count) || bes_refresh_changed(&pass, &prepared, &updates));
@@ -181,7 +193,7 @@ static void nodes_in_parts(void)
     OK(bes_close(&pass));
 }
 
-/* Whether a size is at most one beside a power of two, where lists grow. */
+/* Returns whether a size is at most one away from a power of two, where lists grow. */
 static bool is_by_power(uint64_t size)
 {
     return ((size - 1) & size) == 0 || (size & (size + 1)) == 0 || (size > 1 && ((size - 2) & (size - 1)) == 0);
@@ -193,7 +205,7 @@ static void many_candidates(void)
 {
     bes_pass pass = BES_PASS_INIT;
     uint64_t count = 0, number = 0;
-    open_numbered(&pass, MOST_NODES);
+    open_numbered(&pass, false);
     AT_EACH_SIZE {
         if (size <= 400 || size == MOST_NODES || is_by_power(size)) {
             snprintf(text, sizeof text, "k<=%d||k>0&&k<=%d", (int)size, (int)size);
@@ -208,7 +220,7 @@ static void many_candidates(void)
     OK(bes_close(&pass));
 }
 
-/* The list of the last nodes of a store, and of the first. */
+/* The list of the last nodes in a store, and of the first nodes. */
 static void listed_nodes(void)
 {
     bes_pass pass = BES_PASS_INIT;
@@ -218,7 +230,7 @@ static void listed_nodes(void)
         OK(bes_new_node(&pass, &number));
     OK(bes_pin(&pass, &number));
     AT_EACH_SIZE {
-        /* Both lists are as long; so beyond the first sizes one of them is enough. */
+        /* Both lists are equally long, so beyond the first sizes one of them is enough. */
         uint64_t first = size > 1024 && size % 2 == 0 ? 1 : MOST_NODES + 1 - size;
         OK(bes_nodes(&pass, first, nodes, size, &count));
         CHECK(count == size && nodes[0] == first && nodes[count - 1] == first + size - 1);
@@ -247,7 +259,7 @@ static void are_listed(const bes_counts *counts, uint32_t kind, char letter, uin
     }
 }
 
-/* Sets as many attributes of node 1 again by a change of a pinned pass. */
+/* Sets that many attributes of node 1 again, in a change on a pinned pass. */
 static void set_by_change(bes_pass *pass, uint64_t size)
 {
     bes_draft draft = BES_DRAFT_INIT;
@@ -265,7 +277,18 @@ static void set_by_change(bes_pass *pass, uint64_t size)
     CHECK(number == 3);
 }
 
-/* Operations of a list, and attributes of a node. */
+/* Sets these attributes once more, by a change in one call. */
+static void set_at_once(bes_pass *pass, uint64_t size)
+{
+    uint64_t number = 0;
+    bes_batch_clear(&batch);
+    for (uint64_t i = 0; i < size; i++)
+        OK(bes_batch_set_uint64(&batch, 1, name_of('a', i), i));
+    OK(bes_pin(pass, &number) || bes_apply_change(pass, batch.operations, batch.count, batch.bytes, batch.used, &number));
+    CHECK(number == 4);
+}
+
+/* Operations in a list, and a node's attributes. */
 static void many_operations(void)
 {
     AT_EACH_SIZE {
@@ -290,11 +313,12 @@ static void many_operations(void)
         CHECK(by == 0 && number == 2);
         are_listed(&counts, BES_SET, 'a', size);
         set_by_change(&pass, size);
+        set_at_once(&pass, size);
         OK(bes_close(&pass));
     }
 }
 
-/* The comparisons of a text `k==1||k==2..`, each with its place. */
+/* The comparisons in a text `k==1||k==2..`, each with its position. */
 static void compared(uint64_t size)
 {
     static bes_compared found[256];
@@ -307,6 +331,16 @@ static void compared(uint64_t size)
         CHECK(found[i].plain_value_at == found[i].plain_name_at + 1 && told[found[i].plain_name_at] == 'k');
     }
     CHECK(at == strlen(text) && counts.bytes == found[size - 1].plain_end);
+}
+
+/* The one comparison of the query in `text`: its form, and how many bytes its value has. */
+static void compares_with(uint32_t form, uint64_t length)
+{
+    bes_compared found;
+    bes_counts counts = {7, 7};
+    OK(bes_query_comparisons((const uint8_t *)text, strlen(text), &counts, &found, 1, told, sizeof told, &place));
+    CHECK(counts.operations == 1 && place == 0 && found.form == form && found.kind == BES_ITEM_EQ);
+    CHECK(found.plain_end == found.plain_value_at + length && counts.bytes == found.plain_end);
 }
 
 /* Comparisons of a query, all of which are picked. */
@@ -335,7 +369,7 @@ static void many_comparisons(void)
     }
 }
 
-/* Bytes of a text that is escaped, and made a pattern in any case. */
+/* Bytes in a text that is escaped, and made a pattern that matches any case. */
 static void long_made_texts(void)
 {
     AT_EACH_SIZE {
@@ -361,11 +395,14 @@ static void long_queries(void)
         memcpy(text, "k==", 3);
         text[size] = 0;
         found(&pass, text, NULL, 0, 1);
+        compares_with(BES_FORM_PATTERN, size - 3);
         for (size_t i = 4; i < size; i += 2)
             text[i] = 'x';
         found(&pass, text, NULL, 0, size <= 6);
+        compares_with(BES_FORM_PATTERN, size - 3);
         memset(text + 3, 'x', size - 3);
         found(&pass, text, NULL, 0, size == 4);
+        compares_with(BES_FORM_TEXT, size - 3);
         memcpy(expected, "\"k\"==\"", 6);
         memset(expected + 6, 'x', size - 3);
         memcpy(expected + 6 + size - 3, "\"", 2);
@@ -413,6 +450,7 @@ static void long_names(void)
         OK(bes_set_int64(&pass, node, name, -5));
         snprintf(text, sizeof text, "%s==-5", name);
         found(&pass, text, NULL, 0, 1);
+        compares_with(BES_FORM_NUMBER, 2);
         OK(bes_pin(&pass, &number) || bes_read(&pass, node, name, &attribute, bytes, 0));
         CHECK(attribute.code == BES_INT64_TYPE && (int64_t)attribute.number == -5);
         OK(bes_attributes(&pass, node, &counts, listed, 1, bytes, sizeof bytes));
@@ -451,11 +489,12 @@ static void long_values(void)
         memcpy(text, "t==\"", 4);
         memcpy(text + 4 + size, "\"", 2);
         found(&pass, text, NULL, 0, 1);
+        compares_with(BES_FORM_TEXT, size);
         OK(bes_close(&pass));
     }
 }
 
-/* A change knows the index of this name, by which it refuses another kind. */
+/* A change knows the index of this name, so it refuses another kind. */
 static void refuse_by_index(bes_pass *pass)
 {
     bes_draft draft = BES_DRAFT_INIT;
@@ -493,8 +532,8 @@ static void many_indices(void)
     }
 }
 
-/* Takes all further passes of a store, each of which writes and reads; and one more is refused. Those that nobody has used wait with
- * the first handle, and others may be had by any. */
+/* Takes all further passes of a store, each of which writes and reads; and one more is refused. Unused ones wait with the first
+ * handle, and any handle may hand out the others. */
 static void take_all(bes_pass *passes, uint64_t size, bool are_unused, uint64_t node, uint64_t *written)
 {
     bes_pass none = BES_PASS_INIT;
@@ -511,13 +550,14 @@ static void take_all(bes_pass *passes, uint64_t size, bool are_unused, uint64_t 
     CHECK(bes_another(&passes[0], &none) == BES_NO_PASS);
 }
 
-/* Passes that are taken, given back in another order, met and taken again. */
+/* Passes that are taken, given back in another order, met and taken again. Closing the last pass frees the store, and closing another pass
+ * doesn't. */
 static void many_passes(void)
 {
     static bes_pass passes[64];
     AT_EACH_SIZE {
         bes_witness witness = BES_WITNESS_INIT;
-        uint64_t node = 0, written = 1, seen = 0;
+        uint64_t node = 0, written = 1, seen = 0, count = 7;
         OK(bes_open(512, size, 10000, &passes[0]) || bes_new_node(&passes[0], &node));
         for (int round = 0; round < 3; round++) {
             take_all(passes, size, round == 0, node, &written);
@@ -528,8 +568,12 @@ static void many_passes(void)
             OK(bes_witness_of(&passes[0], &witness) || bes_join(&passes[0], &witness, &seen) || bes_dismiss(&witness));
         }
         take_all(passes, size, false, node, &written);
-        for (uint64_t i = 0; i < size; i++)
+        for (uint64_t i = 1; i < size; i++) {
+            CHECK(bes_finish(&passes[0], NULL, 0, &count) == BES_IN_USE && count == 0);
             OK(bes_close(&passes[i]));
+        }
+        OK(bes_finish(&passes[0], told, sizeof told, &count));
+        CHECK(count <= sizeof told && count > 0 && told[count - 1] == '\n');
     }
 }
 
@@ -541,7 +585,7 @@ static void are_all(const bes_operation *part, uint8_t letter, uint64_t length)
         CHECK(told[part->value_at + i] == letter);
 }
 
-/* Fills the batch with so many values of 255 bytes, under names of 63 bytes. */
+/* Fills the batch with this many values of 255 bytes, under names of 63 bytes. */
 static void fill_batch(uint64_t size, uint8_t letter)
 {
     uint8_t value[LONGEST_VALUE];
@@ -576,8 +620,8 @@ static void state_is_filled(bes_pass *pass, uint64_t size)
     OK(bes_leave(&reading));
 }
 
-/* A list of the longest names and values, in each call that takes or writes such: bes_apply, bes_apply_if, bes_attributes, bes_state,
- * bes_journal_from and bes_journal, whose lines have up to 38 KB. */
+/* A list with names and values of maximum length, in each call that takes or writes such lists: bes_apply, bes_apply_if, bes_attributes,
+ * bes_state, bes_journal_from and bes_journal, whose lines have up to 38 KB. */
 static void long_batches(void)
 {
     AT_EACH_SIZE {
@@ -639,7 +683,7 @@ static void many_pages(void)
     }
 }
 
-/* What an operation has no use for is 0, so two readers of one state get the same bytes. */
+/* The fields that an operation doesn't use are 0, so two readers of one state get the same bytes. */
 static void has_no_more(const bes_operation *it)
 {
     const bool is_set = it->kind == BES_SET, has_name = is_set || it->kind == BES_MAKE_INDEX;
@@ -677,31 +721,41 @@ static void many_states(void)
     }
 }
 
-/* The journal of many writes, as they come: its text, and each entry. */
+/* The other pass of a store is taken and given back, and then met. */
+static void met(bes_pass *pass, uint64_t written)
+{
+    bes_pass other = BES_PASS_INIT;
+    uint64_t seen = 0;
+    OK(bes_another(pass, &other) || bes_close(&other) || bes_meet(pass, &seen));
+    CHECK(seen == written);
+}
+
+/* The journal while it gets many writes: its text, and each entry; and a pass that is met then. */
 static void many_entries(void)
 {
     bes_pass pass = BES_PASS_INIT;
-    uint64_t node = 0, written = 0, count = 0, by = 7;
+    uint64_t node = 0, written = 0, count = 0, by = 7, own = 7;
     size_t length = 0;
-    OK(bes_open(64, 1, MOST_ENTRIES, &pass));
+    OK(bes_open(64, 2, MOST_ENTRIES, &pass) || bes_number(&pass, &own));
     AT_EACH_SIZE {
         for (; written < size; written++) {
             char *end = expected + length;
             size_t room = sizeof expected - length;
             if (written == 0) {
                 OK(bes_new_node(&pass, &node));
-                length += (size_t)snprintf(end, room, "1 by 0 new -> node 1\n");
+                length += (size_t)snprintf(end, room, "1 by %d new -> node 1\n", (int)own);
             } else {
                 OK(bes_set_uint64(&pass, node, "n", written));
-                length += (size_t)snprintf(end, room, "%d by 0 set 1 \"n\" ULLG %d -> ok\n", (int)written + 1, (int)written);
+                length += (size_t)snprintf(end, room, "%d by %d set 1 \"n\" ULLG %d -> ok\n", (int)written + 1, (int)own, (int)written);
             }
             OK(bes_batch_entry(&pass, written, &batch, &by, &count));
-            CHECK(count == written + 1 && by == 0 && batch.count == 1);
+            CHECK(count == written + 1 && by == own && batch.count == 1);
             CHECK(written == 0 || (batch.operations[0].node == 1 && batch.operations[0].number == written));
         }
         memset(told, 7, length + 1);
         OK(bes_journal(&pass, told, sizeof told, &count));
         CHECK(count == length && memcmp(told, expected, length) == 0 && told[length] == 7);
+        met(&pass, size);
     }
     CHECK(written < MOST_ENTRIES || bes_new_node(&pass, &node) == BES_COMMITS_SPENT);
     OK(bes_finish(&pass, told, sizeof told, &count));

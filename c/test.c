@@ -1,5 +1,5 @@
-/* Every export and every kind of wrong use, from one thread; threads.c has those from four. Each error that bestore.h lists comes here
- * or in memory.c: BES_NO_MEMORY there, and BES_BUSY where it has to come. */
+/* Every export and every kind of wrong use, from one thread; threads.c tests calls from four. Each error that bestore.h lists comes
+ * here or in memory.c: BES_NO_MEMORY there, and BES_BUSY where it has to come. */
 #include "tests.h"
 
 static view before;
@@ -38,7 +38,7 @@ static void closed_handle(void)
     CHECK(bes_apply_or_retry(&pass, &op, 1, bytes, 0, 1, nodes, 2, &number) == BES_CLOSED && nodes[0] == 7);
 }
 
-/* A prepared query whose handle is closed, or is asked through a pass that is. */
+/* A prepared query whose handle is closed, or that is asked through a closed pass. */
 static void closed_prepared(void)
 {
     bes_pass pass = BES_PASS_INIT;
@@ -93,7 +93,7 @@ static void opening(void)
     CHECK(bes_close(&third) == BES_CLOSED);
 }
 
-/* Passes that were given back are handed out by any handle of their store, unpinned; those that wait with one, by it alone. */
+/* Any handle of a store hands out its returned passes, unpinned. Those that wait with one handle are handed out only by it. */
 static void giving_back(void)
 {
     bes_pass mine = BES_PASS_INIT, theirs = BES_PASS_INIT, third = BES_PASS_INIT, fourth = BES_PASS_INIT;
@@ -107,7 +107,7 @@ static void giving_back(void)
     CHECK(bes_close(&third) == BES_OK && bes_close(&mine) == BES_OK && bes_close(&theirs) == BES_OK);
 }
 
-/* A pass that was given back shows one what another has seen. */
+/* Through a returned pass, one pass sees what another has seen. */
 static void meeting(void)
 {
     bes_pass mine = BES_PASS_INIT, theirs = BES_PASS_INIT, third = BES_PASS_INIT;
@@ -123,7 +123,7 @@ static void meeting(void)
 }
 
 /* Writes `count` operations, the first `right` of which are valid, and the others are this one. Returns the error. If the list is
- * invalid, the index of the first of the others goes with that. */
+ * invalid, the error comes with the index of the first of these. */
 static uint32_t wrong_behind(bes_pass *pass, size_t right, bes_operation op, size_t count, size_t size)
 {
     static const uint8_t bytes[300] = "k\0\xff";
@@ -170,7 +170,7 @@ static void wrong_writes(void)
     CHECK(bes_open(64, 1, 100, &pass) == BES_OK);
     CHECK(wrong(&pass, new_node, 0, 0) == BES_BAD_COUNT);
     CHECK(wrong(&pass, new_node, 65, 0) == BES_BAD_COUNT);
-    /* How many there are is looked at before they are read. */
+    /* Their number is checked before they are read. */
     CHECK(wrong(&pass, none, 65, 0) == BES_BAD_COUNT);
     CHECK(bes_apply(&pass, &none, (size_t)1 << 40, (const uint8_t *)"", 0, &made, 1, &number) == BES_BAD_COUNT && number == 0);
     CHECK(wrong(&pass, none, 1, 300) == BES_NO_OPERATION);
@@ -206,7 +206,7 @@ static void most(void)
     CHECK(bes_batch_apply(&pass, &batch, 1, made, 64, &number) == BES_OK && number == 2);
     CHECK(bes_pin(&pass, &number) == BES_OK);
     LEAVES(&pass, bes_set_int32(&pass, 1, "a64", 64), BES_TOO_MANY_ATTRS);
-    /* A list is refused whole by its last operation. */
+    /* An error in its last operation refuses the whole list. */
     bes_batch_clear(&batch);
     CHECK(bes_batch_new_node(&batch) == BES_OK && bes_batch_set_int32(&batch, 1, "a64", 64) == BES_OK);
     made[0] = 7;
@@ -240,7 +240,7 @@ static void full_batch(void)
     CHECK(bes_batch_new_node(&batch) == BES_BAD_COUNT && batch.count == 64);
 }
 
-/* A pin keeps the pages of its snapshot, until no page is free for a write. */
+/* A pin keeps the pages of its snapshot, until a write finds no free page. */
 static void no_page_is_free(void)
 {
     static bes_batch batch;
@@ -390,7 +390,7 @@ static void queries(void)
     CHECK(bes_close(&pass) == BES_OK);
 }
 
-/* A text that is no query: each call that reads it returns the error, and writes nothing but the byte offset. */
+/* A text that isn't a query: each call that reads it returns the error, and writes nothing but the byte offset. */
 static void no_query(bes_pass *pass, const char *text, size_t length, uint32_t answer, uint64_t byte)
 {
     const uint8_t *query = (const uint8_t *)text;
@@ -403,7 +403,7 @@ static void no_query(bes_pass *pass, const char *text, size_t length, uint32_t a
     CHECK(bes_prepare(query, length, &prepared, &place) == answer && place == byte && bes_release(&prepared) == BES_CLOSED);
 }
 
-/* The same of items: this one is at fault. */
+/* The same with items: this is the wrong one. */
 static void no_items(bes_pass *pass, const bes_item *items, size_t items_count, const char *bytes, uint32_t answer, uint64_t item)
 {
     const uint8_t *parts = (const uint8_t *)bytes;
@@ -453,7 +453,7 @@ static void no_queries(void)
     CHECK(bes_close(&pass) == BES_OK);
 }
 
-/* Items: a value that is no pattern, 65 that stand on one another, 257 comparisons, and parts of bytes that are none. */
+/* Items: a value that isn't a valid pattern, 65 nested ones, 257 comparisons, and parts that aren't within the bytes. */
 static void no_query_of_items(void)
 {
     static const bes_item size = {BES_ITEM_ATTRIBUTE, 0, 4, 0}, one = {BES_ITEM_UINT64, 0, 0, 1}, less = {BES_ITEM_LT, 0, 0, 0};
@@ -503,7 +503,7 @@ static void prepare_less(bes_prepared *prepared)
     CHECK(bes_prepare_items(less, 3, (const uint8_t *)"size", 4, prepared, &place) == BES_OPEN && place == 0);
 }
 
-/* Queries that are parsed once, by text and by items, and what comes and goes. */
+/* Queries that are parsed once, as text and as items, and which nodes come and go. */
 /* What a prepared query found: it is read again in parts, and stays at a refresh. */
 static void read_found(bes_pass *pass, bes_prepared *query)
 {
@@ -598,7 +598,7 @@ static void nodes_by_number(void)
 
 enum { MOST_BYTES = 64 * (63 + 255) };
 
-/* The operations that make a snapshot again. A list that had no room is returned again. */
+/* The operations that rebuild a snapshot. A list for which there was no room is returned by the next call. */
 static void states(void)
 {
     static const uint8_t expected[] = "nameannsizesize";
@@ -668,7 +668,7 @@ static void joining(void)
     CHECK(bes_dismiss(&later) == BES_CLOSED && bes_dismiss(&moved) == BES_OK && bes_dismiss(&moved) == BES_CLOSED);
 }
 
-/* What is free, what waits for a pin, and whose that is. */
+/* Which pages are free, which wait for a pin, and whose pin that is. */
 static void usage(void)
 {
     bes_pass mine = BES_PASS_INIT, theirs = BES_PASS_INIT;
@@ -734,7 +734,7 @@ static void finishing(void)
     CHECK(bes_close(&mine) == BES_CLOSED);
 }
 
-/* If two errors hold, the one is returned that bestore.h lists first. */
+/* If two errors hold, the one that bestore.h lists first is returned. */
 static void order_of_reads(void)
 {
     static const uint8_t long_text[4097] = {0xff};
@@ -803,7 +803,7 @@ static void spent(void)
     CHECK(bes_version() == BES_VERSION_NUMBER && strcmp(BES_VERSION, "0.4.0") == 0);
 }
 
-/* No pass is lost that is closed, or met: 64 are taken, closed and taken again, by the first handle and by another one. */
+/* No pass is lost by closing or meeting it: 64 are taken, closed and taken again, with the first handle and with another one. */
 static void all_passes(void)
 {
     static bes_pass taken[65];
@@ -825,14 +825,14 @@ static void all_passes(void)
     CHECK(take_passes(&last, taken) == 63);
     close_passes(taken, 63);
     CHECK(bes_close(&last) == BES_OK);
-    /* Those that nobody has used are given back with the handle that they wait with. */
+    /* Unused passes are returned with the handle that they wait with. */
     CHECK(bes_open(64, 64, 10, &first) == BES_OK && bes_another(&first, &last) == BES_OK && bes_close(&first) == BES_OK);
     CHECK(take_passes(&last, taken) == 63);
     close_passes(taken, 63);
     CHECK(bes_close(&last) == BES_OK);
 }
 
-/* A store of 64 passes is closed by whichever is the last, with the writes of all. */
+/* The last pass closes a store of 64, whichever it is, with the writes of all. */
 static void finishing_all(void)
 {
     static bes_pass taken[65];

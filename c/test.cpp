@@ -55,7 +55,7 @@ static void values()
     CHECK(!pin.get<std::string>(1, "k"));
 }
 
-// The columns of some names: the same as by get, also in a change, which sees what it has set.
+// The columns of some names: the same as with get, even in a change, which sees what it has set.
 static void columns()
 {
     Store store({64, 1, 100});
@@ -253,7 +253,7 @@ static void finishing()
     other.close();
 }
 
-// A witness shows a pass what another one has seen, also in another thread; it outlives its store, and is of no other.
+// A witness shows a pass what another one has seen, even in another thread. It outlives its store, and no other store takes it.
 static void witnesses()
 {
     Store next({64, 1, 100});
@@ -302,7 +302,7 @@ static void nodes_and_status()
     refused(BES_NOT_PINNED, [&] { pin.nodes(); });
 }
 
-// The state of a store, carried on to another one by its batches: the same nodes, attributes and indices, and the same next number.
+// The state of a store, carried to another one in batches: the same nodes, attributes and indices, and the same next number.
 static void states()
 {
     Store store({256, 1, 1000}), next({256, 1, 1000});
@@ -350,7 +350,7 @@ static void full()
     });
 }
 
-// The store goes with its last pass, which needn't be its first.
+// The store closes with its last pass, which needn't be its first.
 static void last_pass()
 {
     Pass other = Store({64, 2, 100}).another();
@@ -371,7 +371,7 @@ static void threads()
     CHECK(store.pin().number() == 2 * writes);
 }
 
-// A query that is parsed here and asked in another thread, through a pass of its own, and a live one that goes there and back.
+// A query that is parsed here and asked in another thread, through that thread's own pass, and a live one that moves there and back.
 static void threads_hand_on_queries()
 {
     Store store({64, 2, 100});

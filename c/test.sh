@@ -1,14 +1,14 @@
 #!/usr/bin/env bash
-# Builds the tests in C and C++ and runs them, plain and under what finds faults of memory and of threads; then the examples and the
-# tests in Python. What is installed and packed is tried by tests/packages. Needs libbestore.a and libbestore.so beside it.
-# What isn't there is skipped, and said to be.
+# Builds the tests in C and C++ and runs them, plain and with tools that find memory and thread errors; then the examples and the
+# tests in Python. tests/packages tries what is installed and packed. Needs libbestore.a and libbestore.so beside it.
+# What isn't there is skipped, with a line that says so.
 set -euo pipefail
 cd "$(dirname "$0")"
 warn=(-Wall -Wextra -pedantic -Werror)
 work=$(mktemp -d)
 trap 'rm -rf "$work"' EXIT
 
-# What it is that is run, and the command, which has to end well.
+# What is run, and the command, which has to succeed.
 run() {
     local what=$1 said
     shift
@@ -26,7 +26,7 @@ run_if_there() {
     fi
 }
 
-# There one thread runs at a time, and each gets its turn.
+# There, one thread runs at a time, and each gets its turn.
 leaks() { run_if_there "$1" valgrind -q --fair-sched=try --leak-check=full --error-exitcode=9 "${@:2}"; }
 
 echo 'int main(void) { return 0; }' >"$work/empty.c"
@@ -63,8 +63,8 @@ marked_helpers() {
     echo "$folder"
 }
 
-# The tests, and those of them in which threads run.
-tests=(test columns cursors ordered changes closing refreshes errors threads witness helpers texts query_texts bounds racing promises)
+# The tests, and the ones among them that run threads.
+tests=(test columns cursors ordered changes batches closing refreshes errors threads witness helpers texts query_texts bounds racing promises)
 tests_cpp=(test helpers changes ordered racing)
 with_threads=(changes threads witness helpers racing promises)
 
@@ -84,8 +84,8 @@ if sanitizes C cc address,undefined; then
         run "C, $test, address,undefined" "$work/sanitized" short
     done
 fi
-# The library's own steps, those of its lock among them, carry no marks for this sanitizer. So it has the list that ships, and looks
-# at the test's own memory alone: there it still finds a race.
+# The library's own steps, including its lock's, carry no marks for this sanitizer. So it uses the list that ships, and
+# looks only at the test's own memory, where it still finds a race.
 listed=(env LD_LIBRARY_PATH=. TSAN_OPTIONS=suppressions="$PWD/tsan.supp")
 if sanitizes C cc thread; then
     helpers=$(marked_helpers thread)
@@ -132,7 +132,7 @@ if [ -n "$has_cpp" ]; then
     done
 fi
 
-# Requests for memory are refused if the linker lets them come by the test.
+# Requests for memory are refused if the linker can pass them through the test.
 wrap=(-Wl,--wrap=malloc,--wrap=realloc,--wrap=sched_yield)
 if cc "${wrap[@]}" "$work/empty.c" -o "$work/empty" 2>/dev/null; then
     build -g -O1 "${wrap[@]}" memory.c -o "$work/memory"
@@ -184,7 +184,7 @@ build -O2 ../examples/c/counter.c -o "$work/counter"
 "$work/mailbox" "$work/broken.mbox" 'MAIL:from=="*"' 'MAIL:subject=="?" || MAIL:subject=="??"' 'MAIL:subject=="no end"' \
     'MAIL:subject=="0*0" && MAIL:from=="B?b"' 'MAIL:subject==again1 && MAIL:from==first' 'MAIL:from==" zero"' >"$work/said"
 sed -n '/^  /!s/.*: //p' "$work/said" | tr '\n' ' ' | cmp - <(printf '3 3 1 1 1 1 1 ')
-# A store that is full ends the reading, and what was read is found.
+# A full store ends the reading, and what was read is found.
 awk 'BEGIN { for (i = 0; i < 6000; i++) printf "From x\nFrom: ann%d\nTo: bob%d\nSubject: Letter %d\nDate: Mon, 3 Mar 2025 09:12:00 +0000\n\nText\n", i, i, i }' \
     >"$work/many.mbox"
 if timeout -k 10 900 "$work/mailbox" "$work/many.mbox" 'MAIL:from=="ann*"' >"$work/said" 2>"$work/warned"; then
@@ -193,7 +193,7 @@ if timeout -k 10 900 "$work/mailbox" "$work/many.mbox" 'MAIL:from=="ann*"' >"$wo
 fi
 mails=$(sed -n 's/^the store takes no more after \(.*\) mails: no page is free;.*$/\1/p' "$work/warned")
 [ "${mails:-0}" -gt 100 ] && grep -q "^MAIL:from==\"ann\*\": $mails$" "$work/said" ||
-    { cat "$work/said" "$work/warned" >&2; echo "mailbox: no end at a full store" >&2; exit 1; }
+    { cat "$work/said" "$work/warned" >&2; echo "mailbox: a full store didn't end it" >&2; exit 1; }
 echo "examples in C: ok"
 
 if [ -n "$has_cpp" ]; then
@@ -207,7 +207,7 @@ if [ -n "$has_cpp" ]; then
     printf 123456789 >"$work/files/nine.c"
     "$work/catalogue" "$work/files" 'size>5' 'kind==text' |
         cmp - <(printf '2 files\nsize>5: 1\n  nine.c 9\nkind==text: 1\n  five.txt 5\n')
-    # File names that are no UTF-8, or mean something in a pattern; and a comparison that is never true.
+    # File names that aren't valid UTF-8, or that mean something in a pattern; and a comparison that is never true.
     : >"$work/files/"$'bad\xff\xc3.txt' >"$work/files/[draft].txt"
     "$work/catalogue" "$work/files" 'name=="bad*"' 'name==\[draft].txt' 'size>1.5' 2>"$work/warned" |
         cmp - <(printf '4 files\nname=="bad*": 1\n  bad??.txt 0\nname==\\[draft].txt: 1\n  [draft].txt 0\nsize>1.5: 0\n')
@@ -243,7 +243,7 @@ python3 manual.py | cmp - ../docs/bestore.3
 
 run "examples in Python" "${python[@]}" -m unittest discover -q -s ../examples/python
 
-# The query window, on a display in memory, and what it uses. Over a server it is tried by rust/test.sh.
+# The query window, on a display in memory, and what it uses. rust/test.sh tries it with a server.
 window="what the query window uses"
 if ! command -v Xvfb >/dev/null; then
     echo "the query window: skipped, there is no Xvfb"

@@ -8,7 +8,7 @@
 
 #define CHECK(e) do { if (!(e)) { fprintf(stderr, "%s:%d: %s\n", __FILE__, __LINE__, #e); exit(1); } } while (0)
 
-/* All that can be seen of a small store, and of a pass's pin. */
+/* Everything observable about a small store and a pass's pin. */
 typedef struct view {
     uint32_t has_indices, has_node;
     uint64_t length;
@@ -34,7 +34,7 @@ static inline bool is_as_it_was(bes_pass *pass, const view *before)
     return memcmp(before, &after, sizeof after) == 0;
 }
 
-/* Takes all passes that this one is given. Returns how many they were. */
+/* Takes as many passes as this pass can get. Returns how many there were. */
 static inline int take_passes(bes_pass *pass, bes_pass *taken)
 {
     for (int i = 0;; i++) {
@@ -45,7 +45,7 @@ static inline int take_passes(bes_pass *pass, bes_pass *taken)
     }
 }
 
-/* Gives them all back. */
+/* Gives all these passes back. */
 static inline void close_passes(bes_pass *taken, int count)
 {
     for (int i = 0; i < count; i++)

@@ -16,12 +16,12 @@
 
 using Carried = std::optional<std::uint64_t>;
 
-// What goes with a refusal.
+// The details of a refusal.
 struct With {
     Carried offset = {}, item = {}, operation = {}, least = {}, pass_number = {}, length = {};
 };
 
-// That the call is refused with this number, and what goes with that.
+// Checks that the call is refused with this number and these details.
 template <class Call> void refused(std::uint32_t number, const With &with, Call call)
 {
     try {

@@ -9,7 +9,7 @@ static uint64_t below(uint64_t most)
     return (seed >> 33) % most;
 }
 
-/* Appends one of the texts that are parted by blanks. */
+/* Appends one of the texts, which are separated by blanks. */
 static void append_one(char *text, size_t room, const char *choices)
 {
     size_t count = 1, length;
@@ -81,7 +81,7 @@ static uint32_t opposite(uint32_t kind)
     return kinds[kind - BES_ITEM_EQ];
 }
 
-/* A comparison in the user's text and its canonical text are one, but for a ! before the first. */
+/* A comparison in the user's text and its canonical text mean the same, except for a ! before the first. */
 static void is_same_comparison(const char *text, const bes_comparison *mine, const char *canonical, const bes_comparison *theirs)
 {
     static char alone[4096];
@@ -94,7 +94,7 @@ static void is_same_comparison(const char *text, const bes_comparison *mine, con
     CHECK(memcmp(alone + only.value_at, canonical + theirs->value_at, only.value_length) == 0);
 }
 
-/* What is read of a text is what the library reads of it: the same comparisons in the same order. */
+/* The helper reads from a text what the library reads from it: the same comparisons in the same order. */
 static void comparisons(void)
 {
     static char text[512], canonical[1 << 14];
@@ -116,7 +116,7 @@ static void comparisons(void)
     CHECK(accepted > 5000);
 }
 
-/* A text that is no query is read to its end all the same, within its bytes. */
+/* A text that isn't a query is still read to its end, and not beyond. */
 static void any_bytes(void)
 {
     for (int round = 0; round < 20000; round++) {
@@ -146,7 +146,7 @@ static void prepared_text(void)
     CHECK(bes_release(&prepared) == BES_OK);
 }
 
-/* A pinned store with an index of each kind that has one, and a node with 0 or "zero" under each. */
+/* A pinned store with an index of each kind that can have one, and a node with 0 or "zero" under each. */
 static void open_store(bes_pass *pass)
 {
     uint64_t number = 0, node = 0;
@@ -216,7 +216,7 @@ static bool spells_number(const char *text, whole *number)
     return digits > 0 && digits <= 20 && (!number->is_negative || number->magnitude <= (uint64_t)1 << 63);
 }
 
-/* Whether each integer of a kind with so many bits is above the number, or each is below. */
+/* Whether every integer of a kind with this many bits is above the number, or every one is below. */
 static bool is_out_of_range(whole number, unsigned bits, bool is_signed)
 {
     uint64_t greatest = UINT64_MAX >> (64 - bits + is_signed);
@@ -225,7 +225,7 @@ static bool is_out_of_range(whole number, unsigned bits, bool is_signed)
     return number.magnitude > greatest;
 }
 
-/* A value that spells no number makes a comparison with an integer false, and one that does makes either <= or >= true. The helper finds
+/* A value that isn't a number makes a comparison with an integer false, and one that is makes either <= or >= true. The helper finds
  * what is false for each integer of the index's kind. */
 static void never_true(void)
 {
@@ -284,7 +284,7 @@ static void pairs(void)
     CHECK(bes_close(&pass) == BES_OK);
 }
 
-/* An index that was made late has all of its kind after bes_reindex. */
+/* An index that was made late has all values of its kind after bes_reindex. */
 static void reindexed(void)
 {
     static const char *const names[] = {"a", "b"};
@@ -377,7 +377,7 @@ static void any_case(void)
     CHECK(bes_close(&pass) == BES_OK);
 }
 
-/* Any bytes become a text that the library takes, and one that it takes stays as it is. */
+/* Any bytes become a text that the library takes; a text that it takes already stays as it is. */
 static void valid_texts(void)
 {
     static char bytes[400 + 1], valid[256], again[256];

@@ -1,11 +1,11 @@
-/* What calls of several threads return, and what those find who read meanwhile. */
+/* What calls from several threads return, and what other threads read meanwhile. */
 #define _POSIX_C_SOURCE 199309L
 #include "tests.h"
 #include <pthread.h>
 #include <time.h>
 
-/* Four threads, one pass each: two write, and two ask. Each writer has nodes of its own in pairs, one of which is from ann and
- * the other from bob, and exchanges the two of a pair in one write: so each snapshot has as many nodes from ann as from bob. */
+/* Four threads, one pass each: two write, and two run queries. Each writer has its own nodes in pairs, one from ann and the other from
+ * bob, and swaps the two of a pair in one write. So each snapshot has as many nodes from ann as from bob. */
 enum { PAIRS = 100, NODES = 4 * PAIRS };
 
 static double seconds = 3; /* fewer if the argument is short */
@@ -22,7 +22,7 @@ static bool is_over(void)
 typedef struct user {
     bes_pass pass;
     uint64_t first;  /* of a writer's nodes */
-    uint64_t rounds; /* writes that were accepted, or snapshots that were asked */
+    uint64_t rounds; /* writes that were accepted, or snapshots that were queried */
 } user;
 
 /* Writes a pair, the first node of which is then from ann, or else from bob. A pin of another thread may hold all free pages
@@ -59,7 +59,7 @@ static void *writer(void *arg)
         written = write_pair(&it->pass, node, false, ann[pair]);
         if (it->rounds % 16 != 0)
             continue;
-        /* A pin has all that its pass wrote. Then a rest: the journal keeps every write. */
+        /* A pin includes everything that its pass wrote. Then a rest: the journal keeps every write. */
         CHECK(bes_pin(&it->pass, &number) == BES_OK && number >= written);
         CHECK(bes_read(&it->pass, node + 1, "MAIL:from", &told, from, 3) == BES_OK && told.length == 3);
         CHECK(memcmp(from, ann[pair] ? "bob" : "ann", 3) == 0);
@@ -69,7 +69,7 @@ static void *writer(void *arg)
     return NULL;
 }
 
-/* A refresh by what was written, while it is being written, finds what one of the whole query has found. */
+/* A refresh from what is being written meanwhile finds the same as a refresh of the whole query. */
 static void refresh_as(user *it, bes_prepared *whole, const bes_updates *updates, bes_prepared *changed)
 {
     bes_updates others = {0, 0};
@@ -146,7 +146,7 @@ static void threads(void)
            (unsigned long long)(users[2].rounds + users[3].rounds), seconds);
 }
 
-/* Takes a pass that no thread has, writes through it and gives it back, and so on. Counts the writes. */
+/* Repeatedly takes a pass that no thread has, writes through it and gives it back. Counts the writes. */
 static void *taker(void *arg)
 {
     user *it = arg;
@@ -190,8 +190,8 @@ static void takers(int count)
         CHECK(bes_close(&users[i].pass) == BES_OK);
 }
 
-/* Takes a pass and gives it back, over and over. There are many more passes than threads, so one always waits: where another thread is
- * at a pass, the next place is looked at. */
+/* Takes a pass and gives it back, over and over. There are many more passes than threads, so one is always free: if another thread is
+ * using a pass, the next place is tried. */
 static void *hander(void *arg)
 {
     user *it = arg;
@@ -216,7 +216,8 @@ static void always_one_waits(void)
         CHECK(pthread_join(running[i], NULL) == 0 && bes_close(&users[i].pass) == BES_OK);
 }
 
-/* Sets its node's number, and makes a node, in one write and so on. A pin of another thread may hold all free pages for a while. */
+/* Sets its node's number and makes a node, in one write, again and again. A pin of another thread may hold all free pages for a while.
+ * */
 static void *grower(void *arg)
 {
     user *it = arg;
@@ -234,7 +235,7 @@ static void *grower(void *arg)
     return NULL;
 }
 
-/* Opens a store, and makes it what the pinned snapshot is. */
+/* Opens a store, and copies the pinned snapshot's state into it. */
 static void carry_on(bes_pass *pass, bes_pass *next)
 {
     bes_batch batch;
@@ -250,7 +251,7 @@ static void carry_on(bes_pass *pass, bes_pass *next)
     CHECK(bes_leave(&place) == BES_OK);
 }
 
-/* Whether both pinned snapshots are made again by the same operations. */
+/* Returns whether the same operations rebuild both pinned snapshots. */
 static bool are_alike(bes_pass *mine, bes_pass *theirs)
 {
     bes_batch one, other;
@@ -265,7 +266,7 @@ static bool are_alike(bes_pass *mine, bes_pass *theirs)
     return alike;
 }
 
-/* Carries the state on to a new store and closes that, the old one being read at its pin as before. */
+/* Carries the state to a new store and closes the new store, while a pinned pass still reads the old store as before. */
 static void carry_and_compare(bes_pass *pass)
 {
     bes_pass next = BES_PASS_INIT;
@@ -311,7 +312,7 @@ static void carrying(void)
         CHECK(bes_close(&users[i].pass) == BES_OK);
 }
 
-/* A prepared query that goes from thread to thread, each with a pass of its own. */
+/* A prepared query that moves from thread to thread, each with its own pass. */
 typedef struct handed {
     bes_pass pass;
     bes_prepared prepared;

@@ -1,12 +1,12 @@
-/* Two threads that send each other through pipes what they have written: a commit number, and a witness. The receiver joins the
- * witness, and finds that write in its next snapshot; its next write has a later number. A third thread writes meanwhile. */
+/* Two threads that tell each other through pipes what they have written: a commit number, and a witness. The receiver joins the witness,
+ * and finds the sender's write in its next snapshot; its next write has a later number. A third thread writes meanwhile. */
 #define _POSIX_C_SOURCE 200112L
 #include "tests.h"
 #include <pthread.h>
 #include <sched.h>
 #include <unistd.h>
 
-/* What goes through a pipe. The memory of the witness goes with it. */
+/* The message sent through a pipe. The witness's memory goes with the message. */
 typedef struct message {
     uint64_t number, node;
     bes_witness *witness;
@@ -36,7 +36,7 @@ static uint64_t write_node(bes_pass *pass, uint64_t size, uint64_t *node)
     return number;
 }
 
-/* Writes, and sends the number with a witness of it. Returns the number. */
+/* Writes, and sends the commit number with a witness of the write. Returns the number. */
 static uint64_t send_write(user *it, unsigned round)
 {
     message sent = {0, 0, malloc(sizeof *sent.witness)};
@@ -49,7 +49,7 @@ static uint64_t send_write(user *it, unsigned round)
     return sent.number;
 }
 
-/* Receives what the other has sent, joins its witness, and looks for its write. Returns the write's number. */
+/* Receives the other thread's message, joins its witness, and looks for its write. Returns the write's number. */
 static uint64_t receive(user *it, unsigned round)
 {
     message got;

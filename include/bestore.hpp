@@ -1,4 +1,4 @@
-// bestore for C++17: the calls of bestore.h by objects that close themselves. Link as bestore.h says, with -lpthread.
+// bestore for C++17: the calls of bestore.h as objects that close themselves. Link as bestore.h says, with -lpthread.
 //
 //     bestore::Store store;
 //     store.make_index("MAIL:from", bestore::Kind::string);
@@ -9,11 +9,11 @@
 //     for (bestore::Node found : pin.query("MAIL:from==ann"))
 //         std::cout << found << '\n';
 //
-// What bestore.h says about each call also holds here: its errors, its cost, threads. A call that returns an error there throws a
-// Refusal here, which carries the number that comes with the error. Nothing has changed then.
-// Store, Pass, Pin, State, Prepared, Live and Witness can be moved but not copied. A Pin has to be destroyed before its pass, and a
-// State before its Pin; the pass may be moved meanwhile. Each thread has a Pass of its own, and an object takes one call at a time.
-// In a forked child the objects of the parent are dead: their calls throw BES_CLOSED, and their ends do nothing.
+// What bestore.h says about each call also holds here: its errors, its cost and its rules for threads. If a C call returns an error, the
+// C++ call throws a Refusal, which carries the number that comes with the error. Then nothing has changed. Store, Pass, Pin, State,
+// Prepared, Live and Witness can be moved but not copied. Destroy a Pin before its pass, and a State before its Pin; you may move the pass
+// meanwhile. Give each thread its own Pass, and make one call at a time on an object. In a forked child the parent's objects are dead:
+// their calls throw BES_CLOSED, and their destructors do nothing.
 #ifndef BESTORE_HPP
 #define BESTORE_HPP
 
@@ -23,8 +23,8 @@
 
 namespace bestore {
 
-// What Pass::change hands to its function: a pinned snapshot, and the operations of the transaction that will follow on it, up to 64.
-// get() sees what the change has set and removed so far; everything else reads only the snapshot. A call that throws adds no operation.
+// What Pass::change passes to its function: a pinned snapshot, and up to 64 operations for the transaction that will follow it. get() sees
+// what the change has set and removed so far; all other calls read only the snapshot. A call that throws adds no operation.
 class Change : public Snapshot, public detail::Writes<Change> {
 public:
     Change(const Change &) = delete;
@@ -39,14 +39,15 @@ public:
     // Makes a node, and returns its number.
     Node create() { return add({BES_NEW_NODE}); }
 
-    // From here on, takes values of any kind. Before this call, a value whose kind isn't that of its name's index throws KindMismatch.
+    // Lets the change take values of any kind from now on. Before this call, setting a value whose kind the index with its name doesn't
+    // take throws KindMismatch.
     Change &any_kind() noexcept
     {
         bes_change_any_kind(&draft_);
         return *this;
     }
 
-    // The operations so far. What is added later is there at the next call.
+    // Returns the operations so far. To see operations that are added later, call it again.
     const Batch &batch() const
     {
         detail::check(batch_.read([&](auto... room) { return bes_change_batch(&draft_, room...); }));
@@ -71,7 +72,7 @@ private:
         return *this;
     }
 
-    // Adds an operation. Returns the node that it makes, or 0.
+    // Adds an operation. Returns the node that the operation makes, or 0.
     Node add(const detail::Edit &edit)
     {
         std::uint64_t made = 0;
@@ -104,26 +105,27 @@ private:
     std::uint64_t size_ = 0;
 };
 
-// What a change returns if its function returns something: the commit number, and that result.
+// What Pass::change returns if its function has a result: the commit number and the result.
 template <class T> struct Changed {
     std::uint64_t number;
     T value;
 };
 
-// An entry of the journal: its commit number, the pass that wrote it, and its operations, in which new_node has the node that it made.
+// An entry of the journal: its commit number, the pass that wrote it, and its operations. Each new_node operation has the node that it
+// made.
 struct Entry {
     std::uint64_t number;
     std::uint64_t pass;
     Batch batch;
 };
 
-// The entries of the journal from an index on, up to its end at the time the loop gets there. Iterate over them once, while the
-// pass is open. A later loop goes on with what has been written since.
+// The entries of the journal from an index on, up to the journal's end when the loop gets there. Iterate over the entries once, while the
+// pass is open. A later loop continues with the entries that have been written since.
 class Entries {
 public:
     using Iterator = detail::Iterator<Entries, Entry>;
 
-    // From the next entry on.
+    // Starts at the next entry.
     Iterator begin()
     {
         std::uint64_t length = 0;
@@ -155,8 +157,8 @@ private:
 
 // How full a store is.
 struct Status {
-    // The oldest version that a pass has published, and the lowest-numbered pass that has done so. It is pinned to that version or a
-    // later one, or is about to be.
+    // The oldest version that a pass has published, and the lowest-numbered pass that has published it. This pass is, or soon will be,
+    // pinned to that version or a later one.
     struct Held {
         std::uint64_t version;
         std::uint64_t pass_number;
@@ -173,7 +175,7 @@ struct Status {
 // A session: one thread's handle on a store.
 class Pass : public detail::Writes<Pass> {
 public:
-    // Its number, which the journal and errors use.
+    // Returns the pass's number, which the journal and errors use.
     std::uint64_t number() const
     {
         std::uint64_t number = 0;
@@ -181,7 +183,7 @@ public:
         return number;
     }
 
-    // A pass of the same store, for another thread. Unused passes stay with the Store; any pass hands out one that was
+    // Returns a pass of the same store, for another thread. Unused passes stay with the Store; any pass can hand out a pass that was
     // closed.
     Pass another()
     {
@@ -190,7 +192,7 @@ public:
         return other;
     }
 
-    // Meets a pass that was closed: both have then seen what either had. Returns how many transactions that is.
+    // Meets a pass that was closed: afterwards both have seen what either had seen. Returns how many transactions both have seen.
     std::uint64_t meet()
     {
         std::uint64_t seen = 0;
@@ -198,7 +200,8 @@ public:
         return seen;
     }
 
-    // A witness of all transactions that the pass has seen so far, including its own. Move it to another thread, whose pass joins it.
+    // Returns a witness that records all transactions that the pass has seen so far, including its own. Move the witness to another
+    // thread, whose pass joins it.
     Witness witness()
     {
         Witness witness(store_);
@@ -206,9 +209,9 @@ public:
         return witness;
     }
 
-    // Joins a witness: the pass and the witness have then both seen what either had. So each later snapshot of the pass includes
-    // everything that the witness's pass had seen, and each later commit number of the pass is greater than those. Returns how many
-    // transactions both have seen. Throws std::invalid_argument if the witness is from another store.
+    // Joins a witness: afterwards the pass and the witness have both seen what either had seen. So each later snapshot of the pass
+    // includes everything that the witness's pass had seen, and each later commit number of the pass is greater than the commit numbers of
+    // those transactions. Returns how many transactions both have seen. Throws std::invalid_argument if the witness is from another store.
     std::uint64_t join(Witness &witness)
     {
         std::uint64_t seen = 0;
@@ -218,9 +221,10 @@ public:
         return seen;
     }
 
-    // Reads and writes as one. Pins the current snapshot, runs f on a Change, and writes its operations as one transaction if no other
-    // came between. If one came, it unpins and runs f again, on a new snapshot; and likewise if the store is busy, or full while
-    // bes_again waits. So f may run several times, up to `attempts`, and must leave nothing behind but its Change and what it returns.
+    // Reads and writes atomically. Pins the current snapshot, runs f on a Change, and writes the Change's operations as one transaction if
+    // no other transaction was committed in between. Otherwise, or if the store is busy, or full while bes_again waits, it unpins and runs
+    // f again on a new snapshot. So f may run several times, up to `attempts`, and must have no effects other than on its Change and its
+    // result.
     //
     //     const auto [number, letter] = store.change([](bestore::Change &change) {
     //         const auto letter = change.create();
@@ -228,8 +232,9 @@ public:
     //         return letter;
     //     });
     //
-    // Returns the commit number, or a Changed with that and what f returned. With no operations it writes nothing, and the number is
-    // the snapshot's. BES_CONFLICT is thrown if another transaction came between at the last attempt. What f throws ends it.
+    // Returns the commit number, or a Changed with the commit number and f's result. Without operations it writes nothing, and the number
+    // is the snapshot's. Throws BES_CONFLICT if another transaction was committed in between at the last attempt. An exception from f ends
+    // the change.
     template <class F> auto change(F &&f, std::uint32_t attempts = BES_TRIES)
     {
         using Result = std::invoke_result_t<F &, Change &>;
@@ -251,13 +256,13 @@ public:
         }
     }
 
-    // Writes all operations or none. Tries again as bes_apply_or_retry does, with this many tries in all and at least one.
+    // Writes all operations or none. Tries again as bes_apply_or_retry does, with `tries` tries in all, and at least one.
     Written apply(const Batch &batch, std::uint32_t tries = BES_TRIES)
     {
         return written(batch, tries, [&](auto... list) { return bes_apply(handle(), list...); });
     }
 
-    // The same, if the journal has this many entries; otherwise it throws BES_CONFLICT.
+    // Like apply, if the journal has exactly `expected` entries; otherwise throws BES_CONFLICT.
     Written apply_if(std::uint64_t expected, const Batch &batch, std::uint32_t tries = BES_TRIES)
     {
         return written(batch, tries, [&](auto... list) { return bes_apply_if(handle(), expected, list...); });
@@ -275,8 +280,8 @@ public:
         return apply(batch).made;
     }
 
-    // Sets each attribute of this name again, if it has the kind of its index, as bes_reindex does: the index then also holds those
-    // that were set before it was made. Returns how many were set.
+    // Sets each attribute with this name again, if its value has the index's kind, as bes_reindex does. The index then also holds the
+    // attributes that were set before the index was made. Returns how many attributes were set.
     std::uint64_t reindex(std::string_view name, std::uint32_t attempts = BES_TRIES)
     {
         std::uint64_t count = 0;
@@ -288,7 +293,7 @@ public:
         return reindex(attribute.name(), attempts);
     }
 
-    // The journal up to now: a line for each transaction.
+    // Returns the journal so far, with a line for each transaction.
     std::string journal(std::uint32_t tries = BES_TRIES)
     {
         return detail::whole<std::string>(1 << 16, detail::Place::none, [&](char *text, std::size_t room, std::uint64_t *count) {
@@ -299,7 +304,7 @@ public:
     }
 
     // Closes the store through its last pass, which is then closed, and returns the whole journal as text. Throws BES_IN_USE if another
-    // pass is open; the pass is as it was then.
+    // pass is open; then this pass is unchanged.
     std::string finish()
     {
         return detail::whole<std::string>(1 << 16, detail::Place::none, [&](char *text, std::size_t room, std::uint64_t *count) {
@@ -307,13 +312,13 @@ public:
         });
     }
 
-    // The entries of the journal from an index on, which is 0 for the one with commit number 1.
+    // Returns the entries of the journal from an index on. The entry with commit number 1 has index 0.
     //
     //     for (const bestore::Entry &entry : pass.journal_from(seen))
     //         for (const bestore::Operation &operation : entry.batch.operations())
     [[nodiscard]] Entries journal_from(std::uint64_t from = 0) { return Entries(handle(), from); }
 
-    // How full the store is, and which pass holds the oldest version.
+    // Returns how full the store is, and which pass holds the oldest version.
     Status status(std::uint32_t tries = BES_TRIES)
     {
         bes_usage usage{};
@@ -329,7 +334,7 @@ public:
     // Pins the current snapshot. A pass has one pin at a time.
     [[nodiscard]] Pin pin() & { return Pin(handle(), store_); }
 
-    // Closes the pass, as the destructor does: it goes back to the store, and `another` may hand it out again.
+    // Closes the pass, as the destructor does: the pass goes back to the store, and `another` may hand it out again.
     void close() noexcept { handle_.reset(); }
 
 protected:
@@ -359,7 +364,8 @@ private:
         return written;
     }
 
-    // The commit number, if the change is written. None if it has to be run again; the pass has then stood back.
+    // Returns the commit number if the change was written. Returns nothing if the change has to run again; then the pass has already stood
+    // back.
     std::optional<std::uint64_t> committed(Change &change, bes_retry &retry)
     {
         std::uint64_t number = 0;
@@ -393,7 +399,7 @@ struct Limits {
     std::uint64_t commits = UINT32_MAX; // transactions: 1 to 2^32 - 1
 };
 
-// A new store, as its first pass. The store is freed with its last pass.
+// A new store, as its first pass. Closing the last pass frees the store.
 class Store : public Pass {
 public:
     explicit Store(const Limits &limits = {}) : Pass(detail::stores++)

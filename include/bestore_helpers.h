@@ -1,7 +1,7 @@
 /* Helpers over the calls of bestore.h. Include bestore.h, which includes this file.
  *
- * Those that have a body here are inline functions. The others are in libbestore, in plain C beside the proved calls. A helper that
- * names no errors has those of the call that it makes. Names that end with _ are for these headers alone. */
+ * Helpers that have a body here are inline functions. The others are in libbestore, in plain C beside the proved calls. If a helper's
+ * comment names no errors, the helper returns the errors of the call that it makes. Names that end with _ are only for these headers. */
 #include "bestore.h" /* which includes this file once more, and then nothing here is left */
 
 #ifndef BESTORE_HELPERS_H
@@ -15,21 +15,20 @@
 extern "C" {
 #endif
 
-/* What was wrong at an error, and what would be right, in English. */
+/* Returns what an error means, and what would be right, in English. */
 const char *bes_strerror(uint32_t error);
 
-/* The name of an error, as "BES_BUSY". An unknown number is "BES_?". */
+/* Returns an error's name, such as "BES_BUSY", or "BES_?" for an unknown number. */
 const char *bes_error_name(uint32_t error);
 
-/* What a program can do about an error: BES_CLASS_RETRY, BES_CLASS_MINE, BES_CLASS_FULL or BES_CLASS_GONE. That of BES_OK is
- * BES_CLASS_NONE. An unknown number is BES_CLASS_MINE, since nothing says that the same call may succeed later. */
+/* Returns what a program can do about an error: BES_CLASS_RETRY, BES_CLASS_MINE, BES_CLASS_FULL or BES_CLASS_GONE. For BES_OK it returns
+ * BES_CLASS_NONE. For an unknown number it returns BES_CLASS_MINE, since nothing says that the same call may succeed later. */
 uint32_t bes_class(uint32_t error);
 
-/* Whether values of this type code are integers. */
+/* Returns whether values with this type code are integers. */
 bool bes_is_number_code(uint32_t code);
 
-/* Clears a handle in a forked child and frees nothing. The memory that the parent's store has there stays until the child ends or
- * calls exec. */
+/* Clears a handle in a forked child and frees nothing. The copy of the parent's store takes memory until the child ends or calls exec. */
 static inline void bes_forget(bes_pass *pass)
 {
     pass->live = false;
@@ -64,10 +63,10 @@ static inline void bes_forget_draft(bes_draft *draft)
     draft->at = NULL;
 }
 
-/* A batch with room for 64 operations of any kind. It starts cleared: by BES_BATCH_INIT, which sets all its 23 KB to zero, or by
- * bes_batch_clear, which sets two words. Fill it by the helpers below, apply it, and clear it for the next one.
- * BES_BAD_COUNT: the batch has 64 operations. BES_NAME_LENGTH, BES_DATA_LENGTH: the name has more than 63 bytes, the value more
- * than 255. The batch stays as it was. Any other error shows when it is applied. */
+/* A batch with space for 64 operations of any kind. Initialise it with BES_BATCH_INIT, which sets all its 23 KB to zero, or with
+ * bes_batch_clear, which sets two words. Fill the batch with the helpers below, apply it, and clear it for the next batch.
+ * BES_BAD_COUNT: the batch has 64 operations. BES_NAME_LENGTH: the name has more than 63 bytes. BES_DATA_LENGTH: the value has more than
+ * 255. After an error the batch is unchanged. Any other error comes when the batch is applied. */
 typedef struct bes_batch {
     size_t count;
     size_t used;
@@ -83,7 +82,7 @@ static inline void bes_batch_clear(bes_batch *batch)
     batch->used = 0;
 }
 
-/* Makes an operation, and puts the bytes of its name and value after those that are used. */
+/* Makes an operation, and appends the bytes of its name and value to the used bytes. */
 static inline uint32_t bes_put_operation_(bes_operation *operation, uint8_t *bytes, size_t *used, uint32_t kind, uint64_t node,
                                           const void *name, size_t name_length, uint32_t code, uint64_t number,
                                           const void *value, size_t value_length)
@@ -108,7 +107,7 @@ static inline uint32_t bes_put_operation_(bes_operation *operation, uint8_t *byt
     return BES_OK;
 }
 
-/* Adds an operation, whose name has any bytes. */
+/* Adds an operation, whose name may have any bytes. */
 static inline uint32_t bes_batch_add_bytes(bes_batch *batch, uint32_t kind, uint64_t node, const void *name, size_t name_length,
                                            uint32_t code, uint64_t number, const void *value, size_t value_length)
 {
@@ -189,8 +188,8 @@ static inline uint32_t bes_batch_remove_index(bes_batch *batch, const char *name
     return bes_batch_add(batch, BES_REMOVE_INDEX, 0, name, 0, 0, NULL, 0);
 }
 
-/* Lets other threads run `turns` times. Returns how many times they may run before the next try: twice as many, up to 1,024. If two
- * passes write in turn, each waits for what the other has just written; so one whose try fails lets the other go on writing. */
+/* Yields the processor to other threads `turns` times. Returns how many times to yield before the next try: twice as many, up to 1,024. If
+ * two passes write in turn, each waits for what the other has just written; so a pass whose try fails lets the other pass go on writing. */
 static inline unsigned bes_stand_back(unsigned turns)
 {
     for (unsigned i = 0; i < turns; i++)
@@ -198,7 +197,7 @@ static inline unsigned bes_stand_back(unsigned turns)
     return turns < 1024 ? 2 * turns : turns;
 }
 
-/* How many tries the helpers below make if they take no number of tries. On an idle machine these last a few seconds. */
+/* How many tries the helpers below make if they have no parameter for it. On an idle machine these tries take a few seconds. */
 #ifndef BES_TRIES
 #define BES_TRIES 10000u
 #endif
@@ -215,8 +214,8 @@ typedef struct bes_retry {
     time_t full_since; /* when BES_FULL first came, or 0 */
 } bes_retry;
 
-/* Whether a write that returned BES_FULL with this number may succeed later: another pass has an older snapshot pinned, or had it until
- * now. It may not if the caller's own pin is the oldest. */
+/* Returns whether a write that returned BES_FULL with this number may succeed later: another pass has an older snapshot pinned, or had it
+ * pinned until now. If the caller's own pin is the oldest, the result is false. */
 static inline bool bes_waits_for_other(bes_pass *pass, uint64_t oldest)
 {
     bes_usage usage;
@@ -229,8 +228,8 @@ static inline bool bes_waits_for_other(bes_pass *pass, uint64_t oldest)
     return !usage.is_held || (usage.holder != own && usage.oldest < usage.entries && usage.retired > 0);
 }
 
-/* Whether to make a call again that returned this error and number, after standing back: at BES_BUSY, and at BES_FULL for up to
- * BES_FULL_SECONDS while bes_waits_for_other, as long as tries are left. */
+/* Returns whether to repeat a call that returned this error and number; if so, it stands back first. The result is true after BES_BUSY,
+ * and after BES_FULL for up to BES_FULL_SECONDS while bes_waits_for_other is true, as long as tries are left. */
 static inline bool bes_again(bes_pass *pass, uint32_t error, uint64_t number, bes_retry *retry)
 {
     if ((error != BES_BUSY && error != BES_FULL) || retry->left == 0)
@@ -261,7 +260,8 @@ static inline uint32_t bes_apply_or_retry(bes_pass *pass, const bes_operation *o
     return error;
 }
 
-/* The same for bes_apply_if. BES_CONFLICT isn't tried again: what was read is no longer current. */
+/* Like bes_apply_or_retry, for bes_apply_if. It doesn't try again after BES_CONFLICT: the data that the caller read is no longer
+ * current. */
 static inline uint32_t bes_apply_if_or_retry(bes_pass *pass, uint64_t expected, const bes_operation *operations,
                                              size_t operations_count, const uint8_t *bytes, size_t bytes_count, uint32_t retries,
                                              uint64_t *made, size_t made_room, uint64_t *number)
@@ -274,7 +274,7 @@ static inline uint32_t bes_apply_if_or_retry(bes_pass *pass, uint64_t expected, 
     return error;
 }
 
-/* Applies the batch as bes_apply_or_retry does, with this many tries in all, and at least one. */
+/* Applies the batch as bes_apply_or_retry does, with `tries` tries in all, and at least one. */
 static inline uint32_t bes_batch_apply(bes_pass *pass, const bes_batch *batch, unsigned tries, uint64_t *made,
                                        size_t made_room, uint64_t *number)
 {
@@ -282,7 +282,7 @@ static inline uint32_t bes_batch_apply(bes_pass *pass, const bes_batch *batch, u
                               made_room, number);
 }
 
-/* Applies the batch as bes_apply_if_or_retry does, with this many tries in all, and at least one. */
+/* Applies the batch as bes_apply_if_or_retry does, with `tries` tries in all, and at least one. */
 static inline uint32_t bes_batch_apply_if(bes_pass *pass, uint64_t expected, const bes_batch *batch, unsigned tries,
                                           uint64_t *made, size_t made_room, uint64_t *number)
 {
@@ -290,28 +290,12 @@ static inline uint32_t bes_batch_apply_if(bes_pass *pass, uint64_t expected, con
                                  tries > 0 ? tries - 1 : 0, made, made_room, number);
 }
 
-/* What bes_change runs. It reads the snapshot to which the pass is pinned, and adds operations to the batch, which is empty. The
- * nodes that it makes get the numbers next, next + 1 and so on. It may run several times, so it should keep only its last result in
- * *with. It returns BES_OK, or the error with which bes_change ends. */
+/* The function that bes_change runs. It reads the pass's pinned snapshot, and adds operations to the batch, which is empty at first. The
+ * nodes that it makes get the numbers next, next + 1 and so on. bes_change may run the function several times, so only the last result
+ * should remain in *with. The function returns BES_OK, or an error, which bes_change then returns. */
 typedef uint32_t bes_changer(bes_pass *pass, bes_batch *batch, uint64_t next, void *with);
 
-/* Writes a batch as a change on the snapshot to which the pass is pinned. If an operation isn't added, number is its index. */
-static inline uint32_t bes_change_write_(bes_pass *pass, const bes_batch *batch, uint64_t *number)
-{
-    bes_draft draft = BES_DRAFT_INIT;
-    uint64_t next = 0;
-    uint32_t error = bes_begin_change(pass, &draft, number, &next);
-    for (size_t i = 0; i < batch->count && error == BES_OK; i++) {
-        error = bes_change_add(&draft, &batch->operations[i], batch->bytes, batch->used, &next);
-        *number = i;
-    }
-    if (error == BES_OK)
-        return bes_end_change(pass, &draft, number);
-    bes_abandon_change(pass, &draft);
-    return error;
-}
-
-/* One attempt of bes_change. While the changer runs no draft is open, so it may leave by a jump or an exception. */
+/* One attempt of bes_change. If the changer exits by a longjmp or an exception, only the pin remains. */
 static inline uint32_t bes_change_once_(bes_pass *pass, bes_changer *changer, void *with, uint64_t *number)
 {
     bes_batch batch;
@@ -324,19 +308,21 @@ static inline uint32_t bes_change_once_(bes_pass *pass, bes_changer *changer, vo
     error = bes_next(pass, &next);
     if (error == BES_OK)
         error = changer(pass, &batch, next, with);
-    if (error == BES_OK)
-        error = bes_change_write_(pass, &batch, number);
+    if (error == BES_OK && batch.count == 0)
+        *number = snapshot;
+    else if (error == BES_OK)
+        error = bes_apply_change(pass, batch.operations, batch.count, batch.bytes, batch.used, number);
     bes_unpin(pass);
     return error;
 }
 
-/* Reads and writes as one: pins the current snapshot, runs the changer, applies its batch if no other transaction came between, and
- * unpins. If one did, or if bes_again says so, it begins again, up to `attempts` times in all, and at least once. An empty batch writes
- * nothing.
+/* Reads and writes atomically: pins the current snapshot, runs the changer, applies its batch if no other transaction was committed in
+ * between, and unpins. If another transaction was committed, or if bes_again says so, bes_change begins again. It makes up to `attempts`
+ * attempts in all, and at least one. An empty batch writes nothing.
  * [in] pass      a pass that isn't pinned
- * [out] number   the commit number; for an empty batch the snapshot's number
- * BES_CONFLICT: other transactions came between at each attempt. BES_PINNED, the errors of the changer, and those of bes_change_add
- * and bes_end_change. If bes_change_add returns the error, number is the index of the operation. */
+ * [out] number   the commit number; for an empty batch, the snapshot's number
+ * BES_CONFLICT: at each attempt another transaction was committed in between. BES_PINNED, the changer's errors, and the errors of
+ * bes_apply_change except BES_BAD_COUNT, with number as there. */
 static inline uint32_t bes_change(bes_pass *pass, uint32_t attempts, bes_changer *changer, void *with, uint64_t *number)
 {
     bes_retry retry = {attempts > 0 ? attempts - 1 : 0, 1, 0};
@@ -351,8 +337,8 @@ static inline uint32_t bes_change(bes_pass *pass, uint32_t attempts, bes_changer
     }
 }
 
-/* Replaces the batch with the next operations that rebuild the pinned snapshot, for bes_batch_apply of a pass of another store. The
- * batch is empty after the last of them, and after an error, which is one of bes_state. */
+/* Replaces the batch with the next operations that rebuild the pinned snapshot, for bes_batch_apply on a pass of another store. When no
+ * operations are left, and after an error, the batch is empty. The errors are as for bes_state. */
 static inline uint32_t bes_batch_state(bes_pass *pass, bes_place *place, bes_batch *batch)
 {
     bes_counts counts = {0, 0};
@@ -362,11 +348,11 @@ static inline uint32_t bes_batch_state(bes_pass *pass, bes_place *place, bes_bat
     return error;
 }
 
-/* Replaces the batch with an entry of the journal, as bes_journal_from returns it, with BES_TRIES tries at BES_BUSY. The batch is empty
- * if there is no such entry yet, and after an error.
+/* Replaces the batch with an entry of the journal, as bes_journal_from returns it. After BES_BUSY it tries again, with BES_TRIES tries in
+ * all. The batch is empty if there is no such entry yet, and after an error.
  * [in] from      the entry's index, from 0
- * [out] by       the pass that wrote it
- * [out] length   the journal's length, or the number that goes with the error */
+ * [out] by       the pass that wrote the entry
+ * [out] length     the journal's length, or the number that goes with the error */
 static inline uint32_t bes_batch_entry(bes_pass *pass, uint64_t from, bes_batch *batch, uint64_t *by, uint64_t *length)
 {
     bes_retry retry = {BES_TRIES > 0 ? BES_TRIES - 1 : 0, 1, 0};
@@ -381,34 +367,35 @@ static inline uint32_t bes_batch_entry(bes_pass *pass, uint64_t from, bes_batch 
     return error;
 }
 
-/* As bes_batch_to_bytes, for operations as bes_apply takes them. BES_BAD_COUNT also if there are more than 64. BES_NAME_LENGTH,
- * BES_DATA_LENGTH: a name has more than 63 bytes, a text or raw value more than 255. */
+/* Like bes_batch_to_bytes, for operations as bes_apply takes them. It also returns BES_BAD_COUNT if there are more than 64 operations,
+ * BES_NAME_LENGTH if a name has more than 63 bytes, and BES_DATA_LENGTH if a text or raw value has more than 255. */
 uint32_t bes_operations_to_bytes(const bes_operation *operations, size_t operations_count, const uint8_t *parts, size_t parts_count,
                                  uint8_t *bytes, size_t bytes_room, uint64_t *count);
 
-/* As bes_batch_from_bytes, into arrays.
- * [out] counts, operations, parts  as in bes_attributes; 64 operations and 64 * (63 + 255) bytes suffice. After an error the counts
- *                are 0, and what is in the arrays means nothing. */
+/* Like bes_batch_from_bytes, but reads into arrays.
+ * [out] counts, operations, parts  as in bes_attributes; 64 operations and 64 * (63 + 255) bytes suffice. After an error the counts are 0,
+ *                and the contents of the arrays are unspecified. */
 uint32_t bes_operations_from_bytes(const uint8_t *bytes, size_t length, bes_counts *counts, bes_operation *operations,
                                    size_t operations_room, uint8_t *parts, size_t parts_room, uint64_t *place);
 
 /* The maximum number of bytes that bes_batch_to_bytes writes. */
 #define BES_BATCH_BYTES (5 + 64 * (1 + 8 + 1 + 63 + 4 + 1 + 255))
 
-/* Writes a batch as bytes, to be kept or sent, in the format that KEPT.md of bestore describes. bes_batch_from_bytes reads them.
- * [out] bytes    the first bytes; as many as bytes_room, and BES_BATCH_BYTES suffice
+/* Writes a batch as bytes, to be kept or sent, in the format that bestore's KEPT.md describes. bes_batch_from_bytes reads these bytes.
+ * [out] bytes    the first bytes; at most bytes_room, and BES_BATCH_BYTES suffice
  * [out] count    how many bytes there are, or the index of the operation that has an error
- * BES_BAD_COUNT: the batch is empty. BES_BAD_PART, BES_NO_OPERATION, BES_NO_KIND: an operation was added that no call takes. */
+ * BES_BAD_COUNT: the batch is empty. BES_BAD_PART, BES_NO_OPERATION, BES_NO_KIND: the batch has an operation that no call accepts. */
 static inline uint32_t bes_batch_to_bytes(const bes_batch *batch, uint8_t *bytes, size_t bytes_room, uint64_t *count)
 {
     return bes_operations_to_bytes(batch->operations, batch->count, batch->bytes, batch->used, bytes, bytes_room, count);
 }
 
-/* Replaces the batch by the one that bes_batch_to_bytes wrote as these bytes. After an error the batch is empty.
+/* Replaces the batch with the batch that bes_batch_to_bytes wrote as these bytes. After an error the batch is empty.
  * [out] place    the byte offset of the error, otherwise 0
- * BES_BAD_PART: another beginning or format version; a part that is cut off, at its first byte; bytes after the end.
- * BES_BAD_COUNT, BES_NO_OPERATION, BES_NAME_LENGTH (more than 63), BES_NO_KIND: the offset is that of the number. Anything else that
- * is wrong with an operation shows when it is applied. */
+ * BES_BAD_PART: the bytes begin differently or have another format version; a part is cut off, and place is its first byte; or bytes
+ * follow the end.
+ * BES_BAD_COUNT, BES_NO_OPERATION, BES_NAME_LENGTH (more than 63), BES_NO_KIND: place is the offset of the number. Any other error in an
+ * operation shows when the batch is applied. */
 static inline uint32_t bes_batch_from_bytes(bes_batch *batch, const uint8_t *bytes, size_t length, uint64_t *place)
 {
     bes_counts counts = {0, 0};
@@ -418,7 +405,7 @@ static inline uint32_t bes_batch_from_bytes(bes_batch *batch, const uint8_t *byt
     return error;
 }
 
-/* Makes 1 to 64 nodes in one transaction, and writes their numbers. They belong to this caller: no other pass gets them. */
+/* Makes 1 to 64 nodes in one transaction, and writes their numbers. The numbers belong to this caller: no other pass gets them. */
 static inline uint32_t bes_new_nodes(bes_pass *pass, size_t count, uint64_t *nodes)
 {
     bes_operation operations[64];
@@ -430,8 +417,8 @@ static inline uint32_t bes_new_nodes(bes_pass *pass, size_t count, uint64_t *nod
     return bes_apply_or_retry(pass, operations, count, &none, 0, BES_TRIES > 0 ? BES_TRIES - 1 : 0, nodes, count, &number);
 }
 
-/* The helpers below write one operation as a transaction of its own, as bes_batch_apply with BES_TRIES tries. They don't return what
- * goes with an error. made may be NULL. */
+/* The helpers below each write one operation as its own transaction, like bes_batch_apply with BES_TRIES tries. They don't return the
+ * number that comes with an error. made may be NULL. */
 static inline uint32_t bes_apply_one(bes_pass *pass, uint32_t kind, uint64_t node, const char *name, uint32_t code,
                                      uint64_t number, const void *value, size_t value_length, uint64_t *made)
 {
@@ -509,32 +496,32 @@ static inline uint32_t bes_remove_index(bes_pass *pass, const char *name)
     return bes_apply_one(pass, BES_REMOVE_INDEX, 0, name, 0, 0, NULL, 0, NULL);
 }
 
-/* bes_query for a text that ends with a zero byte. */
+/* Calls bes_query with a text that ends with a zero byte. */
 static inline uint32_t bes_find(bes_pass *pass, const char *text, uint64_t *nodes, size_t nodes_room, uint64_t *count)
 {
     return bes_query(pass, (const uint8_t *)text, strlen(text), nodes, nodes_room, count);
 }
 
-/* Counts the nodes that meet the query, without listing them. The errors and the cost are those of bes_query. */
+/* Counts the nodes that match the query, without listing them. Errors and cost are as for bes_query. */
 static inline uint32_t bes_count(bes_pass *pass, const char *text, uint64_t *count)
 {
     uint64_t none = 0;
     return bes_find(pass, text, &none, 0, count);
 }
 
-/* bes_prepare for a text that ends with a zero byte. */
+/* Calls bes_prepare with a text that ends with a zero byte. */
 static inline uint32_t bes_prepare_text(const char *text, bes_prepared *prepared, uint64_t *place)
 {
     return bes_prepare((const uint8_t *)text, strlen(text), prepared, place);
 }
 
-/* bes_check_name for a name that ends with a zero byte. */
+/* Calls bes_check_name with a name that ends with a zero byte. */
 static inline uint32_t bes_check_name_text(const char *name, bes_name *checked)
 {
     return bes_check_name((const uint8_t *)name, strlen(name), checked);
 }
 
-/* bes_get for a name that ends with a zero byte. */
+/* Calls bes_get with a name that ends with a zero byte. */
 static inline uint32_t bes_read(bes_pass *pass, uint64_t node, const char *name, bes_attribute *attribute, uint8_t *bytes,
                                 size_t bytes_room)
 {

@@ -17,10 +17,10 @@ namespace bestore {
 
 namespace detail {
 
-// How many forks lie between the first process with this library and this one.
+// How many forks lie between the first process with this library and this process.
 inline std::atomic<unsigned> forks{0};
 
-// The same, once forks are counted.
+// Returns the number of forks. The first call starts the counting.
 inline unsigned generation()
 {
     static const bool is_counted = [] {
@@ -32,10 +32,10 @@ inline unsigned generation()
     return forks;
 }
 
-// Whether what was made at this generation belongs to this process.
+// Returns whether an object made at this generation belongs to this process.
 inline bool is_ours(unsigned made_in) noexcept { return made_in == forks.load(std::memory_order_relaxed); }
 
-// A handle of the library. It stays in place when the object that owns it is moved, and is closed with that object.
+// A library handle. It stays at the same address when the object that owns it is moved, and is closed with that object.
 template <class T, std::uint32_t (*close)(T *)> class Handle {
 public:
     Handle() : handle_(nullptr, Closes{generation()}) { handle_.reset(new T()); }
@@ -75,7 +75,8 @@ struct Unpins {
     }
 };
 
-// Everything that a call has to write, if it counts what there is and writes as much as fits. It is called again with more room.
+// Returns the whole output of a call that counts what there is and writes as much as fits. If the output doesn't fit, repeats the call
+// with a larger list.
 template <class List, class Call> List whole(std::size_t room, Place place, Call call)
 {
     for (;;) {
@@ -91,8 +92,8 @@ template <class List, class Call> List whole(std::size_t room, Place place, Call
     }
 }
 
-// The error of a call that is made again as bes_again says, up to this many times in all and at least once. The call writes what goes
-// with its error to the number.
+// Repeats a call as bes_again says, up to `tries` times in all, and at least once. Returns the call's error. The call writes the number
+// that comes with the error to `number`.
 template <class Call> std::uint32_t tried(bes_pass *pass, std::uint32_t tries, const std::uint64_t &number, Call call)
 {
     bes_retry retry{tries > 0 ? tries - 1 : 0, 1, 0};
@@ -102,7 +103,7 @@ template <class Call> std::uint32_t tried(bes_pass *pass, std::uint32_t tries, c
     return error;
 }
 
-// Goes over a source's items once, reading them one by one.
+// Iterates over a source's items once, and reads one item at a time.
 template <class Source, class Item> class Iterator {
 public:
     using iterator_category = std::input_iterator_tag;
@@ -111,7 +112,7 @@ public:
     using pointer = const Item *;
     using reference = const Item &;
 
-    // At the source's item, or after the last one if there is no source.
+    // Starts at the source's current item, or after the last item if there is no source.
     explicit Iterator(Source *source) : source_(source) {}
 
     reference operator*() const { return source_->item_; }
@@ -131,7 +132,7 @@ private:
 
 } // namespace detail
 
-// A query that is parsed once. It belongs to no store, and can be asked in any snapshot.
+// A query that is parsed once. It belongs to no store, and can be run in any snapshot.
 class Prepared {
 public:
     explicit Prepared(std::string_view text)
@@ -149,7 +150,7 @@ public:
         detail::check(error, at, detail::Place::item);
     }
 
-    // The canonical text.
+    // Returns the canonical text.
     std::string text() const
     {
         return detail::whole<std::string>(256, detail::Place::none, [&](char *text, std::size_t room, std::uint64_t *count) {
@@ -157,7 +158,8 @@ public:
         });
     }
 
-    // The names of its attributes, each once, as they come. Throws BES_TOO_LONG if the canonical text has more than 4,096 bytes.
+    // Returns the names of the query's attributes, each once, in order. Throws BES_TOO_LONG if the canonical text has more than 4,096
+    // bytes.
     std::vector<std::string> names() const { return names_of(text()); }
 
 protected:
@@ -169,7 +171,8 @@ private:
     detail::Handle<bes_prepared, bes_release> handle_;
 };
 
-// What a pass has seen of its store, for a pass of the same store in another thread: Pass::witness makes one, and Pass::join joins it.
+// A record of what a pass has seen of its store, for a pass of the same store in another thread. Pass::witness makes a witness, and
+// Pass::join joins it.
 class Witness {
 private:
     friend class Pass;
@@ -182,7 +185,7 @@ private:
     std::uint64_t store_; // as for a pass
 };
 
-// Which nodes joined a live query's result and which left it, both ascending.
+// The nodes that joined a live query's result, and those that left the result, both ascending.
 struct Updates {
     std::vector<Node> created;
     std::vector<Node> removed;
@@ -190,17 +193,17 @@ struct Updates {
 
 class Snapshot;
 
-// An order of nodes: by the values that an index has, and by number where these are equal. A node without a value in the index isn't
-// in it.
+// An order of nodes: by their values in an index, and by number where values are equal. A node without a value in the index isn't in the
+// order.
 class Order {
 public:
-    // The ascending order by the index of this name.
+    // Makes the ascending order by the index with this name.
     explicit Order(std::string_view name)
     {
         detail::check(bes_check_name(detail::bytes_of(name), name.size(), &name_));
     }
 
-    // The exact reverse of the ascending order.
+    // Returns the exact reverse of the ascending order.
     Order descending() const
     {
         Order reverse = *this;
@@ -218,16 +221,16 @@ private:
     bool is_descending_ = false;
 };
 
-// A position in the ordered answer of a query: the position of a page's last node. The next page begins right after it, even in a
-// later snapshot, whatever was written in between.
+// A position in a query's ordered result: the position of a page's last node. The next page begins right after it, even in a later
+// snapshot, whatever was written in between.
 class Cursor {
 public:
-    // The beginning of the query's answer.
+    // Makes a cursor at the beginning of the query's result.
     Cursor(const Prepared &query, const Order &order) : order_(order), query_(query.text()) {}
 
     const Order &order() const noexcept { return order_; }
 
-    // The last node of the page, and the value that it has in the index. They are empty at the beginning.
+    // Return the page's last node, and the node's value in the index. Both are empty at the beginning.
     std::optional<Node> node() const { return raw_.length == 0 ? std::nullopt : std::optional<Node>(read().first); }
     std::optional<Value> value() const { return raw_.length == 0 ? std::nullopt : std::optional<Value>(read().second); }
 
@@ -255,15 +258,15 @@ struct Page {
     Cursor cursor; // the position of the last one; for an empty page, where it began
 };
 
-// The nodes that a query finds, in an order: Snapshot::ordered makes it, and it asks for page after page. Go over it once. The query
-// and the snapshot have to outlive it.
+// The nodes that a query finds, in an order. Snapshot::ordered makes this range, which reads page after page. Iterate over it once. The
+// query and the snapshot must outlive the range.
 //
 //     for (bestore::Node node : pin.ordered(query, bestore::Order("MAIL:when").descending()))
 class Ordered {
 public:
     using Iterator = detail::Iterator<Ordered, Node>;
 
-    // From the next node on.
+    // Starts at the next node.
     Iterator begin();
     Iterator end() { return Iterator(nullptr); }
 
@@ -282,18 +285,18 @@ private:
     Node item_ = 0;
 };
 
-// A query that returns what changed since it was refreshed last. At first all its nodes come.
+// A query that returns what changed since its last refresh. The first refresh returns all nodes in the result.
 class Live : public Prepared {
 public:
     using Prepared::Prepared;
 
-    // Asks the query in the snapshot, and returns what changed. Use snapshots of one store, or of another that its state was carried
-    // on to. It asks the whole query and takes no lock, so it doesn't make another pass's write BES_BUSY.
+    // Runs the query in the snapshot, and returns what changed. Use snapshots of one store, or of another store to which its state was
+    // carried on. This call runs the whole query and takes no lock, so it never causes BES_BUSY in another pass's write.
     Updates refresh(Snapshot &snapshot);
 
-    // Returns what refresh() does, but calls bes_refresh_changed, which reads what was written since the last refresh, and checks
-    // only those nodes. That takes less time if the answer has 96 nodes or more and few were written; writes of other passes are
-    // BES_BUSY meanwhile. Otherwise, or if the last refresh was in another store, it asks the whole query.
+    // Returns what refresh() does, but calls bes_refresh_changed, which reads what was written since the last refresh, and checks only the
+    // written nodes. This takes less time if the result has 96 nodes or more and few nodes were written; meanwhile writes by other passes
+    // return BES_BUSY. Otherwise, or if the last refresh was in another store, it runs the whole query.
     Updates refresh_changed(Snapshot &snapshot);
 
 private:
@@ -302,7 +305,8 @@ private:
     std::optional<std::uint64_t> store_; // that of the last refresh
 };
 
-// The operations that rebuild a snapshot on an empty store, as batches of 1 to 64, each for one write. Iterate over them once.
+// The operations that rebuild a snapshot on an empty store, as batches of 1 to 64 operations, each for one write. Iterate over the batches
+// once.
 //
 //     for (const bestore::Batch &batch : pin.state())
 //         other.apply(batch);
@@ -310,7 +314,7 @@ class State {
 public:
     using Iterator = detail::Iterator<State, Batch>;
 
-    // From the next batch on.
+    // Starts at the next batch.
     Iterator begin()
     {
         detail::check(item_.read([&](auto... room) { return bes_state(pass_, place_.get(), room...); }));
@@ -332,10 +336,10 @@ private:
 // What a pass reads: the store as it was when the pass was pinned, whatever is written meanwhile. It is a Pin or a Change.
 class Snapshot {
 public:
-    // Its number: how many transactions it includes.
+    // Returns the snapshot's number: how many transactions it includes.
     std::uint64_t number() const noexcept { return number_; }
 
-    // The nodes that meet the query, ascending.
+    // Returns the nodes that match the query, ascending.
     std::vector<Node> query(std::string_view text)
     {
         return found([&](auto... room) { return asked(text, room...); }, detail::Place::byte);
@@ -356,11 +360,12 @@ public:
         return nodes;
     }
 
-    // Up to `most` of the nodes that meet the query and have a value in the order's index, in the order. Throws BES_NO_INDEX, and
-    // BES_NO_ROOM if `most` is 0.
+    // Returns the first `most` nodes in the order, of those that match the query and have a value in the order's index. Throws
+    // BES_NO_INDEX, and BES_NO_ROOM if `most` is 0.
     Page page(Prepared &query, const Order &order, std::size_t most) { return page(query, Cursor(query, order), most); }
 
-    // The next page: those after a cursor, in its order. Also throws BES_BAD_CURSOR if it belongs to another query.
+    // Returns the next page: the nodes after a cursor, in the cursor's order. Also throws BES_BAD_CURSOR if the cursor belongs to another
+    // query.
     Page page(Prepared &query, const Cursor &after, std::size_t most)
     {
         if (after.query_ != query.text())
@@ -376,28 +381,28 @@ public:
         return page;
     }
 
-    // All of them, read page by page.
+    // Returns all nodes in the order, read page by page.
     Ordered ordered(Prepared &query, const Order &order) { return ordered(query, Cursor(query, order)); }
     Ordered ordered(Prepared &query, const Cursor &after) { return Ordered(*this, query, after); }
 
-    // The first `most` nodes that meet the query, ascending from a number on. Throws BES_NO_ROOM if `most` is 0.
+    // Returns the first `most` nodes that match the query, ascending from a number on. Throws BES_NO_ROOM if `most` is 0.
     std::vector<Node> first(Prepared &query, Node from, std::size_t most)
     {
         return part(most, [&](auto... nodes) { return bes_first(handle(), query.handle(), from, nodes...); });
     }
 
-    // Any `most` nodes that meet the query, or all if there are fewer, in no particular order. Throws BES_NO_ROOM if `most` is 0.
+    // Returns any `most` nodes that match the query, or all if there are fewer, in no particular order. Throws BES_NO_ROOM if `most` is 0.
     std::vector<Node> any(Prepared &query, std::size_t most)
     {
         return part(most, [&](auto... nodes) { return bes_any(handle(), query.handle(), nodes...); });
     }
 
-    // How many nodes meet the query, without listing them.
+    // Returns how many nodes match the query, without listing them.
     std::uint64_t count(std::string_view text) { return counted(text, detail::Place::byte); }
     std::uint64_t count(const Predicate &predicate) { return counted(predicate, detail::Place::item); }
     std::uint64_t count(Prepared &prepared) { return counted(prepared, detail::Place::none); }
 
-    // The nodes from a number on, ascending, whatever attributes they have; at most `most` of them.
+    // Returns the nodes from a number on, ascending, whatever attributes they have; at most `most` nodes.
     std::vector<Node> nodes(Node from = 0, std::size_t most = SIZE_MAX)
     {
         std::vector<Node> all;
@@ -413,7 +418,7 @@ public:
         }
     }
 
-    // Explains a query: the comparisons whose indices are read, and the cost.
+    // Explains a query: returns the comparisons whose indices the query reads, and the cost.
     std::string explain(std::string_view text)
     {
         return detail::whole<std::string>(256, detail::Place::byte, [&](char *said, std::size_t room, std::uint64_t *count) {
@@ -423,7 +428,7 @@ public:
         });
     }
 
-    // The byte offset of the first comparison whose name has no index here. The library has to parse the text.
+    // Returns the byte offset of the first comparison whose name has no index in this snapshot. Needs to parse the text.
     std::optional<std::size_t> uncovered(std::string_view text)
     {
         std::size_t at = 0;
@@ -431,9 +436,9 @@ public:
         return at < text.size() ? std::optional<std::size_t>(at) : std::nullopt;
     }
 
-    // The comparisons that no node meets, because of the kind of integers that the index of the name has here: the value spells no number,
-    // as in size>1.5, or none of the kind is in the range. Their offsets are those in the canonical text. Throws BES_TOO_LONG if that has
-    // more than 4,096 bytes.
+    // Returns the comparisons that no node can match, because the index with the name holds integers of a kind in this snapshot: the value
+    // isn't a whole number, as in size>1.5, or no integer of this kind is in the range. The comparisons' offsets are those in the
+    // canonical text. Throws BES_TOO_LONG if the canonical text has more than 4,096 bytes.
     std::vector<Comparison> never_true(const Prepared &prepared)
     {
         const std::string text = prepared.text();
@@ -447,7 +452,7 @@ public:
         return never;
     }
 
-    // An attribute, if the node is there and has it. In a change it may be one that the change has set.
+    // Returns an attribute's value, if the node exists and has the attribute. In a change, the value may be one that the change has set.
     std::optional<Value> get(Node node, std::string_view name)
     {
         bes_attribute read{};
@@ -461,7 +466,7 @@ public:
         return detail::value_of(read.code, read.number, {reinterpret_cast<const char *>(bytes), read.length});
     }
 
-    // An attribute, if the node has it and it is a T, which is one of the types that a Value may hold.
+    // Returns an attribute's value, if the node has the attribute and the value is a T. T is one of the types that a Value may hold.
     template <class T> std::optional<T> get(Node node, std::string_view name)
     {
         auto value = get(node, name);
@@ -470,8 +475,8 @@ public:
     }
     template <class T> std::optional<T> get(Node node, const Attribute<T> &attribute) { return get<T>(node, attribute.name()); }
 
-    // Several attributes of many nodes: for each name a list with each node's value, empty if it has none. Takes one
-    // search in a tree for each node, if its attributes of these names are next to each other. In a change it takes a search for each
+    // Returns several attributes of many nodes: for each name, a list with each node's value, empty if the node has no such attribute.
+    // Takes one tree search for each node, if the node's named attributes are next to each other. In a change it takes one search for each
     // value.
     std::vector<std::vector<std::optional<Value>>> columns(const std::vector<Node> &nodes, const std::vector<std::string_view> &names)
     {
@@ -497,13 +502,13 @@ public:
         return columns;
     }
 
-    // The attributes of this name of many nodes, as columns() returns them.
+    // Returns one attribute of many nodes, as columns() does for each name.
     std::vector<std::optional<Value>> column(const std::vector<Node> &nodes, std::string_view name)
     {
         return std::move(columns(nodes, {name}).front());
     }
 
-    // A node's attributes, by ascending names.
+    // Returns a node's attributes, in ascending order of names.
     std::vector<NamedValue> attributes(Node node)
     {
         Batch sets;
@@ -514,7 +519,7 @@ public:
         return attributes;
     }
 
-    // The indices, by ascending names.
+    // Returns the indices, in ascending order of names.
     std::vector<Index> indices()
     {
         Batch makes;
@@ -525,7 +530,7 @@ public:
         return indices;
     }
 
-    // How many nodes have an attribute of this name that its index holds.
+    // Returns how many nodes have an attribute with this name that the index holds.
     std::uint64_t pairs(std::string_view name)
     {
         std::uint64_t count = 0;
@@ -553,10 +558,10 @@ protected:
 
     void release() noexcept { pass_.reset(); }
 
-    // Whether it has a pin, and was made in this process.
+    // Returns whether the snapshot has a pin and was made in this process.
     bool is_ours() const noexcept { return pass_ && detail::is_ours(pass_.get_deleter().made_in); }
 
-    // From now on get() sees the operations of this draft.
+    // Makes get() see this draft's operations from now on.
     void reads(bes_draft *draft) noexcept { draft_ = draft; }
 
 private:
@@ -576,7 +581,7 @@ private:
         return bes_query_prepared(handle(), prepared.handle(), nodes, room, count);
     }
 
-    // How many of the wanted nodes there can be, and at least one if any is wanted.
+    // Returns how many of the wanted nodes can exist, and at least one if any are wanted.
     std::size_t room(std::size_t most)
     {
         Node next = 0;
@@ -598,7 +603,7 @@ private:
         return detail::whole<std::vector<Node>>(256, place, call);
     }
 
-    // Fills the cells, all but the last, with what the nodes have at the names, all but the last. Returns the bytes of the values.
+    // Reads the nodes' attributes with the names into the cells. The last name and the last cell are unused. Returns the values' bytes.
     std::string read_columns(const std::vector<Node> &nodes, const std::vector<bes_name> &names, std::vector<bes_cell> &cells)
     {
         const auto call = [&](char *bytes, std::size_t room, std::uint64_t *count) {
@@ -617,7 +622,7 @@ private:
         return count;
     }
 
-    // The error; for BES_NOT_COVERED with the place of the comparison without an index.
+    // Returns the error. For BES_NOT_COVERED, writes the offset of the comparison without an index to `place`.
     std::uint32_t located(std::uint32_t error, std::string_view text, std::uint64_t *place)
     {
         if (error == BES_NOT_COVERED)
@@ -650,7 +655,7 @@ public:
     // Unpins, as the destructor does.
     void unpin() noexcept { release(); }
 
-    // The operations that rebuild the snapshot on an empty store.
+    // Returns the operations that rebuild the snapshot on an empty store.
     [[nodiscard]] State state() { return State(handle()); }
 
 private:

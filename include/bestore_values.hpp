@@ -18,7 +18,7 @@
 
 namespace bestore {
 
-// The number of a node: the first is 1, and none is used again.
+// A node's number: the first is 1, and no number is reused.
 using Node = std::uint64_t;
 
 namespace detail {
@@ -26,7 +26,7 @@ namespace detail {
 // What the number that goes with an error counts: bytes of a query's text, bytes of a batch, items or operations.
 enum class Place { none, byte, batch_byte, item, operation };
 
-// Whether this error comes with a place, in a call that can report such places.
+// Returns whether this error comes with a place, in a call that reports places of this kind.
 inline bool has_place(std::uint32_t error, Place place)
 {
     switch (error) {
@@ -72,35 +72,35 @@ public:
     {
     }
 
-    // The error as bestore.h lists it.
+    // Returns the error's number, as in bestore.h.
     std::uint32_t number() const noexcept { return number_; }
 
-    // Its name there, such as "BES_BUSY".
+    // Returns the error's name in bestore.h, such as "BES_BUSY".
     const char *name() const noexcept { return bes_error_name(number_); }
 
-    // What a program can do about it.
+    // Returns what a program can do about the error.
     ErrorClass error_class() const noexcept { return static_cast<ErrorClass>(bes_class(number_)); }
 
-    // For BES_BUSY: the pass that is writing.
+    // For BES_BUSY, returns the pass that is writing.
     std::optional<std::uint64_t> pass_number() const noexcept { return carried_if(number_ == BES_BUSY); }
 
-    // For BES_FULL: the oldest version that a pass may still read.
+    // For BES_FULL, returns the oldest version that a pass may still read.
     std::optional<std::uint64_t> least() const noexcept { return carried_if(number_ == BES_FULL); }
 
-    // For BES_CONFLICT: the length of the journal.
+    // For BES_CONFLICT, returns the journal's length.
     std::optional<std::uint64_t> length() const noexcept { return carried_if(number_ == BES_CONFLICT); }
 
-    // The byte, from 0, at which a query's text or a batch's bytes are wrong. For BES_NOT_COVERED: that of the first comparison
-    // whose name has no index.
+    // Returns the byte, counted from 0, at which a query's text or a batch's bytes are invalid. For BES_NOT_COVERED it is the first byte
+    // of the first comparison whose name has no index.
     std::optional<std::uint64_t> offset() const noexcept
     {
         return carried_if(is_at(detail::Place::byte) || place_ == detail::Place::batch_byte);
     }
 
-    // The item of a Predicate, from 0, that is invalid or at which it stops forming a query.
+    // Returns the index, from 0, of the Predicate's item that is invalid or at which the items stop forming a query.
     std::optional<std::uint64_t> item() const noexcept { return carried_if(is_at(detail::Place::item)); }
 
-    // The operation of a Batch, from 0, that is invalid.
+    // Returns the index, from 0, of the Batch's invalid operation.
     std::optional<std::uint64_t> operation() const noexcept { return carried_if(is_at(detail::Place::operation)); }
 
 private:
@@ -129,7 +129,7 @@ enum class Kind : std::uint32_t {
     // surface.toml: end
 };
 
-// The name of a kind, such as "int64".
+// Returns the name of a kind, such as "int64".
 inline const char *kind_name(Kind kind)
 {
     switch (kind) {
@@ -153,7 +153,7 @@ inline const char *kind_name(Kind kind)
     return "?";
 }
 
-// A change sets a value of one kind under a name that has an index of another. The index would never hold it.
+// A change sets a value of one kind under a name whose index has another kind. The index would never hold the value.
 class KindMismatch : public std::invalid_argument {
 public:
     KindMismatch(std::string_view name, Kind of_index, Kind of_value)
@@ -205,7 +205,7 @@ inline void check(std::uint32_t error, std::uint64_t carried = 0, Place place = 
         throw Refusal(error, carried, place);
 }
 
-// The library needs a pointer that isn't null, even to no bytes.
+// Returns a pointer to the text's bytes. The library needs a pointer that isn't null, even if there are no bytes.
 inline const std::uint8_t *bytes_of(std::string_view text)
 {
     return reinterpret_cast<const std::uint8_t *>(text.empty() ? "" : text.data());
@@ -217,7 +217,7 @@ template <class T> const T *begin_of(const std::vector<T> &list)
     return list.empty() ? &none : list.data();
 }
 
-// Appends a text to the others, and returns where it begins.
+// Appends a text to the bytes, and returns where the text begins.
 inline std::uint32_t append(std::string &bytes, std::string_view text)
 {
     if (text.size() > UINT32_MAX - bytes.size())
@@ -236,7 +236,7 @@ template <class T> constexpr Kind kind_of_integer()
     return std::is_signed_v<T> ? Kind::int32 : Kind::uint32;
 }
 
-// The kind of a type that a Value may hold.
+// Returns the kind for a type that a Value may hold.
 template <class T> constexpr Kind kind_of()
 {
     if constexpr (std::is_same_v<T, std::string>)
@@ -249,7 +249,7 @@ template <class T> constexpr Kind kind_of()
         return kind_of_integer<T>();
 }
 
-// Whether T holds a number.
+// Returns whether the number fits T.
 template <class T, class U> constexpr bool fits(U number)
 {
     if constexpr (std::is_signed_v<U>) {
@@ -259,7 +259,7 @@ template <class T, class U> constexpr bool fits(U number)
     return static_cast<std::uint64_t>(number) <= static_cast<std::uint64_t>(std::numeric_limits<T>::max());
 }
 
-// A number in the form that an operation of bestore.h has, if the kind holds it.
+// Returns a number in the form that an operation in bestore.h has. Throws BES_NO_VALUE if the number doesn't fit the kind.
 template <class U> std::uint64_t number_of(Kind kind, U number)
 {
     const bool is_held = (kind == Kind::int32 && fits<std::int32_t>(number)) || (kind == Kind::int64 && fits<std::int64_t>(number)) ||
@@ -292,8 +292,9 @@ inline Value value_of(std::uint32_t code, std::uint64_t number, std::string_view
 
 } // namespace detail
 
-// A value that is passed in, and refers to what the caller has: a text, a Mime, a Raw, a Value or an integer. The type of an integer
-// says whether it has 32 or 64 bits, and a sign; if a kind is given, it has that kind, and BES_NO_VALUE is thrown if it doesn't fit.
+// A value passed as an argument: a text, a Mime, a Raw, a Value or an integer. It refers to the caller's data. An integer's type
+// determines whether the value has 32 or 64 bits, and whether it is signed. If a kind is given, the value has that kind; an integer that
+// doesn't fit the kind throws BES_NO_VALUE.
 class Input {
 public:
     Input(std::string_view text) : Input(Kind::string, 0, text) {}
@@ -325,7 +326,7 @@ private:
     std::string_view bytes_;
 };
 
-// A name with the type of its values, so that an index and the values under its name have one kind:
+// A name with the type of its values, so that an index and the values under its name have the same kind:
 //
 //     const bestore::Attribute<std::int64_t> size{"size"};
 //     store.make_index(size);
@@ -338,7 +339,7 @@ public:
 
     const std::string &name() const noexcept { return name_; }
 
-    // The value as a T. An integer that T doesn't hold throws BES_NO_VALUE.
+    // Returns the value as a T. An integer that doesn't fit T throws BES_NO_VALUE.
     template <class U> static Input input(const U &value)
     {
         if constexpr (detail::is_integer<T>) {
@@ -358,7 +359,7 @@ private:
 
 namespace detail {
 
-// An operation on its way into a batch.
+// An operation to be added to a batch.
 struct Edit {
     std::uint32_t kind;
     Node node = 0;
@@ -368,7 +369,8 @@ struct Edit {
     std::string_view value = {};
 };
 
-// The writes that Batch, Pass and Change have in common: each hands an operation to write(Edit) of Self, and returns what that does.
+// The writes that Batch, Pass and Change have in common: each passes an operation to Self's write(Edit), and returns that function's
+// result.
 template <class Self> class Writes {
 public:
     decltype(auto) remove_node(Node node) { return write({BES_REMOVE_NODE, node}); }
@@ -378,7 +380,7 @@ public:
         return write({BES_SET, node, name, static_cast<std::uint32_t>(value.kind()), value.number(), value.bytes()});
     }
 
-    // An integer of this kind. BES_NO_VALUE is thrown if it doesn't fit.
+    // Sets an integer of this kind. Throws BES_NO_VALUE if the integer doesn't fit.
     template <class T> decltype(auto) set(Node node, std::string_view name, Kind kind, T number)
     {
         return set(node, name, Input(kind, number));
@@ -428,7 +430,7 @@ struct Operation {
     std::optional<Value> value; // of set
 };
 
-// 1 to 64 operations, which a pass applies all or none.
+// 1 to 64 operations. A pass applies either all of them or none.
 class Batch : public detail::Writes<Batch> {
 public:
     Batch &new_node() { return write({BES_NEW_NODE}); }
@@ -441,7 +443,7 @@ public:
         bytes_.clear();
     }
 
-    // The operations, read back.
+    // Returns the operations, read back.
     std::vector<Operation> operations() const
     {
         std::vector<Operation> operations;
@@ -454,7 +456,7 @@ public:
         return operations;
     }
 
-    // The batch as bytes, to be kept or sent, as bes_batch_to_bytes writes it.
+    // Returns the batch as bytes, to be kept or sent, as bes_batch_to_bytes writes it.
     Raw to_bytes() const
     {
         Raw bytes(BES_BATCH_BYTES);
@@ -466,7 +468,7 @@ public:
         return bytes;
     }
 
-    // The batch that to_bytes wrote. After an error, offset() is the byte.
+    // Returns the batch that to_bytes wrote as these bytes. After an error, the exception's offset() is the invalid byte.
     static Batch from_bytes(const Raw &bytes)
     {
         bes_batch read;
@@ -502,7 +504,7 @@ private:
         return detail::value_of(it.code, it.number, part(it.value_at, it.value_length));
     }
 
-    // Makes room for any 64 operations, which the call fills, and then keeps what it counts. Returns the call's error.
+    // Makes space for any 64 operations, lets the call fill it, and keeps as many operations as the call counts. Returns the call's error.
     template <class Call> std::uint32_t read(Call call)
     {
         bes_counts counts{0, 0};
@@ -515,7 +517,7 @@ private:
         return error;
     }
 
-    // Gives the operations that make nodes the numbers from this one on.
+    // Numbers the nodes that the operations make, starting from `next`.
     void number_new_nodes(Node next)
     {
         for (auto &it : operations_)

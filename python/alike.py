@@ -1,10 +1,10 @@
-"""Random batches have the same outcomes over the library and over `bestore run`.
+"""Random batches have the same outcomes through the library and through `bestore run`.
 
     python3 alike.py PROGRAM [LISTS [SEED]]
 
-PROGRAM is crates/bestore/out/bestore. Each list is a batch of 1 to 6 operations, and then a query and what the store
-has. The journals have to be the same too, and `bestore check` has to accept that of the library. What differs is
-printed with its script's file, and the status is 1.
+PROGRAM is crates/bestore/out/bestore. Each list is a batch of 1 to 6 operations, followed by a query and by what the
+store has. The journals have to be the same too, and `bestore check` has to accept the library's. Any difference
+is printed with the file of its script, and the status is 1.
 """
 
 import os
@@ -36,7 +36,7 @@ def value_of(chance, kind):
 
 
 def written(value):
-    """A value as a reply has it after its kind."""
+    """A value as a reply has it, after its kind."""
     if isinstance(value, str):
         return f'"{value}"'
     if isinstance(value, bytes):
@@ -69,7 +69,7 @@ def add(chance, batch, nodes):
 
 
 def refused(error):
-    """The reply to a script, as far as the library returns the same."""
+    """The part of a script's reply that the library returns too."""
     return f"refused {error.number}"
 
 
@@ -110,7 +110,7 @@ def one_list(chance, store, nodes):
 
 
 def script(chance, count):
-    """So many lists, on a store of their own, and its journal."""
+    """This many lists, on a store of their own, and its journal."""
     lines, replies, nodes = [], [], 0
     with bestore.open(1024, 1, 1000000) as store:
         for _ in range(count):
@@ -121,12 +121,12 @@ def script(chance, count):
 
 
 def agrees(reply, said):
-    """Of an error the number is compared alone."""
+    """For an error only the number is compared."""
     return (said + " ").startswith(reply + " ") if reply.startswith("refused ") else reply == said
 
 
 def told(program, *words):
-    """What the program prints, also of what is wrong."""
+    """What the program prints, including its errors."""
     return subprocess.run([program, *words], stdout=subprocess.PIPE, stderr=subprocess.STDOUT, check=False).stdout.decode()
 
 
@@ -148,7 +148,7 @@ def compare(program, lines, replies, journal):
     if len(replies) != len(said):
         return f"{name}: {len(said)} replies, and over the library {len(replies)}"
     if rest != f"{len(journal.splitlines())}\n{journal}replay ok\n":
-        return f"{name}: its journal is another than the library's, {checked}"
+        return f"{name}: its journal differs from the library's, {checked}"
     if told(program, "check", checked) != f"replay ok\nbestore: entries read: {len(journal.splitlines())}\n":
         return f"{checked}: `bestore check` finds the library's journal wrong"
     os.unlink(name)

@@ -8,7 +8,7 @@ import bestore
 
 @contextmanager
 def used_by_a_thread(store: bestore.Pass) -> Iterator[None]:
-    """A thread is in a call on this pass until the end of the `with`, or for up to 20 seconds."""
+    """Another thread is in a call on this pass until the end of the `with`, or for up to 20 seconds."""
     begun, ended = threading.Event(), threading.Event()
 
     def call(handle: object) -> int:

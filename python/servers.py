@@ -11,7 +11,7 @@ from unittest import mock
 import bestore
 
 BESTORED = os.environ.get("BESTORED")
-MEMORY = "/dev/shm" if os.access("/dev/shm", os.W_OK) else None  # where a server's file waits for no disk
+MEMORY = "/dev/shm" if os.access("/dev/shm", os.W_OK) else None  # a place where a server's file doesn't wait for a disk
 PATIENCE = 30  # seconds that anything may take on a busy machine
 
 

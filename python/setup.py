@@ -53,8 +53,8 @@ def platform_tag(paths: List[str]) -> str:
 
 
 def extension() -> Extension:
-    """The part that is written in C. It calls the library by the addresses of what was loaded, and is linked with nothing. Without
-    names of folders in it two builds are the same."""
+    """The part that is written in C. It calls the library at the addresses that were loaded, and isn't linked with it. As it has
+    no folder names in it, two builds are the same."""
     folders = [folder for folder in ("include", os.path.join("..", "include")) if os.path.isdir(os.path.join(HERE, folder))]
     sources = sorted(os.path.relpath(path, HERE) for path in glob.glob(os.path.join(HERE, "native", "*.c")))
     return Extension(

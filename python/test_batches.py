@@ -1,5 +1,6 @@
 """Tests of batches that are read back, as operations and as bytes, and of the entries of the journal."""
 
+import os
 import random
 import threading
 import unittest
@@ -13,6 +14,28 @@ EACH = [
     bestore.SetAttribute(1, "k", 2**32 - 1, bestore.UINT32), bestore.SetAttribute(1, "k", 2**64 - 1, bestore.UINT64),
     bestore.UnsetAttribute(1, "k"), bestore.MakeIndex("k", bestore.UINT64), bestore.RemoveIndex("k"),
 ]
+
+TABLE = os.path.join(os.path.dirname(os.path.abspath(__file__)), "..", "tests", "batches.txt")
+
+
+def table(mark):
+    """The lines with this mark of the table that the encoders of all languages are tested against: the bytes, and the words after."""
+    with open(TABLE, encoding="utf-8") as file:
+        rows = [line.split(f" {mark} ") for line in file if not line.startswith("#")]
+    return [(bytes_of(row[0]), row[1].split()) for row in rows if len(row) == 2]
+
+
+def bytes_of(words):
+    """The bytes of words such as `00ff`, `61*63` and `-`."""
+    parts = [word.partition("*") for word in words.replace("-", "").split()]
+    return b"".join(bytes.fromhex(digits) * int(times or 1) for digits, _, times in parts)
+
+
+def add_words(batch, words):
+    """Adds the operation that the words say."""
+    kind, node, name, code, number, value = words
+    code = int.from_bytes(code.replace("-", "").encode(), "big")
+    batch._add_encoded(int(kind), int(node), bytes_of(name), code, int(number) % 2**64, bytes_of(value))
 
 
 def random_operation(chance):
@@ -50,19 +73,36 @@ class Operations(unittest.TestCase):
 
 
 class Bytes(unittest.TestCase):
-    def test_each_operation(self):
+    def is_written(self, batch, operations):
+        data = b"BEB\1" + bytes([len(batch)]) + operations
+        self.assertEqual(batch.to_bytes(), data)
+        again = bestore.Batch.from_bytes(data)
+        self.assertEqual((list(again), again.to_bytes()), (list(batch), data))
+
+    def test_table(self):
         """Byte by byte, as the libraries for the other languages have it too."""
-        for operation, packed in [
-            (bestore.NewNode(7), "00 0700000000000000"), (bestore.RemoveNode(258), "01 0201000000000000"),
-            (bestore.SetAttribute(1, "a", "é", bestore.STRING), "02 0100000000000000 01 61 52545343 02 c3a9"),
-            (bestore.SetAttribute(1, "a", b"", bestore.RAW), "02 0100000000000000 01 61 54574152 00"),
-            (bestore.SetAttribute(1, "a", -2, bestore.INT32), "02 0100000000000000 01 61 474e4f4c feffffffffffffff"),
-            (bestore.UnsetAttribute(1, "ab"), "03 0100000000000000 02 6162"),
-            (bestore.MakeIndex("a", bestore.UINT64), "04 01 61 474c4c55"), (bestore.RemoveIndex("a"), "05 01 61"),
-        ]:
-            data = bestore.Batch([operation]).to_bytes()
-            self.assertEqual(data, bytes.fromhex("42454201 01" + packed))
-            self.assertEqual(list(bestore.Batch.from_bytes(data)), [operation])
+        whole, together = bestore.Batch(), b""
+        for operation, words in table("="):
+            one = bestore.Batch()
+            add_words(one, words)
+            add_words(whole, words)
+            self.is_written(one, operation)
+            together += operation
+        self.assertGreater(len(whole), 30)
+        self.is_written(whole, together)
+
+    def test_refused(self):
+        reasons = {
+            "beginning": "don't begin with BEB", "version": "a version other than 1", "count": "a batch has 1 to 64 operations",
+            "operation": "no operation has the number", "kind": "no kind has the type code", "end": "more bytes",
+        }
+        rows = table("!")
+        self.assertGreater(len(rows), 12)
+        for data, (offset, part) in rows:
+            with self.assertRaises(bestore.BadBytes) as fault:
+                bestore.Batch.from_bytes(data)
+            self.assertEqual(fault.exception.offset, int(offset))
+            self.assertIn(reasons[part], str(fault.exception))
 
     def test_random(self):
         chance = random.Random(1)
@@ -75,13 +115,8 @@ class Bytes(unittest.TestCase):
     def test_broken(self):
         whole = bestore.Batch([bestore.SetAttribute(1, "ab", 5, bestore.INT32)]).to_bytes()
         for data, offset, reason in [
-            (b"", 0, "don't begin with BEB"), (b"BEC" + whole[3:], 0, "don't begin with BEB"),
-            (b"BEB\x02" + whole[4:], 3, "a version other than 1"), (whole[:4], 4, "is cut off"),
-            (whole[:4] + b"\0", 4, "this one 0"), (whole[:4] + b"\x41" + whole[5:], 4, "this one 65"),
-            (whole[:5] + b"\6" + whole[6:], 5, "no operation has the number 6"),
-            (whole[:17] + b"\0" + whole[18:], 17, "no kind has the type code"),
+            (b"", 0, "don't begin with BEB"), (whole[:3], 3, "a version other than 1"), (whole[:4], 4, "is cut off"),
             (whole[:9], 6, "a node is cut off"), (whole[:16], 15, "a name is cut off"), (whole[:-1], 21, "a number is cut off"),
-            (whole + b"\0", len(whole), "more bytes"),
         ]:
             with self.assertRaises(bestore.BadBytes) as fault:
                 bestore.Batch.from_bytes(data)
@@ -92,7 +127,7 @@ class Bytes(unittest.TestCase):
                 bestore.Batch.from_bytes(whole[:end])
 
     def test_anything(self):
-        """Bytes with random changes are a batch that is written as it was read, or `BadBytes`."""
+        """Bytes with random changes are either a batch, which is written as it was read, or `BadBytes`."""
         chance, read = random.Random(2), 0
         for _ in range(3000):
             data = bytearray(bestore.Batch([random_operation(chance) for _ in range(3)]).to_bytes())
@@ -119,7 +154,7 @@ class Bytes(unittest.TestCase):
             self.assertIn(fault.exception.operation, (None, 1))
 
     def test_what_is_no_text(self):
-        """A text that is no UTF-8 is found when it is read back or applied."""
+        """A text that isn't valid UTF-8 is found when it is read back or applied."""
         data = bestore.Batch([bestore.SetAttribute(1, "ab", "xy", bestore.STRING)]).to_bytes()
         for broken in (data.replace(b"ab", b"\xff\xfe"), data.replace(b"xy", b"\xff\xfe")):
             batch = bestore.Batch.from_bytes(broken)

@@ -78,7 +78,7 @@ class Values(unittest.TestCase):
 
 
 class OutOfRange(unittest.TestCase):
-    """A number that 64 bits don't hold is no node's. Cut down to them, some of these would be node 1."""
+    """A number that doesn't fit into 64 bits isn't a node's. Cut down to them, some of these would be node 1."""
 
     numbers = (-1, 1 - 2**64, 2**64, 2**64 + 1)
 
@@ -149,7 +149,7 @@ class Versions(unittest.TestCase):
                 self.assertEqual(second.attributes(1), {})
 
     def test_gone(self):
-        """A version that nothing names any more leaves no pin, and one that was refused takes none away."""
+        """A version that nothing refers to any more leaves no pin, and one that was refused takes no pin away."""
         with bestore.open(64, 1, 100) as store:
             self.assertEqual(store.pin().nodes(), [])
             gc.collect()
@@ -432,7 +432,7 @@ def carried_on(version, store):
 
 
 def operations_of(version):
-    """All that makes a version again."""
+    """Everything that rebuilds a version."""
     told = []
     for batch in version.state():
         for it in batch._operations:
@@ -526,7 +526,7 @@ class WhatIsCarried(unittest.TestCase):
             self.assertEqual(full.exception.least, 1)
 
     def test_busy(self):
-        """The pass that is writing is the other one, which has the number 1, where there is one at all."""
+        """The pass that is writing is the other one, number 1, if there is one."""
         with bestore.open(64, 2) as store, store.another() as other:
             node, holders = store.new_node(), set()
 
@@ -571,7 +571,7 @@ class Threads(unittest.TestCase):
 
     def test_one_pass(self):
         """Calls on one pass, and on one prepared query, wait for one another. A version that was given up isn't read
-        by a later pin."""
+        through a later pin."""
         with bestore.open(4096, 1) as store, bestore.prepare("k >= 0") as query:
             store.apply(bestore.Batch().make_index("k", bestore.INT64).new_node().set(1, "k", 0))
             faults = []
@@ -586,7 +586,7 @@ class Threads(unittest.TestCase):
                         version.get(1, "k")
                     except (bestore.Pinned, bestore.NotPinned):
                         continue
-                    faults.append("a version is read that was given up")
+                    faults.append("a version that was given up is read")
             running = [threading.Thread(target=use, args=(it,)) for it in range(4)]
             for thread in running:
                 thread.start()
@@ -596,8 +596,8 @@ class Threads(unittest.TestCase):
                 self.assertEqual((faults, version.number), ([], 401))
 
     def test_gone_beside_a_call(self):
-        """A version that goes while another thread is at its pass doesn't wait for that thread, which gives the pin
-        up."""
+        """A version that is dropped while another thread uses its pass doesn't wait for that thread, which ends the
+        pin."""
         with bestore.open(64, 1, 10) as store:
             version = store.pin()
             begun, gone, waits = threading.Event(), threading.Event(), []

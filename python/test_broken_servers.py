@@ -98,7 +98,7 @@ class Broken(unittest.TestCase):
     """Servers that break the protocol or the connection."""
 
     def fault(self, call, answer, timeout=PATIENCE):
-        """What a call raises, after which the connection is of no use."""
+        """What a call raises. The connection can't be used after that."""
         with Fake(answer) as fake, fake.connect(timeout) as store:
             with self.assertRaises(bestore.Error) as fault:
                 call(store)
@@ -183,7 +183,7 @@ class Broken(unittest.TestCase):
                 {"query": "k==1"}, {"query": "k==1", "from": 4}, {"query": "k==1", "from": 9}])
 
     def test_columns(self):
-        """Rows may come in several replies, and each reply has rows of the nodes that are asked for."""
+        """Rows may come in several replies, and each reply has rows of the requested nodes."""
         pinned = [line(2, {"commit": 0, "next": 1})]
         with Fake(pinned, [line(3, {"commit": 0, "rows": [[1, "a"], [2, None]]})], [line(4, {"commit": 0, "rows": [[3, "c"]]})],
                   [line(5, {})]) as fake, fake.connect() as store:
@@ -213,7 +213,7 @@ class Broken(unittest.TestCase):
 
 
     def test_push_at_once(self):
-        """A new watch takes what is pushed while its call gives up the pin of a version that went within it."""
+        """A new watch gets what is pushed while its call ends the pin of a version that was dropped meanwhile."""
         read_first, pinned = connected.ConnectedWatch._read_first, []
 
         def forget_and_read(watch, ok):
@@ -260,7 +260,7 @@ class Broken(unittest.TestCase):
                 return reached, [it["reach"] for it in fake.asked[1:]], raised
 
     def test_reach(self):
-        """The server is asked again and again, so that no reply comes after the time of the connection."""
+        """The server is asked again and again, so no reply comes after the connection's time limit."""
         later = {"error": {"name": "NotReached", "message": "why", "expected": 7, "found": 5}}
         reached, asked, raised = self.reach(2.5, [10, 10, 11, 12], later, later, later)
         self.assertEqual((reached, [it["within"] for it in asked]), (None, [1000, 1000, 500]))
@@ -308,7 +308,8 @@ class Interrupted(unittest.TestCase):
         return Fake([line(2, {"watch": 1, "commit": 1, "nodes": [1]}), 0.002, first + last[:9], 0.002, last[9:]])
 
     def waits(self, place):
-        """Waits for what is pushed, and is interrupted at a place. Returns whether it was, and whether the connection is there."""
+        """Waits for what is pushed, and is interrupted at a place. Returns whether it was, and whether the connection still
+        exists."""
         found, was_interrupted = set(), False
         with self.fake() as fake, fake.connect() as store, store.watch("k==1") as watch:
             while watch.commit < 4 or not found:
@@ -326,7 +327,7 @@ class Interrupted(unittest.TestCase):
             return was_interrupted, store._is_open
 
     def test_waits(self):
-        """What was pushed is taken whole, or the connection is closed."""
+        """What was pushed is either read completely, or the connection is closed."""
         kept, place, was_interrupted = [], 0, True
         while was_interrupted:
             was_interrupted, is_open = self.waits(place)
@@ -336,7 +337,7 @@ class Interrupted(unittest.TestCase):
         self.assertIn(False, kept)
 
     def test_asks(self):
-        """The pass is of use after it, or is disconnected."""
+        """After that the pass can be used, or is disconnected."""
         place, was_interrupted = 0, True
         while was_interrupted:
             was_interrupted = False

@@ -76,7 +76,7 @@ class Case:
                 collect(self.other, words[1:])
 
     def change(self, lines, end):
-        """One attempt of a change that does the lines."""
+        """One attempt at a change that runs the lines."""
         numbers = []
 
         def function(change):

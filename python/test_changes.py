@@ -1,4 +1,4 @@
-"""Tests of writes that rest on what was read: `change`, `apply_if`, and what is made of them."""
+"""Tests of writes that are based on what was read: `change`, `apply_if`, and what is made of them."""
 
 import sys
 import threading
@@ -255,8 +255,8 @@ class Reindexing(unittest.TestCase):
 
 
 class Writers(unittest.TestCase):
-    """Four threads make nodes with two attributes, and each time add 1 to a counter that they share. They change
-    over as often as they can."""
+    """Four threads make nodes with two attributes, and each time add 1 to a counter that they share. They switch
+    as often as they can."""
 
     def setUp(self):
         self.addCleanup(sys.setswitchinterval, sys.getswitchinterval())
@@ -294,7 +294,7 @@ class Writers(unittest.TestCase):
         self.assertEqual(self.run_writers(write), (0, 0, WRITERS * ROUNDS))
 
     def test_guess(self):
-        """With a guess of the node's number nodes get mixed, and with a plain `set` of what was read increments get
+        """If the node's number is guessed, nodes get mixed up. With a plain `set` of what was read, increments are
         lost."""
         def write(user, counter, name):
             with user.pin() as version:
@@ -308,7 +308,7 @@ class Writers(unittest.TestCase):
                 mixed, lost = mixed + found[0], lost + found[1]
                 self.assertEqual(found[2], WRITERS * ROUNDS)
         if mixed == 0 or lost == 0:
-            print(f"with guesses {mixed} nodes are mixed and {lost} increments lost: not both races happened this time")
+            print(f"with guesses {mixed} nodes were mixed up and {lost} increments lost: one of the races didn't happen this time")
 
 
 class AtFull(unittest.TestCase):

@@ -1,6 +1,6 @@
-"""Tests of stores of a server. BESTORED names the program bestored; without it they are skipped.
+"""Tests of a server's stores. BESTORED names the program bestored; without it they are skipped.
 
-The tests of the store in this process are run on servers too, as far as they fit. Then come those of what a server has alone,
+The tests of the store in this process are run on servers too, where they apply. Then come those of what only a server has,
 and programs that are run both ways."""
 
 import contextlib
@@ -31,7 +31,7 @@ EXAMPLES = os.path.join(HERE, "..", "examples", "python")
 
 _open = bestore.open
 
-# Tests that don't fit, and why.
+# Tests that don't apply, and why.
 UNFIT = {
     "test_limits": "the limits are the server's",
     "test_passes_if_nothing_is_said": "the limits are the server's",
@@ -357,15 +357,15 @@ class Writing(WithServer):
 
 
 class Dying(WithServer):
-    """The server stops, or is killed, while a call waits for its reply."""
+    """The server stops or is killed while a call waits for its reply."""
 
     def stop(self):
-        """Stops the server, which answers nothing then."""
+        """Stops the server, so that it no longer replies."""
         self.server.process.send_signal(signal.SIGSTOP)
         os.waitpid(self.server.process.pid, os.WUNTRACED)
 
     def in_call(self, call, end, error):
-        """The error of a call that waits while the server ends."""
+        """The error of a call that is waiting when the server ends."""
         self.stop()
         timer = threading.Timer(0.1, end)
         timer.start()
@@ -403,7 +403,7 @@ class Dying(WithServer):
         self.assertEqual((fault.may_be_done, fault.reason), (True, "no reply within 0.5 seconds"))
 
     def test_signals(self):
-        """The handler of a signal can't use a pass that is in a call."""
+        """A signal handler can't use a pass that is in a call."""
         said = []
 
         def use(*_):
@@ -426,7 +426,7 @@ class Dying(WithServer):
             timer.join()
 
     def test_signals_again_and_again(self):
-        """They don't lengthen the time of a reply."""
+        """They don't make a reply take longer."""
         self.store = self.server.connect(timeout=0.5)
         self.addCleanup(signal.signal, signal.SIGALRM, signal.signal(signal.SIGALRM, lambda *_: None))
         self.addCleanup(signal.setitimer, signal.ITIMER_REAL, 0)
@@ -436,7 +436,7 @@ class Dying(WithServer):
             self.store.status()
 
     def test_interrupted(self):
-        """A call that an exception ends leaves no half of a reply to the next one."""
+        """A call that an exception ends doesn't leave half a reply to the next one."""
         def interrupt(*_):
             raise KeyboardInterrupt
         before = signal.signal(signal.SIGALRM, interrupt)
@@ -459,8 +459,8 @@ class Following(WithServer):
     """Live queries beside a second writer."""
 
     def test_refresh_in_versions(self):
-        """What a prepared query returns is that of the version, whoever refreshed it before: here, in another pass, or in a
-        store in this process."""
+        """A prepared query returns what the version has, no matter where it was refreshed before: here, through another
+        pass, or in a store in this process."""
         self.sized(self.store, 5, 1)
         with bestore.prepare("size>=5") as live, self.store.another() as other, _open(64, 1, 100) as local:
             with self.store.pin() as version:
@@ -485,7 +485,8 @@ class Following(WithServer):
                         call(live)
 
     def test_prepare(self):
-        """A query that the server has read is asked of servers' stores, also of another; an older server doesn't read it."""
+        """A query that the server has parsed can be asked of servers' stores, even another server's. An older server doesn't
+        parse it."""
         self.sized(self.store, 5, 1)
         with self.store.prepare("size>=5 && size>=4") as query, _open(64, 1, 100) as local:
             self.assertEqual((query.source, query.names), ("size>=5 && size>=4", ["size"]))
@@ -513,7 +514,7 @@ class Following(WithServer):
             self.assertEqual(query.text, '"size">="5"')
 
     def test_names_of_a_query(self):
-        """A query of many names that was refreshed in this process goes on at a server."""
+        """A query of many names that was refreshed in this process continues on a server."""
         names = [f"n{number}" for number in range(30)]
         with _open(1024, 1, 200) as local, bestore.prepare(" || ".join(f"{name}==1" for name in names)) as live:
             for store in (local, self.store):
@@ -583,7 +584,7 @@ class Following(WithServer):
         self.assertEqual(self.store.new_node(), 1)
 
     def test_how_many(self):
-        """Watches that nothing names any more are ended as a new one begins."""
+        """Watches that nothing refers to any more are ended when a new one begins."""
         for _ in range(70):
             self.store.watch("size>=5")
         kept = [self.store.watch() for _ in range(32)]
@@ -746,7 +747,7 @@ class Programs(unittest.TestCase):
         self.assertIn("\n73 NewNode(", self.run_both_ways(FOLLOWED, "bestore.open()"))
 
     def test_journal_and_another_store(self):
-        """It prints the number of its pass, which with one client is that of a store in this process with one pass."""
+        """It prints the number of its pass. With one client that is the same as for a store in this process with one pass."""
         with open(os.path.join(EXAMPLES, "follow.py"), encoding="utf-8") as file:
             text = file.read()
         opened = "bestore.open(passes=1)"

@@ -1,4 +1,4 @@
-"""Pages in the order of an index, of a server's store. BESTORED names the program bestored; without it they are skipped.
+"""Pages of a server's store in the order of an index. BESTORED names the program bestored; without it they are skipped.
 
 A failed test of random pages shows its seed; `SEED=NUMBER` runs the same again."""
 
@@ -192,7 +192,7 @@ class RandomPages(OfServer):
         self.store = self.server.connect()
 
     def compare(self):
-        """All pages of a query, each beside the plain way, with writes in between."""
+        """All pages of a query, each compared with the plain way, with writes in between."""
         chance = self.chance
         order = pages.Order(chance.choice(list(KINDS)), bool(chance.randrange(2)))
         query, limit, after = chance.choice(QUERIES), chance.randrange(1, 30), None
@@ -213,7 +213,7 @@ class RandomPages(OfServer):
                 self.restart()
 
     def test_cursors_of_no_page(self):
-        """A position may be one at which no node is, or none could be."""
+        """A position may be one where there is no node, or where there can't be one."""
         for _ in range(60):
             self.write()
         for _ in range(150):

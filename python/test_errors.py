@@ -1,4 +1,4 @@
-"""Tests of what errors carry and say."""
+"""Tests of what errors contain and say."""
 
 import os
 import pickle
@@ -107,7 +107,7 @@ class Carets(unittest.TestCase):
             None, SYNTAX))
 
     def test_of_a_wide_query(self):
-        """What is shown is never wider than asked for, and the caret is under the same character."""
+        """What is shown is never wider than was asked for, and the caret is under the same character."""
         text = "".join(chr(0x4e00 + place) if place % 7 == 0 else chr(ord("a") + place % 26) for place in range(300)) + "!"
         for column in (0, 1, 20, 150, 299, 300, 301):
             for width in (4, 10, 40, 333, 1000):

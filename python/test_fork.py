@@ -15,7 +15,7 @@ from busy_passes import used_by_a_thread
 @unittest.skipUnless(hasattr(os, "fork"), "there is no fork")
 class Forks(unittest.TestCase):
     def in_child(self, work):
-        """Runs this in a forked child, which has to end well within 20 seconds."""
+        """Runs this in a forked child, which has to succeed within 20 seconds."""
         reading, writing = os.pipe()
         with warnings.catch_warnings():
             warnings.simplefilter("ignore")  # of a fork beside threads, from Python 3.12 on

@@ -1,4 +1,4 @@
-"""Tests of query texts: what is put into one, what one compares, and what is said about one."""
+"""Tests of query texts: what is put into one, what one compares, and what hints say about one."""
 
 import random
 import unittest
@@ -20,7 +20,7 @@ def store_of(values, kind=bestore.STRING):
 
 
 def quoted(chance, text):
-    """A text between quotes, or as a word if that is the same."""
+    """A text in quotes, or as a plain word if that means the same."""
     quote = chance.choice("\"'")
     return quote + "".join("\\" + it if it in (quote, "\\") or chance.random() < 0.1 else it for it in text) + quote
 
@@ -103,7 +103,7 @@ class Texts(unittest.TestCase):
             prepared.names
 
     def test_long_canonical(self):
-        """The canonical text may be too long to be read as a query; the names are read of the text or the items."""
+        """The canonical text may be too long for a query; the names are read from the text or the items."""
         items = [bestore.Name("name0"), "12345678", bestore.Operator.LT]
         for number in range(1, 200):
             items += [bestore.Name(f"name{number % 3}"), "12345678", bestore.Operator.LT, bestore.Operator.OR]
@@ -119,7 +119,7 @@ class Texts(unittest.TestCase):
 
 class Covered(unittest.TestCase):
     def not_covered(self, ask, query):
-        """The place of what isn't covered, its name, and the text."""
+        """The place of the comparison that isn't covered, its name, and the text."""
         with self.assertRaises(bestore.NotCovered) as fault:
             ask(query)
         return fault.exception.offset, fault.exception.missing, fault.exception.query
@@ -173,7 +173,7 @@ class Counts(unittest.TestCase):
                         version.pairs("none")
 
     def test_room(self):
-        """A query has room for all nodes that there can be, and the next one has as much again."""
+        """A query has room for all nodes that there can be, and so does the next one."""
         with bestore.open(4096, 1, 1000) as store:
             store.make_index("k", bestore.INT64)
             for _ in range(160):

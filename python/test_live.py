@@ -1,4 +1,4 @@
-"""Tests of refreshes by what was written, beside refreshes that ask the whole query."""
+"""Tests of refreshes from what was written, compared with refreshes that ask the whole query."""
 
 import random
 import threading
@@ -9,11 +9,12 @@ from bestore import local
 from servers import PATIENCE, OverServer
 
 NODES = 300
-"""How many nodes there are: their answers have 96 nodes and more, below which the whole query is asked."""
+"""How many nodes there are: answers have at least 96 nodes, below which the whole query is asked."""
 
 
 def change(store, chance):
-    """Writes once: a value that the query finds or doesn't, of a node that may be gone, or no value, or a node comes or goes."""
+    """Writes once: sets a value that the query finds or doesn't, on a node that may be gone, or removes it, or makes or
+    removes a node."""
     node = chance.randrange(1, NODES)
     try:
         what = chance.random()
@@ -39,7 +40,7 @@ def fill(store, chance):
 
 
 class Refreshes(unittest.TestCase):
-    """What both ways return is compared at each step, and what it adds up to with the query's answer."""
+    """At each step the results of both ways are compared, and what they add up to is compared with the query's answer."""
 
     def setUp(self):
         super().setUp()
@@ -138,7 +139,7 @@ class Refreshes(unittest.TestCase):
 
 
 class OfServer(OverServer, Refreshes):
-    """The same of a server's store, whose watcher asks by what was written."""
+    """The same with a server's store, whose watcher refreshes from what was written."""
 
     def test_in_both_stores(self):
         here = local.open()

@@ -1,4 +1,4 @@
-"""Tests of the extension: columns, arguments, and what threads do to one handle."""
+"""Tests of the extension: columns, arguments, and threads that share a handle."""
 
 import copy
 import ctypes
@@ -23,7 +23,7 @@ except ImportError:
 
 
 def fill(store, first, last):
-    """Makes the nodes from one to another, with an indexed number and a text each."""
+    """Makes nodes in a range of numbers, each with an indexed number and a text."""
     for begin in range(first, last + 1, 20):
         batch = bestore.Batch()
         for node in range(begin, min(begin + 20, last + 1)):
@@ -285,7 +285,7 @@ class Guards(unittest.TestCase):
                 version.column([1, Node(), 1], "k")
 
     def test_in_a_cycle(self):
-        """The pin of a version that only a cycle holds goes with that."""
+        """A version that only a cycle refers to is unpinned with it."""
         with bestore.open(64, 1, 100) as store:
             holder = [store.pin()]
             holder.append(holder)
@@ -349,7 +349,7 @@ with bestore.open(64, 1, 100) as store:
                 self.assertGreater(refused, 50)
 
     def test_nothing_is_left(self):
-        """What a call makes is gone after it, even after an error."""
+        """What a call makes is freed after it, even after an error."""
         with bestore.open(256, 1) as store, bestore.prepare("k > 0") as query:
             filled(store, 100)
 

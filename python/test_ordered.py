@@ -20,7 +20,7 @@ QUERIES = ["i64>=-3", 'text=="*a*"', "u32<2", 'text>"a" && i64<2', "text!=ab && 
 
 
 def opened(volumes):
-    """A store, or a shelf of so many, with an index of each kind, and nodes that were made before the indices."""
+    """A store, or a shelf of this many, with an index of each kind, and nodes that were made before the indices."""
     store = bestore.open() if volumes == 0 else bestore.open_shelf(volumes)
     for volume in range(max(volumes, 1)):
         store.apply(bestore.Batch().new_node().set(store.pin()._next_in(volume), "i64", 5), **({"volume": volume} if volumes else {}))
@@ -31,7 +31,7 @@ def opened(volumes):
 
 
 def write(store, chance, volumes, count):
-    """Some writes: nodes that come, go, and have other values."""
+    """A few writes: nodes are made and removed, and get other values."""
     for _ in range(count):
         volume = chance.randrange(max(volumes, 1))
         with store.pin() as version:
@@ -45,7 +45,7 @@ def write(store, chance, volumes, count):
             if chance.randrange(3) > 0:
                 batch.set(node, name, chance.choice(VALUES[name]), kind)
         if chance.randrange(12) == 0:
-            batch.set(node, "text", 5)  # of another kind than the index, which then lacks the node
+            batch.set(node, "text", 5)  # its kind isn't the index's, so the index lacks the node
         batch.set(node, "other", chance.randrange(3))
         if chance.randrange(12) == 0:
             batch.remove_node(node)
@@ -53,7 +53,7 @@ def write(store, chance, volumes, count):
 
 
 def keyed(name, value):
-    """A value that compares as those of its index."""
+    """A value that compares like those of its index."""
     return value.encode() if name == "text" else value
 
 
@@ -75,7 +75,7 @@ def cut(found, order, after, limit):
 
 class Random(unittest.TestCase):
     def alike(self, volumes, seed):
-        """Each page of all queries and orders, with writes in between, beside the whole answer of its version."""
+        """Each page of all queries and orders, with writes in between, compared with the whole answer in its version."""
         chance = random.Random(seed)
         with opened(volumes) as store:
             write(store, chance, volumes, 120)
@@ -294,7 +294,7 @@ class Cursors(unittest.TestCase):
 
 class Threads(unittest.TestCase):
     def test_pages_beside_writes(self):
-        """Each page of a version that others write beside has what that version has."""
+        """Each page of a version has what that version has, while others write."""
         chance, ends = random.Random(9), threading.Event()
         with opened(0) as store, store.another() as other:
             write(store, chance, 0, 60)

@@ -1,6 +1,6 @@
-"""What a store gives back: pages that no version has are free again, whatever was written beside whatever readers.
+"""What a store frees: pages that no version has are free again, whatever was written and read meanwhile.
 
-Each run makes other writes. If one fails, the seed is in the message: BESTORE_SEED=seed repeats that run.
+Each run makes different writes. If one fails, the seed is in the message: BESTORE_SEED=seed repeats that run.
 """
 
 from __future__ import annotations
@@ -16,7 +16,7 @@ PAGES = 160
 NODES = 100
 ROUNDS = 3000
 SPARE = 30
-"""At as few free pages the readers go on to the current version."""
+"""When this few pages are free, the readers move to the current version."""
 
 
 class Pages(unittest.TestCase):
@@ -25,7 +25,7 @@ class Pages(unittest.TestCase):
         self.chance = random.Random(self.seed)
 
     def empty(self, store: bestore.Store, nodes: List[int]) -> None:
-        """Removes all that the store has, and writes once more, so that what was retired is free."""
+        """Removes everything from the store, and writes once more, so that the retired pages are free."""
         for node in nodes:
             store.remove_node(node)
         store.remove_index("a")
@@ -53,7 +53,7 @@ class Pages(unittest.TestCase):
             self.empty(store, [])
             free = store.status().free
             readers = [store.another() for _ in range(3)]
-            pinned = [reader.pin() for reader in readers]  # a version that nobody names is unpinned
+            pinned = [reader.pin() for reader in readers]  # a version that nothing refers to is unpinned
             nodes: List[int] = []
             store.make_index("a", bestore.STRING)
             for _ in range(ROUNDS):

@@ -1,6 +1,6 @@
-"""The comparisons of query texts, against the canonical texts that the library makes of them.
+"""The comparisons of query texts, checked against the library's canonical texts.
 
-Each run takes other texts. If one fails, the seed is in the message: BESTORE_SEED=seed repeats that run.
+Each run takes different texts. If one fails, the seed is in the message: BESTORE_SEED=seed repeats that run.
 """
 
 from __future__ import annotations
@@ -41,7 +41,7 @@ def some_query(chance: random.Random, depth: int = 3) -> str:
 
 
 def some_text(chance: random.Random) -> str:
-    """A text that may be a query: pieces of one, or a query of which a piece was changed."""
+    """A text that may be a query: pieces of one, or a query with one piece changed."""
     if chance.random() < 0.3:
         return "".join(chance.choice(PIECES) for _ in range(chance.randrange(12)))
     text = some_query(chance)
@@ -61,7 +61,7 @@ def canonical(text: str) -> Optional[str]:
 
 
 def in_quotes(text: str) -> str:
-    """A name or a value as the text of a query had it, between double quotes."""
+    """A name or a value as it was in the query's text, in double quotes."""
     pieces, escaped = [], False
     for character in text:
         pieces.append("\\" + character if character == '"' and not escaped else character)
@@ -81,8 +81,8 @@ class Readings(unittest.TestCase):
         self.chance = random.Random(self.seed)
 
     def test_comparisons_of_what_the_library_takes(self) -> None:
-        """The comparisons of a query are those of its canonical text in the same order, up to a `!` before them, and that text has
-        each as it is written out alone."""
+        """The comparisons of a query are those of its canonical text, in the same order, apart from a `!` before them. Each is
+        written as it would be by itself."""
         queries = 0
         for _ in range(TEXTS):
             text = some_text(self.chance)

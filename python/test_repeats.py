@@ -33,7 +33,7 @@ class Repeats(unittest.TestCase):
                 time.sleep(0.002)
 
     def test_each_write_is_made_once(self):
-        """Four threads write by `apply` and by `change`, and the server is killed six times."""
+        """Four threads write with `apply` and `change`, and the server is killed six times."""
         writes, done = 24, []
 
         def write(number):
@@ -77,7 +77,7 @@ class Repeats(unittest.TestCase):
             self.assertEqual(store.new_node(), 2)
 
     def test_what_would_be_lost_is_not(self):
-        """A pin and a watch end with the connection, so such a pass isn't connected again."""
+        """A pin or a watch ends with the connection, so a pass that has one isn't connected again."""
         with self.connect() as pinned, self.connect() as watching, self.connect() as other:
             version, watch = pinned.pin(), watching.watch()
             self.start_again()
@@ -95,7 +95,7 @@ class Repeats(unittest.TestCase):
             store.new_node()
 
     def test_without_it(self):
-        """Nobody has asked for it."""
+        """Nobody asked for it."""
         store = self.server.connect()
         self.start_again()
         with self.assertRaises(connected.Disconnected):

@@ -26,7 +26,7 @@ from bestore._saved_file import File
 from bestore._saved_line import Line, Turn
 
 HERE = os.path.dirname(os.path.abspath(__file__))
-MEMORY = "/dev/shm" if os.access("/dev/shm", os.W_OK) else None  # where a commit waits for no disk
+MEMORY = "/dev/shm" if os.access("/dev/shm", os.W_OK) else None  # a place where a commit doesn't wait for a disk
 PATIENCE = 30  # seconds that anything may take on a busy machine
 WRITERS, ROUNDS = 3, 6  # of the processes that are killed
 
@@ -43,7 +43,7 @@ def run(work, *arguments):
 
 
 def write_for_ever(path, round_number):
-    """Writes in threads, says each write that has returned, and rewrites the state now and then."""
+    """Writes in threads, prints each write that has returned, and rewrites the state now and then."""
     store = saved.open(path)
 
     def write(user, writer):
@@ -63,7 +63,7 @@ def write_for_ever(path, round_number):
 
 
 def hold(path):
-    """Writes ten nodes, flushes, and waits for its end."""
+    """Writes ten nodes, flushes, and waits to be killed."""
     store = saved.open(path, every=3600)
     store.new_nodes(10)
     store.flush()
@@ -73,7 +73,7 @@ def hold(path):
 
 
 def end_without_close(path):
-    """Ends by an exception, and leaves a store open."""
+    """Ends with an exception, and leaves a store open."""
     store = saved.open(path, every=3600)
     store.new_nodes(3)
     sys.modules["kept till the end"] = store
@@ -104,7 +104,7 @@ def sql(path, *statements):
 
 
 def remove_checksums(path):
-    """Makes the file one of the first format, so that what differs isn't found by its checksum."""
+    """Turns the file into one of the first format, so that changes aren't found by a checksum."""
     sql(path, *(f"ALTER TABLE {table} DROP COLUMN checksum" for table in ("about", "state", "entry")), "PRAGMA user_version = 1")
 
 
@@ -117,11 +117,16 @@ def file_size(store, size):
 
 
 def three(path):
-    """Makes a file with an index and three nodes, by four entries."""
+    """Makes a file with an index and three nodes, in four entries."""
     with saved.open(path, 64) as store:
         store.make_index("size", bestore.INT64)
         for size in (1, 2, 3):
             file_size(store, size)
+
+
+def four_writers(store, write):
+    """Threads that call `write`, each with a pass of its own."""
+    return [threading.Thread(target=write, args=(store.another(),)) for _ in range(4)]
 
 
 def sizes(store):
@@ -138,7 +143,7 @@ class Files(unittest.TestCase):
         self.folder, self.path = folder.name, os.path.join(folder.name, "test.bestore")
 
     def refusal(self, path=None, **limits):
-        """The error, with all that its traceback keeps alive."""
+        """The error, with everything that its traceback keeps alive."""
         try:
             saved.open(path or self.path, **{"pages": 64, **limits}).close()
         except saved.SavedError as error:
@@ -151,7 +156,7 @@ class Files(unittest.TestCase):
         self.skipTest(reason)
 
     def ended(self, child):
-        """Waits for a child's end, and takes what it said."""
+        """Waits for the child to end, and returns what it printed."""
         said = child.stdout.read()
         child.stdout.close()
         return child.wait(), said.splitlines()
@@ -179,13 +184,13 @@ class Kept(Files):
         with saved.open(self.path, pages=64) as store:
             store.new_node()
             self.assertEqual(modes(), dict.fromkeys(("test.bestore", "test.bestore-last", "test.bestore-wal"), 0o600))
-        os.chmod(self.path, 0o640)  # what somebody has chosen stays
+        os.chmod(self.path, 0o640)  # a mode that somebody has chosen stays
         with saved.open(self.path, pages=64) as store:
             store.new_node()
             self.assertEqual(modes(), {"test.bestore": 0o640, "test.bestore-last": 0o600, "test.bestore-wal": 0o640})
 
     def test_each_call(self):
-        """Each call that writes is saved, by each pass, also a node that is gone."""
+        """Each call that writes is saved, from each pass, even the node that is gone."""
         with saved.open(self.path, 64) as store, store.another() as other, other.another() as third:
             nodes = other.new_nodes(65)
             third.apply(bestore.Batch().set(1, "k", "é").set(1, "r", b"\0").new_node())
@@ -272,7 +277,7 @@ class Kept(Files):
         self.assertEqual(os.listdir(self.folder), ["test.bestore"])
 
     def test_compact_comes_first(self):
-        """Writers that wait let a state be written first. It saves their writes."""
+        """Waiting writers let a state be written first. It saves their writes."""
         ran, append, write_state = [], File.append, File.write_state
 
         def recorded(call):
@@ -312,7 +317,7 @@ class Kept(Files):
         other.close()
 
     def test_last_pass(self):
-        """A store that nobody names any more stays open while one of its passes is used."""
+        """A store that nothing refers to any more stays open while one of its passes is used."""
         other = saved.open(self.path, 64).another()
         other.new_node()
         self.assertIsInstance(self.refusal(), saved.Held)
@@ -365,7 +370,7 @@ class Timed(Files):
         self.assertEqual(self.count(), 10)
 
     def test_write_beside_close(self):
-        """A write that comes too late for the last commit is no success."""
+        """A write that comes too late for the last commit fails."""
         store = saved.open(self.path, 64, every=3600)
         other, save_all = store.another(), saved._Saver._save_all
 
@@ -388,7 +393,7 @@ class Timed(Files):
         self.assertEqual((refused, self.count()), ([f"{self.path}: write 1 is not saved: the file is closed"], 0))
 
     def test_close_that_fails(self):
-        """The thread that saves ends, and nothing keeps what is closed."""
+        """The thread that saves ends, and nothing keeps the closed store alive."""
         others = self.threads()
         store = saved.open(self.path, 64, every=3600)
         store.new_node()
@@ -437,7 +442,7 @@ class Refused(Files):
     def test_foreign(self):
         text, other = os.path.join(self.folder, "text"), os.path.join(self.folder, "other")
         with open(text, "w") as file:
-            file.write("no database, and long enough to be looked at as one\n" * 20)
+            file.write("not a database, but long enough to be looked at as one\n" * 20)
         sql(other, "CREATE TABLE mine (a)", "INSERT INTO mine VALUES (1)")
         for path in (text, other):
             with open(path, "rb") as file:
@@ -461,7 +466,7 @@ class Refused(Files):
             self.assertIn("unable to open", str(refused))
 
     def test_names(self):
-        """Names that SQLite takes for no file."""
+        """Names that SQLite doesn't take for files."""
         before = os.getcwd()
         os.chdir(self.folder)
         try:
@@ -503,7 +508,7 @@ class Refused(Files):
         self.assertIsInstance(small.__cause__, bestore.CommitsSpent)
 
     def test_errors_of_older_pythons(self):
-        """Before 3.11 an error of SQLite has a message alone."""
+        """Before 3.11 an SQLite error has only a message."""
         for message, kind in [
             ("database is locked", saved.Held), ("database or disk is full", saved.DiskFull),
             ("file is not a database", saved.Foreign), ("disk I/O error", saved.SqliteError),
@@ -515,7 +520,7 @@ class Refused(Files):
 class Failures(Files):
     @contextmanager
     def broken(self, error, after=0):
-        """Lets each commit fail, after so many that succeed."""
+        """Makes each commit fail, after this many that succeed."""
         append, left = File.append, [after]
 
         def break_off(file, rows):
@@ -546,7 +551,7 @@ class Failures(Files):
 
     def test_each_that_waits(self):
         with self.assertRaises(saved.Stopped), saved.open(self.path, 64) as store:
-            refused, passes = [], [store.another() for _ in range(4)]
+            refused = []
 
             def write(user):
                 try:
@@ -555,7 +560,7 @@ class Failures(Files):
                 except (saved.NotSaved, saved.Stopped) as error:
                     refused.append(error)
             with self.broken(saved.DiskFull(self.path), 10):
-                running = [threading.Thread(target=write, args=(user,)) for user in passes]
+                running = four_writers(store, write)
                 for thread in running:
                     thread.start()
                 for thread in running:
@@ -595,14 +600,14 @@ class Failures(Files):
     def test_each_of_one_commit(self):
         """When a commit of several rows fails, each of its writers is refused, and nobody hangs."""
         with self.assertRaises(saved.Stopped), saved.open(self.path, 64) as store:
-            refused, passes = [], [store.another() for _ in range(4)]
+            refused = []
 
             def write(user):
                 try:
                     user.new_node()
                 except saved.NotSaved as error:
                     refused.append((error.number, type(error.__cause__)))
-            running = [threading.Thread(target=write, args=(user,)) for user in passes]
+            running = four_writers(store, write)
             with self.broken(saved.DiskFull(self.path)):
                 with store._saver._line.turn():
                     for thread in running:
@@ -630,7 +635,7 @@ class Failures(Files):
             self.assertEqual((version.nodes(), version.attributes(1)), ([1, 2, 3], {"k": "é"}))
 
     def test_interrupted_wait(self):
-        """A writer that leaves the line by an interrupt leaves it whole, also one that was given the file meanwhile."""
+        """A writer that leaves the line because of an interrupt leaves it intact, even if it was given the file meanwhile."""
         for has_file in (False, True):
             line = Line(0)
             owner, gone, last = Turn(1), Turn(2), Turn(3)
@@ -747,7 +752,7 @@ class Processes(Files):
 @unittest.skipUnless(hasattr(os, "fork"), "there is no fork")
 class Forks(Files):
     def test_dead(self):
-        """The child's handles are dead, and their end leaves the file to the parent. The child has a file of its own."""
+        """The child's handles are dead, and closing them leaves the file to the parent. The child has a file of its own."""
         with saved.open(self.path, 64) as store:
             node, other = store.new_node(), store.another()
             with warnings.catch_warnings():
@@ -777,7 +782,7 @@ class Forks(Files):
             os._exit(ended)
 
     def test_end_of_the_child(self):
-        """The end of Python in the child, with all destructors, leaves the file to the parent."""
+        """When Python ends in the child, with all destructors, the file is left to the parent."""
         for every in (0, 3600):
             with self.subTest(every):
                 path = f"{self.path}{every}"

@@ -1,4 +1,4 @@
-"""Tests of kept files of which something was changed or is missing."""
+"""Tests of kept files in which something was changed or is missing."""
 
 import os
 import random
@@ -18,7 +18,7 @@ class Damaged(Files):
         return self.path + ending
 
     def image(self) -> Dict[str, bytes]:
-        """The file and those that belong to it, by what their names end with."""
+        """The file and those that belong to it, by the ends of their names."""
         found = {}
         for ending in ("", "-wal", "-last"):
             if os.path.exists(self.beside(ending)):
@@ -35,7 +35,7 @@ class Damaged(Files):
                 os.remove(self.beside(ending))
 
     def killed(self, entries: int) -> Dict[str, bytes]:
-        """A file with this many entries and as many nodes, as it is after `kill -9`."""
+        """A file with this many entries and as many nodes, as `kill -9` leaves it."""
         with saved.open(self.path, 64) as store:
             for _ in range(entries):
                 store.new_node()
@@ -51,7 +51,7 @@ class Damaged(Files):
         self.put({**image, ending: bytes(data)})
 
     def test_any_changed_byte(self) -> None:
-        """It is found, or changes nothing."""
+        """The change is found, or changes nothing."""
         image, chosen, refused = self.killed(150), random.Random(1), 0
         for change in range(CHANGES):
             ending = ("", "-wal")[change % 2]
@@ -118,7 +118,7 @@ class Damaged(Files):
         self.assertEqual(len(self.nodes()), 8)
 
     def test_last(self) -> None:
-        """The number is there while the file is open, and where it can't be kept the file works without it."""
+        """The number is there while the file is open. If it can't be kept, the file works without it."""
         image = self.killed(2)
         self.assertEqual(image["-last"].split()[1], b"%020d" % 2)
         self.assertEqual(os.listdir(self.folder), [os.path.basename(self.path)])

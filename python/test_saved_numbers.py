@@ -1,4 +1,4 @@
-"""Tests of kept files whose entries have the greatest numbers that there are."""
+"""Tests of kept files whose entries have the highest possible numbers."""
 
 import bestore
 from bestore import saved

@@ -59,7 +59,7 @@ class Indexed:
 
 
 class Unions(Indexed):
-    """What is read, beside a plain model."""
+    """What is read, compared with a plain model."""
 
     def write(self, store, model, chance):
         node = chance.choice(list(model) or [77])
@@ -426,7 +426,7 @@ class Kept(Indexed, unittest.TestCase):
         self.assertEqual(self.found(self.shelf()), made)
 
     def test_index_that_is_not_made(self):
-        """The files are free after that, also while the error is there with all that it has seen."""
+        """The files are free after that, even while the error exists with everything that it refers to."""
         made = self.three()
         try:
             with mock.patch.object(File, "append", side_effect=saved.DiskFull("disk")):
@@ -437,7 +437,7 @@ class Kept(Indexed, unittest.TestCase):
         self.assertEqual((refused.path, refused.number), (os.path.join(self.path, "3.bestore"), 1))
 
     def refused(self, name, call):
-        """The error of a call while what the files do under a name fails in all volumes but the second one."""
+        """The error of a call while the files' method of this name fails in all volumes but the second one."""
         do = getattr(File, name)
 
         def fail(file, *given):
@@ -473,7 +473,7 @@ class Kept(Indexed, unittest.TestCase):
             self.assertRaises(OSError, saved.open_shelf, file.name, 2)
 
     def test_killed(self):
-        """A process that counts in each volume is killed: what it has said is there."""
+        """A process that counts in each volume is killed: what it printed is there."""
         program = """if True:
             import sys
             from bestore import Batch, saved
@@ -505,7 +505,7 @@ class Kept(Indexed, unittest.TestCase):
 
 
 class ShelfOfOne(test_changes.Changes):
-    """The tests of changes on a shelf of one volume."""
+    """The tests of changes, on a shelf of one volume."""
 
     def setUp(self):
         patched = mock.patch.object(bestore, "open", lambda *limits, **named: bestore.open_shelf(1, *limits, **named))

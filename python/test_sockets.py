@@ -48,7 +48,7 @@ class Paths(unittest.TestCase):
 
 
 class Users(unittest.TestCase):
-    """At a default path a server has to be of the own user or of root."""
+    """At a default path a server has to belong to the same user or to root."""
 
     @contextlib.contextmanager
     def default(self, fake, user):
@@ -111,7 +111,7 @@ class Users(unittest.TestCase):
 
 
 class Times(unittest.TestCase):
-    """Connecting to a server that accepts nobody: one connection may wait, and no other."""
+    """Connecting to a server that accepts nobody: only one connection may wait."""
 
     def setUp(self):
         folder = tempfile.TemporaryDirectory()

@@ -115,7 +115,7 @@ class Watches(Stores):
 
 class OfThisProcess(Watches):
     def test_nobody_looks_again_and_again(self):
-        """A look comes at first, at a commit and at the end of the time."""
+        """It looks at the beginning, after a commit and when the time is up."""
         with self.store.watch("size>=5") as watch, mock.patch.object(local.LocalPass, "pin", autospec=True,
                                                                      side_effect=local.LocalPass.pin) as pin:
             self.assertIsNone(watch.wait(0.2))
@@ -198,7 +198,7 @@ class OfServer(Watches, unittest.TestCase):
 
 
 class OfPassesOfAServer(OfServer):
-    """A shelf of passes whose stores wake nobody: it looks again from time to time."""
+    """A shelf of passes whose stores wake nobody looks again from time to time."""
 
     def opened(self):
         servers = [Server("--pages", 256) for _ in range(2)]

@@ -1,4 +1,4 @@
-"""Tests of clients of a server that have neither the extension nor the library."""
+"""Tests of a server's clients that have neither the extension nor the library."""
 
 import os
 import pickle
@@ -132,7 +132,7 @@ class PlainBytes(Plain, Bytes):
 
 
 class Batches(unittest.TestCase):
-    """Both sorts of batches are alike."""
+    """Both sorts of batches work alike."""
 
     def setUp(self):
         local.open(64, 1, 100).close()  # from then on the extension makes them

@@ -2,6 +2,9 @@
 # Runs all tests of the crates over the library in the folder that BESTORE_LIB_DIR names, otherwise ../c: plain, in the
 # documentation, by clippy and rustfmt, and under what finds faults of memory. What isn't there is skipped, and said to be.
 #
+# test.sh --build only builds the crates with their programs, and runs nothing. test.sh --dependencies only compiles what they need of
+# others' crates, silently. For that the library needn't be there yet.
+#
 # The crates that these need come from Debian's packages librust-*-dev if they are installed, otherwise from what cargo has
 # already fetched. Nothing is fetched.
 set -euo pipefail
@@ -13,9 +16,16 @@ skip() {
     exit 0
 }
 
+only=${1:-}
+case $only in
+    "" | --build) ;;
+    --dependencies) exec >/dev/null 2>&1 ;;
+    *) echo "rust/test.sh: $only is no option; it takes --build, --dependencies or nothing" >&2; exit 2 ;;
+esac
+
 command -v cargo >/dev/null || skip "there is no cargo"
 BESTORE_LIB_DIR=$(realpath "${BESTORE_LIB_DIR:-../c}")
-[ -e "$BESTORE_LIB_DIR/libbestore.so" ] || skip "there is no libbestore.so in $BESTORE_LIB_DIR"
+[ "$only" = --dependencies ] || [ -e "$BESTORE_LIB_DIR/libbestore.so" ] || skip "there is no libbestore.so in $BESTORE_LIB_DIR"
 export BESTORE_LIB_DIR LD_LIBRARY_PATH="$BESTORE_LIB_DIR${LD_LIBRARY_PATH:+:$LD_LIBRARY_PATH}"
 export CARGO_NET_OFFLINE=true CARGO_TARGET_DIR="${CARGO_TARGET_DIR:-$PWD/target}"
 
@@ -47,7 +57,7 @@ run() {
     grep -h "skipped\|^killed\|^[0-9]* requests\|^[0-9]* runs" "$work/said" || true
 }
 
-# Cargo resolves the dependencies of all features, so without rusqlite it finds no way. Of those of the log there are empty ones.
+# Cargo resolves the dependencies of all features, so without rusqlite it finds no way. For the log's crates there are empty ones.
 resolves() { cargo metadata --format-version 1 "${options[@]}" >/dev/null 2>"$work/said"; }
 missing() { grep -m1 -o 'no matching package named.*\|searched package name.*' "$work/said" || tail -1 "$work/said"; }
 features=saved,log
@@ -60,6 +70,19 @@ if ! resolves; then
     echo "Rust, a log in PostgreSQL: skipped, a package is missing: $missing"
 fi
 
+case $only in
+    --dependencies)
+        # In a folder without the library bestore-sys isn't built, nor what needs it. --keep-going compiles the rest all the same.
+        for command in build clippy; do
+            BESTORE_LIB_DIR=$work cargo $command --workspace --all-targets --features $features --keep-going "${options[@]}" || true
+        done
+        exit
+        ;;
+    --build)
+        run "Rust, built" build --workspace --features $features
+        exit
+        ;;
+esac
 run "Rust" test --workspace --features $features -- --show-output
 run "Rust, without features" test -p bestore-sys -p bestore-types -p bestore --lib --tests
 for example in first mailbox newest jobs shelf; do

@@ -1,4 +1,4 @@
-"""What earlier runs on this machine have passed, by the checksums of all that was read: empty files in a folder, each named by a checksum.
+"""What earlier runs on this machine have passed, by the checksums of all that was read: files in a folder, each named by a checksum.
 
 The folder is $BESTORE_KEPT, or else bestore in the user's cache. So a run in a fresh clone finds what another clone has passed.
 """
@@ -32,11 +32,19 @@ def has(what: str, sum_of_all: str) -> bool:
     return (folder() / what / sum_of_all).is_file()
 
 
-def keep(what: str, sum_of_all: str) -> None:
-    """Keeps that all of this has passed. Where the folder can't be made or written, nothing is kept."""
+def text(what: str, sum_of_all: str) -> str:
+    """The text that was kept with it, or an empty one."""
+    try:
+        return (folder() / what / sum_of_all).read_text()
+    except OSError:
+        return ""
+
+
+def keep(what: str, sum_of_all: str, text: str = "") -> None:
+    """Keeps that all of this has passed, with a text. Where the folder can't be made or written, nothing is kept."""
     try:
         place = folder() / what
         place.mkdir(parents=True, exist_ok=True)
-        (place / sum_of_all).touch()
+        (place / sum_of_all).write_text(text)
     except OSError:
         pass

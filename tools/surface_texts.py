@@ -171,6 +171,12 @@ def rust_least(surface: Surface) -> str:
     return lines([*arms, f"            {others} => None,"])
 
 
+def rust_widths(surface: Surface) -> str:
+    others = " | ".join(f"Kind::{it.rust}" for it in surface.kinds if not it.is_number)
+    arms = [f"            Kind::{it.rust} => Some({it.bits // 8})," for it in surface.numbers]
+    return lines([*arms, f"            {others} => None,"])
+
+
 def rust_never_true(surface: Surface) -> str:
     others = " | ".join(f"Kind::{it.rust}" for it in surface.kinds if not it.is_number)
     arms = [f"        Kind::{it.rust} => one.is_never_{it.tool}," for it in surface.numbers]
@@ -341,10 +347,10 @@ def native_count(surface: Surface) -> str:
 
 
 def table_of_kinds(surface: Surface) -> str:
-    head = ["| kind | Be name | type code | value | indexable | number | in Rattle it is made by | and read by |",
-            "|---|---|---|---|---|---|---|---|"]
-    rows = [f"| {it.code} | {it.be} | {it.type_code:08x} | {it.value} | {'yes' if it.indexable else 'no'} | {it.number} "
-            f"| {it.made} | {it.read} |" for it in surface.kinds]
+    head = ["| kind | Be name | Python, Rust, protocol | type code | value | indexable | number | made in Rattle by | and read by |",
+            "|---|---|---|---|---|---|---|---|---|"]
+    rows = [f"| {it.code} | {it.be} | `{it.python}`, `{it.rust}`, `{it.name}` | {it.type_code:08x} | {it.value} "
+            f"| {'yes' if it.indexable else 'no'} | {it.number} | {it.made} | {it.read} |" for it in surface.kinds]
     return lines(head + rows)
 
 
@@ -395,6 +401,7 @@ REGIONS: dict[tuple[str, str], Callable[[Surface], str]] = {
     ("rust/bestore-types/src/class.rs", "errors"): rust_meanings,
     ("rust/bestore-types/src/kind.rs", "kinds"): rust_kinds,
     ("rust/bestore-types/src/kind.rs", "least values"): rust_least,
+    ("rust/bestore-types/src/kind.rs", "widths"): rust_widths,
     ("rust/bestore/src/hints.rs", "never true"): rust_never_true,
     ("rust/bestore-client/src/wire/value.rs", "names of kinds"): rust_kind_names,
     ("rust/bestore-client/src/wire/value.rs", "list of kinds"): rust_kind_list,
@@ -410,6 +417,8 @@ REGIONS: dict[tuple[str, str], Callable[[Surface], str]] = {
     ("python/bestore/__init__.py", "kinds"): python_constants,
     ("python/bestore/__init__.py", "classes of integers"): python_integer_imports,
     ("python/native/values.c", "kinds"): native_kinds,
+    ("python/native/values.c", "kinds with a sign"): lambda it: cases(kind for kind in it.numbers if kind.sign),
+    ("python/native/values.c", "kinds without a sign"): lambda it: cases(kind for kind in it.numbers if not kind.sign),
     ("python/native/native.h", "kinds"): native_count,
     ("docs/ARCHITECTURE.md", "kinds"): table_of_kinds,
     ("docs/SCRIPTS.md", "kinds"): table_of_script_kinds,

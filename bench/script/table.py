@@ -76,7 +76,7 @@ CASES = {
     "commits-2": "commits beside 2 readers",
     "commits-4": "commits beside 4 readers",
     "writers-2": "commits of 2 writers together",
-    "mixed-rate": "4 threads, each 19 queries of one node to a write",
+    "mixed-rate": "4 threads, each with 19 one-node queries per write",
     "mixed-read-50": "the median of these queries, with their pins",
     "mixed-read-99": "99 of 100 of them take no longer",
     "mixed-read-max": "the longest of them",

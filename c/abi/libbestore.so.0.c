@@ -268,6 +268,7 @@ HELPER(uint32_t, bes_cursor_value, const bes_cursor *, bes_attribute *, uint8_t 
 NUMBER(BES_FORM_TEXT, 0)
 NUMBER(BES_FORM_NUMBER, 1)
 NUMBER(BES_FORM_PATTERN, 2)
+CALL(bes_apply_change, bes_pass *, const bes_operation *, size_t, const uint8_t *, size_t, uint64_t *)
 
 int main(void)
 {

@@ -1,7 +1,7 @@
-/* Batches as bytes, in the format that KEPT.md of bestore describes. */
+/* Batches as bytes, in the format that bestore's KEPT.md describes. */
 #include "kinds.h"
 
-/* Where bytes are written, and how many there are so far. Those beyond the room are only counted. */
+/* The array for the written bytes, and how many bytes there are so far. Bytes that don't fit are only counted. */
 typedef struct sink {
     uint8_t *bytes;
     size_t room;
@@ -15,7 +15,7 @@ static void put_bytes(sink *to, const uint8_t *bytes, size_t length)
             to->bytes[to->count] = bytes[i];
 }
 
-/* Writes the low `length` bytes of a number, the lowest first. */
+/* Writes the low `length` bytes of a number, starting with the lowest. */
 static void put_number(sink *to, uint64_t number, size_t length)
 {
     for (size_t i = 0; i < length; i++, number >>= 8) {
@@ -29,13 +29,13 @@ static bool has_code(uint64_t kind)
     return kind == BES_SET || kind == BES_MAKE_INDEX;
 }
 
-/* Whether the bytes have a part. */
+/* Returns whether a part lies within the bytes. */
 static bool has_part(size_t count, uint32_t at, uint32_t length)
 {
     return at <= count && length <= count - at;
 }
 
-/* Why the format doesn't hold an operation, or BES_OK. */
+/* Returns the error if the format can't hold an operation, otherwise BES_OK. */
 static uint32_t unwritable(const bes_operation *it, size_t parts_count)
 {
     if (!has_part(parts_count, it->name_at, it->name_length) || !has_part(parts_count, it->value_at, it->value_length))
@@ -90,14 +90,14 @@ uint32_t bes_operations_to_bytes(const bes_operation *operations, size_t operati
     return BES_OK;
 }
 
-/* Bytes that are read, and how many were. */
+/* Bytes to read, and how many have been read. */
 typedef struct source {
     const uint8_t *bytes;
     size_t length;
     size_t at;
 } source;
 
-/* Reads a number of `length` bytes, the lowest first, if it isn't cut off. */
+/* Reads a number of `length` bytes, stored lowest byte first, unless the number is cut off. */
 static bool take_number(source *from, size_t length, uint64_t *number)
 {
     if (from->length - from->at < length)
@@ -109,7 +109,7 @@ static bool take_number(source *from, size_t length, uint64_t *number)
     return true;
 }
 
-/* Reads a length of one byte, and copies as many bytes to the parts, if they aren't cut off. */
+/* Reads a one-byte length, and copies that many bytes to the parts, unless they are cut off. */
 static bool take_part(source *from, sink *parts, uint32_t *at, uint32_t *length)
 {
     uint64_t count = 0;
@@ -125,14 +125,14 @@ static bool take_part(source *from, sink *parts, uint32_t *at, uint32_t *length)
     return true;
 }
 
-/* Goes back to where a part begins that has an error. */
+/* Returns the error, and moves back to the beginning of the invalid part. */
 static uint32_t wrong_at(source *from, size_t begin, uint32_t error)
 {
     from->at = begin;
     return error;
 }
 
-/* Reads what an operation does, and its node. After an error the source is at the part that has it. */
+/* Reads an operation's kind and its node. After an error the source is at the invalid part. */
 static uint32_t take_head(source *from, bes_operation *it)
 {
     uint64_t kind = 0;
@@ -145,7 +145,7 @@ static uint32_t take_head(source *from, bes_operation *it)
     return kind <= BES_UNSET && !take_number(from, 8, &it->node) ? BES_BAD_PART : BES_OK;
 }
 
-/* Reads the value of an operation that sets one. */
+/* Reads the value of a BES_SET operation. */
 static bool take_value(source *from, bes_operation *it, sink *parts)
 {
     if (bes_is_number_code(it->code))
@@ -153,7 +153,7 @@ static bool take_value(source *from, bes_operation *it, sink *parts)
     return take_part(from, parts, &it->value_at, &it->value_length);
 }
 
-/* Reads an operation. After an error the source is at the part that has it. */
+/* Reads an operation. After an error the source is at the invalid part. */
 static uint32_t take_operation(source *from, bes_operation *it, sink *parts)
 {
     uint64_t code = 0;
@@ -176,7 +176,7 @@ static uint32_t take_operation(source *from, bes_operation *it, sink *parts)
     return it->kind == BES_SET && !take_value(from, it, parts) ? BES_BAD_PART : BES_OK;
 }
 
-/* Reads the beginning and the number of operations. After an error the source is at the byte that has it. */
+/* Reads the format's first bytes and the number of operations. After an error the source is at the invalid byte. */
 static uint32_t take_beginning(source *from, uint64_t *count)
 {
     for (; from->at < 4; from->at++)

@@ -1,21 +1,21 @@
-/* Positions in the order of an index, made of a value and a node and read back. */
+/* Positions in an index's order: made from a value and a node, and read back. */
 #include "kinds.h"
 
 #include <string.h>
 
-/* How many bytes a number of this type code takes in an index's key; 0 if its values aren't numbers. */
+/* Returns how many bytes a number with this type code takes in an index's key; 0 if the code's values aren't numbers. */
 static size_t key_size(uint32_t code)
 {
     return bits_of(code) / 8;
 }
 
-/* What is added to a number in a key of an index, so that the bytes are in the order of the numbers. */
+/* Returns what to add to a number in an index's key, so that the bytes sort as the numbers do. */
 static uint64_t key_shift(uint32_t code)
 {
     return is_signed(code) ? (uint64_t)1 << (bits_of(code) - 1) : 0;
 }
 
-/* Writes the low bytes of a number, the high one first. */
+/* Writes a number's low bytes, starting with the highest of these. */
 static void put_high_first(uint8_t *bytes, uint64_t number, size_t length)
 {
     for (size_t at = length; at > 0; number >>= 8)
@@ -30,7 +30,7 @@ static uint64_t take_high_first(const uint8_t *bytes, size_t length)
     return number;
 }
 
-/* Why no key of an index has this value, or BES_OK. */
+/* Returns the error if no index key can have this value, otherwise BES_OK. */
 static uint32_t unkeyable(const bes_attribute *value, const void *bytes)
 {
     uint64_t shifted = value->number + key_shift(value->code);

@@ -1,4 +1,4 @@
-/* What is known of each error. */
+/* What is known about each error. */
 #include "bestore.h"
 
 typedef struct meaning {
@@ -118,7 +118,7 @@ static const meaning meanings[] = {
     /* surface.toml: end */
 };
 
-/* What is known about an error, or NULL. */
+/* Returns the entry for an error, or NULL if the number is unknown. */
 static const meaning *meaning_of(uint32_t error)
 {
     for (size_t i = 0; i < sizeof meanings / sizeof *meanings; i++)

@@ -1,4 +1,4 @@
-/* What an index holds: how many pairs, and the attributes that were set before it was made. */
+/* Counts an index's pairs, and sets attributes again that were set before the index was made. */
 #include "kinds.h"
 
 #include <string.h>
@@ -33,16 +33,16 @@ uint32_t bes_pairs(bes_pass *pass, const char *name, uint64_t *count)
     return bes_query_items(pass, items, 3, bytes, 1 + index->name_length, &none, 0, count);
 }
 
-/* What reindex_some does: the index, and the nodes from which on. */
+/* State for reindex_some: the index, and the node to start from. */
 typedef struct reindexing {
     const char *name;
     uint32_t code;
     uint64_t from;
-    uint64_t after; /* where to go on, or 0 after the last node */
+    uint64_t after; /* where to continue, or 0 after the last node */
     uint64_t count;
 } reindexing;
 
-/* Sets again the attributes of up to 64 nodes. */
+/* Sets the index's attribute again on up to 64 nodes. */
 static uint32_t reindex_some(bes_pass *pass, bes_batch *batch, uint64_t next, void *with)
 {
     reindexing *it = (reindexing *)with;

@@ -1,12 +1,12 @@
-/* Texts that are put into a query or a value, and a caret under an error. */
+/* Prepares texts for use in a query or a value, and prints a caret under an error. */
 #include "bestore.h"
 
 #include <string.h>
 
-/* A call of the library that writes a text made of another one. */
+/* A library call that makes a text from another text. */
 typedef uint32_t made_text(const uint8_t *text, size_t length, uint8_t *bytes, size_t room, uint64_t *count);
 
-/* Writes what a call makes of a text, cut to the room with its zero byte. */
+/* Writes the text that a call makes from a text, with a zero byte, cut to `room` bytes. */
 static size_t put_text(made_text *call, const char *text, char *out, size_t room)
 {
     uint64_t count = 0;
@@ -28,7 +28,8 @@ size_t bes_any_case(const char *text, char *out, size_t room)
     return put_text(bes_any_case_bytes, text, out, room);
 }
 
-/* How many bytes the character of UTF-8 at the front of a text has, or 0 if no character begins there. A zero byte is none. */
+/* Returns how many bytes the UTF-8 character at the start of a text has, or 0 if no character begins there. A zero byte isn't a
+ * character. */
 static size_t character(const char *text, size_t length)
 {
     unsigned char first = length > 0 ? (unsigned char)text[0] : 0, second = length > 1 ? (unsigned char)text[1] : 0;
@@ -61,7 +62,7 @@ size_t bes_to_utf8(const char *text, size_t length, char *out, size_t room)
     return at;
 }
 
-/* How many columns the characters of UTF-8 take before a byte offset, one for each. */
+/* Returns how many columns the UTF-8 characters before a byte offset take, at one column each. */
 static size_t columns_of(const char *text, size_t bytes)
 {
     size_t columns = 0;

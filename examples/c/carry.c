@@ -1,5 +1,5 @@
-/* A process that runs for long: two threads write letters, more than the journal of one store takes. When a store takes no more, its
- * state is carried on to a new one, and the threads go on there. A snapshot of the first store can still be read. */
+/* A long-running process: two threads write more letters than one store's journal can hold. When a store is full, its state is carried to
+ * a new store, and the threads continue there. A snapshot of the first store can still be read. */
 #include "bestore.h"
 #include <pthread.h>
 #include <stdio.h>
@@ -7,15 +7,15 @@
 
 enum { WRITERS = 2, LETTERS = 500, COMMITS = 500 };
 
-/* The writers' passes, and where they wait for a new store. */
+/* The writers' passes, and what they wait on for a new store. */
 typedef struct office {
     bes_pass passes[WRITERS];
-    bes_pass first; /* of the first store, pinned to its last snapshot */
+    bes_pass first; /* a pass of the first store, pinned to that store's last snapshot */
     pthread_mutex_t lock;
     pthread_cond_t moved;
     int at_work; /* how many writers have letters left */
-    int waiting; /* how many of these wait for a new store */
-    int stores;  /* how many there were */
+    int waiting; /* how many of these writers wait for a new store */
+    int stores;  /* how many stores there were */
 } office;
 
 typedef struct writer {
@@ -32,7 +32,7 @@ static void stop_at(const char *what, uint32_t error)
     }
 }
 
-/* Makes a new store what the pinned snapshot is. */
+/* Writes the pinned snapshot's state into a new store. */
 static void carry_on(bes_pass *old, bes_pass *next)
 {
     bes_batch batch;
@@ -65,7 +65,7 @@ static void move(office *it)
     pthread_cond_broadcast(&it->moved);
 }
 
-/* Waits for a new store, as the others do; the last one to come makes it. */
+/* Waits for a new store, as the other writers do; the last writer to arrive makes it. */
 static void wait_for_store(office *it)
 {
     pthread_mutex_lock(&it->lock);
@@ -77,7 +77,7 @@ static void wait_for_store(office *it)
     pthread_mutex_unlock(&it->lock);
 }
 
-/* Has no letters left. If all others wait, they wait for nobody now. */
+/* Ends a writer that has no letters left. If all other writers are waiting, nobody else would make the new store. */
 static void go_home(office *it)
 {
     pthread_mutex_lock(&it->lock);
@@ -94,7 +94,7 @@ static uint32_t letter_from(bes_pass *pass, bes_batch *batch, uint64_t next, voi
     return error != BES_OK ? error : bes_batch_set_text(batch, next, "MAIL:from", name);
 }
 
-/* A write for each letter, and once more in the next store if this one takes none. */
+/* Writes each letter by itself, and writes it again in the next store if this store is full. */
 static void *write_letters(void *arg)
 {
     writer *it = arg;
@@ -109,7 +109,7 @@ static void *write_letters(void *arg)
     return NULL;
 }
 
-/* How many letters there are in the pinned snapshot that meet the query. */
+/* Returns how many letters in the pinned snapshot match the query. */
 static unsigned long long letters(bes_pass *pass, const char *query)
 {
     uint64_t count = 0;

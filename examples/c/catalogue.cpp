@@ -2,8 +2,8 @@
 //
 //     catalogue FOLDER QUERY..      e.g. catalogue ~/music 'size>1000000 && kind==audio'
 //
-// A file that can't be read is passed over. Files that the store has no room for are counted, and the program returns 1 then. A query
-// with an error is shown with a caret under it.
+// A file that can't be read is skipped. Files that don't fit in the store are counted, and the program then returns 1. A query with an
+// error is printed with a caret under the error.
 #include "bestore.hpp"
 #include <cstdio>
 #include <exception>
@@ -30,7 +30,7 @@ std::string kind_of(const fs::path &path)
     return found == kinds.end() ? "other" : found->second;
 }
 
-// One file: a node and its attributes, in one write. A file's name may have any bytes, and a text has UTF-8.
+// Files one node with its attributes, in one write. A file name may have any bytes, but a text must be UTF-8.
 void write_file(bestore::Pass &pass, const fs::path &path)
 {
     struct stat about;
@@ -45,7 +45,7 @@ void write_file(bestore::Pass &pass, const fs::path &path)
     });
 }
 
-// Returns how many files there are, and how many of them the store has no room for.
+// Returns how many files there are, and how many of these don't fit in the store.
 std::pair<std::size_t, std::size_t> write_folder(bestore::Pass &pass, const fs::path &folder)
 {
     std::size_t files = 0, left = 0;
@@ -69,7 +69,7 @@ std::pair<std::size_t, std::size_t> write_folder(bestore::Pass &pass, const fs::
     return {files, left};
 }
 
-// The query's text is of the caller, so its errors are printed and not thrown. Returns whether there was none.
+// The caller supplies the query's text, so errors in the text are printed, not thrown. Returns whether there was no error.
 bool print(bestore::Pin &pin, const char *query)
 {
     try {

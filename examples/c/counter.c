@@ -20,8 +20,8 @@ static void stop_at(const char *what, uint32_t error)
     }
 }
 
-/* Makes a letter, which gets the number next, and adds one to the count of the snapshot. If another write comes between, bes_change
- * calls it again, with the next snapshot. */
+/* Makes a letter, which gets the number next, and adds one to the snapshot's count. If another write comes in between, bes_change calls
+ * this function again, with the next snapshot. */
 static uint32_t file_letter(bes_pass *pass, bes_batch *batch, uint64_t next, void *with)
 {
     const clerk *it = with;

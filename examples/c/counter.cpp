@@ -10,7 +10,7 @@ constexpr int letters = 1000;
 const bestore::Attribute<std::string> from{"MAIL:from"};
 const bestore::Attribute<std::int64_t> count{"letters"};
 
-// Returns the letter's node. If another write comes between, the function runs again, on the next snapshot.
+// Returns the letter's node. If another write comes in between, the function runs again, on the next snapshot.
 bestore::Node file_letter(bestore::Pass &pass, const char *name)
 {
     const auto [number, letter] = pass.change([&](bestore::Change &change) {

@@ -1,4 +1,4 @@
-/* A first program of the library for C: files a letter, asks who wrote, and prints the nodes that were found. */
+/* A first program of the library for C: files a letter, runs a query for its sender, and prints the nodes that match. */
 #include "bestore.h"
 #include <stdio.h>
 
@@ -10,7 +10,7 @@ static uint32_t letter_from_ann(bes_pass *pass, bes_batch *batch, uint64_t next,
     return error != BES_OK ? error : bes_batch_set_text(batch, next, "MAIL:from", "ann");
 }
 
-/* Opens a store with a letter from Ann in it, and pins the snapshot that has it. */
+/* Opens a store, files a letter from Ann, and pins the snapshot that contains the letter. */
 static uint32_t file_letter(bes_pass *pass)
 {
     uint64_t number = 0;

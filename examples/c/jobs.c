@@ -1,17 +1,17 @@
-/* A queue: threads claim one job each, by a change, until none is left. No two claim the same one. */
+/* A queue: threads claim one job at a time, each in a change, until no job is left. No two threads claim the same job. */
 #include "bestore.h"
 #include <pthread.h>
 #include <stdio.h>
 
 enum { JOBS = 200, WORKERS = 4 };
 
-/* A thread's handle, and what it has claimed. */
+/* A thread's handle, and the jobs that the thread has claimed. */
 typedef struct worker {
     bes_pass pass;
     bes_prepared waiting;
     pthread_t thread;
     uint32_t error;
-    uint64_t job; /* the last one that it claimed, or 0 */
+    uint64_t job; /* the last job that the thread claimed, or 0 */
     uint64_t claimed[JOBS];
     size_t count;
 } worker;
@@ -54,7 +54,7 @@ static uint32_t add_jobs(bes_pass *pass)
     return error;
 }
 
-/* Gives a worker a handle of its own and the query. */
+/* Gives a worker its own handle and the query. */
 static uint32_t equip(bes_pass *pass, worker *it)
 {
     uint64_t place = 0;

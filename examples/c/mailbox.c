@@ -2,9 +2,9 @@
  *
  *     mailbox FILE QUERY..      e.g. mailbox letters.mbox 'MAIL:from=="*ann*"'
  *
- * One thread writes a node for each mail; a second follows the first query meanwhile, each time in one snapshot. The other queries are
- * asked once all mails are there. A mail that the store has no room for ends the reading: the queries find those before it, and the
- * program returns 1. */
+ * One thread writes a node for each mail; meanwhile a second thread follows the first query, each time in one snapshot. The other queries
+ * run once all mails are written. If a mail doesn't fit in the store, reading stops: the queries find the mails before it, and the program
+ * returns 1. */
 #include "bestore.h"
 #include <pthread.h>
 #include <stdio.h>
@@ -28,7 +28,7 @@ typedef struct watch {
     size_t found;
 } watch;
 
-/* Refreshes the query again and again until the last write was seen, and counts the mails that came. */
+/* Refreshes the query until it has seen the last write, and counts the mails that came. */
 static void *watcher(void *arg)
 {
     watch *it = arg;
@@ -53,7 +53,7 @@ static void *watcher(void *arg)
     return NULL;
 }
 
-/* What is kept of a mail. A header has any bytes, and any length: a text has those that a value may have. */
+/* The fields that are kept for a mail. A header may have any bytes and any length; a text has only what a value may have. */
 typedef struct mail {
     char texts[TEXTS][256];
     bool has_text[TEXTS];
@@ -64,14 +64,14 @@ static const char *const headers[TEXTS][2] = {
     {"From: ", "MAIL:from"}, {"To: ", "MAIL:to"}, {"Subject: ", "MAIL:subject"}
 };
 
-/* The text of a header line after its name, or NULL if it has another name. */
+/* Returns a header line's text after its name, or NULL if the line has another name. */
 static const char *after(const char *line, const char *name)
 {
     size_t length = strlen(name);
     return strncmp(line, name, length) == 0 ? line + length : NULL;
 }
 
-/* The seconds since 1970 of a date as "Mon, 3 Mar 2025 09:12:00 +0000", or -1 if it isn't one. */
+/* Returns the seconds since 1970 for a date such as "Mon, 3 Mar 2025 09:12:00 +0000", or -1 if the text isn't a date. */
 static int64_t seconds(const char *date)
 {
     static const char months[] = "JanFebMarAprMayJunJulAugSepOctNovDec";
@@ -91,7 +91,7 @@ static int64_t seconds(const char *date)
     return ((days * 24 + hour) * 60 + minute - zone / 100 * 60 - zone % 100) * 60 + second;
 }
 
-/* Keeps what a header line says. The first line of a name counts. */
+/* Keeps a header line's contents. Only the first line with each name counts. */
 static void read_header(mail *it, const char *line)
 {
     const char *date = after(line, "Date: ");
@@ -106,7 +106,7 @@ static void read_header(mail *it, const char *line)
     }
 }
 
-/* Makes the node of a mail, which gets the number next. */
+/* Makes a mail's node, which gets the number next. */
 static uint32_t make_mail(bes_pass *pass, bes_batch *batch, uint64_t next, void *with)
 {
     const mail *it = with;
@@ -122,7 +122,7 @@ static uint32_t make_mail(bes_pass *pass, bes_batch *batch, uint64_t next, void 
     return error;
 }
 
-/* Reads a line, without its end and what it has beyond the room. A zero byte becomes a blank. Returns whether there is one. */
+/* Reads a line without its line end, cut to the array's size. A zero byte becomes a blank. Returns whether there is a line. */
 static bool read_line(FILE *file, char *line, size_t room)
 {
     size_t length = 0;
@@ -136,7 +136,7 @@ static bool read_line(FILE *file, char *line, size_t room)
     return true;
 }
 
-/* Writes the mails up to the first that the store refuses. Returns the error, and in *number that of the last write. */
+/* Writes the mails up to the first that the store refuses. Returns the error, and puts the last write's number into *number. */
 static uint32_t read_mails(bes_pass *pass, FILE *file, uint64_t *mails, uint64_t *number)
 {
     char line[4096] = "";

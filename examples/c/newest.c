@@ -1,10 +1,10 @@
-/* The newest 20 letters of a mailbox, and then the next 20. A letter that comes in between moves no other one to another page. */
+/* The newest 20 letters of a mailbox, and then the next 20. A letter that arrives in between doesn't move others to another page. */
 #include "bestore.h"
 #include <stdio.h>
 
 enum { PAGE = 20 };
 
-/* Files a letter with this subject, and a minute after the last one. */
+/* Files a letter with this subject, one minute after the last letter. */
 static uint32_t file_letter(bes_pass *pass, bes_batch *batch, uint64_t next, void *minute_of)
 {
     int64_t minute = *(int64_t *)minute_of;
@@ -36,7 +36,7 @@ static void print_subject(bes_pass *pass, uint64_t letter)
         printf("%.*s", (int)subject.length, (const char *)text);
 }
 
-/* Prints a page in the pinned snapshot, and moves the cursor to where the next one begins. */
+/* Prints a page in the pinned snapshot, and moves the cursor to where the next page begins. */
 static uint32_t print_page(bes_pass *pass, bes_prepared *letters, bes_cursor *cursor)
 {
     bes_name when;

@@ -1,10 +1,10 @@
-"""The newest 20 letters of a mailbox, and then the next 20. A letter that comes in between moves no other one to another page."""
+"""The newest 20 letters of a mailbox, and then the next 20. A letter that arrives in between doesn't move others to another page."""
 
 import bestore
 
 
 def file_letters(store, first, count):
-    """Files letters to ann and bob in turn, one each minute."""
+    """Files letters to ann and bob in turn, one every minute."""
     def file(change):
         letter = change.new()
         change[letter]["MAIL:to"] = "ann" if minute % 2 == 0 else "bob"

@@ -1,4 +1,4 @@
-"""Queries whose text a server has read. They need no library."""
+"""Queries whose text a server has parsed. They don't need the library."""
 
 from __future__ import annotations
 
@@ -11,7 +11,7 @@ from .queries import Prepared, prepare
 
 
 class AskedQuery(LockOwner, Prepared):
-    """A prepared query of servers' stores. It keeps the text, which each server parses again."""
+    """A prepared query for servers' stores. It keeps the text, which each server parses again."""
 
     source: str
 
@@ -29,7 +29,7 @@ class AskedQuery(LockOwner, Prepared):
         return f"<query {self.source!r} of servers' stores>"
 
     def close(self) -> None:
-        """Closes the query. Nothing else is given up."""
+        """Closes the query, which holds nothing else."""
         self._is_open = False
         self._seen = set()
 
@@ -41,7 +41,7 @@ class AskedQuery(LockOwner, Prepared):
 
     @property
     def text(self) -> str:
-        """The canonical text, for which the library is loaded."""
+        """Returns the canonical text, for which the library is loaded."""
         with prepare(self._asked_text()) as prepared:
             return prepared.text
 
@@ -52,6 +52,6 @@ class AskedQuery(LockOwner, Prepared):
 
     @property
     def names(self) -> List[str]:
-        """The names that are compared, each once, from left to right."""
+        """Returns the names that are compared, each once, from left to right."""
         self._asked_text()
         return list(self._named)

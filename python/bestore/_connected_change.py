@@ -13,7 +13,7 @@ from .versions import Version
 
 
 class ConnectedChange(Change):
-    """A change on a version of a server."""
+    """A change on a version of a server's store."""
 
     def __init__(self, snapshot: Version, check_kinds: bool, volume: Optional[int], has_volumes: bool) -> None:
         super().__init__(snapshot)
@@ -24,7 +24,7 @@ class ConnectedChange(Change):
         self._kinds: Optional[Dict[str, int]] = None
         self._made: Set[int] = set()
         self._removed: Set[int] = set()
-        self._set: Dict[int, Dict[str, Optional[Encoded]]] = {}  # what was set, and None for what was removed
+        self._set: Dict[int, Dict[str, Optional[Encoded]]] = {}  # the values that were set, and None for removed attributes
 
     @property
     def _count(self) -> int:
@@ -34,8 +34,8 @@ class ConnectedChange(Change):
         return self._batch
 
     def _collecting(self, node: Optional[int] = None) -> Batch:
-        """The batch, for one more operation, on this node if one is given. Raises `OtherVolume` if the node isn't in the
-        volume of the earlier operations."""
+        """Returns the batch, for adding one more operation: on `node`, if it is given. Raises `OtherVolume` if the node
+        isn't in the volume that the earlier operations name."""
         if not self._snapshot._is_pinned:
             raise NotPinned()
         if len(self._batch) >= MOST_OPERATIONS:
@@ -48,7 +48,7 @@ class ConnectedChange(Change):
         return self._batch
 
     def _first_new(self) -> int:
-        """The first node that the change makes."""
+        """Returns the number of the first node that the change makes."""
         if self._volume is not None:
             return self._snapshot._next_in(self._volume)
         node = self.next_node
@@ -86,7 +86,7 @@ class ConnectedChange(Change):
             raise kind_mismatch(name, kind, index)
 
     def _indexed(self) -> Dict[str, int]:
-        """The kinds of the indices, once the collected operations are done."""
+        """Returns the indices' kinds as they are after the collected operations."""
         if self._kinds is None:
             self._kinds = dict(self.indices())
         return self._kinds

@@ -6,28 +6,15 @@ from typing import Callable, Dict, List, Optional, Tuple
 
 from . import _saved_errors
 from ._surface import SERVER_MEANINGS, ErrorClass, ErrorNumber
-from .errors import BadCursor, Error, NotCovered, NotReached, NoVolume, OtherVolume, PartialIndex, Refusal, refusal
+from .errors import BadCursor, Error, NotCovered, NotReached, NoVolume, OtherVolume, PartialIndex, Refusal, _OfPath, refusal
 
 
-class ServerError(Error):
-    """Every error of a connection is one of these, except those that the library also has."""
-
-    def __init__(self, path: str, *others: object) -> None:
-        Exception.__init__(self, path, *others)  # and not OSError's, which would take the parameters as its own
-        self.path = path
-        """The server's socket."""
-
-    @property
-    def summary(self) -> str:
-        """What went wrong, without the socket."""
-        return "the server can't be used"
-
-    def __str__(self) -> str:
-        return f"{self.path}: {self.summary}"
+class ServerError(_OfPath):
+    """The base class for errors from a connection, except errors that the library also has."""
 
 
 class NoServer(ServerError, ConnectionError):
-    """No server can be reached at the socket. The system's error is the `__cause__`."""
+    """No server can be reached at the socket. The system's error is in `__cause__`."""
 
     error_class = ErrorClass.GONE
 
@@ -73,7 +60,7 @@ class BrokenConnection(ServerError):
 
 
 class Disconnected(BrokenConnection, ConnectionError):
-    """The server closed the connection, or has ended, or an earlier call broke the connection."""
+    """The server closed the connection or has terminated, or an earlier call broke the connection."""
 
 
 class TimedOut(BrokenConnection, TimeoutError):
@@ -85,7 +72,7 @@ class ProtocolError(BrokenConnection):
 
 
 class LineTooLong(ServerError):
-    """The request has more than 1 MiB. It was not sent."""
+    """The request is larger than 1 MiB. It wasn't sent."""
 
     def __init__(self, path: str, length: int) -> None:
         super().__init__(path, length)
@@ -111,7 +98,7 @@ class Unavailable(ServerError):
 
 
 class ServerRefusal(ServerError):
-    """The server refused a request for a reason of its own, and did nothing."""
+    """The server refused a request for a reason that isn't a library error, and did nothing."""
 
     def __init__(self, path: str, name: str, message: str, error_class: Optional[ErrorClass] = None) -> None:
         super().__init__(path, name, message)
@@ -182,18 +169,18 @@ _REFUSALS = {kind.__name__: kind for kind in (
 
 
 def _class_of(name: str) -> ErrorClass:
-    """The class of a server's own error. If the error is unknown, nothing says that the same request may succeed later."""
+    """Returns the class of a server's own error. If the error is unknown, nothing says that the same request may succeed later."""
     known = SERVER_MEANINGS.get(name)
     return ErrorClass.MINE if known is None else known.error_class
 
 
 def _said_class(details: Dict[str, object]) -> Optional[ErrorClass]:
-    """The class that the server gives, if it is one that is known here."""
+    """Returns the class that the server gives, if this package knows that class."""
     said = details.get("class")
     return next((it for it in ErrorClass if it.value == said), None)
 
 
-# What goes with a library error, by its number, and what the call takes a list of.
+# The detail that comes with a library error, by the error's number, and what the call takes a list of.
 _CARRIED: Dict[int, Tuple[str, Optional[str]]] = {
     ErrorNumber.BUSY: ("pass", None), ErrorNumber.FULL: ("oldest", None), ErrorNumber.CONFLICT: ("found", None),
     ErrorNumber.SYNTAX: ("offset", None), ErrorNumber.BAD_PATTERN: ("offset", None),
@@ -203,7 +190,7 @@ _CARRIED: Dict[int, Tuple[str, Optional[str]]] = {
 
 
 def _number(details: Dict[str, object], key: str) -> Optional[int]:
-    """A number that goes with an error."""
+    """Returns a number that comes with an error."""
     found = details.get(key)
     return found if isinstance(found, int) else None
 
@@ -222,7 +209,7 @@ _OF_VOLUMES: Dict[str, Callable[[Dict[str, object]], Error]] = {
 
 
 def _of_library(number: int, details: Dict[str, object], query: Optional[str]) -> Refusal:
-    """The error of the library with this number."""
+    """Returns the library error with this number."""
     key, listed = _CARRIED.get(number, ("", None))
     carried = details.get(key)
     refused = refusal(number, carried if isinstance(carried, int) else None, query, listed)
@@ -237,7 +224,7 @@ def _of_library(number: int, details: Dict[str, object], query: Optional[str]) -
 
 
 def error_of(path: str, details: Dict[str, object], query: Optional[str] = None) -> Error:
-    """The exception for an error in the protocol's form. `query` is the text that was asked."""
+    """Returns the exception for an error in the protocol's form. `query` is the text of the query that was run."""
     number, name, message = details.get("number"), str(details.get("name")), str(details.get("message"))
     if isinstance(number, int):
         return _of_library(number, details, query)

@@ -1,4 +1,4 @@
-"""The queries of a version of a server's store: answers by number, pages in an order, and any nodes, in as many replies as it takes."""
+"""Queries on a version of a server's store: answers by number, pages in an order, and any nodes, in as many replies as are needed."""
 
 from __future__ import annotations
 
@@ -18,7 +18,7 @@ _Result = TypeVar("_Result")
 
 MOST_NAMES = 64
 """The names of a request for columns."""
-_ALL = 2**64 - 1  # nodes, or more than any store has
+_ALL = 2**64 - 1  # nodes, which is more than any store has
 _MOST_OF_A_PAGE = 50_000  # nodes of a reply
 
 
@@ -28,18 +28,18 @@ class QueriedVersion(Version):
     @property
     @abstractmethod
     def _features(self) -> Tuple[str, ...]:
-        """What this server has that older ones lack."""
+        """Returns this server's features that older servers lack."""
 
     @abstractmethod
     def _ask(self, command: str, parameters: JSON, read: Callable[[JSON], _Result], query: Optional[str] = None) -> _Result:
-        """Makes a call on the pass while it has this pin."""
+        """Makes a call on the pass, if the pass still has this pin."""
 
     def _takes(self, parameter: str) -> bool:
-        """Whether the server takes this parameter of a query. Older ones don't."""
+        """Returns whether the server takes this query parameter. Older servers don't."""
         return parameter in self._features
 
     def _ask_query(self, command: str, asked: Query, text: str, others: JSON, read: Callable[[JSON], _Result]) -> _Result:
-        """Asks something about a query. `text` is what is sent for it."""
+        """Asks the server something about a query, sending `text` as the query."""
         try:
             return self._ask(command, {"query": text, **others}, read, asked if isinstance(asked, str) else None)
         except NotCovered as error:
@@ -48,7 +48,7 @@ class QueriedVersion(Version):
             raise TooLong(query=text) from None
 
     def _named(self, error: NotCovered, asked: Query, text: str) -> NotCovered:
-        """The error of a query that needs another index, with the place that the server gave."""
+        """Returns the error for a query that needs another index, with the position that the server gave."""
         if isinstance(asked, tuple) or error.missing is None:
             named = self._not_covered(asked)
             named.volume = error.volume
@@ -57,7 +57,7 @@ class QueriedVersion(Version):
         return error
 
     def hints(self, query: Asked) -> List[Hint]:
-        """As in a store of this process. The server reads the query's text."""
+        """Works as in a store in this process. The server parses the query's text."""
         if not self._takes("text"):
             return super().hints(query)
         compared = self._ask_query("text", query, _text_of(query), {}, read_comparisons)
@@ -77,8 +77,8 @@ class QueriedVersion(Version):
         return nodes
 
     def _part(self, first: int, limit: int, had: int) -> JSON:
-        """The parameters of a page from a number on, after this many nodes have been read. Without a limit, the reply has as
-        many as fit on a line."""
+        """Returns the parameters for a page that begins at the number `first`, after `had` nodes have been read.
+        Without a limit, the reply has as many nodes as fit on a line."""
         parameters: JSON = {"from": first} if first else {}
         if limit < _ALL:
             parameters["limit"] = min(limit - had, _MOST_OF_A_PAGE)
@@ -119,7 +119,7 @@ class QueriedVersion(Version):
 
     def _pages(self, asked: Asked, order: Order, after: Optional[Cursor], limit: Optional[int], others: JSON,
                read: Callable[[JSON], List[_Item]]) -> Page[_Item]:
-        """A page in an order, read in as many replies as it takes."""
+        """Returns a page in an order, read in as many replies as it takes."""
         encoded(order.by)
         parameters: JSON = {"by": order.by, **({"descending": True} if order.descending else {}), **others}
         items: List[_Item] = []
@@ -132,11 +132,11 @@ class QueriedVersion(Version):
             room = _MOST_OF_A_PAGE if limit is None else min(limit - len(items), _MOST_OF_A_PAGE)
             position = {} if cursor is None else {"after": str(cursor)}
             more, cursor = self._ask_order(asked, order, text, {**parameters, **position, "limit": room}, read_page)
-        assert cursor is not None  # since a limit is at least 1
+        assert cursor is not None  # because a limit is at least 1
         return Page(items, more, cursor)
 
     def _ask_order(self, asked: Asked, order: Order, text: str, others: JSON, read: Callable[[JSON], _Result]) -> _Result:
-        """Asks for a page. If the index is missing, the error names those that exist."""
+        """Asks for a page. If the index is missing, the error names the indices that exist."""
         try:
             return self._ask_query("query", asked, text, others, read)
         except NoIndex as error:
@@ -150,7 +150,7 @@ class QueriedVersion(Version):
 
 
 def _text_of(asked: Query) -> str:
-    """The text to send for a query. Items are sent as their canonical text."""
+    """Returns the text to send for a query. Items are sent as their canonical text."""
     if isinstance(asked, str):
         encoded_query(asked)
         return asked

@@ -1,4 +1,4 @@
-"""A connection to a server: requests and replies, each a line, and the lines that are pushed between them."""
+"""A connection to a server: requests and replies, each on a line, and the lines that the server pushes between them."""
 
 from __future__ import annotations
 
@@ -20,20 +20,20 @@ from .errors import Error
 _Result = TypeVar("_Result")
 
 _ROOM = 1 << 16  # how many bytes are received at a time
-_AGAIN = 0.01  # seconds from one try to connect to the next
-_LONGEST = 2_000_000.0  # seconds; the system's clocks end after some more, and a longer time is without an end
+_AGAIN = 0.01  # seconds from one attempt to connect to the next
+_LONGEST = 2_000_000.0  # seconds; the system's clocks don't go much further, so a longer time means no limit
 _CLOSED = "the server closed the connection"
 _INTERRUPTED = "an earlier call was interrupted"
 _CLOSING = ("LineTooLong", "Timeout")  # errors after which the server closes the connection
 
 
 def _limited(timeout: Optional[float]) -> Optional[float]:
-    """A time in the form that system calls accept."""
+    """Returns a timeout in the form that system calls accept."""
     return None if timeout is None or timeout > _LONGEST else timeout
 
 
 def _socket_to(path: str, timeout: Optional[float]) -> socket.socket:
-    """A socket that is connected. Connecting waits up to this many seconds, and later each of its calls."""
+    """Returns a connected socket. Connecting waits up to `timeout` seconds, and so does each later call on the socket."""
     connected = socket.socket(socket.AF_UNIX, socket.SOCK_STREAM)
     try:
         connected.settimeout(timeout)
@@ -54,7 +54,7 @@ def _socket_to(path: str, timeout: Optional[float]) -> socket.socket:
 
 
 def _connects(connected: socket.socket, path: str) -> bool:
-    """Connects, unless as many connections as the system allows are already waiting for the server."""
+    """Connects, unless the server's queue of waiting connections is full. Returns whether it connected."""
     try:
         connected.connect(path)
     except BlockingIOError:
@@ -63,7 +63,7 @@ def _connects(connected: socket.socket, path: str) -> bool:
 
 
 def peer_user(connected: socket.socket) -> int:
-    """The user that the server was running as when it began to listen."""
+    """Returns the user that the server was running as when it began to listen."""
     credentials = struct.Struct("iII")  # the process, the user and the group
     user: int = credentials.unpack(connected.getsockopt(socket.SOL_SOCKET, socket.SO_PEERCRED, credentials.size))[1]
     return user
@@ -78,7 +78,7 @@ def _check_user(connected: socket.socket, path: str) -> None:
 
 
 def _can_receive(connected: socket.socket, until: Optional[float]) -> bool:
-    """Whether something can be received before this time, or at all."""
+    """Returns whether something can be received before the time `until`, or at any time if `until` is None."""
     polled = select.poll()
     polled.register(connected, select.POLLIN)
     return bool(polled.poll(None if until is None else max(until - time.monotonic(), 0) * 1000))
@@ -88,7 +88,7 @@ class Connection:
     """A connection, for one call at a time.
 
     Once a call has been interrupted, or a line can't be read, nobody knows which line comes next, so the connection is
-    closed. An interrupt while nothing is coming leaves it open."""
+    closed. An interrupt while nothing is coming leaves the connection open."""
 
     def __init__(self, path: SocketPath, timeout: Optional[float], take_push: Callable[[JSON], None]) -> None:
         self.path, self._timeout, self._take_push = path.path, _limited(timeout), take_push
@@ -97,7 +97,7 @@ class Connection:
             _check_user(self._socket, self.path)
         self._reason = "the connection is closed"  # why there is no socket
         self._last = 0  # the number of the last request
-        self._received, self._searched = bytearray(), 0  # bytes that were received, and how many of them have no end of a line
+        self._received, self._searched = bytearray(), 0  # received bytes, and how many of them contain no line end
         _open.add(self)
 
     @property
@@ -106,7 +106,7 @@ class Connection:
         return self._socket is not None
 
     def fileno(self) -> int:
-        """The descriptor of the socket."""
+        """Returns the socket's descriptor."""
         return self._live_socket().fileno()
 
     def _live_socket(self) -> socket.socket:
@@ -128,7 +128,7 @@ class Connection:
             dropped.close()
 
     def _fail(self, error: Exception, may_be_done: bool = False) -> NoReturn:
-        """Closes the connection, and raises why."""
+        """Closes the connection, and raises an error that says why."""
         failed: Type[BrokenConnection] = Disconnected
         if isinstance(error, socket.timeout) and self._timeout is not None:
             failed, reason = TimedOut, f"no reply within {self._timeout:g} seconds"
@@ -145,7 +145,7 @@ class Connection:
 
     def ask(self, command: str, parameters: JSON, read: Callable[[JSON], _Result], is_write: bool = False,
             query: Optional[str] = None) -> _Result:
-        """Sends a request, and returns what `read` makes of its reply. `query` is the text that errors show."""
+        """Sends a request, and returns what `read` makes of the reply. `query` is the text that errors show."""
         connected = self._live_socket()
         self._last += 1
         line = encode_request(self._last, command, parameters)
@@ -159,7 +159,7 @@ class Connection:
             reply = self._reply(connected, query)
             if "ok" in reply:
                 return read(reply["ok"])
-        except Error as error:  # which the server sends before it closes the connection
+        except Error as error:  # the server sends this error before it closes the connection
             self.drop(str(error))
             raise
         except (OSError, EOFError, ArithmeticError, LookupError, TypeError, ValueError) as error:
@@ -170,12 +170,12 @@ class Connection:
         raise error_of(self.path, reply["error"], query)
 
     def _reply(self, connected: socket.socket, query: Optional[str]) -> JSON:
-        """The reply to the last request. Lines that are pushed before it are taken."""
+        """Returns the reply to the last request. Takes lines that are pushed before the reply."""
         until, is_late = None if self._timeout is None else time.monotonic() + self._timeout, False
         while True:
             line = self._take_line()
             while line is None:
-                if is_late and not _can_receive(connected, until):  # the first call waits by itself
+                if is_late and not _can_receive(connected, until):  # the first call does its own waiting
                     raise socket.timeout
                 line, is_late = self._receive(connected.recv(_ROOM)), True
             reply = decode_line(line)
@@ -184,7 +184,7 @@ class Connection:
             self._take_other(reply, query)
 
     def _receive(self, received: bytes) -> Optional[bytes]:
-        """Stores what was received, and returns a line if there is one."""
+        """Stores what was received, and returns a line if one is complete."""
         if not received:
             raise EOFError(f"{_CLOSED} within a line" if self._received else _CLOSED)
         if not self._received and received.find(b"\n") == len(received) - 1:
@@ -193,7 +193,7 @@ class Connection:
         return self._take_line()
 
     def _take_line(self) -> Optional[bytes]:
-        """The next line, if it was received."""
+        """Returns the next line, if it has been received."""
         if not self._received:
             return None
         end = self._received.find(b"\n", self._searched) + 1
@@ -208,8 +208,8 @@ class Connection:
         return line
 
     def _take_other(self, line: JSON, query: Optional[str]) -> None:
-        """Takes a line that isn't the reply to the last request: one that was pushed, or an error after which the server
-        closes the connection."""
+        """Takes a line that isn't the reply to the last request: a line that was pushed, or an error after which the
+        server closes the connection."""
         if "id" not in line and isinstance(line.get("watch"), int):
             self._take_push(line)
             return
@@ -221,8 +221,8 @@ class Connection:
         raise error_of(self.path, error, query)
 
     def receive_pushes(self, timeout: Optional[float]) -> bool:
-        """Takes what was pushed. If there is nothing, waits up to this many seconds, or without an end. Returns whether a line
-        came."""
+        """Takes what was pushed. If nothing was pushed, waits up to `timeout` seconds, or forever if `timeout` is None.
+        Returns whether a line came."""
         connected = self._live_socket()
         timeout = _limited(timeout)
         until = None if timeout is None else time.monotonic() + timeout
@@ -254,7 +254,7 @@ _open: "WeakSet[Connection]" = WeakSet()
 
 
 def _drop_in_child() -> None:
-    """A forked child closes its copies of the sockets, so that the server sees when the parent closes them."""
+    """In a forked child, closes the child's copies of the sockets, so that the server sees when the parent closes its sockets."""
     for connection in list(_open):
         connection.drop("the connection belongs to the process that this one was forked from")
 

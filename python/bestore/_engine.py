@@ -20,7 +20,7 @@ class HandleOwner(_native.Handle, Owner):
 
     @property
     def _pointer(self) -> Any:
-        """The handle, in the form that ctypes calls take."""
+        """Returns the handle in the form that ctypes calls take."""
         return ctypes.byref(Handle.from_address(self._address))
 
     @property
@@ -29,22 +29,22 @@ class HandleOwner(_native.Handle, Owner):
         return bool(Handle.from_address(self._address).live)
 
     def _give_up(self, call: Callable[..., int]) -> None:
-        """Makes a call that ends the use of the handle. A forked child leaves that to its parent."""
+        """Makes a call that ends the use of the handle. A forked child leaves that call to its parent."""
         if not self._is_dead:
             self._call(call)
 
 
 class NativeBatch(_native.Batch, Batch):
-    """A batch whose operations are kept by the extension."""
+    """A batch whose operations the extension keeps."""
 
     @property
     def _operations(self) -> List[Operation]:
-        """The operations, in the form that the library takes."""
+        """Returns the operations in the library's form."""
         return list((Operation * len(self)).from_buffer_copy(self._raw))
 
 
 def native(batch: Batch) -> NativeBatch:
-    """The batch as the extension takes it."""
+    """Returns the batch in the form that the extension takes."""
     if isinstance(batch, NativeBatch):
         return batch
     if not isinstance(batch, Batch):

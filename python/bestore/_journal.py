@@ -40,6 +40,6 @@ def _outcome(operation: Operation) -> str:
 
 
 def line_of(entry: Entry) -> str:
-    """The line of an entry."""
+    """Returns the line for an entry."""
     operations, outcomes = "; ".join(map(_operation, entry.operations)), "; ".join(map(_outcome, entry.operations))
     return f"{entry.number} by {entry.pass_number} {operations} -> {outcomes}\n"

@@ -1,4 +1,4 @@
-"""The shared object, as declared in bestore.h."""
+"""The shared object, with the declarations of bestore.h."""
 
 from __future__ import annotations
 
@@ -23,7 +23,7 @@ SONAME = "libbestore.so.0"
 
 
 class Handle(ctypes.Structure):
-    """A bes_pass, a bes_prepared, a bes_place or a bes_witness, which are alike."""
+    """A bes_pass, a bes_prepared, a bes_place or a bes_witness, which all have the same layout."""
 
     _fields_ = [("live", ctypes.c_bool), ("at", ctypes.c_void_p)]
 
@@ -130,7 +130,7 @@ class Compared(ctypes.Structure):
 
 
 def _arguments() -> dict[str, List[Any]]:
-    """The types of each call's parameters."""
+    """Returns the types of each call's parameters."""
     handle, word, size, text = ctypes.POINTER(Handle), ctypes.c_uint64, ctypes.c_size_t, ctypes.c_char_p
     words = ctypes.POINTER(ctypes.c_uint64)
     write = [handle, ctypes.POINTER(Operation), size, text, size]
@@ -195,8 +195,8 @@ def _arguments() -> dict[str, List[Any]]:
 
 
 def _path() -> str:
-    """The shared object: the one that BESTORE_LIBRARY names, the one inside the package, the one in c/ of the
-    repository, or one that the system finds."""
+    """Returns the path of the shared object: the file that BESTORE_LIBRARY names, the file inside the package, the file
+    in the repository's c/, or a file that the system finds."""
     here = os.path.dirname(os.path.abspath(__file__))
     named = os.environ.get("BESTORE_LIBRARY")
     if named:
@@ -208,7 +208,7 @@ def _path() -> str:
 
 
 def dotted(version: int) -> str:
-    """A version number of bes_version, as text."""
+    """Returns a version number from bes_version as text."""
     return f"{version // 1000000}.{version // 1000 % 1000}.{version % 1000}"
 
 
@@ -241,7 +241,7 @@ calls = _load()
 
 
 def addresses() -> dict[str, int]:
-    """Where the calls of the library are."""
+    """Returns the addresses of the library's calls."""
     return {name: ctypes.cast(getattr(calls, name), ctypes.c_void_p).value or 0 for name in _arguments()}
 
 
@@ -253,7 +253,7 @@ os.register_at_fork(after_in_child=_native.after_fork)
 
 
 def check(answer: int, carried: Optional[int] = None, query: Optional[str] = None, listed: Optional[str] = None) -> None:
-    """Raises the error that a call returned, if any: with the number that goes with it, the text of the query that
-    was asked, and what the call takes a list of."""
+    """Raises the error that a call returned, if any: with the number that comes with the error, the text of the query
+    that was run, and what the call takes a list of."""
     if answer != 0:
         raise refusal(answer, carried, query, listed)

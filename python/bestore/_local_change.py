@@ -1,4 +1,4 @@
-"""Changes to a store in this process: the library collects their operations, and reads attributes as these leave them."""
+"""Changes to a store in this process: the library collects their operations, and reads attributes as these operations leave them."""
 
 from __future__ import annotations
 
@@ -64,7 +64,7 @@ class LocalChange(Change):
         return self._snapshot._value(node, name)
 
     def _operations_on_nodes(self) -> List[Tuple[int, int, bytes]]:
-        """What the collected operations do on nodes: each with the node, and the name of the attribute."""
+        """Returns the collected operations on nodes, each with the node and the name of the attribute."""
         if self._count == 0:
             return []
         return [(kind, node, name) for kind, _, node, _, name, _ in self._collected()._parts() if kind <= UNSET]

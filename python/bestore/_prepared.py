@@ -18,7 +18,7 @@ _RAW = struct.Struct("@IIIQ")  # a bes_item: its kind, where its bytes are and h
 
 
 def _item(item: Item) -> Tuple[int, int, bytes]:
-    """An item's kind, number and bytes."""
+    """Returns an item's kind, number and bytes."""
     if isinstance(item, Operator):
         return item.value, 0, b""
     if isinstance(item, Name):
@@ -31,7 +31,7 @@ def _item(item: Item) -> Tuple[int, int, bytes]:
 
 
 def encode_items(items: Sequence[Item]) -> Tuple[bytes, bytes]:
-    """The items as the library takes them, and their bytes."""
+    """Returns the items in the library's form, and their bytes."""
     taken, texts = [], b""
     for item in items:
         kind, number, text = _item(item)
@@ -54,7 +54,7 @@ class PreparedQuery(HandleOwner, Prepared):
         self._known_check: Optional[int] = None  # of cursors
 
     def close(self) -> None:
-        """Releases the query, if it is still there."""
+        """Releases the query, if it hasn't been released."""
         self._give_up(calls.bes_release)
         self._seen = set()
 
@@ -101,7 +101,7 @@ def prepare(text: str) -> PreparedQuery:
 
 
 def prepare_items(*items: Item) -> PreparedQuery:
-    """As `queries.prepare_items`."""
+    """Like `queries.prepare_items`."""
     prepared, place = PreparedQuery(items=items), ctypes.c_uint64()
     taken, texts = encode_items(items)
     answer = calls.bes_prepare_items(taken, len(items), texts, len(texts), prepared._pointer, ctypes.byref(place))

@@ -1,4 +1,4 @@
-"""Query texts, through calls of the library: `language` describes these functions."""
+"""Query texts, through calls to the library: `language` describes these functions."""
 
 from __future__ import annotations
 
@@ -26,7 +26,7 @@ def any_case(text: str) -> str:
 
 
 def _made(call: Callable[..., int], text: str, times: int) -> str:
-    """The text that a call makes from another one; it has up to this many times the bytes."""
+    """Returns the text that a call makes from `text`; the result has up to `times` times as many bytes."""
     taken = encoded(text)
     room = times * len(taken)
     written, count = ctypes.create_string_buffer(room + 1), ctypes.c_uint64()
@@ -44,7 +44,7 @@ class Read(NamedTuple):
 
 
 def read(query: str) -> List[Read]:
-    """The comparisons of a query. A `QueryError` if the text isn't one."""
+    """Returns the comparisons in a query. Raises a `QueryError` if the text isn't a valid query."""
     text, counts, place = encoded_query(query), Counts(), ctypes.c_uint64()
     compared, room = (Compared * _MOST_COMPARISONS)(), 64 * _MOST_COMPARISONS + 4 * len(text)
     plain = ctypes.create_string_buffer(room)
@@ -63,7 +63,8 @@ def _read_back(it: Compared, text: bytes, plain: bytes) -> Read:
 
 
 def hints_in(query: str, indices: Mapping[str, Kind]) -> List[Hint]:
-    """The comparisons of a query that are never true in a store with these indices. A `QueryError` if the text isn't one."""
+    """Returns the comparisons in a query that are never true in a store with these indices. Raises a `QueryError` if the text isn't a valid
+    query."""
     found: List[Hint] = []
     for it in read(query):
         name, _, _, offset = it.comparison

@@ -1,4 +1,4 @@
-"""How damage to a store's file is found: by checksums of its rows, and by the number of its last entry, which is kept beside it.
+"""Finds damage to a store's file: by checksums of the rows, and by the number of the last entry, which is kept beside the file.
 
 docs/KEPT.md describes both.
 """
@@ -15,23 +15,23 @@ _ONE, _TWO, _THREE = struct.Struct("<Q"), struct.Struct("<QQ"), struct.Struct("<
 
 
 def of_about(what: str, number: int) -> int:
-    """The checksum of a row of the table `about`."""
+    """Returns the checksum of a row in the table `about`."""
     name = what.encode()
     return crc32(_ONE.pack(number), crc32(name, crc32(_ONE.pack(len(name)))))
 
 
 def of_state(place: int, batch: bytes) -> int:
-    """The checksum of a row of the table `state`."""
+    """Returns the checksum of a row in the table `state`."""
     return crc32(batch, crc32(_TWO.pack(place, len(batch))))
 
 
 def of_entry(number: int, by: int, batch: bytes) -> int:
-    """The checksum of a row of the table `entry`."""
+    """Returns the checksum of a row in the table `entry`."""
     return crc32(batch, crc32(_THREE.pack(number, by, len(batch))))
 
 
 def of_token(number: int, token: bytes, nodes: bytes) -> int:
-    """The checksum of a row of the table `token`."""
+    """Returns the checksum of a row in the table `token`."""
     return crc32(nodes, crc32(_ONE.pack(len(nodes)), crc32(token, crc32(_TWO.pack(number, len(token))))))
 
 
@@ -40,8 +40,8 @@ def _line(identity: int, number: int) -> bytes:
 
 
 class LastEntry:
-    """The number of a file's last entry, kept in a file of the same name with `-last`. SQLite leaves out everything after a
-    damaged frame of its WAL, and doesn't report that."""
+    """The number of a file's last entry, kept in a file of the same name with `-last`. SQLite leaves out everything
+    after a damaged frame in its WAL, and doesn't report the loss."""
 
     def __init__(self, path: str, identity: int) -> None:
         within = os.path.realpath(path)
@@ -49,7 +49,7 @@ class LastEntry:
         self._file: Optional[int] = None
 
     def read(self) -> int:
-        """The number, or 0 if it isn't known."""
+        """Returns the number, or 0 if it isn't known."""
         with suppress(OSError, ValueError, IndexError):
             with open(self._path, "rb") as file:
                 line = file.read()
@@ -64,13 +64,13 @@ class LastEntry:
             self.set(number)
 
     def set(self, number: int) -> None:
-        """The file has this entry now."""
+        """Records that the file now has this entry."""
         if self._file is not None:
             with suppress(OSError):  # less is known then
                 os.pwrite(self._file, _line(self._identity, number), 0)
 
     def close(self) -> None:
-        """To be called after the store's file was closed. The number isn't needed then, unless a WAL is left."""
+        """Call this after the store's file has been closed. The number is then no longer needed, unless a WAL is left."""
         file, self._file = self._file, None
         if file is not None:
             os.close(file)

@@ -1,44 +1,31 @@
-"""The errors of stores that are kept in a file."""
+"""Errors from stores that are kept in a file."""
 
 from __future__ import annotations
 
 from typing import TYPE_CHECKING, Optional
 
 from ._surface import ErrorClass
-from .errors import CommitsSpent, Error, Full, NoMemory
+from .errors import CommitsSpent, Error, Full, NoMemory, _OfPath
 
 if TYPE_CHECKING:
     import sqlite3
 
-# SQLite's codes, and its messages, which are all that Python has before 3.11.
+# SQLite's codes and its messages. Before Python 3.11, only the messages are available.
 _BUSY, _LOCKED, _NO_MEMORY, _READ_ONLY, _IO, _CORRUPT, _FULL, _CANT_OPEN, _NO_DATABASE = 5, 6, 7, 8, 10, 11, 13, 14, 26
 _CODES = {
     "database is locked": _BUSY, "database table is locked": _LOCKED, "database or disk is full": _FULL,
     "file is not a database": _NO_DATABASE, "database disk image is malformed": _CORRUPT, "disk I/O error": _IO,
     "attempt to write a readonly database": _READ_ONLY, "unable to open database file": _CANT_OPEN, "out of memory": _NO_MEMORY,
 }
-_OF_THE_SYSTEM = {_BUSY, _LOCKED, _NO_MEMORY, _READ_ONLY, _IO, _FULL, _CANT_OPEN, _NO_DATABASE}  # and not of what the file has
+_OF_THE_SYSTEM = {_BUSY, _LOCKED, _NO_MEMORY, _READ_ONLY, _IO, _FULL, _CANT_OPEN, _NO_DATABASE}  # not from the file's contents
 
 
-class SavedError(Error):
-    """Every error of a file is one of these."""
-
-    def __init__(self, path: str, *others: object) -> None:
-        super().__init__(path, *others)
-        self.path = path
-        """The file, or the socket of a server that keeps one."""
-
-    @property
-    def summary(self) -> str:
-        """What went wrong, without the file."""
-        return "the file can't be used"
-
-    def __str__(self) -> str:
-        return f"{self.path}: {self.summary}"
+class SavedError(_OfPath):
+    """The base class for errors from a store's file."""
 
 
 class Foreign(SavedError):
-    """The file belongs to another program. It stays as it is."""
+    """The file belongs to another program. It is left unchanged."""
 
     @property
     def summary(self) -> str:
@@ -46,7 +33,7 @@ class Foreign(SavedError):
 
 
 class Newer(SavedError):
-    """The file has a newer format. It stays as it is."""
+    """The file has a newer format. It is left unchanged."""
 
     def __init__(self, path: str, version: int, known: int) -> None:
         super().__init__(path, version, known)
@@ -61,7 +48,7 @@ class Newer(SavedError):
 
 
 class Held(SavedError):
-    """Another process has the file, or another store of this one."""
+    """Another process has the file open, or another store in this process has."""
 
     error_class = ErrorClass.RETRY
 
@@ -81,7 +68,7 @@ class DiskFull(SavedError):
 
 
 class NoFile(SavedError):
-    """The file of a volume is missing, but the file of a later one is there."""
+    """A volume's file is missing, but a later volume's file exists."""
 
     @property
     def summary(self) -> str:
@@ -89,7 +76,7 @@ class NoFile(SavedError):
 
 
 class Fewer(SavedError):
-    """A shelf can't be opened with fewer volumes than its folder has, or with none."""
+    """A shelf can't be opened with fewer volumes than its folder has, or without any volumes."""
 
     def __init__(self, path: str, found: int, wanted: int) -> None:
         super().__init__(path, found, wanted)
@@ -101,12 +88,12 @@ class Fewer(SavedError):
     @property
     def summary(self) -> str:
         if self.found == 0:
-            return "the folder has no volumes, and it isn't said how many to make"
+            return "the folder has no volumes; say how many to make"
         return f"the folder has {self.found} volumes, and can't be opened with {self.wanted}"
 
 
 class SqliteError(SavedError):
-    """Another SQLite error, which is the `__cause__`."""
+    """SQLite reported another error, which is in `__cause__`."""
 
     error_class = ErrorClass.GONE
 
@@ -116,7 +103,7 @@ class SqliteError(SavedError):
 
 
 class _AtPlace(SavedError):
-    """An error of a part of the file."""
+    """An error in one part of the file."""
 
     def __init__(self, path: str, reason: str, entry: Optional[int] = None, batch: Optional[int] = None) -> None:
         super().__init__(path, reason, entry, batch)
@@ -128,7 +115,7 @@ class _AtPlace(SavedError):
 
     @property
     def place(self) -> str:
-        """The part of the file."""
+        """The part of the file with the error."""
         if self.entry is not None:
             return f"entry {self.entry}"
         return "the state" if self.batch is None else f"batch {self.batch} of the state"
@@ -139,19 +126,19 @@ class _AtPlace(SavedError):
 
 
 class Differs(_AtPlace):
-    """The file has something that no store wrote. An error of the store or of the batch is the `__cause__`."""
+    """The file contains something that no store wrote. The error from the store or the batch is in `__cause__`."""
 
     error_class = ErrorClass.GONE
 
 
 class TooLarge(_AtPlace):
-    """What the file has doesn't fit the limits of the store, whose error is the `__cause__`."""
+    """The file's contents exceed the store's limits. The store's error is in `__cause__`."""
 
     error_class = ErrorClass.FULL
 
 
 class Damaged(_AtPlace):
-    """A part of the file isn't as it was written. If SQLite found it, its error is the `__cause__`."""
+    """A part of the file has changed since it was written. If SQLite found the damage, SQLite's error is in `__cause__`."""
 
     error_class = ErrorClass.GONE
 
@@ -175,7 +162,7 @@ class Damaged(_AtPlace):
 
 
 class CutOff(SavedError):
-    """The file ends earlier than it did: a frame of its WAL is damaged, or the WAL is missing."""
+    """The file ends earlier than it once did: a frame in its WAL is damaged, or the WAL is missing."""
 
     error_class = ErrorClass.GONE
 
@@ -194,7 +181,7 @@ class CutOff(SavedError):
 
 
 class NotSaved(SavedError):
-    """The write is in memory, and may be in the file or not. The error of the commit is the `__cause__`."""
+    """The write is in memory, and may or may not be in the file. The commit's error is in `__cause__`."""
 
     error_class = ErrorClass.GONE
 
@@ -210,8 +197,8 @@ class NotSaved(SavedError):
 
 
 class Stopped(SavedError):
-    """Nothing is saved any more, and nothing was written. The error of the commit that failed is the `__cause__`, or
-    there is none if the file was closed."""
+    """Saving has stopped, and nothing was written. The error from the commit that failed is in `__cause__`; if the file
+    was closed, there is no such error."""
 
     error_class = ErrorClass.GONE
 
@@ -221,7 +208,7 @@ class Stopped(SavedError):
 
 
 def _said(error: Optional[BaseException]) -> str:
-    """What went wrong, without the file."""
+    """Returns what went wrong, without naming the file."""
     summary = getattr(error, "summary", None)
     return str(error) if summary is None else str(summary)
 
@@ -232,7 +219,7 @@ def _code(error: sqlite3.Error) -> Optional[int]:
 
 
 def of_sqlite(path: str, error: sqlite3.Error) -> SavedError:
-    """The file's error for an SQLite error."""
+    """Returns the file's error for an SQLite error."""
     code = _code(error)
     if code in (_BUSY, _LOCKED):
         return Held(path)
@@ -245,14 +232,14 @@ def of_sqlite(path: str, error: sqlite3.Error) -> SavedError:
 
 def of_reading(path: str, error: sqlite3.Error, entry: Optional[int] = None, batch: Optional[int] = None,
                until: Optional[int] = None) -> SavedError:
-    """The error of a part of the file that SQLite can't read."""
+    """Returns the error for a part of the file that SQLite can't read."""
     if _code(error) in _OF_THE_SYSTEM:
         return of_sqlite(path, error)
     return Damaged(path, str(error), entry, batch, until)
 
 
 def refused(path: str, error: Error, entry: Optional[int] = None, batch: Optional[int] = None) -> SavedError:
-    """The file's error for an error of the store that repeats what the file has."""
+    """Returns the file's error for an error from the store that repeats the file's contents."""
     if isinstance(error, (Full, CommitsSpent, NoMemory)):
         return TooLarge(path, f"the file doesn't fit the limits of the store: {error}", entry, batch)
     return Differs(path, f"the file has something that no store wrote: {error}", entry, batch)

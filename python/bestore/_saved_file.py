@@ -19,7 +19,7 @@ FORMAT = 2
 """The version of the format."""
 _WITHOUT_CHECKSUMS = 1  # the version before, whose rows have none
 
-_LAST_NUMBER = 2**63 - 1  # of an entry: SQLite's integers end there
+_LAST_NUMBER = 2**63 - 1  # the greatest number of an entry: SQLite's integers go no further
 
 # The WAL is reused from its start after 1,000 pages, 4.1 MB, so the limit cuts off only what a large commit has left. The last
 # two statements take the lock.
@@ -32,7 +32,7 @@ _TABLES = (
     "CREATE TABLE entry (number INTEGER PRIMARY KEY, pass INTEGER NOT NULL, batch BLOB NOT NULL, checksum INTEGER)",
 )
 
-# The statements that add this many entries. All of them fit in the cache of the connection.
+# The statements that add this many entries. All of them fit in the connection's cache.
 _INSERTS = ["INSERT OR IGNORE INTO entry VALUES " + ", ".join(["(?, ?, ?, ?)"] * count) for count in range(65)]
 _INSERT_WITHOUT = "INSERT OR IGNORE INTO entry VALUES (?, ?, ?)"
 _WRONG_SUM = "its checksum doesn't fit"
@@ -52,12 +52,12 @@ class About(NamedTuple):
 
 def _make_private(path: str) -> None:
     """Makes the file if it isn't there, so that only the user may read it. SQLite gives the file with `-wal` the same mode."""
-    with suppress(OSError, ValueError):  # if it can't be made, opening it says why
+    with suppress(OSError, ValueError):  # if the file can't be made, opening it says why
         os.close(os.open(path, os.O_WRONLY | os.O_CREAT | os.O_EXCL, 0o600))
 
 
 class File:
-    """The file, which belongs to this process alone until `close`. One thread at a time uses it."""
+    """The file, which belongs only to this process until `close`. One thread at a time uses it."""
 
     _open: ClassVar[weakref.WeakSet[File]] = weakref.WeakSet()
 
@@ -67,9 +67,9 @@ class File:
         self._reading: List[sqlite3.Cursor] = []
         self._last: Optional[LastEntry] = None
         self.has_checksums = True
-        """Whether its rows have checksums. Those of the earlier format have none."""
+        """Whether the file's rows have checksums. Rows in the earlier format have none."""
         with self._translated():
-            # SQLite takes ":memory:" and an empty name for no file, and neither has a folder before it.
+            # SQLite doesn't treat ":memory:" or an empty name as a file, unless a folder is put in front.
             within = os.path.join(os.curdir, path)
             _make_private(within)
             self._connection = sqlite3.connect(within, timeout=0, isolation_level=None, check_same_thread=False)
@@ -82,7 +82,7 @@ class File:
 
     @contextmanager
     def _translated(self) -> Iterator[None]:
-        """Raises an SQLite error as an error of the file."""
+        """Raises an SQLite error as the file's error."""
         try:
             yield
         except sqlite3.Error as error:
@@ -100,7 +100,7 @@ class File:
         """Locks the file, checks whose it is, and makes the tables in an empty one, before it has a WAL that could lose them."""
         with self._translated():
             assert self._connection is not None
-            self._connection.text_factory = lambda text: None  # no column that is read has a text
+            self._connection.text_factory = lambda text: None  # none of the columns that are read contains text
             self._run("PRAGMA locking_mode = EXCLUSIVE")
             is_new = self._check_format()
             if is_new:
@@ -117,7 +117,7 @@ class File:
                 self._run(statement)
 
     def _set_identity(self) -> None:
-        """Tells this file from all others."""
+        """Gives the file its identity, which no other file has."""
         self._set_about(file=int.from_bytes(os.urandom(8), "little") >> 1)
 
     def _set_about(self, **numbers: int) -> None:
@@ -125,7 +125,7 @@ class File:
             self._run("INSERT OR REPLACE INTO about (what, number, checksum) VALUES (?, ?, ?)", what, number, of_about(what, number))
 
     def _check_format(self) -> bool:
-        """Whether the file is new. A file that belongs to another program, or has a newer format, is refused."""
+        """Returns whether the file is new. Refuses a file that belongs to another program or has a newer format."""
         has_tables = self._number("SELECT count(*) FROM sqlite_master") > 0
         application, version = self._number("PRAGMA application_id"), self._number("PRAGMA user_version")
         if application == APPLICATION and version > FORMAT:
@@ -139,8 +139,8 @@ class File:
 
     @contextmanager
     def _transaction(self) -> Iterator[None]:
-        """A transaction, which is committed at the end of a `with`, or rolled back at an exception. One that an earlier
-        exception left open is rolled back first."""
+        """Runs a transaction, which is committed at the end of the `with`, or rolled back after an exception. A
+        transaction that an earlier exception left open is rolled back first."""
         try:
             self._roll_back()
             self._run("BEGIN")
@@ -176,7 +176,7 @@ class File:
 
     @property
     def _checksum(self) -> str:
-        """The column of the checksums in a statement that reads rows."""
+        """Returns the checksum column for a statement that reads rows."""
         return "checksum" if self.has_checksums else "NULL"
 
     def check(self, last: int) -> None:
@@ -197,14 +197,15 @@ class File:
             raise Damaged(self.path, str(found).replace("\n", " "), until=last)
 
     def keep_last(self, last: int) -> None:
-        """From now on, also keeps the number of the last entry beside the file. It is this one now."""
+        """From now on, also keeps the number of the last entry beside the file. `last` is the present number."""
         if self.has_checksums:
             self._last = LastEntry(self.path, self._about("file"))
             self._last.begin(last)
 
     def commits_within(self, commits: int) -> int:
-        """How many of these transactions a store of this file may accept, so that there is a number for each entry. Counts
-        those that make the state. 0 if no number is left and the state is empty."""
+        """Returns how many of `commits` transactions a store from this file may accept, so that there is a number for
+        each entry. Includes the transactions that make the state. Returns 0 if no number is left and the state is
+        empty."""
         left = _LAST_NUMBER - self.about().entries
         if left >= commits:
             return commits
@@ -212,7 +213,7 @@ class File:
             return min(commits, left + int(self._number("SELECT count(*) FROM state")))
 
     def state(self) -> Iterator[Tuple[int, bytes]]:
-        """Each batch of the state, in their order, with its index."""
+        """Yields each batch of the state in order, with its index."""
         due, sql = 0, f"SELECT place, NULL, batch, {self._checksum} FROM state ORDER BY place"
         for place, batch in self._checked(sql, lambda place, _, batch: of_state(place, batch), lambda: {"batch": due}):
             if place != due:
@@ -221,7 +222,7 @@ class File:
             due += 1
 
     def entries(self, after: int) -> Iterator[Tuple[int, bytes]]:
-        """The batch of each entry after this one, by rising numbers."""
+        """Yields the number and the batch of each entry after this number, in ascending order."""
         sql = f"SELECT number, pass, batch, {self._checksum} FROM entry ORDER BY number"
         for number, batch in self._checked(sql, _sum_of, lambda: {"entry": after + 1, "until": after}):
             yield number, batch
@@ -229,7 +230,7 @@ class File:
 
     def _checked(self, sql: str, sum_of: Callable[[int, Any, bytes], Optional[int]],
                  place: Callable[[], Dict[str, int]]) -> Iterator[Tuple[int, bytes]]:
-        """The number and the batch of each row, if its checksum is that of the row. `place` is where the next one is, for errors."""
+        """Yields the number and the batch of each row, if the row's checksum fits. `place` is the position of the next row, for errors."""
         rows = self._rows(sql)
         while True:
             try:
@@ -246,11 +247,12 @@ class File:
     def _rows(self, sql: str) -> Iterator[Tuple[Any, ...]]:
         rows = self._run(sql)
         self._reading.append(rows)
-        for row in rows:  # `yield from` would close them, even after the connection
+        for row in rows:  # `yield from` would close the rows, even after the connection
             yield row
 
     def append(self, rows: Sequence[Row]) -> None:
-        """Adds the entries, all in one commit. One that is there already is the same, and stays."""
+        """Adds all entries in one commit. If the file already has an entry with the same number, the two are the same, and the old one
+        stays."""
         if self.has_checksums and len(rows) < len(_INSERTS):
             self._append_by_one_statement(rows)
         else:
@@ -264,7 +266,7 @@ class File:
             self._last.set(rows[-1][0])
 
     def _append_by_one_statement(self, rows: Sequence[Row]) -> None:
-        """Adds a few entries. The statement is a transaction of its own, so Python gives other threads the interpreter once."""
+        """Adds a few entries. The statement is its own transaction, so Python releases the interpreter to other threads only once."""
         assert self._connection is not None
         if self._connection.in_transaction:  # left open by an exception
             self._roll_back()
@@ -277,7 +279,7 @@ class File:
 
     def write_state(self, number: int, next_node: int, batches: Iterable[bytes]) -> None:
         """Replaces the old state, and the entries up to `number`, with this state, which contains them. After an error
-        the file is as it was."""
+        the file is unchanged."""
         with self._transaction():
             assert self._connection is not None
             self._run("DELETE FROM state")
@@ -324,7 +326,7 @@ class File:
 
 
 def _sum_of(number: Any, by: Any, batch: bytes) -> Optional[int]:
-    """The checksum that a row of the table `entry` should have. None if the row's values have other types."""
+    """Returns the checksum that a row in the table `entry` should have, or None if the row's values have the wrong types."""
     is_row = isinstance(number, int) and isinstance(by, int) and number >= 0 and by >= 0
     return of_entry(number, by, batch) if is_row else None
 

@@ -8,13 +8,13 @@ from typing import Iterator, List, Optional
 
 
 class Turn:
-    """A thread's place in the line: for a write, by its commit number, or for the file itself, without one."""
+    """A thread's turn in the queue: for a write, which has a commit number, or for the file itself, without a number."""
 
     __slots__ = ("number", "_lock")
 
     def __init__(self, number: Optional[int] = None) -> None:
         self.number = number
-        self._lock: Optional[threading.Lock] = None  # held until the thread may go on
+        self._lock: Optional[threading.Lock] = None  # held until the thread may continue
 
     def prepare(self) -> None:
         self._lock = threading.Lock()
@@ -25,18 +25,18 @@ class Turn:
         self._lock.acquire()
 
     def wake(self) -> None:
-        """Lets the thread go on. A second call does nothing."""
+        """Lets the thread continue. A second call has no effect."""
         if self._lock is not None and self._lock.locked():
             self._lock.release()
 
 
 class Line:
-    """Who has the file, and who is waiting for it. Each thread waits for a lock of its own, so a commit wakes only those
-    whose writes it has saved, and the one that gets the file next."""
+    """Who has the file, and who is waiting for it. Each thread waits for its own lock, so a commit wakes only the
+    threads whose writes it has saved, and the thread that gets the file next."""
 
     def __init__(self, saved: int) -> None:
         self.saved = saved
-        """The commit number up to which entries are in the file. Whoever has the file sets it."""
+        """The commit number up to which entries are in the file. The thread that has the file sets it."""
         self._mutex = threading.Lock()
         self._owner: Optional[Turn] = None
         self._askers: List[Turn] = []
@@ -44,7 +44,7 @@ class Line:
 
     @property
     def askers(self) -> int:
-        """How many wait for the file itself."""
+        """How many threads wait for the file itself."""
         return len(self._askers)
 
     @contextmanager
@@ -58,7 +58,7 @@ class Line:
             self.leave(turn)
 
     def take(self, turn: Turn) -> bool:
-        """Waits until the turn has the file, or its write is saved. Returns whether it has the file. `leave` has to follow, also
+        """Waits until the turn has the file, or its write is saved. Returns whether it has the file. `leave` has to follow, even
         after an interrupt."""
         with self._mutex:
             if turn.number is not None and turn.number <= self.saved:
@@ -72,15 +72,15 @@ class Line:
         return self._owner is turn
 
     def leave(self, turn: Turn) -> None:
-        """Ends a turn, or its wait: passes the file on, and wakes those whose writes are saved."""
+        """Ends a turn, or the wait for it: passes the file on, and wakes the threads whose writes are saved."""
         try:
             self._leave(turn)
-        except BaseException:  # an interrupt, which nobody else should wait for
+        except BaseException:  # an interrupt, for which nobody else should have to wait
             self._leave(turn)
             raise
 
     def _leave(self, turn: Turn) -> None:
-        """Like `leave`. After an interrupt it can be run again."""
+        """Does the work of `leave`. After an interrupt, it can be run again."""
         with self._mutex:
             if self._owner is turn:
                 self._owner = self._next(turn)
@@ -88,7 +88,7 @@ class Line:
                 self._wake(turn)
 
     def _next(self, turn: Turn) -> Optional[Turn]:
-        """Who has the file after this turn."""
+        """Returns the turn that has the file after this turn."""
         for other in self._askers:
             if other is not turn:
                 return other
@@ -98,7 +98,7 @@ class Line:
         return turn.number is not None and turn.number <= self.saved
 
     def _wake(self, gone: Optional[Turn] = None) -> None:
-        """Wakes those that can go on. They leave the line, and so does the turn that has ended."""
+        """Wakes the threads that can continue. Their turns leave the queue, and so does the turn that has ended."""
         owner, left = self._owner, []
         if owner is not None:
             owner.wake()

@@ -1,4 +1,4 @@
-"""Batches of a file, which are applied as they are read."""
+"""Batches from a file, which are applied as they are read."""
 
 from __future__ import annotations
 
@@ -27,8 +27,9 @@ class Repeater:
         self._operations = (RawOperation * MOST_OPERATIONS).from_buffer(self._room)
 
     def repeat(self, data: bytes) -> Tuple[List[int], List[int]]:
-        """Applies a batch given as bytes. Returns for each operation the node that it made, or 0: first according to the
-        bytes, then as made now. Raises what `Batch.from_bytes` and `Pass.apply` raise."""
+        """Applies a batch given as bytes. Returns two lists with, for each operation, the node that it made or 0: first
+        the nodes according to the bytes, then the nodes that were made now. Raises what `Batch.from_bytes` and
+        `Pass.apply` raise."""
         texts = data + _MORE
         kept = self._read(data, texts)
         if kept is None:
@@ -43,8 +44,8 @@ class Repeater:
         return kept, self._made[:count]
 
     def _read(self, data: bytes, texts: bytes) -> Optional[List[int]]:
-        """Reads a batch into the room. Returns the node that each operation made, or 0; or None for bytes that aren't a
-        batch."""
+        """Reads a batch into the buffer. Returns, for each operation, the node that it made or 0. Returns None if the
+        bytes aren't a valid batch."""
         if data[:len(BEGINNING)] != BEGINNING or not 1 <= texts[len(BEGINNING)] <= MOST_OPERATIONS:
             return None
         kept: List[int] = []
@@ -57,8 +58,8 @@ class Repeater:
         return kept if at == len(data) else None
 
     def _read_operation(self, texts: bytes, at: int, to: int, kept: List[int]) -> int:
-        """Reads an operation into the room, and adds the node that it made, or 0. Returns where it ends. Raises a
-        ValueError if it isn't one."""
+        """Reads an operation into the buffer, and adds the node that it made, or 0, to `kept`. Returns where the
+        operation ends. Raises a ValueError if the bytes aren't a valid operation."""
         kind = texts[at]
         made = node = name_at = length = code = number = value_at = value_length = 0
         if kind == SET or kind == UNSET:

@@ -1,4 +1,4 @@
-"""Changes to a store that has several volumes: all are read, and one is written."""
+"""Changes to a store that has several volumes: a change reads all volumes and writes one."""
 
 from __future__ import annotations
 
@@ -16,9 +16,9 @@ if TYPE_CHECKING:
 
 
 class ShelfChange(Change):
-    """A change on a version of all volumes. The first operation decides which of them is written, if the caller hasn't said so.
-    From then on a change of that one volume collects the operations, and takes the place of the volume's version, so reads see
-    it too."""
+    """A change on a version of all volumes. The first operation decides which volume is written, unless the caller has
+    named the volume. From then on, a change on that volume collects the operations and replaces the volume's version,
+    so reads see these operations too."""
 
     _snapshot: ShelfVersion
 
@@ -40,7 +40,7 @@ class ShelfChange(Change):
         return of_volume(self._within._collected(), self.volume)
 
     def _in(self, volume: int) -> Change:
-        """The change of this volume. `OtherVolume` if another one is written."""
+        """Returns the change on this volume. Raises `OtherVolume` if another volume is written."""
         if self.volume is None:
             self.volume = volume
         if volume != self.volume:
@@ -50,7 +50,7 @@ class ShelfChange(Change):
         return self._within
 
     def _begun(self, volume: int) -> Change:
-        """The change of this volume, with the index operations so far."""
+        """Returns the change on this volume, with the index operations so far."""
         if not self._snapshot._is_pinned:
             raise NotPinned()
         within = self._users[volume]._change_on(self._snapshot.volumes[volume], self._check_kinds)
@@ -62,7 +62,7 @@ class ShelfChange(Change):
         return within
 
     def _end(self) -> Tuple[int, Change]:
-        """The volume that is written, and its change. The snapshots of the others are unpinned."""
+        """Returns the volume that is written, and its change. Unpins the other volumes' snapshots."""
         assert self.volume is not None and self._within is not None
         for volume, version in enumerate(self._snapshot.volumes):
             if volume != self.volume:
@@ -70,7 +70,7 @@ class ShelfChange(Change):
         return self.volume, self._within
 
     def _of(self, node: int) -> Tuple[Change, int]:
-        """The change of a node's volume, and the number that the node has there. `NoNode` if there is no such volume."""
+        """Returns the change on a node's volume, and the node's number within that volume. Raises `NoNode` if there is no such volume."""
         volume, number = divmod(node_number(node), NUMBERS)
         if not 0 <= volume < len(self._users):
             raise NoNode(node)

@@ -1,4 +1,4 @@
-"""Where the socket of a server is. The server and all of its clients follow one rule, which is in docs/SERVER.md."""
+"""Where the socket of a server is. The server and all its clients follow one rule, which is in docs/SERVER.md."""
 
 from __future__ import annotations
 
@@ -17,7 +17,7 @@ class SocketPath:
 
     @classmethod
     def find(cls, named: Union[str, bytes, "os.PathLike[Any]", None] = None) -> SocketPath:
-        """The path that a parameter or an option names, otherwise the first of these: the path in BESTORE_SOCKET, unless that is
+        """Returns the path that a parameter or an option names, otherwise the first of these: the path in BESTORE_SOCKET, unless that is
         empty; bestore/socket in the folder of XDG_RUNTIME_DIR, unless that is empty or relative; /tmp/bestore-UID/socket, with the
         number of the effective user."""
         if isinstance(named, SocketPath):

@@ -28,12 +28,12 @@ _decode = json.JSONDecoder().decode
 
 
 def encode_request(number: int, command: str, parameters: JSON) -> bytes:
-    """A request as a line."""
+    """Returns a request as a line."""
     return _encode({"id": number, command: parameters}).encode() + b"\n"
 
 
 def decode_line(line: bytes) -> JSON:
-    """The JSON object on a line. A ValueError if there is none."""
+    """Returns the JSON object on a line. Raises a ValueError if the line isn't a JSON object."""
     try:
         found = _decode(line.decode())
     except RecursionError:
@@ -44,7 +44,7 @@ def decode_line(line: bytes) -> JSON:
 
 
 def _value(code: int, number: int, value: bytes) -> object:
-    """The value of an operation. `NoValue` if its kind can't hold it."""
+    """Returns the value in an operation. Raises `NoValue` if the kind can't hold the value."""
     kind, decoded_value = _kind(code), decode_value(code, number, value)
     if kind in RANGES and decoded_value not in RANGES[kind]:
         raise NoValue()
@@ -76,7 +76,7 @@ def _operation(kind: int, code: int, node: int, number: int, name: bytes, value:
 
 
 def operations_of(batch: Batch) -> List[List[object]]:
-    """The operations of a batch. Raises `NotUTF8`, `NoKind` or `NoValue`, with the first operation that can't be written."""
+    """Returns a batch's operations. Raises `NotUTF8`, `NoKind` or `NoValue`, with the first operation that can't be written."""
     written = []
     for place, parts in enumerate(batch._parts()):
         try:
@@ -105,7 +105,7 @@ def read_value(value: object) -> Typed:
 
 
 class Compared(NamedTuple):
-    """A comparison of a query's text, as a server reads it."""
+    """A comparison in a query's text, as a server reads it."""
 
     name: str
     value: str
@@ -122,17 +122,17 @@ def read_compared(one: JSON) -> Compared:
 
 
 def read_comparisons(ok: JSON) -> List[Compared]:
-    """The comparisons of a query's text."""
+    """Reads the comparisons in a query's text."""
     return [read_compared(one) for one in ok["comparisons"]]
 
 
 def read_row(row: List[object]) -> List[Optional[Value]]:
-    """The values of a node without their kinds, and None where there is none."""
+    """Reads a node's values without their kinds, with None where the node has no value."""
     return [value if value is None or isinstance(value, str) else read_value(value).value for value in row]
 
 
 def read_kind(name: str) -> Kind:
-    """A kind by its name."""
+    """Returns the kind with this name."""
     return _KINDS[name]
 
 
@@ -155,12 +155,12 @@ def read_operation(parts: List[Any]) -> Operation:
 
 
 def read_entry(entry: JSON) -> Entry:
-    """An entry of the journal."""
+    """Reads a journal entry."""
     return Entry(entry["commit"], entry["pass"], tuple(map(read_operation, entry["operations"])))
 
 
 def read_nodes(nodes: object) -> List[int]:
-    """A list of nodes."""
+    """Reads a list of nodes."""
     if not isinstance(nodes, list):
         raise ValueError("no list of nodes")
     return nodes

@@ -14,13 +14,13 @@ from .versions import Asked, Attributes, Query, Version
 
 
 class Change(Version):
-    """What the function of `Pass.change` gets: a snapshot to read, and room to collect up to 64 operations.
+    """What the function of `Pass.change` gets: a snapshot to read, which also collects up to 64 operations.
 
     Operations are only collected; they are written after the function has returned. A node that `new` made has its
-    number at once. `change[node]`, `get`, `kind`, `attributes` and `node in change` read the collected operations
+    number immediately. `change[node]`, `get`, `kind`, `attributes` and `node in change` read the collected operations
     first, and then the snapshot. Queries, lists of nodes, `count`, `pairs`, `indices` and `state` read only the
     snapshot. Refresh a live query outside a change, since the function may run again. The 65th operation is a
-    `BadCount`. A call that raises collects nothing, and what was collected before stays."""
+    `BadCount`. If a call raises, it collects nothing, and the operations collected before stay."""
 
     _shown: ClassVar[str] = "change"
 
@@ -34,16 +34,17 @@ class Change(Version):
 
     @abstractmethod
     def _collected(self) -> Batch:
-        """What was collected. New nodes have their numbers."""
+        """Returns the collected operations, in which new nodes have their numbers."""
 
     @property
     def room(self) -> int:
-        """How many operations may still be collected."""
+        """How many more operations can be collected."""
         return MOST_OPERATIONS - self._count
 
     @abstractmethod
     def new(self) -> int:
-        """Makes a node, and returns its number. With several volumes it is made in the volume of the change: see `Pass.change`."""
+        """Makes a node, and returns its number. With several volumes, the node is made in the volume that the change writes: see
+        `Pass.change`."""
 
     @abstractmethod
     def remove(self, node: int) -> None:
@@ -51,7 +52,7 @@ class Change(Version):
 
     @abstractmethod
     def set(self, node: int, name: str, value: Value, kind: Optional[int] = None) -> None:
-        """Sets an attribute, with the kind that `Batch.set` gives it. `WrongKind` if the index of that name takes
+        """Sets an attribute, with the same kind as `Batch.set`. Raises `WrongKind` if the index of that name takes
         values of another kind, unless the change was made with check_kinds=False."""
 
     @abstractmethod
@@ -60,8 +61,8 @@ class Change(Version):
 
     @abstractmethod
     def make_index(self, name: str, kind: int) -> None:
-        """Makes an index of this name, for values of this kind. It takes the attributes that are set from then on;
-        `Pass.reindex` sets the others again."""
+        """Makes an index of this name, for values of this kind. The index gets only attributes that are set from then
+        on; `Pass.reindex` adds earlier ones by setting them again."""
 
     @abstractmethod
     def remove_index(self, name: str) -> None:
@@ -71,7 +72,7 @@ class Change(Version):
         return self.columns(nodes, [name])[0]
 
     def __getitem__(self, node: int) -> ChangedAttributes:
-        """A node's attributes, which can be set and deleted like the items of a dict."""
+        """Returns a node's attributes, which can be set and deleted like the items of a dict."""
         return ChangedAttributes(self, node)
 
     # Calls that read only the snapshot.
@@ -147,6 +148,6 @@ class ChangedAttributes(Attributes, MutableMapping[str, Value]):
         self._version.set(self.node, name, value)
 
     def __delitem__(self, name: str) -> None:
-        """Removes an attribute. Raises `NoAttribute`, which is a KeyError, if there is none."""
+        """Removes an attribute. Raises `NoAttribute`, which is a KeyError, if the node has no such attribute."""
         self.__getitem__(name)
         self._version.unset(self.node, name)

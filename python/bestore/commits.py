@@ -11,31 +11,31 @@ PAUSE = 0.002
 
 
 class Waiter:
-    """A thread that waits for commits: it looks, and then waits for a commit that has come since `begin`.
+    """A thread that waits for commits: it looks, and then waits until a commit has come since `begin`.
 
-    It waits for a lock, which is released by whoever wakes it. Releasing takes no other lock, so a write may come anywhere: in a
-    signal handler, or while Python collects an object."""
+    It waits for a lock, which the waking thread releases. Releasing takes no other lock, so a write may happen anywhere: in
+    a signal handler, or while Python collects an object."""
 
     def __init__(self, most: Optional[float]) -> None:
         self._most, self._sleep = most, threading.Lock()
 
     def begin(self) -> None:
-        """To be called before each look: later commits then end the next wait."""
+        """Call this before each look: later commits then end the next wait."""
         self._sleep.acquire(blocking=False)
 
     def wake(self) -> None:
         """Ends the wait, or the next one."""
-        with suppress(RuntimeError):  # another commit has released it
+        with suppress(RuntimeError):  # another commit has released the lock
             self._sleep.release()
 
     def wait(self, left: Optional[float]) -> None:
-        """Waits for a commit, up to this many seconds, or without an end."""
+        """Waits for a commit, up to `left` seconds, or forever if `left` is None."""
         times = (time for time in (self._most, left, threading.TIMEOUT_MAX) if time is not None)
         self._sleep.acquire(timeout=max(min(times), 0))
 
 
 class Commits:
-    """The threads that wait for commits of a store. A pass of the store wakes them after each commit that it has made."""
+    """The threads that wait for commits in a store. After each of its commits, a pass of the store wakes these threads."""
 
     def __init__(self) -> None:
         self._lock = threading.RLock()
@@ -57,7 +57,7 @@ class Commits:
 
 @contextmanager
 def waiting(stores: Sequence[Commits], volumes: int) -> Iterator[Waiter]:
-    """A thread that waits for commits in any of these stores. If some volumes have no such list, it looks again from time to time."""
+    """Yields a waiter for commits in any of these stores. If some volumes have no such list, the waiter looks again from time to time."""
     waiter = Waiter(None if len(stores) == volumes else PAUSE)
     try:
         for store in stores:

@@ -6,15 +6,15 @@
 The server is bestored, and docs/SERVER.md describes it. A pass is a connection. Use these passes, versions, changes,
 batches and prepared queries just like those of `bestore.open`.
 
-**What differs.** A call takes a round trip. The server tries again at `Busy` and at `Full`, so `tries` changes nothing. It
-takes back a snapshot that is kept too long, and reads of it then raise `Expired`. `another` may be called in any thread.
-`meet` raises `Unavailable`. There are also `flush` and `compact`, and `watch` waits for what others write.
+**What differs.** A call takes a round trip. The server itself tries again at `Busy` and at `Full`, so `tries` has no effect. The
+server takes back a snapshot that is kept too long; reading that snapshot then raises `Expired`. `another` may be called in any
+thread. `meet` raises `Unavailable`. There are also `flush` and `compact`. `watch` waits for what others write.
 
-**Errors** are those of the library. Errors of the connection are subclasses of `ServerError`. Once a connection is broken,
-all later calls on its pass raise `Disconnected`; connect again then. If the broken call was a write, `may_be_done` says whether it may
-have been made.
+**Errors** are those of the library. Connection errors are subclasses of `ServerError`. Once a connection is broken, all later
+calls on its pass raise `Disconnected`, and you have to connect again. If the broken call was a write, `may_be_done` says whether
+it may have been made.
 
-**A forked child** has no connection: calls on its parent's passes raise `Forked`. It may make a connection of its own.
+**A forked child** has no connection: calls on its parent's passes raise `Forked`. The child can make its own connection.
 """
 
 from __future__ import annotations
@@ -68,7 +68,7 @@ TIMEOUT = 60.0
 _AGAIN = 0.05  # seconds after which a write is repeated
 _WORDS = 512  # of a page
 _MOST_WAITED = 30.0  # seconds that the server waits by itself
-_MOST_NODES = 1 << 14  # of such a request, so that its line isn't too long
+_MOST_NODES = 1 << 14  # in one such request, so that its line isn't too long
 
 
 class Server(NamedTuple):
@@ -79,7 +79,7 @@ class Server(NamedTuple):
     library: str
     """The version of its library."""
     run: str
-    """Another text each time the server starts. Commit numbers start again then."""
+    """A different text each time the server starts. Commit numbers then start again."""
     kept: str
     """When a write is in the server's file: at `each` write, `every` so often, or `no`."""
     pages: int
@@ -96,7 +96,7 @@ class Server(NamedTuple):
 
 
 def _read_server(hello: JSON) -> Tuple[Server, int]:
-    """What the server says, and the number of the pass."""
+    """Returns what the server says about itself, and the number of the pass."""
     limits = hello["limits"]
     server = Server(
         hello["server"], hello["library"], hello["run"], hello["kept"], limits["pages"], limits["passes"], limits["commits"],
@@ -135,7 +135,7 @@ class ConnectedVersion(QueriedVersion):
                     user._unpin()
 
     def _ask(self, command: str, parameters: JSON, read: Callable[[JSON], _Result], query: Optional[str] = None) -> _Result:
-        """Makes a call on the pass while it has this pin, and not a later one."""
+        """Makes a call on the pass, if the pass still has this pin and not a later one."""
         user = self._user
         user._check_process()
         with user._lock:
@@ -160,8 +160,9 @@ class ConnectedVersion(QueriedVersion):
         return self._nexts[volume]
 
     def refresh(self, prepared: Prepared) -> Tuple[List[int], List[int]]:
-        """As in a version of a store in this process, up to this version. All nodes of the query come through the socket,
-        and the program's memory has them until the query is closed. By `ConnectedPass.watch` only the changes come."""
+        """Works as in a version of a store in this process, up to this version. All nodes that match the query come
+        through the socket, and stay in the program's memory until the query is closed. With `ConnectedPass.watch`, only
+        the changes come through the socket."""
         return refreshed_by_all(prepared, self)
 
     def indices(self) -> Dict[str, Kind]:
@@ -200,7 +201,7 @@ class ConnectedVersion(QueriedVersion):
             done += len(rows)
 
     def _first_rows(self, nodes: List[int], names: List[str]) -> List[List[Optional[Value]]]:
-        """The values of the first of these nodes: as many as come in one reply."""
+        """Returns the values of the first nodes in this list: as many as come in one reply."""
         def read(ok: JSON) -> List[List[Optional[Value]]]:
             rows = [read_row(row) for row in ok["rows"]]
             if not 1 <= len(rows) <= len(nodes) or any(len(row) != len(names) for row in rows):
@@ -233,7 +234,7 @@ class ConnectedVersion(QueriedVersion):
 
 
 def _node_number(node: int) -> int:
-    """A node's number, which fits into 64 bits."""
+    """Returns a node's number, which fits into 64 bits."""
     number = node_number(node)
     if number not in RANGES[Kind.UINT64]:
         raise NoNode(number)
@@ -241,13 +242,13 @@ def _node_number(node: int) -> int:
 
 
 def _asked_node(node: int) -> int:
-    """A node's number in the form of a request: 0, which no node has, if it doesn't fit into 64 bits."""
+    """Returns a node's number as it is sent in a request. If the number doesn't fit into 64 bits, returns 0, which no node has."""
     number = node_number(node)
     return number if number in RANGES[Kind.UINT64] else 0
 
 
 def _asked_name(name: str) -> str:
-    """A name in the form of a request. `NotUTF8` if it has half of a surrogate pair."""
+    """Returns a name as it is sent in a request. Raises `NotUTF8` if the name has half of a surrogate pair."""
     if not isinstance(name, str):
         raise TypeError(f"{name!r} isn't a name: a name is a str")
     encoded(name)
@@ -272,7 +273,7 @@ def _read_attributes(ok: JSON) -> Dict[str, Typed]:
 
 
 def _in_volume(volume: Optional[int]) -> JSON:
-    """The volume parameter, if one is given. `NoVolume` if it can't be a volume."""
+    """Returns the volume parameter, if a volume is given. Raises `NoVolume` if the value can't be a volume."""
     if volume is not None and volume not in RANGES[Kind.UINT32]:
         raise NoVolume(volume, 0)
     return {} if volume is None else {"volume": volume}
@@ -298,16 +299,15 @@ def _read_journal(ok: JSON) -> Tuple[List[Entry], Optional[int]]:
 
 
 def _take_push(watches: "WeakValueDictionary[int, ConnectedWatch]", push: JSON) -> None:
-    """Hands a push to its watch, if there still is one. The connection has no reference to the pass, so that an unreferenced
-    pass is freed at once."""
+    """Hands a push to its watch, if that watch still exists. The connection has no reference to the pass, so an unreferenced pass
+    is freed immediately."""
     watch = watches.get(push["watch"])
     if watch is not None:
         watch._take(push)
 
 
 class ConnectedPass(LockOwner, ThreadPass):
-    """A pass of a server's store: a connection. Calls from several threads wait for each other, so give each thread a pass of
-    its own."""
+    """A pass of a server's store: a connection. Calls from several threads wait for each other, so give each thread its own pass."""
 
     def __init__(self, path: SocketPath, timeout: Optional[float], run: Optional[str] = None, repeat: Optional[float] = None) -> None:
         self._connection: Optional[Connection] = None
@@ -315,7 +315,7 @@ class ConnectedPass(LockOwner, ThreadPass):
         self._committed = 0
         self._is_asking = self._has_pin = self._is_left = False
         self._watches: "WeakValueDictionary[int, ConnectedWatch]" = WeakValueDictionary()
-        self._ended: List[int] = []  # watches that went, and that the server still has
+        self._ended: List[int] = []  # watches that are gone here but that the server still has
         self.path = path.path
         """The server's socket."""
         self._socket_path = path
@@ -337,8 +337,9 @@ class ConnectedPass(LockOwner, ThreadPass):
                 raise
 
     def _until_answered(self, call: Callable[[], _Result]) -> _Result:
-        """Makes a call that can safely be repeated. If the program has asked for that, makes it again when the connection fails or
-        the server can't keep writes for now, but not if a pin or a watch would be lost with the old connection."""
+        """Makes a call that can safely be repeated. If the program asked for repeats, makes the call again when the
+        connection fails or the server can't keep writes for now, but not if a pin or a watch would be lost with the old
+        connection."""
         repeats = self._repeat is not None and not self._has_pin and not self._watches
         until = time.monotonic() + (self._repeat or 0)
         while True:
@@ -365,7 +366,7 @@ class ConnectedPass(LockOwner, ThreadPass):
 
     def _ask(self, command: str, parameters: JSON, read: Callable[[JSON], _Result], is_write: bool = False,
              query: Optional[str] = None) -> _Result:
-        """Makes a call. `Closed` if the pass is."""
+        """Makes a call. Raises `Closed` if the pass is closed."""
         if self._is_dead:
             raise Forked()
         with self._lock:
@@ -373,11 +374,11 @@ class ConnectedPass(LockOwner, ThreadPass):
             try:
                 return connection.ask(command, parameters, read, is_write, query)
             finally:
-                self._is_asking = False  # here, as an interrupt may keep a call from being made
+                self._is_asking = False  # set here, because an interrupt may keep a call from being made
                 self._unpin_left()
 
     def _begin(self) -> Connection:
-        """The connection, for one call."""
+        """Returns the connection, for one call."""
         if self._connection is None:
             raise Closed()
         if self._is_asking:
@@ -391,7 +392,7 @@ class ConnectedPass(LockOwner, ThreadPass):
         return self._connection is not None and self._connection.is_open
 
     def _pin(self) -> Tuple[int, int, Tuple[int, ...], Tuple[int, ...]]:
-        """Pins. Returns the commit number, the next node, and both of each volume."""
+        """Pins the pass. Returns the commit number and the next node, and then both for each volume."""
         self._check_process()
         with self._lock:
             self._unpin_left()
@@ -402,15 +403,15 @@ class ConnectedPass(LockOwner, ThreadPass):
             return pinned
 
     def _unpin(self) -> None:
-        """Unpins, as the end of the connection also does."""
+        """Unpins the pass. The end of the connection does that too."""
         self._has_pin = False
         if self._is_open:
             with suppress(BrokenConnection):
                 self._ask("unpin", {}, lambda ok: None)
 
     def _leave(self) -> None:
-        """Takes over the pin of a version that is being destroyed. Python may collect it anywhere, even within a call on
-        this pass, which then unpins at its end."""
+        """Takes over the pin from a version that is being destroyed. Python may collect the version anywhere, even
+        during a call on this pass; that call then unpins the pass at its end."""
         if not self._is_dead:
             self._is_left = True
             self._unpin_left()
@@ -436,8 +437,9 @@ class ConnectedPass(LockOwner, ThreadPass):
         return self.server.volumes
 
     def another(self) -> ConnectedPass:
-        """A pass of the same store for another thread: a new connection. It may be called in any thread. Raises `NoPass`
-        if the server has as many clients as it allows; `NoServer`; or `Disconnected` if the server has been restarted since."""
+        """Returns a pass of the same store for another thread: a new connection. Any thread may call this. Raises
+        `NoPass` if the server has as many clients as it allows; `NoServer`; or `Disconnected` if the server has been
+        restarted since."""
         self._check_process()
         return ConnectedPass(self._socket_path, self._timeout, self.server.run, self._repeat)
 
@@ -511,7 +513,7 @@ class ConnectedPass(LockOwner, ThreadPass):
             raise BadCount()
         parameters: JSON = {"operations": operations_of(batch), **_in_volume(volume)}
         if expected is not None:
-            parameters["expected"] = expected if expected in RANGES[Kind.UINT64] else 2**64 - 1  # which no journal has
+            parameters["expected"] = expected if expected in RANGES[Kind.UINT64] else 2**64 - 1  # a number that no journal has
         if self._repeat is not None:
             parameters["token"] = uuid4().hex
             if expected is not None:
@@ -523,16 +525,16 @@ class ConnectedPass(LockOwner, ThreadPass):
         try:
             return self._until_answered(lambda: self._ask("batch", parameters, read, is_write=True))
         except LineTooLong:
-            batch.to_bytes()  # which raises what is wrong
+            batch.to_bytes()  # which raises an error if the batch isn't valid
             raise
 
     def journal(self, tries: int = TRIES) -> str:
         return "".join(map(line_of, self.journal_from()))
 
     def journal_from(self, number: int = 0, tries: int = TRIES, volume: Optional[int] = None) -> Iterator[Entry]:
-        """The entries of the journal after the first `number`, up to those that are there when the last page is read. So
-        `store.journal_from(version.number)` has what was written after a snapshot. A round trip reads a page of some
-        thousand entries."""
+        """Yields the journal entries after the first `number`, up to the last entry that exists when the last page is
+        read. So `store.journal_from(version.number)` yields what was written after a snapshot. Each round trip reads a
+        page of some thousand entries."""
         more: Optional[int] = max(operator.index(number), 0)
         while more is not None and more < 2**64:
             entries, more = self._ask("journal", {"from": more, **_in_volume(volume)}, _read_journal)
@@ -563,13 +565,12 @@ class ConnectedPass(LockOwner, ThreadPass):
         return self._ask("reach", parameters, lambda ok: tuple(ok.get("commits", (ok["commit"],))))
 
     def flush(self) -> None:
-        """Returns when everything written before the call is in the server's file. Raises `NotKept` if it has
-        none; `saved.Stopped` and `saved.NotSaved`."""
+        """Returns when everything written before the call is in the server's file. Raises `NotKept` if the server has
+        no file; `saved.Stopped` and `saved.NotSaved`."""
         self._ask("flush", {}, lambda ok: None)
 
     def compact(self) -> None:
-        """Writes the current snapshot into the server's file, replacing the state and the entries there. Errors
-        are those of `flush`."""
+        """Writes the current snapshot into the server's file, replacing the file's state and entries. The errors are those of `flush`."""
         self._ask("compact", {}, lambda ok: None)
 
     def prepare(self, text: str) -> Prepared:
@@ -587,9 +588,9 @@ class ConnectedPass(LockOwner, ThreadPass):
         return ConnectedWatch(self, query)
 
     def fileno(self) -> int:
-        """The descriptor of the socket, for `select` and event loops: if it is readable, something was pushed for a watch.
-        Before waiting for it, call `Watch.wait(0)` until that returns None: lines that were already received don't make it
-        readable."""
+        """Returns the socket's descriptor, for `select` and event loops: if the descriptor is readable, something was
+        pushed for a watch. Before you wait for it, call `Watch.wait(0)` until that call returns None: lines that were
+        already received don't make the descriptor readable."""
         self._check_process()
         with self._lock:
             if self._connection is None:
@@ -613,9 +614,9 @@ class ConnectedPass(LockOwner, ThreadPass):
 
 
 class ConnectedWatch(Watch):
-    """A watch whose changes the server pushes. Any call on the pass receives what was pushed, and the watch keeps it until it is
-    returned. The server disconnects a program that makes no call for half a minute while more is pushed than the socket can
-    hold.
+    """A watch whose changes the server pushes. Any call on the pass receives what was pushed, and the watch keeps these
+    changes until it returns them. The server disconnects a program that makes no call for half a minute while more is
+    pushed than the socket can hold.
 
     `Prepared` and `Version.refresh` work without pushes."""
 
@@ -624,8 +625,8 @@ class ConnectedWatch(Watch):
         self._user = user
         self._created: Set[int] = set()
         self._removed: Set[int] = set()
-        self._is_partial = self._is_new = False  # whether a push of the same commit is missing, and something is to be returned
-        self._last = 0  # the commit to which everything received so far leads
+        self._is_partial = self._is_new = False  # whether another push for the same commit is due, and whether there is something to return
+        self._last = 0  # the commit that everything received so far leads to
         self._error: Optional[Error] = None  # what has ended the watch
         self._number: Optional[int] = None
         parameters = {} if query is None else {"query": query}
@@ -663,13 +664,13 @@ class ConnectedWatch(Watch):
         came, went = set(read_nodes(push["created"])), set(read_nodes(push["removed"]))
         created, removed = self._created - went | came - self._removed, self._removed - came | went - self._created
         self._check_room(max(len(created), len(removed)))
-        # All at once, as an interrupt may come between two statements.
+        # All in one statement, because an interrupt may come between two statements.
         self._created, self._removed, self._last, self._is_new, self._is_partial = (
             created, removed, int(push["commit"]), True, bool(push.get("more")))
         return self._is_partial
 
     def _check_room(self, nodes: int) -> None:
-        """Raises a ValueError if the server has no room for this many nodes, each of which takes at least a word of a page."""
+        """Raises a ValueError if this many nodes don't fit in the server's store, where each node takes at least one word of a page."""
         pages = self._user.server.pages * self._user.server.volumes
         if nodes > pages * _WORDS:
             raise ValueError(f"the server pushed more nodes than its {pages:,} pages have room for")
@@ -680,12 +681,12 @@ class ConnectedWatch(Watch):
         return changes
 
     def _named(self, error: NotCovered) -> NotCovered:
-        """The error of a query that needs another index, with the names that there are."""
+        """Returns the error for a query that needs another index, with the names that have an index."""
         error.indices = tuple(self._user._ask("indices", {}, _read_indices))
         return error
 
     def _check(self) -> int:
-        """The number of the watch. Raises the error that ended it, or `Closed`."""
+        """Returns the number of the watch. Raises the error that ended the watch, or `Closed`."""
         if isinstance(self._error, NotCovered):
             raise self._named(self._error)
         if self._error is not None:
@@ -695,8 +696,9 @@ class ConnectedWatch(Watch):
         return self._number
 
     def refresh(self) -> Changes:
-        """What changed since a call on this watch last returned something, up to what reads of the pass see now: the current
-        snapshot, with everything that this pass has written or seen, or the one that it is pinned to. Takes a round trip."""
+        """Returns what changed since a call on this watch last returned something, up to what the pass's reads see now:
+        the snapshot that the pass is pinned to, or otherwise the current snapshot, with everything that this pass has
+        written or seen. Takes a round trip."""
         user = self._user
         user._check_process()
         with user._lock:
@@ -712,9 +714,10 @@ class ConnectedWatch(Watch):
             return self._returned()
 
     def wait(self, timeout: Optional[float] = None) -> Optional[Changes]:
-        """The changes that were pushed and haven't been returned yet. If there are none, waits for up to this many
-        seconds, or forever, and returns None if none came. With 0 it only takes what has arrived. If an error has ended the watch,
-        it is raised then, such as `NotCovered` after its index was removed. Other threads' calls on the pass wait meanwhile."""
+        """Returns the changes that were pushed and haven't been returned yet. If there are no such changes, waits for
+        up to `timeout` seconds, or forever if `timeout` is None, and returns None if no change came. If `timeout` is 0,
+        takes only what has already arrived. If an error has ended the watch, then raises that error, such as
+        `NotCovered` after the query's index was removed. Other threads' calls on the pass wait meanwhile."""
         user = self._user
         user._check_process()
         until = None if timeout is None else time.monotonic() + timeout
@@ -728,7 +731,7 @@ class ConnectedWatch(Watch):
             return self._returned()
 
     def close(self) -> None:
-        """Ends the watch, if it is there."""
+        """Ends the watch, if it hasn't ended."""
         user, number, self._number = self._user, self._number, None
         if number is not None and not user._is_dead:
             with suppress(BrokenConnection), user._lock:
@@ -742,17 +745,17 @@ def connect(path: Union[str, bytes, "os.PathLike[Any]", None] = None, timeout: O
     """Connects to the server at this socket, or at the one that `SocketPath.find` finds. Use the pass like the one that `open`
     returns; `help(bestore.connected)` says what differs.
 
-    `timeout` is how many seconds connecting and each reply may take; None means no limit. After that the call raises
-    `TimedOut`, and the connection is closed.
+    `timeout` is how many seconds connecting may take, and each reply; None means no limit. If that time passes, the
+    call raises `TimedOut`, and the connection is closed.
 
     `repeat` lets writes survive a restart of the server. A write whose reply doesn't come, or that the server can't keep
-    for now, is sent again for up to this many seconds, on a new connection if necessary, and is made once. `change` runs its function
-    again. It isn't repeated while the pass is pinned or has watches, which a new connection lacks. Numbers for `apply_if` belong to
-    the run that `server.run` names.
+    for now, is sent again for up to this many seconds, on a new connection if necessary, and is made once. `change` runs
+    its function again. A write isn't repeated while the pass is pinned or has watches, because a new connection would
+    lack them. Numbers for `apply_if` are valid only in the server run that `server.run` names.
 
-    Raises `NoServer`; `OtherUser` if nobody has named the socket, and the server is neither the effective user's nor root's;
-    `NoPass` if the server has as many clients as it allows; `NotAllowed` if the server refuses this user; `ProtocolError`,
-    `TimedOut`; a ValueError if `timeout` or `repeat` isn't above 0."""
+    Raises `NoServer`; `OtherUser` if the socket wasn't named explicitly and the server runs neither as the effective user nor as root;
+    `NoPass` if the server has as many clients as it allows; `NotAllowed` if the server refuses this user; `ProtocolError`, `TimedOut`;
+    a ValueError if `timeout` or `repeat` isn't above 0."""
     if timeout is not None and not timeout > 0:
         raise ValueError(f"a timeout of {timeout} seconds")
     if repeat is not None and not repeat > 0:

@@ -15,6 +15,23 @@ class Error(Exception):
     """What a program can do about it."""
 
 
+class _OfPath(Error):
+    """An error from a file or a server. Its text begins with the path."""
+
+    def __init__(self, path: str, *others: object) -> None:
+        Exception.__init__(self, path, *others)  # instead of OSError's, which would interpret the parameters
+        self.path = path
+        """The file, or the server's socket."""
+
+    @property
+    def summary(self) -> str:
+        """What went wrong, without the path."""
+        return "it can't be used"
+
+    def __str__(self) -> str:
+        return f"{self.path}: {self.summary}"
+
+
 class Forked(Error):
     """The handle was made before this process was forked. It belongs to the parent, and is dead here."""
 
@@ -47,7 +64,7 @@ class TooManyAttempts(Error):
 
 
 class NoVolume(Error):
-    """The store has no such volume, or the call has to name one because there are several."""
+    """The store has no such volume, or the call has to name a volume because the store has several."""
 
     def __init__(self, volume: Optional[int], volumes: int) -> None:
         super().__init__(volume, volumes)
@@ -63,7 +80,7 @@ class NoVolume(Error):
 
 
 class OtherVolume(Error, ValueError):
-    """An operation names a node that isn't in the volume that is written. Each write is in one volume."""
+    """An operation names a node outside the volume that is written. Each write goes to one volume."""
 
     def __init__(self, volume: int, operation: Optional[int]) -> None:
         super().__init__(volume, operation)
@@ -78,7 +95,8 @@ class OtherVolume(Error, ValueError):
 
 
 class PartialIndex(Error, ValueError):
-    """An index is made in all volumes, by a batch that has no other operations. A batch that names a volume may make it there."""
+    """An index has to be made in all volumes, by a batch with no other operations. A batch that names a volume may make the index in that
+    volume."""
 
     def __init__(self, operation: Optional[int]) -> None:
         super().__init__(operation)
@@ -98,7 +116,7 @@ class OtherStore(Error):
 
 
 class NotReached(Error):
-    """The journals were still shorter than expected when the time was up."""
+    """The journals were still shorter than expected when the timeout expired."""
 
     error_class = ErrorClass.RETRY
 
@@ -114,7 +132,7 @@ class NotReached(Error):
 
 
 class BadBytes(Error, ValueError):
-    """Bytes that aren't those of a batch."""
+    """The bytes aren't a valid batch."""
 
     def __init__(self, offset: int, reason: str) -> None:
         super().__init__(offset, reason)
@@ -127,7 +145,7 @@ class BadBytes(Error, ValueError):
 
 
 class Refusal(Error):
-    """A call of the library returned this error, and wrote nothing. Details that aren't known are None."""
+    """A call of the library returned this error, and wrote nothing. Unknown details are None."""
 
     number: int = 0
     """The error's number, one of `ErrorNumber`."""
@@ -156,7 +174,7 @@ class Refusal(Error):
         self.offset: Optional[int] = None
         """For a `QueryError`: the byte of the query's text, in UTF-8 and from 0, at which the error is."""
         self.item: Optional[int] = None
-        """For items that can't be read or don't form a query: the item, from 0, at which that shows."""
+        """For items that can't be read or don't form a query: the item, from 0, at which that becomes apparent."""
         self.operation: Optional[int] = None
         """For a batch that can't be read: the first operation, from 0, that can't."""
         self.volume: Optional[int] = None
@@ -168,7 +186,7 @@ class Refusal(Error):
 
     @property
     def _what(self) -> str:
-        """What was wrong, with its details."""
+        """Returns what was wrong, with the details."""
         return self.meaning
 
     @property
@@ -178,7 +196,7 @@ class Refusal(Error):
 
     @property
     def _shown(self) -> str:
-        """The summary, with the volume if there is one."""
+        """Returns the summary, with the volume if it is known."""
         return self.summary if self.volume is None else f"volume {self.volume}: {self.summary}"
 
     def __str__(self) -> str:
@@ -186,7 +204,7 @@ class Refusal(Error):
 
 
 def refusal(number: int, carried: Optional[int] = None, query: Optional[str] = None, listed: Optional[str] = None) -> Refusal:
-    """The error with this number, from its details, the query's text, and what the call takes a list of."""
+    """Returns the error with this number, made from its details, the query's text, and what the call takes a list of."""
     found = Refusal._classes.get(number)
     if found is not None:
         return found(carried, query, listed)
@@ -196,7 +214,7 @@ def refusal(number: int, carried: Optional[int] = None, query: Optional[str] = N
 
 
 class _OfList(Refusal):
-    """An error of an operation or of an item, if the call takes a list of them."""
+    """An error in one operation or item, if the call takes a list of operations or items."""
 
     def _carry(self, carried: Optional[int], listed: Optional[str]) -> None:
         if listed is not None:
@@ -211,12 +229,12 @@ class _OfList(Refusal):
 
 
 def columns_of(text: str) -> int:
-    """How many columns of a terminal a text takes."""
+    """Returns how many columns a text takes on a terminal."""
     return sum(0 if unicodedata.combining(it) else 2 if unicodedata.east_asian_width(it) in "WF" else 1 for it in text)
 
 
 def pointed(text: str, column: int, width: int = 8192) -> str:
-    """The text, and below it a caret under one of its characters. If the text is wider than `width` columns (4 or
+    """Returns the text, and below it a caret under one of its characters. If the text is wider than `width` columns (4 or
     more), only the part around the caret is shown, between `…`."""
     text = "".join(character if character.isprintable() else " " for character in text)
     first, last = 0, len(text)
@@ -230,18 +248,18 @@ def pointed(text: str, column: int, width: int = 8192) -> str:
 
 
 class QueryError(Refusal):
-    """A text that isn't a query, or a query that can't be answered."""
+    """The text isn't a valid query, or the query can't be answered."""
 
     @property
     def column(self) -> Optional[int]:
-        """The character of the query's text, from 0, that has the byte of the error."""
+        """The position in the query's text, from 0, of the character that contains the byte with the error."""
         if self.query is None or self.offset is None:
             return None
         return len(self.query.encode(errors="surrogatepass")[:self.offset].decode(errors="ignore"))
 
     def shown(self, width: int = 8192) -> Optional[str]:
-        """The query with a caret under the character of the error, in two lines, if that is known. If the query is
-        wider than this many columns, only the part around the caret is shown."""
+        """Returns the query with a caret under the character with the error, in two lines, or None if that character
+        isn't known. If the query is wider than `width` columns, only the part around the caret is shown."""
         if self.query is None or self.column is None:
             return None
         return pointed(self.query, self.column, width)
@@ -252,7 +270,7 @@ class QueryError(Refusal):
 
 
 class _AtPlace(QueryError, _OfList):
-    """An error of a query that has a place: a byte of its text, or one of its items."""
+    """An error at a position in a query: a byte of its text, or one of its items."""
 
     def _carry(self, carried: Optional[int], listed: Optional[str]) -> None:
         if self.query is None:
@@ -316,7 +334,7 @@ class NoNode(Refusal, KeyError, number=ErrorNumber.NO_NODE):
 
     @property
     def node(self) -> Optional[int]:
-        """The node that isn't there, if it is known."""
+        """The node that doesn't exist, if it is known."""
         return self.nodes[0] if len(self.nodes) == 1 else None
 
     @property
@@ -369,7 +387,7 @@ class Full(Refusal, number=ErrorNumber.FULL):
 
 
 class NotCovered(QueryError, number=ErrorNumber.NOT_COVERED):
-    """`offset` or `item` is the place of the first comparison whose name has no index."""
+    """`offset` or `item` is the position of the first comparison whose name has no index."""
 
     missing: Optional[str] = None
     """The name of that comparison."""
@@ -447,35 +465,35 @@ class Conflict(Refusal, number=ErrorNumber.CONFLICT):
 
 
 def no_index(name: str, indices: Iterable[str]) -> NoIndex:
-    """The error of an order by a name without an index, where these are the indices."""
+    """Returns the error for ordering by a name that has no index. `indices` are those that exist."""
     error = NoIndex()
     error.name, error.indices = name, tuple(indices)
     return error
 
 
 def bad_cursor(reason: str) -> BadCursor:
-    """The error of a cursor that no page can go on from."""
+    """Returns the error for a cursor from which no page can continue."""
     error = BadCursor()
     error.reason = reason
     return error
 
 
 def wrong_kind(name: str, kind: str, index_kind: str) -> WrongKind:
-    """The error of a value of this kind under a name whose index takes another."""
+    """Returns the error for a value of this kind under a name whose index takes another kind."""
     error = WrongKind()
     error.name, error.kind, error.index_kind = name, kind, index_kind
     return error
 
 
 def no_room(limit: int) -> NoRoom:
-    """The error of a page for so few nodes."""
+    """Returns the error for a page whose limit is too small."""
     error = NoRoom()
     error.limit = limit
     return error
 
 
 def encoded(text: str) -> bytes:
-    """The bytes of a name or a value. Raises `NotUTF8` if it has half of a surrogate pair."""
+    """Encodes a name or a value. Raises `NotUTF8` if it has half of a surrogate pair."""
     try:
         return text.encode()
     except UnicodeEncodeError:
@@ -483,7 +501,7 @@ def encoded(text: str) -> bytes:
 
 
 def encoded_query(text: str) -> bytes:
-    """The bytes of a query's text. Raises `QueryNotUTF8` if it has half of a surrogate pair."""
+    """Encodes a query's text. Raises `QueryNotUTF8` if it has half of a surrogate pair."""
     try:
         return text.encode()
     except UnicodeEncodeError as error:
@@ -491,7 +509,7 @@ def encoded_query(text: str) -> bytes:
 
 
 def decoded(text: bytes) -> str:
-    """The text of these bytes. Raises `NotUTF8` if they aren't a text."""
+    """Decodes these bytes. Raises `NotUTF8` if they aren't valid UTF-8."""
     try:
         return text.decode()
     except UnicodeDecodeError:

@@ -1,4 +1,4 @@
-"""Handles: who owns one, and what happens to it in a forked child."""
+"""Handles: who owns a handle, and what happens to it in a forked child."""
 
 from __future__ import annotations
 
@@ -12,10 +12,10 @@ from .errors import Forked
 _Self = TypeVar("_Self", bound="Owner")
 
 class Owner:
-    """Owns a handle, and releases it on `close`, at the end of a `with`, or when the owner is destroyed.
+    """Owns a handle and releases it on `close`, at the end of a `with`, or when the owner is destroyed.
 
     A handle takes one call at a time, so calls from several threads wait for each other. In a forked child the handle is
-    dead: each call raises `Forked`, and releasing it does nothing. The child may make handles of its own."""
+    dead: each call raises `Forked`, and releasing it does nothing. The child can make its own handles."""
 
     def close(self) -> None:
         raise NotImplementedError
@@ -47,7 +47,7 @@ class LockOwner(Owner):
         return self._made_after != LockOwner._forks
 
     def _check_process(self) -> None:
-        """Raises `Forked` if the handle is dead. Call it before each wait for the lock, since the lock's owner may
+        """Raises `Forked` if the handle is dead. Call this before each wait for the lock, since the lock's owner may
         not be in this process."""
         if self._made_after != LockOwner._forks:
             raise Forked()

@@ -1,5 +1,5 @@
-"""Query texts: how to put a text into one, and what one compares. The library reads and writes them, and is loaded by the first such
-call."""
+"""Query texts: how to put a string into a query, and what a query compares. The library reads and writes query texts,
+and is loaded by the first such call."""
 
 from __future__ import annotations
 
@@ -8,37 +8,37 @@ from typing import List, Mapping, NamedTuple
 
 from .values import RANGES, Kind
 
-_ENDS_QUOTED = re.compile(r'["\\]')  # what a name in quotes has after a backslash
+_ENDS_QUOTED = re.compile(r'["\\]')  # the characters of a quoted name that need a backslash
 
 
 def escape(text: str) -> str:
-    r"""The text with a backslash before each special character of a query, so that it matches only itself, in quotes or not:
-    f'name=="{escape("[draft].txt")}"' is the query name=="\[draft].txt". An empty text needs quotes. The operators CONTAINS,
-    BEGINS_WITH and ENDS_WITH of items take a text as it is. `NotUTF8`."""
+    r"""Returns the text with a backslash before each character that is special in a query, so that the text matches only
+    itself, quoted or not: f'name=="{escape("[draft].txt")}"' is the query name=="\[draft].txt". An empty text needs quotes.
+    In items, the operators CONTAINS, BEGINS_WITH and ENDS_WITH take a text literally. May raise `NotUTF8`."""
     from . import _query_texts  # which needs the library
     return _query_texts.escape(text)
 
 
 def quoted(name: str) -> str:
-    """Any name, in quotes, as a query takes it."""
+    """Returns any name in quotes, as it can be used in a query."""
     return '"' + _ENDS_QUOTED.sub(r"\\\g<0>", name) + '"'
 
 
 def all_in(name: str, kind: Kind) -> str:
-    """The query that all pairs of an index of this kind meet."""
+    """Returns the query that all pairs in an index of this kind match."""
     sign, value = (">=", str(RANGES[kind][0])) if kind in RANGES else ("==", "*")
     return f'{quoted(name)}{sign}"{value}"'
 
 
 def any_case(text: str) -> str:
-    """A pattern that matches the text in upper and lower case, by Unicode's simple case folding: any_case("dr.") is "[dD][rR].". A
-    letter never matches two: SS doesn't find ß. `NotUTF8`."""
+    """Returns a pattern that matches the text in upper and lower case, by Unicode's simple case folding:
+    any_case("dr.") is "[dD][rR].". A letter never matches two letters: SS doesn't find ß. May raise `NotUTF8`."""
     from . import _query_texts
     return _query_texts.any_case(text)
 
 
 class Comparison(NamedTuple):
-    """A comparison of a query's text."""
+    """A comparison in a query's text."""
 
     name: str
     operator: str
@@ -69,12 +69,13 @@ class Hint(NamedTuple):
 
 
 def comparisons(query: str) -> List[Comparison]:
-    """The comparisons of a query, from left to right. A `QueryError` if the text isn't one."""
+    """Returns the comparisons in a query, from left to right. Raises a `QueryError` if the text isn't a valid query."""
     from . import _query_texts
     return [it.comparison for it in _query_texts.read(query)]
 
 
 def hints_in(query: str, indices: Mapping[str, Kind]) -> List[Hint]:
-    """The comparisons of a query that are never true in a store with these indices. A `QueryError` if the text isn't one."""
+    """Returns the comparisons in a query that are never true in a store with these indices. Raises a `QueryError` if the text isn't a valid
+    query."""
     from . import _query_texts
     return _query_texts.hints_in(query, indices)

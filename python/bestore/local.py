@@ -22,7 +22,7 @@ from .errors import (
 from .nodes import name_missing
 from .operations import Batch
 from .pages import Cursor, Page
-from .queries import Prepared, prepare
+from .queries import Prepared, with_prepared
 from .store import PASSES, PAUSES, TRIES, Entry, Held, Pass, StandingBack, Status, Witness, pause_at_full
 from .values import RANGES, Kind, Typed, Value
 from .versions import Query, Row, Version
@@ -39,13 +39,13 @@ def check_one_volume(volume: Optional[int]) -> None:
 
 
 class _Cursor(HandleOwner):
-    """How many of the operations that rebuild a version have been returned."""
+    """Tracks how many of the operations that rebuild a version have been returned."""
 
     def __init__(self) -> None:
         super().__init__(CURSOR)
 
     def close(self) -> None:
-        """Releases the cursor, if it was begun."""
+        """Releases the cursor, if it has been started."""
         self._give_up(calls.bes_leave)
 
 
@@ -75,20 +75,15 @@ class LocalVersion(_native.Reader, Version):
         return self._count_items(asked, *encode_items(asked))
 
     def _first_of(self, asked: Query, start: int, limit: int) -> List[int]:
-        if isinstance(asked, str):
-            with prepare(asked) as prepared:
-                return self._first_of(prepared, start, limit)
-        if not isinstance(asked, Prepared):
+        if not isinstance(asked, (str, Prepared)):
             return super()._first_of(asked, start, limit)
-        return self._first(asked, start, min(limit, sys.maxsize)) if start < 2**64 else []
+        most = min(limit, sys.maxsize)
+        return with_prepared(asked, lambda prepared: self._first(prepared, start, most) if start < 2**64 else [])
 
     def _any_of(self, asked: Query, limit: int) -> List[int]:
-        if isinstance(asked, str):
-            with prepare(asked) as prepared:
-                return self._any_of(prepared, limit)
-        if not isinstance(asked, Prepared):
+        if not isinstance(asked, (str, Prepared)):
             return super()._any_of(asked, limit)
-        return self._any(asked, min(limit, sys.maxsize))
+        return with_prepared(asked, lambda prepared: self._any(prepared, min(limit, sys.maxsize)))
 
     def _page_after(self, asked: Prepared, after: Cursor, limit: Optional[int]) -> Page[int]:
         order = after.order
@@ -105,7 +100,7 @@ class LocalVersion(_native.Reader, Version):
         return self._rows(nodes, names)
 
     def _query_error(self, answer: int, carried: int, asked: Query) -> Refusal:
-        """The error of a query, with its details."""
+        """Returns the error for a query, with its details."""
         if answer == ErrorNumber.NOT_COVERED:
             return self._not_covered(asked)
         if isinstance(asked, str):
@@ -122,14 +117,14 @@ class LocalVersion(_native.Reader, Version):
             return super().refresh(prepared)  # which raises
         prepared._check_process()
         with prepared._refreshing:
-            # The library reads the entries since the last refresh, which has to have been in this store.
+            # The library reads the entries since the last refresh, so that refresh must have been in this store.
             if prepared._refreshed_in is self._user._store:
                 return self._refreshed(prepared, self._refresh_changed)
             return self.refresh(prepared)
 
     def _refreshed(
             self, prepared: Prepared, refresh: Callable[[Prepared], Tuple[List[int], List[int]]]) -> Tuple[List[int], List[int]]:
-        """What changed, by one of the calls that refresh a query in the library."""
+        """Returns what changed, according to one of the calls that refresh a query in the library."""
         prepared._check_process()
         with prepared._refreshing:
             came, went = refresh(prepared)
@@ -199,7 +194,8 @@ class LocalPass(HandleOwner, Pass):
         return answer
 
     def _repeated(self, tries: int, call: Callable[..., _Answered], *arguments: Any) -> _Answered:
-        """The same for a call of the extension, which also returns what goes with the library's number."""
+        """Makes a call in the extension, with tries like `_tried`. Such a call also returns the details that belong to the library's
+        number."""
         answered = call(*arguments)
         if answered[0] == _BUSY:
             back = StandingBack()
@@ -209,8 +205,8 @@ class LocalPass(HandleOwner, Pass):
         return answered
 
     def _write(self, batch: Batch, tries: int, expected: Optional[int]) -> Tuple[int, List[int]]:
-        """Writes a batch: up to this many times while another pass is writing. With more than one try it also waits, when no
-        page is free, for other passes to unpin older snapshots."""
+        """Writes a batch, with up to `tries` tries while another pass is writing. With more than one try, if no page is
+        free, it also waits for other passes to unpin older snapshots."""
         taken = native(batch)
         if expected is None:
             before: Tuple[int, ...] = ()
@@ -222,7 +218,7 @@ class LocalPass(HandleOwner, Pass):
         return number, made
 
     def _written_at_last(self, tries: int, answer: int, number: int, batch: NativeBatch, *before: int) -> Tuple[int, List[int]]:
-        """The same, once the first try has failed with this error."""
+        """Continues `_write` after the first attempt has failed with this error."""
         pauses = 0
         made: List[int] = []
         if answer == _BUSY and tries > 1:
@@ -258,8 +254,8 @@ class LocalPass(HandleOwner, Pass):
         return error.least is not None and self._is_kept_by_another(error.least)
 
     def _is_kept_by_another(self, least: int) -> bool:
-        """Whether pages may become free for a write that found none because those of the commit number `least` and
-        later were kept: another pass is, or was, the oldest active reader."""
+        """Returns whether pages may become free for a write that found no free page because the pages of the commit
+        number `least` and later were kept: another pass is, or was, the oldest active reader."""
         try:
             status = self.status()
         except Refusal:
@@ -295,7 +291,7 @@ class LocalPass(HandleOwner, Pass):
 
     def close(self) -> None:
         self._give_up(calls.bes_close)
-        self._store.wake()  # who waits by this pass finds it closed
+        self._store.wake()  # a thread that waits with this pass finds the pass closed
 
     def finish(self) -> str:
         return self._text(1, calls.bes_finish)
@@ -326,7 +322,7 @@ class LocalPass(HandleOwner, Pass):
         return self._text(tries, calls.bes_journal)
 
     def _text(self, tries: int, call: Callable[..., int]) -> str:
-        """The text that a call writes. The call is made again until there is room for all of it."""
+        """Returns the text that a call writes. Makes the call again until the buffer is large enough for the whole text."""
         count, room = ctypes.c_uint64(), 65536
         while True:
             written = ctypes.create_string_buffer(room)

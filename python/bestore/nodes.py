@@ -1,4 +1,4 @@
-"""Nodes of a store that has several volumes: each is one integer, its volume * 10^14 + its number there."""
+"""Nodes in a store that has several volumes. Each node is one integer: its volume * 10^14 + its number within the volume."""
 
 from __future__ import annotations
 
@@ -15,23 +15,24 @@ MOST_VOLUMES = 64
 
 
 def volume_of(node: int) -> int:
-    """The volume of a node, from 0. A store without volumes has only nodes of volume 0."""
+    """Returns the volume of a node, from 0. In a store without volumes, all nodes are in volume 0."""
     return node // NUMBERS
 
 
 def number_of(node: int) -> int:
-    """The number that a node has within its volume."""
+    """Returns the number that a node has within its volume."""
     return node % NUMBERS
 
 
 def node_in(volume: int, number: int) -> int:
-    """The node with this number within this volume."""
+    """Returns the node with this number within this volume."""
     return volume * NUMBERS + number
 
 
 def within(batch: Batch, volume: Optional[int] = None) -> Tuple[Optional[int], Batch]:
-    """The volume in which a batch is written, and the batch with the numbers that its nodes have there. The volume is the given one,
-    otherwise that of the nodes which the operations name; None if they name none. `OtherVolume` if one names another."""
+    """Returns the volume to which a batch is written, and the batch with its nodes' numbers within that volume. The
+    volume is `volume` if it is given, otherwise the volume of the nodes that the operations name, or None if the
+    operations name no node. Raises `OtherVolume` if an operation names a node in another volume."""
     moved = Batch()
     for place, (kind, code, node, number, name, value) in enumerate(batch._parts()):
         if kind in (REMOVE, SET, UNSET) or kind == NEW and node != 0:
@@ -45,7 +46,7 @@ def within(batch: Batch, volume: Optional[int] = None) -> Tuple[Optional[int], B
 
 
 def of_volume(batch: Batch, volume: int) -> Batch:
-    """A batch of a volume, with the shelf's numbers for its nodes."""
+    """Returns a volume's batch, with the shelf's numbers for its nodes."""
     moved = Batch()
     for kind, code, node, number, name, value in batch._parts():
         if kind in (REMOVE, SET, UNSET) or kind == NEW and node != 0:
@@ -55,7 +56,7 @@ def of_volume(batch: Batch, volume: int) -> Batch:
 
 
 def node_number(node: SupportsIndex) -> int:
-    """A node as a plain int. A TypeError if it isn't one."""
+    """Returns a node as a plain int. Raises a TypeError if it isn't an integer."""
     try:
         return plain(node)
     except TypeError:
@@ -63,8 +64,8 @@ def node_number(node: SupportsIndex) -> int:
 
 
 def name_missing(error: Union[NoNode, NoAttribute], batch: Batch) -> None:
-    """Adds to an error the nodes that a refused batch names, one of which isn't there; or the attribute that it removes, if
-    there is one."""
+    """Adds to an error the nodes that a refused batch names, one of which doesn't exist, or the attribute that the
+    batch removes, if it removes one."""
     parts = batch._parts()
     if isinstance(error, NoNode):
         error.nodes = tuple(dict.fromkeys(node for kind, _, node, *_ in parts if kind in (REMOVE, SET, UNSET)))
@@ -75,5 +76,5 @@ def name_missing(error: Union[NoNode, NoAttribute], batch: Batch) -> None:
 
 
 def indices_in(batch: Batch) -> List[int]:
-    """Which operations make or remove indices."""
+    """Returns which operations make or remove indices."""
     return [place for place, parts in enumerate(batch._parts()) if parts[0] in (MAKE_INDEX, REMOVE_INDEX)]

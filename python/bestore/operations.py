@@ -34,7 +34,7 @@ class RemoveNode:
 
 @dataclass(frozen=True)
 class SetAttribute:
-    """Sets a node's attribute. The kind None stands for the value's own kind, as `Batch.set` takes it."""
+    """Sets a node's attribute. The kind None means the value's own kind, as in `Batch.set`."""
 
     node: int
     name: str
@@ -74,9 +74,10 @@ _Self = TypeVar("_Self", bound="Batch")
 
 
 class Batch:
-    """Up to 64 operations, which `Pass.apply` applies all or none. Its calls return the batch, so they can be chained.
+    """Up to 64 operations, of which `Pass.apply` applies all or none. A batch's methods return the batch, so calls can be chained.
 
-    `for operation in batch` goes over them, `len(batch)` is how many there are, and `Batch(operations)` has these."""
+    `for operation in batch` iterates over the operations, `len(batch)` is their number, and `Batch(operations)` makes a batch from
+    operations."""
 
     _made: ClassVar[Optional[Type[Batch]]] = None
     """The class of new batches once a store of this process has been opened: the extension's, which is faster."""
@@ -115,7 +116,7 @@ class Batch:
         return list(self._list)
 
     def _put(self, operations: bytes, texts: bytes, /) -> None:
-        """Replaces what the batch had with these operations, in the library's form."""
+        """Replaces the batch's contents with these operations, which are in the library's form."""
         self._list = []
         for kind, code, node, number, name_at, name_length, value_at, value_length in _RAW.iter_unpack(operations):
             if max(name_at + name_length, value_at + value_length) > len(texts):
@@ -125,12 +126,12 @@ class Batch:
 
     @property
     def _bytes(self) -> bytes:
-        """The bytes that names and values are parts of."""
+        """Returns the bytes that contain the names and values."""
         return b"".join(name + value for *_, name, value in self._list)
 
     @property
     def _raw(self) -> bytes:
-        """The operations in the library's form."""
+        """Returns the operations in the library's form."""
         at, taken = 0, []
         for kind, code, node, number, name, value in self._list:
             taken.append(_RAW.pack(kind, code, node, number, at, len(name), at + len(name), len(value)))
@@ -146,8 +147,8 @@ class Batch:
         return self._add_encoded(REMOVE, node, b"", 0, 0, b"")
 
     def set(self: _Self, node: int, name: str, value: Value, kind: Optional[int] = None) -> _Self:
-        """Sets an attribute. Without a kind a str is STRING, bytes are RAW, an `Int32` and the like are what they say, and any
-        other int is INT64."""
+        """Sets an attribute. If `kind` is None, a str is STRING, bytes are RAW, an `Int32` or the like has the kind
+        that it is named after, and any other int is INT64."""
         code, number, taken = encode_value(value, kind)
         return self._add_encoded(SET, node, _name(name), code, number, taken)
 
@@ -156,7 +157,7 @@ class Batch:
         return self._add_encoded(UNSET, node, _name(name), 0, 0, b"")
 
     def make_index(self: _Self, name: str, kind: int) -> _Self:
-        """Makes an index of this name, for values of this kind. It takes the attributes that are set from then on."""
+        """Makes an index of this name, for values of this kind. The index gets only attributes that are set from then on."""
         code = operator.index(kind)
         if code not in RANGES[Kind.UINT32]:
             raise NoKind()
@@ -167,7 +168,7 @@ class Batch:
         return self._add_encoded(REMOVE_INDEX, 0, _name(name), 0, 0, b"")
 
     def add(self, operation: Operation) -> Batch:
-        """Adds an operation, as `for operation in batch` gives it."""
+        """Adds an operation, in the form that `for operation in batch` yields."""
         if isinstance(operation, NewNode):
             return self._add_encoded(NEW, operation.node, b"", 0, 0, b"")
         if isinstance(operation, RemoveNode):
@@ -181,13 +182,14 @@ class Batch:
         return self.remove_index(operation.name)
 
     def to_bytes(self) -> bytes:
-        """The batch as bytes, which `from_bytes` and the libraries for C, C++ and Rust read. Raises `BadCount`
-        unless it has 1 to 64 operations, and `NameLength`, `DataLength` or `NoKind` for what no write takes."""
+        """Returns the batch as bytes, which `from_bytes` and the libraries for C, C++ and Rust read. Raises `BadCount`
+        unless the batch has 1 to 64 operations, and `NameLength`, `DataLength` or `NoKind` for anything that no write
+        accepts."""
         return self._packed()
 
     def _packed(self, nodes: Optional[Sequence[int]] = None) -> bytes:
-        """The batch as bytes. If the nodes that each operation made are given, the operations that make nodes have these
-        numbers, as in the journal."""
+        """Returns the batch as bytes. If `nodes` gives the node that each operation made, the operations that make
+        nodes have these numbers, as in the journal."""
         if not 1 <= len(self) <= MOST_OPERATIONS:
             raise BadCount()
         texts, parts = self._bytes, [BEGINNING, _BYTES[len(self)]]
@@ -218,7 +220,8 @@ class Batch:
 
     @classmethod
     def from_bytes(cls, data: bytes) -> Batch:
-        """The batch that `to_bytes` wrote as these bytes. Raises `BadBytes` if there is none, or if something follows it."""
+        """Returns the batch that `to_bytes` wrote as these bytes. Raises `BadBytes` if the bytes aren't a valid batch, or if anything
+        follows the batch."""
         reader, batch = _Reader(data), cls()
         reader.read_beginning()
         for _ in range(reader.read_count()):
@@ -228,7 +231,7 @@ class Batch:
 
 
 def _node(node: int) -> int:
-    """A node as a plain int. Raises a TypeError if it isn't one, and `NoNode` if it doesn't fit into 64 bits."""
+    """Returns a node as a plain int. Raises a TypeError if it isn't an integer, and `NoNode` if it doesn't fit into 64 bits."""
     try:
         number = plain(node)
     except TypeError:
@@ -239,21 +242,21 @@ def _node(node: int) -> int:
 
 
 def _name(name: str) -> bytes:
-    """A name in UTF-8. A TypeError if it isn't one."""
+    """Returns a name in UTF-8. Raises a TypeError if it isn't a name."""
     if not isinstance(name, str):
         raise TypeError(f"{name!r} isn't a str")
     return encoded(name)
 
 
 def _copied(kind: Type[Batch], operations: bytes, texts: bytes) -> Batch:
-    """A batch of this class with these operations, in the form that the library takes."""
+    """Returns a batch of this class with these operations, which are in the library's form."""
     batch = kind()
     batch._put(operations, texts)
     return batch
 
 
 def _read_back(kind: int, code: int, node: int, number: int, name: bytes, value: bytes) -> Operation:
-    """The operation of a batch that has these parts."""
+    """Returns the operation that has these parts in a batch."""
     if kind == NEW:
         return NewNode(node)
     if kind == REMOVE:
@@ -270,8 +273,9 @@ def _read_back(kind: int, code: int, node: int, number: int, name: bytes, value:
 
 
 # A batch as bytes, little-endian: the beginning, whose last byte is the format's version; the number of operations in one
-# byte; and the operations. Each has its kind in one byte, and then what it needs of these: the node in 8 bytes; the length of
-# the name in one, and the name; the type code in 4; and the value, a number in 8 bytes, or a length in one and the bytes.
+# byte; and the operations. Each operation has its kind in one byte, and then those of these fields that it needs: the
+# node in 8 bytes; the length of the name in one byte, and the name; the type code in 4 bytes; and the value, which is a
+# number in 8 bytes, or a length in one byte and then the bytes.
 BEGINNING = b"BEB\x01"
 _WITH_NODE, _WITH_NAME, _WITH_CODE = (NEW, REMOVE, SET, UNSET), (SET, UNSET, MAKE_INDEX, REMOVE_INDEX), (SET, MAKE_INDEX)
 _KIND_NODE, _CODE, _CODE_NUMBER = struct.Struct("<BQ"), struct.Struct("<I"), struct.Struct("<IQ")
@@ -280,13 +284,13 @@ _RAW = struct.Struct("=2I2Q4I")  # an operation in the library's form
 
 
 class _Reader:
-    """Reads a batch out of bytes."""
+    """Reads a batch from bytes."""
 
     def __init__(self, data: bytes) -> None:
         self._data, self._at = bytes(data), 0
 
     def _take(self, count: int, what: str) -> bytes:
-        """The next bytes, this many of them."""
+        """Returns the next `count` bytes."""
         taken = self._data[self._at:self._at + count]
         if len(taken) < count:
             raise BadBytes(self._at, f"{what} is cut off")
@@ -297,12 +301,13 @@ class _Reader:
         return int.from_bytes(self._take(count, what), "little")
 
     def _counted(self, what: str) -> bytes:
-        """Bytes that follow their length."""
+        """Reads a length, and returns the bytes that follow it."""
         return self._take(self._number(1, f"the length of {what}"), what)
 
     def read_beginning(self) -> None:
-        if self._data[:3] != BEGINNING[:3]:
-            raise BadBytes(0, "they don't begin with BEB")
+        for at in range(3):
+            if self._data[at:at + 1] != BEGINNING[at:at + 1]:
+                raise BadBytes(at, "they don't begin with BEB")
         if self._data[3:4] != BEGINNING[3:]:
             raise BadBytes(3, "the format has a version other than 1")
         self._at = len(BEGINNING)

@@ -1,4 +1,4 @@
-"""Pages of an answer in the order of an index, and cursors, from which the next page goes on.
+"""Pages from an answer in the order of an index, and cursors, from which the next page continues.
 
     page = version.query("MAIL:to==ann", by="MAIL:when", descending=True, limit=50)
     older = version.query("MAIL:to==ann", by="MAIL:when", descending=True, limit=50, after=page.cursor)
@@ -24,12 +24,12 @@ _HEAD = struct.Struct(">BBBB")  # the format, 1 if it descends, the kind's numbe
 _CHECK = struct.Struct(">I")  # a CRC-32
 _NODE = struct.Struct(">Q")
 _LONGEST = (4 + 63 + 4 + 264 + 4) * 4 // 3  # characters of a cursor's text, for the longest name and key
-_NUMBERED = tuple(Kind)  # a kind's number is its place, from 1
+_NUMBERED = tuple(Kind)  # a kind's number is its position, from 1
 _SIZES = {kind: (numbers.stop - numbers.start).bit_length() // 8 for kind, numbers in RANGES.items()}  # bytes of a number in a key
 
 
 class Order(NamedTuple):
-    """An order of nodes: by the values that an index has, and by number where these are equal."""
+    """An order of nodes: by their values in an index, and by number where the values are equal."""
 
     by: str
     """The name of the index."""
@@ -41,14 +41,15 @@ class Order(NamedTuple):
 
 
 def check_of(text: str) -> int:
-    """What a cursor keeps about a query: the CRC-32 of its canonical text."""
+    """Returns what a cursor remembers about a query: the CRC-32 of its canonical text."""
     return zlib.crc32(text.encode())
 
 
 @dataclass(frozen=True)
 class Cursor:
-    """A position in the ordered answer of a query: the position of a page's last node. The next page begins right after it,
-    even in a later version, whatever was written in between. `str` turns it into a short text, and `parse` reads that."""
+    """A position in the ordered answer of a query: the position of a page's last node. The next page begins right after
+    that node, even in a later version, whatever was written in between. `str` turns a cursor into a short string, which
+    `parse` reads."""
 
     order: Order
     """The order of the page."""
@@ -63,7 +64,7 @@ class Cursor:
 
     @property
     def key(self) -> bytes:
-        """The value and the node as a key of the index, whose byte order is the order; empty at the beginning."""
+        """The value and the node as an index key; the keys' byte order is the order of nodes. Empty at the beginning."""
         if self.kind is None or self.value is None or self.node is None:
             return b""
         return encode_key(self.kind, self.value, self.node)
@@ -76,7 +77,7 @@ class Cursor:
 
     @staticmethod
     def parse(text: str) -> Cursor:
-        """The cursor of this text. `BadCursor` if it isn't one."""
+        """Parses a cursor from this text. Raises `BadCursor` if the text isn't a cursor."""
         try:
             return _read(text)
         except (ValueError, struct.error):
@@ -84,14 +85,15 @@ class Cursor:
 
     @staticmethod
     def of_key(order: Order, check: int, kind: int, key: bytes) -> Cursor:
-        """The cursor with this key of an index of this kind. 0 and no key are the beginning."""
+        """Returns the cursor with this key from an index of this kind. If `kind` is 0 and `key` is empty, the cursor is at the
+        beginning."""
         if kind == 0 and not key:
             return Cursor(order, check)
         value, node = decode_key(Kind(kind), key)
         return Cursor(order, check, Kind(kind), value, node)
 
     def check_fits(self, order: Order, check: int) -> None:
-        """Raises `BadCursor` if it belongs to another order or another query."""
+        """Raises `BadCursor` if the cursor belongs to another order or another query."""
         if self.order != order:
             raise bad_cursor(f"the cursor belongs to the order by {self.order}, but this page is in the "
                              f"order by {order}: keep the order, or begin without a cursor")
@@ -100,7 +102,7 @@ class Cursor:
                              "or begin without a cursor")
 
     def of_other_kind(self, kind: Kind) -> BadCursor:
-        """The error if the index has this kind and the cursor another."""
+        """Returns the error for a cursor of another kind, if the index has this kind."""
         had = "no kind" if self.kind is None else f"kind {self.kind.name}"
         return bad_cursor(f'the index "{self.order.by}" has kind {kind.name}, and had {had} when the '
                           "cursor was made: begin without a cursor")
@@ -111,7 +113,7 @@ _Position = Tuple[Order, int, int, bytes]
 
 
 class Page(List[_Item]):
-    """Part of an answer in an order, as a list: nodes, or rows with their values."""
+    """Part of an ordered answer, as a list: nodes, or rows with their values."""
 
     def __init__(self, items: Iterable[_Item], more: bool, position: Union[Cursor, _Position]) -> None:
         super().__init__(items)
@@ -121,13 +123,13 @@ class Page(List[_Item]):
 
     @property
     def cursor(self) -> Cursor:
-        """The position of the last one, for the next page. Of an empty page it is where that began."""
+        """The position of the page's last node, for the next page. For an empty page it is where the page began."""
         if not isinstance(self._position, Cursor):
             self._position = Cursor.of_key(*self._position)
         return self._position
 
     def of(self, items: Iterable[_Other]) -> Page[_Other]:
-        """The same page of other items, as of rows instead of their nodes."""
+        """Returns the same page with other items, such as rows instead of their nodes."""
         return Page(items, self.more, self._position)
 
 
@@ -136,7 +138,7 @@ After = Union[Cursor, str, None]
 
 
 def cursor_of(after: After) -> Optional[Cursor]:
-    """The cursor that a call was given. Raises `BadCursor` if it is a text that isn't one."""
+    """Returns the cursor that was passed to a call. Raises `BadCursor` if it is a text that isn't a valid cursor."""
     if after is None or isinstance(after, Cursor):
         return after
     if not isinstance(after, str):
@@ -145,7 +147,7 @@ def cursor_of(after: After) -> Optional[Cursor]:
 
 
 def encode_key(kind: Kind, value: Value, node: int) -> bytes:
-    """The key of a value and a node in an index of this kind. The byte order of keys is the order of values and nodes."""
+    """Returns the key for a value and a node in an index of this kind. The byte order of keys is the order of values and nodes."""
     if isinstance(value, int) and kind in _SIZES:
         return (value - RANGES[kind][0]).to_bytes(_SIZES[kind], "big") + _NODE.pack(node)
     if isinstance(value, str) and kind is Kind.STRING:
@@ -154,7 +156,7 @@ def encode_key(kind: Kind, value: Value, node: int) -> bytes:
 
 
 def decode_key(kind: Kind, key: bytes) -> Tuple[Value, int]:
-    """The value and the node of a key of an index of this kind. A ValueError if it isn't one."""
+    """Returns the value and the node that a key from an index of this kind contains. Raises a ValueError if the key isn't valid."""
     front, node = key[:-_NODE.size], _NODE.unpack(key[-_NODE.size:])[0]
     if kind in _SIZES and len(front) == _SIZES[kind]:
         return int.from_bytes(front, "big") + RANGES[kind][0], node
@@ -164,7 +166,7 @@ def decode_key(kind: Kind, key: bytes) -> Tuple[Value, int]:
 
 
 def _bytes_of(text: str) -> bytes:
-    """The bytes of a cursor's text, whose last four were compared. A ValueError if it isn't one."""
+    """Returns the bytes that a cursor's text encodes, after checking the last four. Raises a ValueError if the text isn't a cursor."""
     if len(text) > _LONGEST:
         raise ValueError("the text is too long")
     padded = text.encode("ascii") + b"=" * (-len(text) % 4)
@@ -176,7 +178,7 @@ def _bytes_of(text: str) -> bytes:
 
 
 def _read(text: str) -> Cursor:
-    """The cursor of a text. A ValueError or a struct.error if it isn't one."""
+    """Reads a cursor from a text. Raises a ValueError or a struct.error if the text isn't a cursor."""
     front = _bytes_of(text)
     form, descending, number, length = _HEAD.unpack(front[:_HEAD.size])
     name, rest = front[_HEAD.size:_HEAD.size + length], front[_HEAD.size + length:]

@@ -1,13 +1,15 @@
-"""Queries that are made before they are asked: prepared ones, and items in reverse Polish order."""
+"""Queries that are made before they are run: prepared queries, and items in reverse Polish order."""
 
 from __future__ import annotations
 
 import enum
 import threading
-from typing import List, Optional, Set, Union
+from typing import Callable, List, Optional, Set, TypeVar, Union
 
 from .handles import Owner
 from .language import Comparison, comparisons
+
+_Returned = TypeVar("_Returned")
 
 
 class Name(str):
@@ -15,7 +17,7 @@ class Name(str):
 
 
 class Operator(enum.IntEnum):
-    """What an item does with those before it."""
+    """What an item does with the items before it."""
 
     EQ, NE, LT, LE, GT, GE, CONTAINS, BEGINS_WITH, ENDS_WITH, AND, OR, NOT = range(4, 16)
 
@@ -25,15 +27,15 @@ Item = Union[Name, Operator, str, int]
 
 
 class Prepared(Owner):
-    """A query that is parsed once and kept, by `prepare` or `prepare_items`. It belongs to no store.
-    `Version.query_prepared` asks it, and `Version.refresh` returns what changed since its last refresh."""
+    """A query that `prepare` or `prepare_items` parses once and keeps. It belongs to no store. `Version.query_prepared`
+    runs it, and `Version.refresh` returns what changed since its last refresh."""
 
     source: Optional[str]
     """The text that it was prepared from, or None if it was prepared from items."""
-    _refreshing: threading.RLock  # who has it refreshes the query, and it guards what follows
-    _seen: Set[int]  # the nodes of the last refresh
-    _is_in_library: bool  # whether the library has these, so that its next refresh says what changed
-    _refreshed_in: Optional[object]  # the store of the library's last refresh
+    _refreshing: threading.RLock  # held while the query is refreshed; it guards the fields below
+    _seen: Set[int]  # the nodes that the last refresh found
+    _is_in_library: bool  # whether the library has these nodes, so that its next refresh says what changed
+    _refreshed_in: Optional[object]  # the store in which the library last refreshed the query
 
     def _check_process(self) -> None:
         """Raises `Forked` if the query belongs to the process that this one was forked from."""
@@ -46,39 +48,48 @@ class Prepared(Owner):
 
     @property
     def _check(self) -> int:
-        """What cursors of this query keep about it."""
+        """Returns what cursors from this query remember about it."""
         raise NotImplementedError
 
     def _asked_text(self) -> str:
-        """The text that is sent to a server. Raises `Closed` if the query is closed."""
+        """Returns the text that is sent to a server. Raises `Closed` if the query is closed."""
         raise NotImplementedError
 
     @property
     def comparisons(self) -> List[Comparison]:
-        """The comparisons of the canonical text, from left to right. `TooLong` if that has more than 4,096 bytes, as it may of a
-        query that is nearly as long."""
+        """Returns the comparisons in the canonical text, from left to right. Raises `TooLong` if the canonical text has
+        more than 4,096 bytes, which can happen for a query that is nearly as long."""
         return comparisons(self.text)
 
     @property
     def names(self) -> List[str]:
-        """The names that are compared, each once, from left to right."""
+        """Returns the names that are compared, each once, from left to right."""
         found = (one.name for one in comparisons(self._asked_text())) if self.source is not None else self._item_names()
         return list(dict.fromkeys(found))
 
     def _item_names(self) -> List[str]:
-        """The names among the items from which the query was made. `Closed` if it is closed."""
+        """Returns the names among the items from which the query was made. Raises `Closed` if the query is closed."""
         raise NotImplementedError
 
 
 def prepare(text: str) -> Prepared:
-    """The query of this text, parsed once. Raises `QuerySyntax`, `BadPattern`, `TooLong`, `TooDeep`,
-    `TooMany` or `QueryNotUTF8` if it isn't a query. Takes the time to parse the text, and memory until it is closed."""
+    """Parses this text once, and returns the query. Raises `QuerySyntax`, `BadPattern`, `TooLong`, `TooDeep`, `TooMany`
+    or `QueryNotUTF8` if the text isn't a valid query. Takes the time to parse the text, and memory until the query is
+    closed."""
     from . import _prepared  # which needs the library
     return _prepared.prepare(text)
 
 
+def with_prepared(asked: Union[str, Prepared], call: Callable[[Prepared], _Returned]) -> _Returned:
+    """Makes a call with a prepared query, and returns what the call returns. A query given as text is prepared only for this call."""
+    if isinstance(asked, Prepared):
+        return call(asked)
+    with prepare(asked) as prepared:
+        return call(prepared)
+
+
 def prepare_items(*items: Item) -> Prepared:
-    """The query that items in reverse Polish order form, as `Version.query_items` takes them. Raises
-    `BadItems` or `BadPattern` if they don't form one. Takes memory until it is closed."""
+    """Returns the query that these items form in reverse Polish order, as for `Version.query_items`. Raises `BadItems`
+    or `BadPattern` if the items don't form a valid query. Takes memory until the query is closed."""
     from . import _prepared
     return _prepared.prepare_items(*items)

@@ -6,17 +6,17 @@
         letter = store.new_node()
         store.set(letter, "MAIL:from", "ann")
 
-The store is in memory, and each accepted write is in the file before its call returns: after `kill -9` too, and after a
-power failure if the disk keeps what it has confirmed. Opening the file rebuilds the store. It repeats each write,
-and refuses a file if the outcome differs. Only one store at a time can have a file open. docs/KEPT.md has what is promised, and the
-format, which the crate for Rust shares.
+The store is in memory, and each accepted write is in the file before its call returns. The write is still there after
+`kill -9`, and after a power failure if the disk keeps what it has confirmed. Opening the file rebuilds the store: it
+repeats each write, and refuses the file if an outcome differs. Only one store at a time can have a file open.
+docs/KEPT.md describes the promises and the format, which the Rust crate shares.
 
-Concurrent writers share a commit: one of them saves what all have written, in the journal's order.
-A snapshot may show a write that isn't in the file yet, while its call waits; call `flush` before you pass a snapshot's
-data to anyone else. If a `KeyboardInterrupt` ends the wait, the write is in memory, and the next commit saves it.
+Concurrent writers share a commit: one of them saves what all of them have written, in the journal's order. A snapshot
+may show a write that isn't in the file yet, while its call waits; call `flush` before you pass a snapshot's data to
+anyone else. If a `KeyboardInterrupt` ends the wait, the write is in memory, and the next commit saves it.
 
 In a forked child all handles are dead, as everywhere in the package. Such a child can't open the file itself, because
-SQLite would take the parent's handle for its own.
+SQLite would mistake the parent's handle for the child's.
 """
 
 from __future__ import annotations
@@ -48,10 +48,10 @@ __all__ = [
     "SavedPass", "SavedShelf", "SqliteError", "Stopped", "TooLarge", "open", "open_shelf",
 ]
 
-_ENDING = ".bestore"  # of the name of a volume's file
+_ENDING = ".bestore"  # the end of the name of a volume's file
 
 _MOST_ROWS = 1024  # the maximum number of entries in a commit
-_TRIES = 2**63 - 1  # as long as other passes write: an entry that can't be read would end all saving
+_TRIES = 2**63 - 1  # as long as other passes write, since an unreadable entry would end all saving
 
 
 class _Reader:
@@ -61,7 +61,7 @@ class _Reader:
         self._user = user
 
     def read(self, number: int) -> Tuple[int, bytes]:
-        """The pass and the batch of the entry with this commit number."""
+        """Returns the pass and the batch of the entry with this commit number."""
         answer, carried, by, batch = self._user._repeated(_TRIES, self._user._journal_entry, number - 1)
         check(answer, carried)
         assert batch is not None
@@ -69,8 +69,8 @@ class _Reader:
 
 
 class _Saver:
-    """Saves the entries of the journal. A writer hands in its entry, and waits for its turn. Then it saves all entries that
-    have been handed in, and the writers of those entries go on."""
+    """Saves the journal's entries. A writer hands in its entry and waits for its turn. Then it saves all entries that
+    have been handed in, and the writers of those entries continue."""
 
     def __init__(self, file: File, own: _local.LocalPass, last: int, every: Optional[float]) -> None:
         self.own = own
@@ -94,13 +94,13 @@ class _Saver:
         return commit + self._shift
 
     def check(self) -> None:
-        """Raises `Stopped` if nothing is saved any more."""
+        """Raises `Stopped` if saving has stopped."""
         if self._failed is not None or self._file is None:
             raise Stopped(self.path) from self._failed
 
     def keep(self, number: int, by: int, batch: Batch, made: Optional[List[int]] = None) -> None:
-        """Saves the write with this commit number, or lets the saving thread know that there is one. If the nodes that each operation
-        made aren't given, the batch has their numbers."""
+        """Saves the write with this commit number, or lets the saving thread know that there is a write to save. If `made`
+        is None, the batch already has the numbers of the nodes that its operations made."""
         if self.is_timed and not self._is_closing:
             self._hand_in_for_later(number, by, batch, made)
             return
@@ -117,7 +117,7 @@ class _Saver:
                 self._handed_in.pop(number, None)
 
     def _hand_in_for_later(self, number: int, by: int, batch: Batch, made: Optional[List[int]]) -> None:
-        """For the saving thread, which reads the journal if there are too many."""
+        """Hands in an entry for the saving thread, which reads the journal if there are too many entries."""
         if len(self._handed_in) < _MOST_ROWS:
             self._handed_in[number] = number + self._shift, by, batch._packed(made)
             if self._line.saved >= number:
@@ -126,7 +126,7 @@ class _Saver:
             self._work.set()
 
     def _save_up_to(self, number: int) -> None:
-        """In a turn: saves the entries up to this commit number, and those after it that are handed in."""
+        """Saves, during a turn, the entries up to this commit number and any later entries that have been handed in."""
         line, handed_in = self._line, self._handed_in
         while line.saved < number:
             self.check()
@@ -143,8 +143,8 @@ class _Saver:
                 handed_in.pop(saved, None)
 
     def _next_rows(self, number: int, least: int) -> List[Row]:
-        """The entries from this commit number on to be saved next, up to `_MOST_ROWS` of them: those up to the commit number
-        `least`, which are read from the journal if nobody has handed them in yet, and those after it."""
+        """Returns the entries to save next, from this commit number on, up to `_MOST_ROWS` of them. Entries up to the
+        commit number `least` are read from the journal if nobody has handed them in yet; later entries follow."""
         rows: List[Row] = []
         while len(rows) < _MOST_ROWS:
             row = self._handed_in.get(number)
@@ -178,14 +178,14 @@ class _Saver:
                 self._file.write_state(number, version.next_node, (batch.to_bytes() for batch in version.state()))
 
     def _save_now_and_then(self, every: float) -> None:
-        """Keeps saving what was written, this many seconds after the first write. Closes the file at the end."""
+        """Keeps saving what was written, `every` seconds after the first write. Closes the file at the end."""
         while not self._ending.is_set():
             self._work.wait()
             self._ending.wait(min(every, threading.TIMEOUT_MAX))
             self._work.clear()
             try:
                 self.flush()
-            except Exception as error:  # which later writes and `flush` raise
+            except Exception as error:  # later writes and `flush` raise this error
                 if self._failed is None and not isinstance(error, Stopped):
                     self._failed = error
                 self._ending.wait()
@@ -193,7 +193,7 @@ class _Saver:
             self.close()
 
     def end(self) -> None:
-        """Closes the file, or has the saving thread close it, which may be the caller."""
+        """Closes the file, or makes the saving thread close it. The caller may be that thread."""
         if self.own._is_dead:
             return
         if self.is_timed:
@@ -203,14 +203,14 @@ class _Saver:
             self.close()
 
     def close(self) -> None:
-        """Saves what was written, and closes the file, which a forked child leaves to its parent."""
+        """Saves what was written, and closes the file. A forked child leaves the file to its parent."""
         if self.own._is_dead:
             return
         with self._line.turn():
             file = self._file
             if file is None:
                 return
-            self._is_closing = True  # so a write that comes now and isn't saved below is an error
+            self._is_closing = True  # so a write that comes now, and isn't saved below, raises an error
             try:
                 self._save_all()
             finally:
@@ -229,12 +229,12 @@ class _Saver:
 
 
 class SavedPass(_local.LocalPass):
-    """A pass whose writes are saved. Each call that writes may also raise `Stopped`, if nothing is saved any more, and
-    `NotSaved`, if the write couldn't be saved."""
+    """A pass whose writes are saved. Each call that writes may also raise `Stopped` if saving has stopped, and
+    `NotSaved` if the write couldn't be saved."""
 
     def __init__(self, saver: _Saver, first: Optional[Saved] = None) -> None:
         super().__init__()
-        self._saver, self._first = saver, first  # which stays, so that the file isn't closed
+        self._saver, self._first = saver, first  # this reference keeps the file from being closed
         self._own_number: Optional[int] = None
 
     def _write(self, batch: Batch, tries: int, expected: Optional[int]) -> Tuple[int, List[int]]:
@@ -266,25 +266,25 @@ class SavedPass(_local.LocalPass):
         return other
 
     def flush(self) -> None:
-        """Returns when everything written before the call is in the file. Otherwise raises `Stopped`."""
+        """Returns when everything written before the call is in the file. Raises `Stopped` if that fails."""
         self._check_process()
         self._saver.flush()
 
     def compact(self) -> None:
         """Writes the current snapshot into the file, instead of the state and the entries that it contains. Writes wait
-        for the file meanwhile. `DiskFull` and `SqliteError` leave the file as it was, and `Stopped` is as in `flush`. Takes
-        the time to read and to write all attributes."""
+        for the file meanwhile. `DiskFull` and `SqliteError` leave the file unchanged. Raises `Stopped` like `flush`.
+        Takes the time to read and write all attributes."""
         self._check_process()
         self._saver.compact()
 
     def number_in_file(self, commit: int) -> int:
-        """The number in the file of the entry with this commit number. Numbers in the file go on from one opening to the
-        next."""
+        """Returns the number that the entry with this commit number has in the file. Numbers in the file continue from
+        one opening to the next."""
         return self._saver.number_in_file(commit)
 
 
 class Saved(SavedPass):
-    """A kept store, as its first pass. The file is closed with it, or when all of its passes are gone."""
+    """The first pass of a kept store. The file is closed with this pass, or when all of the store's passes are gone."""
 
     def __init__(self, saver: _Saver) -> None:
         super().__init__(saver)
@@ -320,15 +320,16 @@ class Saved(SavedPass):
 
 def open(path: Union[str, bytes, "os.PathLike[Any]"], pages: int = 4096, passes: int = PASSES, commits: int = 2**32 - 1,
          every: Optional[float] = None) -> Saved:
-    """Opens or makes the file, and rebuilds the store. The limits are those of `bestore.open`, except that there
-    are up to 63 `passes`. The journal begins with what the file has, so `commits` has to leave room for that.
+    """Opens or makes the file, and rebuilds the store. The limits are those of `bestore.open`, except that `passes` is
+    at most 63. The journal begins with the file's contents, so `commits` has to allow for them.
 
-    With `every` a write returns at once, and is in the file this many seconds later. `flush` and `close` save it earlier.
+    With `every`, a write returns immediately, and is in the file `every` seconds later. `flush` and `close` save it earlier.
 
-    If the file has entries since its state, the state is rewritten; on a full disk the file stays as it is.
+    If the file has entries that are newer than its state, the state is rewritten; if the disk is full, the file stays unchanged.
 
-    Raises `Foreign`, `Newer`, `Held`; `Damaged` and `CutOff` if part of the file was changed or lost; `Differs` and `TooLarge` with the
-    place in the file; `DiskFull` and `SqliteError`; the errors of `bestore.open`; and a ValueError if `every` is below 0."""
+    Raises `Foreign`, `Newer`, `Held`; `Damaged` and `CutOff` if part of the file was changed or lost; `Differs` and
+    `TooLarge` with the position in the file; `DiskFull` and `SqliteError`; the errors of `bestore.open`; and a
+    ValueError if `every` is below 0."""
     if not 1 <= operator.index(passes) <= 63:
         raise BadLimits()
     if every is not None and not every >= 0:
@@ -356,7 +357,7 @@ def open(path: Union[str, bytes, "os.PathLike[Any]"], pages: int = 4096, passes:
 
 
 def _few_commits(file: File, pages: int, passes: int, commits: int) -> _local.LocalPass:
-    """A store for a file with few entry numbers left. Raises `TooLarge` if it couldn't accept even one transaction."""
+    """Opens a store for a file that has few entry numbers left. Raises `TooLarge` if it couldn't accept even one transaction."""
     if commits == 0:
         spent = CommitsSpent()
         raise refused(file.path, spent, entry=file.about().entries) from spent
@@ -364,7 +365,7 @@ def _few_commits(file: File, pages: int, passes: int, commits: int) -> _local.Lo
 
 
 class SavedShelf(_shelf.Shelf):
-    """A pass of a shelf whose volumes are kept in files. Closing the first one closes the files."""
+    """A pass of a shelf whose volumes are kept in files. Closing the first pass closes the files."""
 
     def __init__(self, passes: Sequence[SavedPass]) -> None:
         super().__init__(passes)
@@ -375,21 +376,21 @@ class SavedShelf(_shelf.Shelf):
         return SavedShelf(_shelf.taken(user.another for user in self._saved))
 
     def flush(self) -> None:
-        """Returns when everything written before the call is in the files. Raises `Stopped` for the first volume that can't be
-        saved; the others are saved."""
+        """Returns when everything written before the call is in the files. Raises `Stopped` for the first volume that
+        can't be saved; the other volumes are saved."""
         with ExitStack() as calls_of_all:
-            for user in self._saved:  # the last one begins, so that the error of the first one is raised
+            for user in self._saved:  # the last volume comes first, so that the first volume's error is the one raised
                 calls_of_all.callback(user.flush)
 
     def compact(self) -> None:
-        """Writes the current snapshots into the files, as `SavedPass.compact` does for each volume. Errors are those of the first
-        volume that fails; the others are compacted."""
+        """Writes the current snapshots into the files, as `SavedPass.compact` does for each volume. Raises the error
+        from the first volume that fails; the other volumes are compacted."""
         with ExitStack() as calls_of_all:
             for user in self._saved:  # as in `flush`
                 calls_of_all.callback(user.compact)
 
     def _index_new(self) -> None:
-        """Makes the indices that all other volumes have in those that never had a node."""
+        """In volumes that have never had a node, makes the indices that all other volumes have."""
         new, common = [], None
         for user in self._saved:
             with user.pin() as version:
@@ -405,7 +406,7 @@ class SavedShelf(_shelf.Shelf):
 
 
 def _volumes_in(folder: str) -> int:
-    """How many volumes a folder has. Raises `NoFile` if one is missing and a later one is there."""
+    """Returns how many volumes a folder has. Raises `NoFile` if a volume is missing and a later volume exists."""
     names = [name[:-len(_ENDING)] for name in os.listdir(folder) if name.endswith(_ENDING)]
     found = sorted(int(name) for name in names if name.isdecimal() and str(int(name)) == name)
     for expected, volume in enumerate(found):
@@ -420,12 +421,12 @@ def _file_of(folder: str, volume: int) -> str:
 
 def open_shelf(folder: Union[str, bytes, "os.PathLike[Any]"], volumes: Optional[int] = None, pages: int = 4096, passes: int = PASSES,
                commits: int = 2**32 - 1, every: Optional[float] = None) -> SavedShelf:
-    """Opens the volumes that the folder has, each in a file of its own: `0.bestore`, `1.bestore` and so on. If `volumes` is
-    given, 1 to 64, it makes the folder and the missing volumes; a new one gets the indices that the others have. The other
-    parameters are those of `open`, for each volume. The crate for Rust and bestored can open the same folder.
+    """Opens the volumes in the folder, each in its own file: `0.bestore`, `1.bestore` and so on. If `volumes` is given,
+    1 to 64, makes the folder and the missing volumes; a new volume gets the indices that the other volumes have. The
+    other parameters are those of `open`, for each volume. The Rust crate and bestored can open the same folder.
 
-    Raises what `open` raises; `Fewer` if the folder has more volumes than `volumes`, or none and no number is given; `NoFile` if
-    one is missing and a later one is there; an OSError if the folder can't be read or made."""
+    Raises what `open` raises; `Fewer` if the folder has more volumes than `volumes`, or has no volumes and `volumes` is
+    None; `NoFile` if a volume is missing and a later volume exists; an OSError if the folder can't be read or made."""
     path = os.fsdecode(folder)
     if volumes is not None:
         if not 1 <= volumes <= _shelf.MOST_VOLUMES:
@@ -447,7 +448,7 @@ def open_shelf(folder: Union[str, bytes, "os.PathLike[Any]"], volumes: Optional[
 
 
 def _load(file: File, own: _local.LocalPass) -> int:
-    """Applies what the file has to an empty store. Returns the number of the last entry."""
+    """Applies the file's contents to an empty store. Returns the number of the last entry."""
     about, repeater = file.about(), Repeater(own)
     for place, data in file.state():
         _repeat(file.path, repeater, data, batch=place)
@@ -467,8 +468,8 @@ def _load(file: File, own: _local.LocalPass) -> int:
 
 def _repeat(path: str, repeater: Repeater, data: bytes, entry: Optional[int] = None,
             batch: Optional[int] = None) -> Tuple[List[int], List[int]]:
-    """Applies a batch of the file. Returns for each operation the node that it made, or 0: first according to the file, then
-    as made now."""
+    """Applies a batch from the file. Returns two lists with, for each operation, the node that it made or 0: first the
+    nodes according to the file, then the nodes that were made now."""
     try:
         return repeater.repeat(data)
     except Error as error:

@@ -7,16 +7,17 @@
         with store.pin() as version:
             version.query("size>=5")
 
-A shelf has 1 to 64 volumes, each a store of its own, so it has room for more nodes than one store. It is a `Pass` like any other,
-and so are its versions: queries, counts and live queries cover all volumes. A node is one integer, its volume * 10^14 + its
-number there: `volume_of` and `number_of` take it apart, and `node_in` builds it. A node never leaves its volume. A server may have
-volumes too: then the pass that `connect` returns is such a store.
+A shelf has 1 to 64 volumes, each a separate store, so it can hold more nodes than one store. Use it like any other
+`Pass`, and its versions like any other `Version`: queries, counts and live queries cover all volumes. A node is one
+integer, its volume * 10^14 + its number within the volume: `volume_of` and `number_of` take a node apart, and `node_in`
+builds it. A node never leaves its volume. A server may have volumes too: then the pass that `connect` returns is such a
+store.
 
 **What is promised.** Each volume by itself keeps the promises of a store: its writes are serializable in its journal, and what is
-read from it is one snapshot. Across volumes there is no order. A version has a snapshot of each volume, pinned one after another, so it
-may have a later write to one volume and not an earlier one to another. A batch or a change writes one volume, and what a change has
-read from others may have changed meanwhile. Indices are made in one volume after another. If one volume can't answer a query, the
-error is `NotCovered`, with that `volume`, so no answer is partial.
+read from it is one snapshot. Across volumes there is no order. A version has a snapshot of each volume, pinned one after another,
+so it may include a later write to one volume, but not an earlier write to another. A batch or a change writes one volume, and
+what a change has read from other volumes may have changed meanwhile. Indices are made in one volume after another. If one volume
+can't answer a query, the error is `NotCovered`, with that `volume`, so no answer is partial.
 """
 
 from __future__ import annotations
@@ -79,7 +80,7 @@ class ShelfVersion(Version):
 
     @property
     def next_node(self) -> int:
-        """The number of the next node that is made in the volume with the most free pages, if no other write comes there before."""
+        """The number that the next new node gets in the volume with the most free pages, if no other write to that volume comes first."""
         return self._next_in(self._user._roomiest())
 
     def _next_in(self, volume: int) -> int:
@@ -88,7 +89,7 @@ class ShelfVersion(Version):
         return node_in(volume, self.volumes[volume].next_node)
 
     def _each(self, read: Callable[[Version], _Result]) -> Iterator[Tuple[int, _Result]]:
-        """What is read from each volume. An error names its volume, unless it depends only on the call."""
+        """Yields what is read from each volume. An error names its volume, unless the error depends only on the call."""
         for volume, version in enumerate(self.volumes):
             with _of_volume(volume):
                 found = read(version)
@@ -115,7 +116,7 @@ class ShelfVersion(Version):
         return self._some(read, range(len(self.volumes)), limit)
 
     def _some(self, read: Callable[[int, int], List[int]], volumes: Iterable[int], limit: int) -> List[int]:
-        """What is read from one volume after another, until there are this many nodes."""
+        """Returns what is read from one volume after another, until there are `limit` nodes."""
         found: List[int] = []
         for volume in volumes:
             if len(found) < limit:
@@ -140,7 +141,7 @@ class ShelfVersion(Version):
         return Page([decode_key(kind, key)[1] for key in keys], more, cursor)
 
     def _keys_in(self, volume: int, asked: Prepared, kind: Kind, after: Cursor, room: Optional[int]) -> Iterator[bytes]:
-        """The keys of a volume's pages after a position there, with the shelf's numbers for nodes."""
+        """Yields the keys of a volume's pages after a position in that volume, with the shelf's numbers for nodes."""
         version, order, more = self.volumes[volume], after.order, True
         while more:
             with _of_volume(volume):
@@ -164,7 +165,7 @@ class ShelfVersion(Version):
         return sum(count for _, count in self._each(lambda version: version._count_of(asked)))
 
     def _of(self, node: int) -> Tuple[Version, int]:
-        """The version that may have a node, and the node's number there. No volume has a node 0."""
+        """Returns the version that may contain a node, and the node's number within its volume. No volume has a node 0."""
         volume, number = divmod(node_number(node), NUMBERS)
         if 0 <= volume < len(self.volumes):
             return self.volumes[volume], number
@@ -211,15 +212,15 @@ class ShelfVersion(Version):
         return found
 
     def refresh(self, prepared: Prepared) -> Tuple[List[int], List[int]]:
-        """As in a version of one store. The program's memory has all nodes of the query until that is closed."""
+        """Works as in a version of one store. All nodes that match the query stay in the program's memory until the query is closed."""
         return refreshed_by_all(prepared, self)
 
     def explain(self, text: str) -> str:
-        """What the query would be answered from in the first volume. The others use the same if they have the same indices."""
+        """Returns how the first volume would answer the query. The other volumes would do the same if they have the same indices."""
         return [explained for _, explained in self._each(lambda version: version.explain(text))][0]
 
     def _indices_in(self) -> Dict[str, Dict[int, Kind]]:
-        """For each index the volumes that have it, with its kind there."""
+        """Returns, for each index, the volumes that have it, with its kind in each of them."""
         found: Dict[str, Dict[int, Kind]] = {}
         for volume, indices in self._each(lambda version: version.indices()):
             for name, kind in indices.items():
@@ -253,8 +254,9 @@ def _of_volume(volume: int) -> Iterator[None]:
 
 
 def _position_in(volume: int, after: Cursor) -> Cursor:
-    """The position in a volume of a shelf's cursor. Among the nodes with the cursor's value, those of lower volumes come before it in
-    the ascending order, and those of higher volumes after it. No node has the number 2^64 - 1 or 0."""
+    """Returns the position in a volume that corresponds to a shelf's cursor. Among the nodes with the cursor's value,
+    in ascending order, nodes in lower volumes come before the cursor, and nodes in higher volumes come after it. No
+    node has the number 2^64 - 1 or 0."""
     if after.node is None:
         return after
     own, number = divmod(after.node, NUMBERS)
@@ -262,7 +264,7 @@ def _position_in(volume: int, after: Cursor) -> Cursor:
 
 
 def _put(column: List[Optional[Value]], places: List[int], values: List[Optional[Value]]) -> None:
-    """Puts values at their places."""
+    """Puts values at their positions."""
     for place, value in zip(places, values):
         column[place] = value
 
@@ -288,7 +290,8 @@ class ShelfWitness(Witness):
 
 
 class Shelf(ThreadPass):
-    """A pass of a store that has several volumes: a pass of each. It may be made of passes that are open, and then owns them."""
+    """A pass of a store that has several volumes, made of one pass of each volume. A shelf can be made from open passes, which it then
+    owns."""
 
     _passes: Tuple[Pass, ...] = ()
 
@@ -309,11 +312,12 @@ class Shelf(ThreadPass):
         return tuple(commits for user in self._passes for commits in user._commits)
 
     def volume(self, volume: int) -> Pass:
-        """The pass of a volume, which reads and writes nodes by their numbers there. `NoVolume` if there is no such volume."""
+        """Returns the pass of a volume, which reads and writes nodes by their numbers within the volume. Raises `NoVolume` if there is no
+        such volume."""
         return self._passes[self._checked(volume)]
 
     def _checked(self, volume: Optional[int]) -> int:
-        """The volume that a call names, or the only one. `NoVolume` if there is no such volume."""
+        """Returns the volume that a call names, or the only volume. Raises `NoVolume` if there is no such volume."""
         if volume is None and len(self._passes) == 1:
             return 0
         if volume is None or not 0 <= volume < len(self._passes):
@@ -343,11 +347,12 @@ class Shelf(ThreadPass):
         """Each pass is closed when nothing refers to it any more."""
 
     def finish(self) -> str:
-        """Closes the volumes, one after another, and returns their journals. An error leaves those before it closed."""
+        """Closes the volumes one after another, and returns their journals. After an error, the volumes before the failing one stay
+        closed."""
         return "".join(user.finish() for user in self._passes)
 
     def meet(self) -> int:
-        """Meets a pass that was closed, in each volume. Returns how many entries both have seen together."""
+        """Meets a closed pass in each volume. Returns how many entries both have seen, summed over the volumes."""
         return sum(user.meet() for user in self._passes)
 
     def witness(self) -> ShelfWitness:
@@ -402,7 +407,7 @@ class Shelf(ThreadPass):
         return [user.status(tries) for user in self._passes]
 
     def _roomiest(self) -> int:
-        """The volume with the most free pages, or the first of several."""
+        """Returns the volume with the most free pages, or the first such volume if several have equally many."""
         free = [status.free for status in self.statuses()]
         return free.index(max(free))
 
@@ -425,7 +430,7 @@ class Shelf(ThreadPass):
         return self._write_moved(self._checked(volume), within(batch, volume)[1], tries, expected)
 
     def _write_moved(self, volume: int, moved: Batch, tries: int, expected: Optional[int]) -> Tuple[int, List[int]]:
-        """Writes a batch in a volume, with the numbers that its nodes have there."""
+        """Writes a batch to a volume. The batch has its nodes' numbers within that volume."""
         user = self._passes[volume]
         try:
             written = user.apply(moved, tries) if expected is None else user.apply_if(expected, moved, tries)
@@ -444,7 +449,7 @@ class Shelf(ThreadPass):
         return sum(status.entries for status in self.statuses(tries)), [0] * len(batch)
 
     def _check_kind(self, wanted: MakeIndex) -> None:
-        """`IndexExists` if a volume has the index with another kind, so that none is made in the others."""
+        """Raises `IndexExists` if a volume has the index with another kind, so that the index isn't made in the other volumes either."""
         for volume, user in enumerate(self._passes):
             with user.pin() as version:
                 kind = version.indices().get(wanted.name)
@@ -454,7 +459,7 @@ class Shelf(ThreadPass):
                 raise error
 
     def _write_each(self, operation: Operation, tries: int) -> None:
-        """Makes an index in each volume that lacks it, or removes it from each that has it."""
+        """Makes an index in each volume that lacks it, or removes an index from each volume that has it."""
         done, last = 0, None
         for volume in range(len(self._passes)):
             try:
@@ -467,7 +472,7 @@ class Shelf(ThreadPass):
             raise last
 
     def journal(self, tries: int = TRIES) -> str:
-        """The journals of all volumes, one after another."""
+        """Returns the journals of all volumes, one after another."""
         return "".join(user.journal(tries) for user in self._passes)
 
     def journal_from(self, number: int = 0, tries: int = TRIES, volume: Optional[int] = None) -> Iterator[Entry]:
@@ -477,7 +482,7 @@ class Shelf(ThreadPass):
 
 
 def taken(takes: Iterable[Callable[[], _Taken]]) -> List[_Taken]:
-    """What these calls open: all, or none if one raises."""
+    """Returns what these calls open. If a call raises, nothing stays open."""
     opened: List[_Taken] = []
     with ExitStack() as ends:
         for take in takes:
@@ -488,8 +493,9 @@ def taken(takes: Iterable[Callable[[], _Taken]]) -> List[_Taken]:
 
 
 def open(volumes: int, pages: int = 4096, passes: int = PASSES, commits: int = 2**32 - 1) -> Shelf:
-    """A new store in memory that has this many volumes, 1 to 64. The limits are for each volume, as in `bestore.open`.
-    `bestore.open_shelf` is this function. Raises `BadLimits` if one is out of its range, or `NoMemory`."""
+    """Opens a new store in memory with this many volumes, 1 to 64. The limits apply to each volume, as in
+    `bestore.open`. `bestore.open_shelf` is this function. Raises `BadLimits` if a limit is out of its range, or
+    `NoMemory`."""
     if not 1 <= volumes <= MOST_VOLUMES:
         raise BadLimits()
     from . import local  # which needs the library

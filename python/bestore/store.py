@@ -29,16 +29,16 @@ PASSES = 63
 """How many passes a store has by default. Each takes about 90 bytes and adds 13 instructions to a write: 55 passes add 700 to about
 20,000. A pin costs the same however many there are."""
 TRIES = 10_000
-"""How often a call is tried by default while another pass is writing: for at least a few seconds."""
+"""How often a call is tried by default while another pass is writing, which takes at least a few seconds."""
 PAUSES = 50
-"""How often a write waits, when no page is free, for another pass to unpin its snapshot: for about 2 seconds in all."""
+"""How often a write waits, when no page is free, for another pass to unpin its snapshot: about 2 seconds in all."""
 ATTEMPTS = 10_000
 """How often the function of a change is run, at most, by default."""
 
 
 class Held(NamedTuple):
-    """The oldest active reader: a commit number, and the first pass that is pinned to it or a later one, or is
-    about to be."""
+    """The oldest active reader: a commit number, and the first pass that is pinned to this commit or a later one, or is
+    about to be pinned."""
 
     version: int
     pass_number: int
@@ -72,8 +72,8 @@ class Entry(NamedTuple):
 
 
 class StandingBack:
-    """Lets other threads run, twice as often each time, up to 1,024 times. Otherwise two passes that take turns at
-    each write would each wait for what the other has just written."""
+    """Yields to other threads: each time twice as often as before, up to 1,024 times. Otherwise two passes that take
+    turns with each write would each wait for what the other has just written."""
 
     def __init__(self) -> None:
         self._turns = 1
@@ -84,19 +84,20 @@ class StandingBack:
         self._turns = min(2 * self._turns, 1024)
 
     def wait_by_chance(self) -> None:
-        """The same, but up to that often, so that threads that came at the same time come back at different times."""
+        """Yields a random number of times, at most as many as `wait` would, so that threads that arrived together come back at different
+        times."""
         self.wait(random.randint(1, self._turns))
 
 
 class _Waits:
-    """How a change waits after an attempt that wrote nothing."""
+    """Decides how a change waits after an attempt that wrote nothing."""
 
     def __init__(self, user: Pass, tries: int) -> None:
         self._user, self._tries, self._pauses = user, tries, 0
         self._back = StandingBack()
 
     def wait_after(self, error: Refusal) -> bool:
-        """Waits, and returns whether a later attempt may succeed."""
+        """Waits. Returns whether a later attempt may succeed."""
         if isinstance(error, Full):
             if self._tries <= 1 or self._pauses == PAUSES or not self._user._may_be_given_pages(error):
                 return False
@@ -113,13 +114,13 @@ class _Waits:
 
 
 def pause_at_full(pauses: int) -> None:
-    """Waits for pages, after this many earlier pauses: 1 to 50 milliseconds."""
+    """Waits 1 to 50 milliseconds for pages. `pauses` is how many pauses came before."""
     time.sleep(min(0.001 * 2**pauses, 0.05))
 
 
 class Witness(Owner, ABC):
-    """What a pass has seen of its store, for a pass of the same store in another thread: `Pass.witness` makes one, and `Pass.join`
-    joins it. It holds no part of the store."""
+    """Records what a pass has seen of its store, for a pass of the same store in another thread. `Pass.witness` makes a
+    witness, and `Pass.join` joins it. A witness holds no part of the store."""
 
     @abstractmethod
     def close(self) -> None:
@@ -127,8 +128,8 @@ class Witness(Owner, ABC):
 
 
 class Pass(Owner, ABC):
-    """A session: one thread's handle on the store. `open` returns the first one of a store in this process, and `connect`
-    one of a server's store; `another` makes the others.
+    """A session: one thread's handle on the store. `open` returns the first pass of a store in this process, and
+    `connect` returns a pass of a server's store. `another` makes further passes.
 
     Give each thread a pass of its own, since calls on the same pass wait for each other."""
 
@@ -137,14 +138,15 @@ class Pass(Owner, ABC):
 
     @property
     def committed(self) -> int:
-        """The commit number of the last write that this pass made, or 0 before the first. With several volumes, it is the number in
-        the volume that was written."""
+        """The commit number of the last write that this pass made, or 0 before the first. With several volumes, it is
+        the commit number in the volume that was written."""
         return self._committed
 
     @property
     @abstractmethod
     def number(self) -> int:
-        """The pass's number, which `Busy`, `Status` and the journal use. With several volumes, that in the first."""
+        """The pass's number, which `Busy`, `Status` and the journal use. With several volumes, it is the pass's number in the first
+        volume."""
 
     @property
     def volumes(self) -> int:
@@ -153,9 +155,9 @@ class Pass(Owner, ABC):
 
     @abstractmethod
     def another(self) -> Pass:
-        """A pass of the same store for another thread. Unused ones stay with the pass that `open` returned: its
-        thread makes a pass for each other thread before that starts. Any pass can hand out one that was closed.
-        Raises `NoPass` if there is none."""
+        """Returns a pass of the same store for another thread. Unused passes stay with the pass that `open` returned:
+        its thread makes a pass for each other thread before that thread starts. Any pass can hand out a pass that was
+        closed. Raises `NoPass` if no pass is left."""
 
     @abstractmethod
     def close(self) -> None:
@@ -164,68 +166,72 @@ class Pass(Owner, ABC):
 
     @abstractmethod
     def finish(self) -> str:
-        """Closes the store through its last pass, which is then closed, and returns the whole journal, as `journal` does. For each
-        pass it has exactly the writes that its calls have committed, at their commit numbers. Raises `InUse` if another pass is
-        open, and so always for a kept store, which has a pass of its own; or `NoMemory`. The pass is as it was after either."""
+        """Closes the store through its last pass, which is then closed, and returns the whole journal, as `journal`
+        does. For each pass, the journal has exactly the writes that its calls have committed, at their commit numbers.
+        Raises `InUse` if another pass is open, which is always so for a kept store, because it has a pass of its own.
+        May also raise `NoMemory`. After either error, the pass is unchanged."""
 
     @abstractmethod
     def meet(self) -> int:
-        """Meets a pass that was closed: both have then seen what either had. Returns how many entries of the journal
-        that is. Raises `NoPass` if there is none, or another thread is meeting it."""
+        """Meets a pass that was closed: afterwards each has seen what the other had. Returns how many journal entries
+        both have seen. Raises `NoPass` if there is no closed pass, or if another thread is meeting it."""
 
     @abstractmethod
     def witness(self) -> Witness:
-        """A witness of all entries of the journal that the pass has seen so far, including its own. Hand it to another thread,
-        whose pass joins it. `NoMemory`."""
+        """Returns a witness of all journal entries that the pass has seen so far, including the pass's own. Hand the
+        witness to another thread, whose pass joins it. May raise `NoMemory`."""
 
     @abstractmethod
     def join(self, witness: Witness) -> int:
-        """Joins a witness: the pass and the witness have then both seen what either had. So each later version of the pass
-        includes everything that the witness's pass had seen, and each later commit number of the pass is greater than those. Returns
-        how many entries of the journal both have seen. Raises `OtherStore` if the witness belongs to another store."""
+        """Joins a witness: afterwards the pass and the witness have each seen what the other had. So each later version
+        of the pass includes everything that the witness's pass had seen, and each later commit number of the pass is
+        greater than the commit numbers of those entries. Returns how many journal entries both have seen. Raises
+        `OtherStore` if the witness belongs to another store."""
 
     @abstractmethod
     def pin(self) -> Version:
-        """Pins the current version: `with store.pin() as version:` reads it, and unpins at the end. Raises
-        `Pinned` if the pass is pinned. Takes constant time."""
+        """Pins the current version and returns it: use `with store.pin() as version:`, which unpins the version at the
+        end. Raises `Pinned` if the pass is already pinned. Takes constant time."""
 
     @abstractmethod
     def _write(self, batch: Batch, tries: int, expected: Optional[int]) -> Tuple[int, List[int]]:
-        """Writes a batch; if a number is given, only if the journal has this many entries. Returns the commit number, and for each
-        operation the new node's number or 0."""
+        """Writes a batch. If `expected` is given, writes it only if the journal has this many entries. Returns the
+        commit number and, for each operation, the new node's number or 0."""
 
     @abstractmethod
     def journal(self, tries: int = TRIES) -> str:
-        """The journal up to now, with up to this many tries while another pass is writing: a line for each write, with
-        the pass that wrote it, its operations and their outcomes. Takes memory for all of it, and other writes are
-        `Busy` meanwhile."""
+        """Returns the journal up to now: a line for each write, with the pass that wrote it, its operations and their
+        outcomes. Makes up to `tries` tries while another pass is writing. Takes memory for the whole journal, and other
+        writes are `Busy` meanwhile."""
 
     def _write_in(self, volume: int, batch: Batch, tries: int, expected: Optional[int]) -> Tuple[int, List[int]]:
-        """The same in this volume. Raises `NoVolume` if there is no such volume."""
+        """Writes a batch to this volume, like `_write`. Raises `NoVolume` if there is no such volume."""
         if volume != 0:
             raise NoVolume(volume, 1)
         return self._write(batch, tries, expected)
 
     @abstractmethod
     def journal_from(self, number: int = 0, tries: int = TRIES, volume: Optional[int] = None) -> Iterator[Entry]:
-        """The entries of the journal after the first `number`, until there are no more. So
-        `store.journal_from(version.number)` has what was written after a snapshot. Each entry is read by a call of
-        its own, which is tried up to this many times while another pass is writing, and then raises `Busy`.
+        """Yields the journal entries after the first `number`, until there are no more. So
+        `store.journal_from(version.number)` yields what was written after a snapshot. Each entry is read by a separate
+        call, which is tried up to `tries` times while another pass is writing, and then raises `Busy`.
 
-        If there are several volumes, the journal of this one; raises `NoVolume` if none is given."""
+        If there are several volumes, reads the journal of `volume`. Raises `NoVolume` if `volume` isn't given."""
 
     @abstractmethod
     def status(self, tries: int = TRIES) -> Status:
-        """How full the store is, and which pass is the oldest active reader, with up to this many tries while another pass is
-        writing. With several volumes the numbers are sums, and the reader is that of the first volume that has one."""
+        """Returns how full the store is, and which pass is the oldest active reader. Makes up to `tries` tries while
+        another pass is writing. With several volumes the numbers are sums, and the reader is taken from the first
+        volume that has one."""
 
     def statuses(self, tries: int = TRIES) -> List[Status]:
-        """How full each volume is."""
+        """Returns how full each volume is."""
         return [self.status(tries)]
 
     def reach(self, numbers: Union[int, Sequence[int]], within: float = 5) -> Tuple[int, ...]:
-        """Waits up to this many seconds until the journal, or that of each volume, has at least this many entries. Returns how many
-        they have. Versions that the pass pins from then on include them. Raises `NotReached` if they don't come in time."""
+        """Waits up to `within` seconds until the journal, or each volume's journal, has at least this many entries.
+        Returns how many entries each journal has. Versions that the pass pins from then on include these entries.
+        Raises `NotReached` if the entries don't come in time."""
         wanted = _numbers(numbers, self.volumes)
         until = time.monotonic() + within
         with waiting(self._commits, self.volumes) as waiter:
@@ -240,20 +246,21 @@ class Pass(Owner, ABC):
                 waiter.wait(left)
 
     def prepare(self, text: str) -> Prepared:
-        """The query of this text, to be asked often in versions of this store: that of `bestore.prepare`. A server's store asks the
-        server instead, and needs no library; only versions of servers' stores can be asked such a query. The errors are those of
-        `bestore.prepare`."""
+        """Prepares this query text for repeated use in versions of this store, like `bestore.prepare`. A server's store
+        has the server parse the text, and needs no library; such a query can be run only in versions of servers'
+        stores. The errors are those of `bestore.prepare`."""
         return prepare(text)
 
     def watch(self, query: Optional[str] = None) -> Watch:
-        """Starts to follow what a query finds, or every commit without a query: `Watch.wait` waits for changes. In this process it
-        pins the pass for each look, and takes memory for the nodes of the query. Raises a `QueryError`, or `Pinned`."""
+        """Starts to follow what a query finds, or every commit if `query` is None: `Watch.wait` waits for changes. For
+        a store in this process, the watch pins the pass for each look, and takes memory for the nodes that the query
+        finds. Raises a `QueryError`, or `Pinned`."""
         return LocalWatch(self, query)
 
     def change(self, function: Callable[[Change], _Result], attempts: int = ATTEMPTS, *, check_kinds: bool = True,
                tries: int = TRIES, volume: Optional[int] = None) -> _Result:
-        """Writes based on reads. Runs the function on a new snapshot, and commits the operations that it collected,
-        but only if nothing else was written since. Otherwise it runs the function again, on a newer snapshot.
+        """Writes based on reads. Runs the function on a new snapshot, and commits the operations that the function
+        collected, but only if nothing else was written since. Otherwise runs the function again, on a newer snapshot.
 
             def file(change):
                 node = change.new()
@@ -262,19 +269,21 @@ class Pass(Owner, ABC):
 
             node = store.change(file)
 
-        Returns what the function returned the last time; `committed` is then the commit number. If it collected no
-        operation, nothing is written. The function may run up to `attempts` times, so it should do nothing else that
-        can't be done twice. If it raises, nothing is written.
+        Returns what the function returned the last time; `committed` is then the commit number. If the function
+        collected no operation, nothing is written. The function may run up to `attempts` times, so it shouldn't do
+        anything else that can't be done twice. If the function raises, nothing is written.
 
-        With several volumes it reads all and writes one: the given one, otherwise that of its first operation. A new node
-        is made in the volume with the most free pages if the volume isn't known by then. It is committed if nothing else
-        was written to that volume; what it read from others may have changed. Raises `OtherVolume` if it writes to another one.
+        With several volumes, a change reads all volumes and writes one: `volume` if it is given, otherwise the volume
+        of the first operation. If the change makes a node before that volume is known, the node is made in the volume
+        with the most free pages. The change is committed if nothing else was written to that volume; what it read from
+        other volumes may have changed. Raises `OtherVolume` if the function writes to another volume.
 
-        It also runs the function again if another pass is writing, up to `tries` times, and with more than one try at `Full`
-        while another pass has the oldest snapshot, for about 2 seconds: by then the snapshot usually isn't current any more.
+        The function also runs again if another pass is writing, up to `tries` times. With more than one try, it also
+        runs again at `Full` while another pass has the oldest snapshot, for about 2 seconds: by then the snapshot
+        usually isn't current any more.
 
-        Raises `TooManyAttempts` if other writes came in between each time; `Pinned` if this pass is pinned; `Nested`
-        if the function writes through this pass; and the errors of `apply`. `Change.set` says what `check_kinds` does."""
+        Raises `TooManyAttempts` if other writes intervened at every attempt; `Pinned` if this pass is pinned; `Nested` if
+        the function writes through this pass; and the errors of `apply`. `Change.set` says what `check_kinds` does."""
         waits, left = _Waits(self, tries), max(attempts, 1)
         while True:
             with self._begin_change(check_kinds, volume) as change:
@@ -294,19 +303,20 @@ class Pass(Owner, ABC):
                 raise failed
 
     def _begin_change(self, check_kinds: bool, volume: Optional[int]) -> Change:
-        """A change on the current version. Raises `NoVolume` if it is to write a volume that doesn't exist."""
+        """Begins a change on the current version. Raises `NoVolume` if the change is to write a volume that doesn't exist."""
         if volume:
             raise NoVolume(volume, 1)
         return self._change_on(self.pin(), check_kinds)
 
     @abstractmethod
     def _change_on(self, version: Version, check_kinds: bool) -> Change:
-        """A change on a version of this pass, which has one volume."""
+        """Returns a change on a version of this pass, which has one volume."""
 
     @abstractmethod
     def _commit(self, change: Change) -> int:
-        """Writes what a change has collected, if nothing was written to its volume since, and unpins its snapshot. Returns the
-        commit number. It doesn't wait: while another pass is writing, it raises `Busy` at once, and `Full` likewise."""
+        """Writes what a change has collected, if nothing was written to its volume since, and unpins its snapshot.
+        Returns the commit number. Doesn't wait: raises `Busy` immediately if another pass is writing, and likewise
+        `Full`."""
 
     def _run(self, function: Callable[[Change], _Result], change: Change) -> _Result:
         """Runs the function of a change."""
@@ -317,21 +327,23 @@ class Pass(Owner, ABC):
             self._is_changing = False
 
     def _may_be_given_pages(self, error: Full) -> bool:
-        """Whether pages may become free for a write that found none, because another pass can still unpin its snapshot."""
+        """Returns whether pages may become free for a write that found no free page, because another pass can still unpin its snapshot."""
         return False
 
     def apply(self, batch: Batch, tries: int = TRIES, volume: Optional[int] = None) -> Tuple[int, List[int]]:
-        """Applies a batch, all or none, whatever other passes have written meanwhile. Returns the commit number, and
-        for each operation the new node's number or 0. For a write based on a read, use `change`.
+        """Applies all operations of a batch or none, whatever other passes have written meanwhile. Returns the commit
+        number and, for each operation, the new node's number or 0. For a write based on a read, use `change`.
 
-        While another pass is writing it tries again, `tries` times in all. With more than one try it also waits up to
-        some five seconds at `Full` while another pass has the oldest snapshot. Takes memory for the operations, and new
-        pages on the way to each change of a tree.
+        While another pass is writing, the call tries again, `tries` times in all. With more than one try, it also waits
+        up to about five seconds at `Full` while another pass has the oldest snapshot. Takes memory for the operations,
+        and new pages on the path to each change in a tree.
 
-        With several volumes the batch is written to one of them: the given one, otherwise that of the nodes which it names, otherwise
-        the one with the most free pages. The commit number is that of the volume. A batch of nothing but `make_index` and
-        `remove_index` is written to each volume that lacks the index, or has it, one after another. If one volume refuses,
-        those before it have been written, and the same batch then writes the others; the number is then the sum.
+        With several volumes the batch is written to one of them: `volume` if it is given, otherwise the volume of the
+        nodes that the batch names, otherwise the volume with the most free pages. The commit number is the volume's. A
+        batch with only `make_index` and `remove_index` is written to one volume after another: to each that lacks the
+        index that is made, or has the index that is removed. If a volume refuses, the volumes before it have been
+        written, and applying the same batch again writes the others. For such a batch, the commit number is the sum of
+        the volumes' numbers.
 
         Raises `Busy`, `BadCount`, `NoMemory`; `NameLength`, `DataLength`, `HasNul`, `NotUTF8`, `NoKind` and
         `NoValue` with the first operation that can't be read; `NoNode`, `NoAttribute`, `TooManyAttributes`,
@@ -340,9 +352,10 @@ class Pass(Owner, ABC):
         return self._written(batch, tries, volume=volume)
 
     def apply_if(self, number: int, batch: Batch, tries: int = TRIES, volume: Optional[int] = None) -> Tuple[int, List[int]]:
-        """Applies a batch as `apply` does, if the journal has exactly this many entries: no write came after the
-        snapshot of this number. Otherwise raises `Conflict`, and nothing is written. With several volumes the journal is
-        that of the batch's volume, and a batch that names no node needs a `volume`, or `NoVolume` is raised."""
+        """Applies a batch like `apply`, but only if the journal has exactly `number` entries, so that no write came
+        after the snapshot with this number. Otherwise raises `Conflict`, and nothing is written. With several volumes,
+        the journal is that of the batch's volume. Raises `NoVolume` if the batch names no node and `volume` isn't
+        given."""
         try:
             return self._written(batch, tries, number, volume)
         except Conflict as conflict:
@@ -367,7 +380,7 @@ class Pass(Owner, ABC):
 
     @property
     def _commits(self) -> Tuple[Commits, ...]:
-        """Those that wait for commits, for each volume whose passes wake them."""
+        """Returns the threads that wait for commits, for each volume whose passes wake them."""
         return ()
 
     def _wake(self) -> None:
@@ -378,7 +391,7 @@ class Pass(Owner, ABC):
         return self.apply(Batch().new_node())[1][0]
 
     def new_nodes(self, count: int) -> List[int]:
-        """Makes this many nodes, and returns their numbers. Each write makes up to 64 of them."""
+        """Makes this many nodes, and returns their numbers. Each write makes up to 64 nodes."""
         if count < 0:
             raise ValueError(f"can't make {count} nodes; ask for 0 or more")
         made: List[int] = []
@@ -394,7 +407,7 @@ class Pass(Owner, ABC):
         self.apply(Batch().remove_node(node))
 
     def set(self, node: int, name: str, value: Value, kind: Optional[int] = None) -> None:
-        """Sets an attribute, like `Batch.set`. Unlike in a change, the kind isn't compared with that of an index."""
+        """Sets an attribute, like `Batch.set`. Unlike in a change, the kind isn't compared with the index's kind."""
         self.apply(Batch().set(node, name, value, kind))
 
     def unset(self, node: int, name: str) -> None:
@@ -402,8 +415,8 @@ class Pass(Owner, ABC):
         self.apply(Batch().unset(node, name))
 
     def make_index(self, name: str, kind: int) -> None:
-        """Makes an index of this name, for values of this kind. It takes the attributes that are set from then on;
-        `reindex` sets the others again."""
+        """Makes an index of this name, for values of this kind. The index gets only attributes that are set from then
+        on; `reindex` adds earlier ones by setting them again."""
         self.apply(Batch().make_index(name, kind))
 
     def remove_index(self, name: str) -> None:
@@ -411,10 +424,10 @@ class Pass(Owner, ABC):
         self.apply(Batch().remove_index(name))
 
     def reindex(self, name: str) -> int:
-        """Sets the attributes that the index of this name lacks, because they were set before it was made, to the same
-        values again. Each change sets up to 64 of them, so no newer value is lost. Returns how many were set. Raises
-        `NoIndex` if there is no such index; other errors are those of `change`. Takes a read of each
-        node, and a write of each attribute."""
+        """Adds attributes that were set before the index of this name was made, by setting them to the same values
+        again. Sets up to 64 attributes in each change, so no newer value is lost. Returns how many attributes were set.
+        Raises `NoIndex` if there is no such index; other errors are those of `change`. Reads each node, and writes each
+        of these attributes."""
         with self.pin() as version:
             kind = version.indices().get(name)
             if kind is None:
@@ -427,7 +440,7 @@ class Pass(Owner, ABC):
 
 
 class ThreadPass(Pass):
-    """A pass that isn't a handle of the library. It remembers itself which thread is running the function of a change."""
+    """A pass that isn't a handle of the library. It remembers which thread is running the function of a change."""
 
     _changing: Optional[int] = None  # the thread that runs it
 
@@ -441,7 +454,7 @@ class ThreadPass(Pass):
 
 
 def _numbers(numbers: Union[int, Sequence[int]], volumes: int) -> Tuple[int, ...]:
-    """The commit number of each volume. Raises a ValueError if there are more or fewer than volumes."""
+    """Returns the commit number of each volume. Raises a ValueError unless there is one number per volume."""
     found = (numbers,) if isinstance(numbers, int) else tuple(numbers)
     if len(found) != volumes:
         raise ValueError(f"{len(found)} commit numbers for {volumes} volumes")
@@ -449,7 +462,7 @@ def _numbers(numbers: Union[int, Sequence[int]], volumes: int) -> Tuple[int, ...
 
 
 def _set_again(name: str, kind: Kind, nodes: List[int], change: Change) -> int:
-    """Sets an attribute of these nodes to the value that it has, if that is of this kind."""
+    """Sets an attribute of these nodes to its present value, if the value is of this kind."""
     for node in nodes:
         typed = change.typed(node, name)
         if typed is not None and typed.kind == kind:

@@ -95,13 +95,13 @@ Encoded = Tuple[Kind, int, bytes]
 
 
 def plain(value: SupportsIndex) -> int:
-    """An integer as a plain int: a range searches for one of another class number by number."""
+    """Returns an integer as a plain int, since a range would search number by number for an int of another class."""
     return int(operator.index(value))
 
 
 def encode_value(value: Value, kind: Optional[int] = None) -> Encoded:
-    """A value in the form that the library takes. Without a kind a str is STRING, bytes are RAW, and an
-    int has the kind of its class, or INT64 if it is a plain int."""
+    """Returns a value in the library's form. If `kind` is None, a str is STRING, bytes are RAW, and an int has the kind
+    of its class, or INT64 if it is a plain int."""
     if isinstance(value, str):
         return _fitting(value, kind, "a str is", (Kind.STRING, Kind.MIME)), 0, encoded(value)
     if isinstance(value, (bytes, bytearray)):
@@ -116,7 +116,7 @@ def encode_value(value: Value, kind: Optional[int] = None) -> Encoded:
 
 
 def _number(value: SupportsIndex) -> int:
-    """The number that a value is. Raises a TypeError if it isn't one. A bool would be read back as 0 or 1, so it is refused."""
+    """Returns a value as a number. Raises a TypeError if it isn't a number. A bool would be read back as 0 or 1, so it is refused."""
     if isinstance(value, bool):
         raise TypeError(f"{value} isn't a value of an attribute: write int({value}), which is {int(value)}, or a text")
     try:
@@ -126,7 +126,7 @@ def _number(value: SupportsIndex) -> int:
 
 
 def _fitting(value: Value, kind: Optional[int], called: str, kinds: Tuple[Kind, ...]) -> Kind:
-    """The kind that is given, or the first of those that the value may have."""
+    """Returns the kind that is given, or the first kind that the value may have."""
     if kind is None:
         return kinds[0]
     for fitting in kinds:
@@ -140,7 +140,7 @@ def _fitting(value: Value, kind: Optional[int], called: str, kinds: Tuple[Kind, 
 
 
 _TEXTS, _SIGNED = frozenset((Kind.STRING, Kind.MIME)), frozenset(kind for kind, numbers in RANGES.items() if numbers[0] < 0)
-_NUMBERS = (Kind.INT64, *(kind for kind in RANGES if kind is not Kind.INT64))  # of a plain int the first
+_NUMBERS = (Kind.INT64, *(kind for kind in RANGES if kind is not Kind.INT64))  # for a plain int, the first
 
 
 def decode_value(code: int, number: int, value: bytes) -> Value:
@@ -158,5 +158,5 @@ def typed_value(code: int, number: int, value: bytes) -> Typed:
 
 
 def kind_mismatch(name: str, kind: int, index_kind: int) -> WrongKind:
-    """The error of an attribute whose kind isn't that of its name's index; both kinds are given as codes."""
+    """Returns the error for an attribute whose kind its name's index doesn't take. Both kinds are given as codes."""
     return wrong_kind(name, Kind(kind).name, Kind(index_kind).name)

@@ -12,7 +12,7 @@ from .errors import NoAttribute, NoNode, NotCovered, NoVolume, no_index, no_room
 from .language import Hint, all_in, comparisons, hints_in
 from .operations import Batch
 from .pages import After, Cursor, Order, Page, cursor_of, decode_key, encode_key
-from .queries import Item, Name, Prepared, prepare
+from .queries import Item, Name, Prepared, with_prepared
 from .values import Kind, Typed, Value
 
 _Self = TypeVar("_Self", bound="Version")
@@ -23,7 +23,7 @@ Row = Tuple[int, List[Optional[Value]]]
 
 
 def not_covered(asked: Query, indices: Iterable[str]) -> NotCovered:
-    """The error of a query that needs an index beyond these, with the place of the first name that has none."""
+    """Returns the error for a query that needs an index other than these, with the position of the first name that has no index."""
     if isinstance(asked, Prepared):
         asked = asked.source or asked.text
     if isinstance(asked, str):
@@ -41,28 +41,29 @@ def not_covered(asked: Query, indices: Iterable[str]) -> NotCovered:
 
 
 class Version(ABC):
-    """A snapshot: what the store was when the pass was pinned, whatever is written meanwhile.
+    """A snapshot: the store as it was when the pass was pinned, whatever is written meanwhile.
 
-    It can be read until it is unpinned: at the end of a `with`, by `unpin`, or when the object is destroyed. After
-    that each read raises `NotPinned`. `version[node]` has a node's attributes, `node in version` says whether the
-    node exists, and `for node in version` goes over all nodes. While it is pinned the store keeps its pages, so unpin it soon."""
+    A version can be read until it is unpinned: at the end of a `with`, by `unpin`, or when the object is destroyed.
+    After that, each read raises `NotPinned`. `version[node]` returns a node's attributes, `node in version` says
+    whether the node exists, and `for node in version` iterates over all nodes. While a version is pinned, the store
+    keeps the version's pages, so unpin it soon."""
 
     _shown: ClassVar[str] = "version"
 
     @property
     @abstractmethod
     def number(self) -> int:
-        """The commit number of the last write that it includes, which is also how many writes it includes."""
+        """The commit number of the last write that the version includes, which is also how many writes it includes."""
 
     @property
     def numbers(self) -> Tuple[int, ...]:
-        """The commit number of each volume, whose sum is `number`. A store without volumes has one."""
+        """The commit number of each volume. Their sum is `number`. A store without volumes has one commit number."""
         return (self.number,)
 
     @property
     @abstractmethod
     def _is_pinned(self) -> bool:
-        """Whether it is still pinned."""
+        """Whether the version is still pinned."""
 
     def __repr__(self) -> str:
         return f"<{self._shown} at commit {self.number}>"
@@ -81,57 +82,56 @@ class Version(ABC):
     @property
     @abstractmethod
     def next_node(self) -> int:
-        """The number of the next node that is made, if no other write comes first."""
+        """The number that the next new node gets, if no other write comes first."""
 
     def _next_in(self, volume: int) -> int:
-        """The next node of a volume. Raises `NoVolume` if there is no such volume."""
+        """Returns the number of a volume's next new node. Raises `NoVolume` if there is no such volume."""
         if volume != 0:
             raise NoVolume(volume, 1)
         return self.next_node
 
     @abstractmethod
     def _nodes_of(self, asked: Query) -> List[int]:
-        """The nodes that meet a query, ascending."""
+        """Returns the nodes that match a query, in ascending order."""
 
     @abstractmethod
     def _count_of(self, asked: Query) -> int:
-        """How many nodes meet a query."""
+        """Returns how many nodes match a query."""
 
     @abstractmethod
     def _read(self, node: int, name: str) -> Typed:
-        """A node's attribute. Raises `NoAttribute` if there is none."""
+        """Returns a node's attribute. Raises `NoAttribute` if the node has no such attribute."""
 
     def _value(self, node: int, name: str) -> Value:
-        """The same without its kind."""
+        """Returns an attribute's value without its kind, like `_read`."""
         return self._read(node, name).value
 
     @abstractmethod
     def _listed(self, node: int) -> Dict[str, Typed]:
-        """A node's attributes with their kinds, by ascending names. Raises `NoNode` if there is no such node."""
+        """Returns a node's attributes with their kinds, in ascending order of names. Raises `NoNode` if there is no such node."""
 
     @abstractmethod
     def _nodes_from(self, first: int, room: int) -> List[int]:
-        """Up to this many nodes from a number on: fewer only if there are no more."""
+        """Returns up to `room` nodes whose numbers are `first` or greater: fewer only if there are no more nodes."""
 
     def _not_covered(self, asked: Query) -> NotCovered:
-        """The error of a query that needs another index."""
+        """Returns the error for a query that needs another index."""
         return not_covered(asked, self.indices())
 
     def _first_of(self, asked: Query, start: int, limit: int) -> List[int]:
-        """The first nodes that meet a query, up to this many, from the number `start` on."""
+        """Returns the first nodes that match a query, up to `limit` of them, beginning with the number `start`."""
         nodes = self._nodes_of(asked)
         begin = bisect_left(nodes, start)
         return nodes[begin:begin + limit]
 
     def _any_of(self, asked: Query, limit: int) -> List[int]:
-        """Any nodes that meet a query, up to this many."""
+        """Returns any nodes that match a query, up to `limit` of them."""
         return self._nodes_of(asked)[:limit]
 
     def _page_of(self, asked: Asked, order: Order, after: Optional[Cursor], limit: Optional[int]) -> Page[int]:
-        """A page in an order, of all nodes if no limit is given."""
+        """Returns a page in this order, with all nodes if `limit` is None."""
         if isinstance(asked, str):
-            with prepare(asked) as prepared:
-                return self._page_of(prepared, order, after, limit)
+            return with_prepared(asked, lambda prepared: self._page_of(prepared, order, after, limit))
         if after is None:
             after = Cursor(order, asked._check)
         else:
@@ -139,8 +139,8 @@ class Version(ABC):
         return self._page_after(asked, after, limit)
 
     def _page_after(self, asked: Prepared, after: Cursor, limit: Optional[int]) -> Page[int]:
-        """The page after a cursor of this query. Here it is cut from the whole answer; a store that can walk an index
-        overrides this."""
+        """Returns the page after a cursor from this query. This implementation cuts the page out of the whole answer; a
+        store that can walk an index overrides it."""
         order = after.order
         kind = self._order_kind(order.by)
         if after.kind not in (None, kind):
@@ -152,14 +152,14 @@ class Version(ABC):
         return Page([decode_key(kind, key)[1] for key in page], len(page) < len(rest), cursor)
 
     def _order_kind(self, name: str) -> Kind:
-        """The kind of the index that an order is by. `NoIndex` if there is none."""
+        """Returns the kind of the index that an order uses. Raises `NoIndex` if there is no such index."""
         indices = self.indices()
         if name not in indices:
             raise no_index(name, indices)
         return indices[name]
 
     def _keys_of(self, asked: Query, order: Order, kind: Kind) -> List[bytes]:
-        """The keys that the nodes of a query have in an index, in the order."""
+        """Returns the index keys of the nodes that match a query, in this order."""
         indexed = set(self._nodes_of(all_in(order.by, kind)))
         nodes = [node for node in self._nodes_of(asked) if node in indexed]
         found = zip(nodes, self.column(nodes, order.by))
@@ -167,7 +167,7 @@ class Version(ABC):
 
     def _part_of(self, asked: Asked, *, by: Optional[str] = None, descending: bool = False, limit: Optional[int] = None,
                  after: After = None, start: int = 0) -> List[int]:
-        """What `query` returns for a query, given as text or prepared."""
+        """Returns what `query` returns, for a query given as text or prepared."""
         if limit is not None and operator.index(limit) < 1:
             raise no_room(limit)
         if by is not None:
@@ -191,26 +191,28 @@ class Version(ABC):
 
     def query(self, text: str, *, by: Optional[str] = None, descending: bool = False, limit: Optional[int] = None,
               after: After = None, start: int = 0) -> List[int]:
-        """The nodes that meet the query, ascending. Raises a `QueryError` if the text isn't a query, or
-        `NotCovered` if it needs another index. Takes the time to parse the text, and to read the part of the indices that it needs.
+        """Returns the nodes that match the query, in ascending order. Raises a `QueryError` if the text isn't a valid
+        query, or `NotCovered` if the query needs another index. Takes the time to parse the text, and to read the part
+        of the indices that the query needs.
 
-        With `limit` it returns the first nodes, up to that many, from the number `start` on. With `by` it is a `Page`: the nodes in the
-        order of the values that the index of this name has, and by number where these are equal; `descending` is the exact reverse.
-        Nodes without a value in that index aren't in it. `after` is the cursor of another page of the same query and order, from which
-        this one goes on. A page takes less time than the whole answer. Raises `NoIndex`, `BadCursor` or `NoRoom` if there is no such
-        page."""
+        With `limit`, returns the first nodes, up to that many, beginning with the number `start`. With `by`, returns a
+        `Page`: the nodes in the order of their values in the index of this name, and by number where the values are
+        equal; `descending` is the exact reverse. A page leaves out nodes that have no value in that index. `after` is
+        the cursor from an earlier page of the same query and order; the new page continues there. A page takes less
+        time than the whole answer. Raises `NoIndex`, `BadCursor` or `NoRoom` if there is no such page."""
         return self._part_of(text, by=by, descending=descending, limit=limit, after=after, start=start)
 
     def any(self, query: Asked, limit: int) -> List[int]:
-        """Any `limit` of the nodes that meet the query, or all if there are fewer, in no particular order. If the answer is large,
-        it takes less time than `query`: for example, to find one of the jobs that nobody has taken."""
+        """Returns any `limit` of the nodes that match the query, or all nodes if fewer match, in no particular order.
+        If the answer is large, the call takes less time than `query`: use it, for example, to find one of the jobs that
+        nobody has taken."""
         if operator.index(limit) < 1:
             raise no_room(limit)
         return self._any_of(query, limit)
 
     def query_items(self, *items: Item) -> List[int]:
-        """The nodes that meet the query formed by items in reverse Polish order: names, texts, numbers and operators.
-        The text of EQ and NE is a pattern, and that of the other operators is taken as it is.
+        """Returns the nodes that match the query formed by items in reverse Polish order: names, strings, numbers and
+        operators. The string for EQ and NE is a pattern; the string for any other operator is taken literally.
 
             version.query_items(bestore.Name("size"), 5, bestore.Operator.LT)
         """
@@ -228,42 +230,45 @@ class Version(ABC):
 
     def query_prepared(self, prepared: Prepared, *, by: Optional[str] = None, descending: bool = False,
                        limit: Optional[int] = None, after: After = None, start: int = 0) -> List[int]:
-        """The nodes that meet a prepared query, as `query` returns them. The result of its last refresh stays."""
+        """Returns the nodes that match a prepared query, like `query`. The result of the query's last refresh is unchanged."""
         return self._part_of(prepared, by=by, descending=descending, limit=limit, after=after, start=start)
 
     def count(self, query: Union[str, Prepared]) -> int:
-        """How many nodes meet the query, given as text or prepared. Costs what the query costs, except for the list."""
+        """Returns how many nodes match the query, given as text or prepared. Costs as much as the query, but without the list."""
         return self._count_of(query)
 
     def pairs(self, name: str) -> int:
-        """How many pairs of a value and a node the index of this name has. Raises `NoIndex` if there is none. Takes the
-        time to read the whole index."""
+        """Returns how many pairs of a value and a node the index of this name has. Raises `NoIndex` if there is no such
+        index. Takes the time to read the whole index."""
         return self._count_of(all_in(name, self._order_kind(name)))
 
     def hints(self, query: Union[str, Prepared]) -> List[Hint]:
-        """The comparisons of a query that are never true, because their value isn't a number of the kind that
-        the index of their name has: size>1.5, or last_modified>2024-01-01. Raises a `QueryError` if the text isn't a query."""
+        """Returns the comparisons in a query that are never true, because the value isn't a number of the kind that the
+        name's index takes: size>1.5, or last_modified>2024-01-01. Raises a `QueryError` if the text isn't a valid
+        query."""
         text = query if isinstance(query, str) else query._asked_text()
         return hints_in(text, self.indices())
 
     @abstractmethod
     def refresh(self, prepared: Prepared) -> Tuple[List[int], List[int]]:
-        """Which nodes came and which went since the prepared query was last refreshed: two lists, ascending. At
-        first all of its nodes come. Refresh a query in versions of one store, or of another that its state was
-        carried on to: nodes are compared by their numbers. After an error the query is as it was.
+        """Returns which nodes came and which went since the prepared query was last refreshed: two lists in ascending
+        order. The first time, all nodes that match the query come. Refresh a query only in versions of one store, or of
+        another store to which the first store's state was carried on, because nodes are compared by their numbers.
+        After an error the query is unchanged.
 
-        It asks the whole query and takes no lock, so it doesn't make another pass's write `Busy`."""
+        Runs the whole query and takes no lock, so it never makes another pass's write `Busy`."""
 
     def refresh_changed(self, prepared: Prepared) -> Tuple[List[int], List[int]]:
-        """Returns what `refresh` does. In a store of this process it reads what was written since the last refresh, and checks
-        only those nodes, so it takes less time if the answer has 96 nodes or more and few were written. Writes of other passes
-        are `Busy` meanwhile. Otherwise, and in a shelf or a server's store, it asks the whole query."""
+        """Returns what `refresh` does. In a store in this process, it reads what was written since the last refresh,
+        and checks only the nodes that were written, so it takes less time if the answer has 96 nodes or more and few
+        nodes were written. Other passes' writes are `Busy` meanwhile. Otherwise, and in a shelf or a server's store, it
+        runs the whole query."""
         return self.refresh(prepared)
 
     @abstractmethod
     def explain(self, text: str) -> str:
-        """What the query would be answered from: the comparisons whose indices are read, and a cost. No node is
-        read. The errors are those of `query`."""
+        """Returns how the query would be answered: the comparisons whose indices would be read, and a cost. Reads no
+        node. The errors are those of `query`."""
 
     @overload
     def attributes(self, node: int) -> Dict[str, Value]: ...
@@ -275,8 +280,8 @@ class Version(ABC):
     def attributes(self, node: int, kinds: Literal[True]) -> Dict[str, Typed]: ...
 
     def attributes(self, node: int, kinds: bool = False) -> Union[Dict[str, Value], Dict[str, Typed]]:
-        """A node's attributes: a dict of names and values, or with `kinds` of names and `Typed` values with their
-        kinds, by ascending names. Raises `NoNode` if there is no such node."""
+        """Returns a node's attributes in ascending order of names: a dict from names to values or, with `kinds`, to
+        `Typed` values, which include their kinds. Raises `NoNode` if there is no such node."""
         listed = self._listed(node)
         if kinds:
             return listed
@@ -284,50 +289,49 @@ class Version(ABC):
 
     @abstractmethod
     def indices(self) -> Dict[str, Kind]:
-        """The indices: a dict of names and kinds, by ascending names. With several volumes, those that every volume has,
-        with the same kind."""
+        """Returns the indices: a dict from names to kinds, in ascending order of names. With several volumes, returns
+        only the indices that every volume has with the same kind."""
 
     def partial_indices(self) -> Dict[str, List[int]]:
-        """The indices that some volumes lack, or have with another kind: a dict from names to the volumes that have them."""
+        """Returns the indices that some volumes lack, or have with another kind: a dict from names to the volumes that have the index."""
         return {}
 
     @abstractmethod
     def state(self, volume: Optional[int] = None) -> Iterator[Batch]:
-        """The operations that rebuild the version on an empty store, as batches of 1 to 64, each for one
-        `Pass.apply`:
+        """Yields the operations that rebuild the version in an empty store, as batches of 1 to 64 operations, each for one `Pass.apply`:
 
             for batch in version.state():
                 other.apply(batch)
 
-        If there are several volumes, the batches of this one, for `apply` with the same `volume`; raises `NoVolume` if none is
-        given."""
+        If there are several volumes, yields the batches for `volume`; apply them with the same `volume`. Raises
+        `NoVolume` if `volume` isn't given."""
 
     def typed(self, node: int, name: str) -> Optional[Typed]:
-        """A node's attribute with its kind, or None if there is none. Takes one search in a tree."""
+        """Returns a node's attribute with its kind, or None if the node has no such attribute. Takes one search in a tree."""
         try:
             return self._read(node, name)
         except (NoAttribute, NoNode):
             return None
 
     def get(self, node: int, name: str) -> Optional[Value]:
-        """A node's attribute, or None if there is none: a str, bytes or an int. Takes one search in a tree."""
+        """Returns a node's attribute, a str, bytes or an int, or None if the node has no such attribute. Takes one search in a tree."""
         typed = self.typed(node, name)
         return None if typed is None else typed.value
 
     def kind(self, node: int, name: str) -> Optional[Kind]:
-        """The kind of a node's attribute, or None if there is none. Takes one search in a tree."""
+        """Returns the kind of a node's attribute, or None if the node has no such attribute. Takes one search in a tree."""
         typed = self.typed(node, name)
         return None if typed is None else typed.kind
 
     def column(self, nodes: Iterable[int], name: str) -> List[Optional[Value]]:
-        """One attribute of many nodes: a list with each node's value, or None if it has none. Takes a search in a tree
-        for each node, and memory for the list."""
+        """Returns one attribute of many nodes: a list with each node's value, or None if the node has no such
+        attribute. Takes one search in a tree per node, and memory for the list."""
         return [self.get(node, name) for node in nodes]
 
     def columns(self, nodes: Iterable[int], names: Iterable[str]) -> List[List[Optional[Value]]]:
-        """Several attributes of many nodes: for each name a list, as `column` returns it. It takes less time than a `column`
-        for each name, since it reads node by node. On a server, one round trip has room for a few thousand nodes with five
-        attributes each."""
+        """Returns several attributes of many nodes: for each name a list, like `column`. Takes less time than calling
+        `column` for each name, since it reads node by node. On a server, one round trip can carry a few thousand nodes
+        with five attributes each."""
         read = list(nodes)
         return [self.column(read, name) for name in names]
 
@@ -340,10 +344,11 @@ class Version(ABC):
 
     def rows(self, query: Asked, names: Iterable[str], first: int = 0, most: int = 1024, *, by: Optional[str] = None,
              descending: bool = False, after: After = None) -> List[Row]:
-        """Nodes that meet the query, ascending and from the number `first` on, up to `most` of them, each with its attributes of
-        these names: pairs of a node and a list of values, None where it has none. Takes the query and a search in a tree for each
-        value. On a server it takes a round trip for every few thousand rows, and allows up to 64 names. With `by` it is a
-        `Page` of rows, whose nodes are those of `query` with `by`, `descending` and `after`."""
+        """Returns up to `most` nodes that match the query, in ascending order and beginning with the number `first`,
+        each with its attributes of these names: pairs of a node and a list of values, with None where the node has no
+        such attribute. Takes as long as the query, plus one search in a tree per value. On a server, the call takes a
+        round trip for every few thousand rows, and allows up to 64 names. With `by`, returns a `Page` of rows, with the
+        nodes that `query` returns for the same `by`, `descending` and `after`."""
         if by is not None:
             if first:
                 raise TypeError("first is the number of a node; an order continues from a cursor: after=page.cursor")
@@ -368,14 +373,14 @@ class Version(ABC):
         return [(node, list(values)) for node, values in zip(nodes, zip(*found))] if names else [(node, []) for node in nodes]
 
     def __getitem__(self, node: int) -> Attributes:
-        """A node's attributes, each read when it is asked for."""
+        """Returns a node's attributes, each of which is read when you access it."""
         return Attributes(self, node)
 
     def __contains__(self, node: int) -> bool:
         return self.nodes(node, 1) == [node]
 
     def nodes(self, first: int = 0, most: int = 1024) -> List[int]:
-        """The nodes from a number on, ascending, whatever attributes they have, up to `most` of them."""
+        """Returns up to `most` nodes whose numbers are `first` or greater, in ascending order, whatever attributes they have."""
         if most < 0:
             raise ValueError(f"can't return {most} nodes; ask for 0 or more")
         first = max(operator.index(first), 0)
@@ -390,7 +395,7 @@ class Version(ABC):
         return found
 
     def __iter__(self) -> Iterator[int]:
-        """All nodes, ascending."""
+        """Yields all nodes, in ascending order."""
         first, most = 0, 1024
         while first < 2**64:
             nodes = self.nodes(first, most)
@@ -401,7 +406,7 @@ class Version(ABC):
 
 
 class Attributes(Mapping[str, Value]):
-    """A node's attributes in a version. A missing one raises `NoAttribute`, which is a KeyError."""
+    """A node's attributes in a version. Reading a missing attribute raises `NoAttribute`, which is a KeyError."""
 
     def __init__(self, version: Version, node: int) -> None:
         self._version, self.node = version, node

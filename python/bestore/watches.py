@@ -20,11 +20,11 @@ class Changes(NamedTuple):
     created: List[int]
     """The nodes that came, ascending."""
     removed: List[int]
-    """The nodes that went, ascending."""
+    """The nodes that left, ascending."""
 
 
 class Watch(ABC):
-    """A live query that waits for changes, from `Pass.watch`. At first all of its nodes come.
+    """A live query that waits for changes, made by `Pass.watch`. At first all nodes that match the query come.
 
         with store.watch("MAIL:status==New") as unread:
             for came, went in unread:
@@ -49,7 +49,7 @@ class Watch(ABC):
         self.close()
 
     def __iter__(self) -> Iterator[Changes]:
-        """The changes, each as soon as it comes, forever."""
+        """Yields the changes forever, each as soon as it comes."""
         while True:
             changes = self.wait()
             assert changes is not None
@@ -57,35 +57,35 @@ class Watch(ABC):
 
     @abstractmethod
     def refresh(self) -> Changes:
-        """What changed since a call on this watch last returned something, up to what reads of the pass see now."""
+        """Returns what changed since a call on this watch last returned something, up to what the pass's reads see now."""
 
     @abstractmethod
     def wait(self, timeout: Optional[float] = None) -> Optional[Changes]:
-        """The changes that haven't been returned yet. If there are none, waits for up to this many seconds, or forever, and returns
-        None if none came."""
+        """Returns the changes that haven't been returned yet. If there are no such changes, waits for up to `timeout`
+        seconds, or forever if `timeout` is None, and returns None if no change came."""
 
     @abstractmethod
     def close(self) -> None:
-        """Ends the watch, if it is there."""
+        """Ends the watch, if it hasn't ended."""
 
 
 class LocalWatch(Watch):
-    """A watch of a store in this process. A pass that writes wakes whoever waits, so nothing polls. Each look pins the pass, and
-    raises `Pinned` if that is pinned already. It asks the query with `Version.refresh_changed`, since little is written
-    between two looks."""
+    """A watch in a store in this process. A pass that writes wakes the waiting threads, so nothing polls. Each look
+    pins the pass, and raises `Pinned` if the pass is pinned already. It runs the query with `Version.refresh_changed`,
+    since little is written between two looks."""
 
     def __init__(self, user: Pass, query: Optional[str]) -> None:
         super().__init__(query)
         self._user, self._is_open = user, True
         with user.pin() as version:
             if query is not None:
-                version.explain(query)  # which raises what is wrong with it
+                version.explain(query)  # which raises the error if the query isn't valid
             self.commit = version.number
             self._seen = None if query is not None else version.numbers
         self._live = None if query is None else prepare(query)
 
     def _look(self) -> Optional[Changes]:
-        """What changed since the last look, or None if nothing was committed since."""
+        """Returns what changed since the last look, or None if nothing was committed since."""
         if not self._is_open:
             raise Closed()
         with self._user.pin() as version:

@@ -1,5 +1,4 @@
-"""A query window: it finds nodes of a store by their attributes, as BeOS's Tracker did, and follows them as they come
-and go.
+"""A query window: it finds nodes in a store by their attributes, as BeOS's Tracker did, and follows them as they come and go.
 
     python3 -m bestore_queries --help
 

@@ -17,7 +17,7 @@ def parser() -> argparse.ArgumentParser:
     """What the command line may contain."""
     made = argparse.ArgumentParser(
         prog="bestore-queries",
-        description="A window that finds files by their attributes, and follows them while they come and go.",
+        description="A window that finds files by their attributes, and follows them as they come and go.",
         epilog="Without --socket and --folder it asks the server at BESTORE_SOCKET, otherwise at its usual socket. If none "
         "listens there it starts bestored for itself.")
     where = made.add_mutually_exclusive_group()

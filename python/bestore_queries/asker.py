@@ -1,5 +1,5 @@
-"""The thread that asks a store for a window, reads the hits, and writes attributes. The window sends it requests, and takes
-its reports; neither waits for the other."""
+"""The thread that runs queries for a window, reads the hits, and writes attributes. The window sends requests to the
+thread, and takes its reports; neither waits for the other."""
 
 from __future__ import annotations
 
@@ -17,14 +17,14 @@ from .places import PLACE_NAMES, Places
 from .sorted_hits import Hit, Node
 from .sources import LiveAnswer, Numbers, Session, Source
 
-SLICE = 1_000   # hits that are read of one snapshot
-REPORTED = 100  # hits of one report, so that the window needs little time for it
-FEW = 100       # hits that are read by themselves, and not by asking the query again
+SLICE = 1_000   # hits that are read from one snapshot
+REPORTED = 100  # hits in one report, so that the window needs little time for it
+FEW = 100       # hits that are read individually, without running the query again
 PAUSE = 0.2     # seconds between two looks for what was written
-RETRY = 1.0     # seconds between two tries to open the store
+RETRY = 1.0     # seconds between two attempts to open the store
 NAMED = 20      # hits whose attributes are named
 COUNTING = 1.0  # seconds between two counts of all nodes
-ENDING = 5.0    # seconds that the end is waited for
+ENDING = 5.0    # seconds to wait for the end
 
 
 class Begin(NamedTuple):
@@ -43,10 +43,10 @@ class Sort(NamedTuple):
 
 
 class Ask(NamedTuple):
-    """A request: ask this query, and follow it."""
+    """A request: run this query, and follow it."""
 
     turn: int
-    """A number that each report about it has."""
+    """A number that is in each report about it."""
     text: str
     names: Sequence[str]
     """The attributes that are read for each hit."""
@@ -71,7 +71,7 @@ class Opened(NamedTuple):
 
 
 class Lost(NamedTuple):
-    """A report: the store isn't there. It is opened again as soon as it is back."""
+    """A report: the store isn't available. It is opened again as soon as it is back."""
 
     reason: str
 
@@ -150,14 +150,14 @@ class _Following:
         self.ask, self.live = ask, live
         self.known: Set[Node] = set()
         self.reported: Set[Node] = set()
-        self._ahead: List[Node] = []  # those that were reported of a snapshot that the answer has still to reach
+        self._ahead: List[Node] = []  # hits reported from a snapshot that the answer hasn't reached yet
         self.waiting: Dict[Node, None] = {}
-        self.gone: List[Node] = []  # those that went, and that isn't reported yet
+        self.gone: List[Node] = []  # hits that left, but haven't been reported as gone yet
         self.seen: Optional[Numbers] = None
         self.is_named = False
 
     def refresh(self, version: bestore.Version, changed: Iterable[Node]) -> None:
-        """Goes on to a snapshot, in which these nodes' attributes may have changed."""
+        """Moves to a snapshot in which these nodes' attributes may have changed."""
         came, went = self.live.refresh(version)
         self.seen = version.numbers
         self.known.difference_update(went)
@@ -177,7 +177,8 @@ class _Following:
         self.reported.update(self._ahead)
 
     def reports(self, hits: List[Hit]) -> List[Report]:
-        """What there is to report once these hits have been read. Those that went come first, since one may have come back."""
+        """Returns what there is to report once these hits have been read. Hits that left come first, since one of them may have come
+        back."""
         turn, gone, self.gone = self.ask.turn, self.gone, []
         for hit in hits:
             del self.waiting[hit.node]
@@ -186,7 +187,7 @@ class _Following:
         return [*([Went(turn, gone)] if gone else []), *(Came(turn, part) for part in parts)]
 
     def read(self, version: bestore.Version, names: Sequence[str]) -> Dict[Node, List[Optional[bestore.Value]]]:
-        """These attributes of the next waiting hits."""
+        """Reads these attributes of the next waiting hits."""
         nodes = list(self.waiting)[:SLICE]
         if len(nodes) <= FEW:
             found = version.columns(nodes, names)
@@ -211,7 +212,7 @@ class _Requests:
         self._is_ended = False
 
     def put(self, request: Union[Ask, Sort, Write, None]) -> None:
-        """Adds a request, or with None the end."""
+        """Adds a request, or the end if the request is None."""
         with self._came:
             if isinstance(request, Ask):
                 self._ask, self._sort = request, None
@@ -229,7 +230,7 @@ class _Requests:
             self._writes.appendleft(write)
 
     def wait(self, timeout: float) -> None:
-        """If there is nothing, waits up to this many seconds."""
+        """If nothing is queued, waits up to this many seconds."""
         with self._came:
             self._came.wait_for(lambda: self._ask or self._sort or self._writes or self._is_ended, timeout)
 
@@ -252,7 +253,7 @@ class _Requests:
 
 
 class Asker(threading.Thread):
-    """Asks a source. The window calls `send`, and reads `reports`."""
+    """Runs queries on a source. The window calls `send`, and reads `reports`."""
 
     def __init__(self, source: Source) -> None:
         super().__init__(name="asker", daemon=True)
@@ -263,12 +264,12 @@ class Asker(threading.Thread):
         self._following: Optional[_Following] = None
         self._indices: Mapping[str, bestore.Kind] = {}
         self._places = Places()
-        self._store: Optional[str] = None  # the one that was open last
+        self._store: Optional[str] = None  # the store that was open last
         self._has_news = False
         self._all, self._counted_at = 0, 0.0
 
     def send(self, request: Union[Ask, Sort, Write]) -> None:
-        """Asks for something. A query replaces one that hasn't been asked yet."""
+        """Sends a request. A query replaces an earlier query that hasn't been run yet."""
         self._requests.put(request)
 
     def end(self) -> None:
@@ -296,7 +297,7 @@ class Asker(threading.Thread):
                 session.close()
 
     def _report(self, *reports: Report) -> None:
-        """Reports to the window, as soon as it has taken what was reported before."""
+        """Reports to the window, as soon as the window has taken the earlier reports."""
         for report in reports:
             while not self._ended.is_set():
                 try:
@@ -334,7 +335,8 @@ class Asker(threading.Thread):
         self._store = store
 
     def _ask(self, session: Session, ask: Ask) -> None:
-        """Follows a query instead of the one before, which may have many hits to be freed once the first of this one are reported."""
+        """Follows a query instead of the previous query. That query may have many hits, which are freed once the new query's first hits are
+        reported."""
         try:
             first = self._report_first(session, ask, ask.begin)
             self._follow_nothing()
@@ -363,8 +365,8 @@ class Asker(threading.Thread):
             self._has_news = True
 
     def _report_first(self, session: Session, ask: Ask, begin: Optional[Begin]) -> List[Hit]:
-        """Reads the first hits in an order, and reports them. After an error it reports none: the window sorts all hits once it
-        has them."""
+        """Reads the first hits in an order, and reports them. After an error it reports no hits: the window sorts all
+        hits once it has them."""
         if begin is None:
             return []
         names, (by, descending), hits = _names(ask), begin.order, []  # type: List[str], Order, List[Hit]
@@ -380,7 +382,7 @@ class Asker(threading.Thread):
         return hits
 
     def _step(self, session: Session, following: _Following) -> None:
-        """Goes on to the current snapshot, and reads hits from it."""
+        """Moves to the current snapshot, and reads hits from it."""
         self._has_news = session.has_news() or self._has_news or following.seen is None
         if not self._has_news and not following.waiting:
             return
@@ -399,7 +401,7 @@ class Asker(threading.Thread):
             self._report(*reports)
 
     def _follow(self, session: Session, following: _Following, version: bestore.Version) -> List[Report]:
-        """What there is to report from a snapshot. If this raises, the next call reports it."""
+        """Returns what there is to report from a snapshot. If this call raises, the next call reports the same."""
         turn = following.ask.turn
         if version.numbers != following.seen:
             following.refresh(version, self._changed(session, following, version))
@@ -413,7 +415,8 @@ class Asker(threading.Thread):
         return [*reports, Counted(turn, len(following.known), len(following.waiting), count)]
 
     def _changed(self, session: Session, following: _Following, version: bestore.Version) -> Iterable[Node]:
-        """The hits whose attributes were set since the last snapshot. If a folder's were, any hit may be in it."""
+        """Returns the hits whose attributes were set since the last snapshot. If a folder's attributes were set, any hit may be in that
+        folder."""
         if following.seen is None or not following.known:
             return []
         written = session.written(following.seen, version)
@@ -428,13 +431,13 @@ class Asker(threading.Thread):
         return [self._hit(version, node, names, values) for node, values in following.read(version, names).items()]
 
     def _hit(self, version: bestore.Version, node: Node, names: Sequence[str], values: Sequence[Optional[bestore.Value]]) -> Hit:
-        """A node with these attributes, and the place of its file."""
+        """Returns a node with these attributes, and the path of its file."""
         attributes = {name: value for name, value in zip(names, values) if value is not None}
         self._places.locate(version, attributes)
         return Hit(node, attributes)
 
     def _count(self, version: bestore.Version) -> int:
-        """How many nodes there are to find. They are counted now and then."""
+        """Returns how many nodes there are to find. The nodes are counted now and then."""
         if time.monotonic() >= self._counted_at + COUNTING:
             everything = find.everything(self._indices)
             self._all = version.count(everything) if everything else 0
@@ -442,11 +445,11 @@ class Asker(threading.Thread):
         return self._all
 
     def _write(self, session: Session, write: Write) -> None:
-        """Makes a write. If the store goes away before it is made, it waits until the store is back."""
+        """Makes a write. If the store disappears before the write is made, the write waits until the store is back."""
         fault: Optional[str] = None
         try:
             session.user.change(lambda change: self._set(change, write))
-        except bestore.ProtocolError as error:  # which the same write might bring again
+        except bestore.ProtocolError as error:  # the same write might cause this error again
             self._report(Written(write, str(error)))
             raise
         except bestore.BrokenConnection as error:
@@ -460,7 +463,7 @@ class Asker(threading.Thread):
         self._report(Written(write, fault))
 
     def _set(self, change: bestore.Change, write: Write) -> None:
-        """Writes an attribute, if it still has the value that the window shows."""
+        """Writes an attribute, if the attribute still has the value that the window shows."""
         if write.node not in change:
             raise NotWritten("it is gone")
         typed = change.typed(write.node, write.name)

@@ -14,7 +14,7 @@ Box = Tuple[int, int, int, int]
 
 
 class Cell(NamedTuple):
-    """What is edited: an attribute of a node, and the value that the list showed at the beginning."""
+    """What is edited: a node's attribute, and the value that the list showed at the beginning."""
 
     node: Node
     column: Column
@@ -33,7 +33,7 @@ class AttributeEditor:
         """What is being edited."""
 
     def begin(self, cell: Cell, before: str, text: str, box: Box) -> None:
-        """Shows an entry with a text over a cell. `before` is the value as a text."""
+        """Shows an entry with this text over a cell. `before` is the value as text."""
         self.end()
         self.cell, self._before = cell, before
         entry = ttk.Entry(self._tree, style="Cell.TEntry")
@@ -54,7 +54,7 @@ class AttributeEditor:
         return "" if self.entry is None else self.entry.get()
 
     def move(self, box: Optional[Box]) -> None:
-        """Follows its cell, which isn't visible if it has no box."""
+        """Follows the cell, which isn't visible if it has no box."""
         if self.entry is None:
             return
         if box is None:
@@ -73,7 +73,7 @@ class AttributeEditor:
         return "break"
 
     def end(self) -> None:
-        """Removes the entry, and its text with it."""
+        """Removes the entry and its text."""
         entry, self.entry, self.cell = self.entry, None, None
         if entry is not None:
             entry.destroy()

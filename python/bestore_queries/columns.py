@@ -8,38 +8,36 @@ from datetime import datetime
 from typing import Callable, Dict, Iterable, List, Literal, Mapping, NamedTuple, Optional
 
 import bestore
+from bestore.values import RANGES
 
 from . import dates
 
 MAIL_TYPE = "text/x-email"
 FOLDER_TYPE = "application/x-vnd.Be-directory"
 HIDDEN = frozenset({"FILE:parent", "FILE:root", "FILE:name", "FILE:stat", "FILE:xattrs"})
-"""What an import recognises files by. Nobody looks at it."""
+"""The attributes by which an import recognises files. Nobody looks at it."""
 OF_FILES = HIDDEN | {"name", "size", "last_modified", "created", "folder", "path"}
-"""What the file itself determines. The window doesn't edit it."""
+"""The attributes that the file itself determines. The window doesn't edit them."""
 
 _TIME = re.compile(r"(?:.*[_:])?(?:modified|created|changed|when|date|time)", re.IGNORECASE)
-_NUMBERS = (bestore.INT32, bestore.INT64, bestore.UINT32, bestore.UINT64)
-_RANGES = {bestore.INT32: (-2**31, 2**31 - 1), bestore.INT64: (-2**63, 2**63 - 1), bestore.UINT32: (0, 2**32 - 1),
-           bestore.UINT64: (0, 2**64 - 1)}
 
 
 class NotAValue(ValueError):
-    """A typed text that isn't a value of its attribute. The error's text says why."""
+    """What was typed isn't a valid value for its attribute. The error's text says why."""
 
 
 def is_time(attribute: str) -> bool:
-    """Whether an attribute of this name is a time, in seconds since 1970, if it is an integer."""
+    """Returns whether an attribute of this name is a time, in seconds since 1970, if its value is an integer."""
     return _TIME.fullmatch(attribute) is not None
 
 
 def is_number(kind: Optional[bestore.Kind]) -> bool:
     """Whether values of this kind are integers."""
-    return kind in _NUMBERS
+    return kind in RANGES
 
 
 def size_in_words(size: bestore.Value) -> str:
-    """A number of bytes, in a readable form."""
+    """Returns a number of bytes in a readable form."""
     if not isinstance(size, int):
         return text_of(size)
     number, unit = float(size), "byte" if size == 1 else "bytes"
@@ -50,7 +48,7 @@ def size_in_words(size: bestore.Value) -> str:
 
 
 def time_in_words(seconds: bestore.Value) -> str:
-    """A time, in a readable form. A number outside the calendar is shown as it is."""
+    """Returns a time in a readable form. A number outside the calendar is shown unchanged."""
     if not isinstance(seconds, int):
         return text_of(seconds)
     try:
@@ -110,7 +108,8 @@ def column_of(attribute: str, kind: Optional[bestore.Kind] = None) -> Column:
 
 
 def default_columns(indices: Mapping[str, bestore.Kind], is_mail: bool = False) -> List[Column]:
-    """The default columns of a store with these indices: those for files or for mails, otherwise the first six."""
+    """Returns the default columns for a store with these indices: the columns for files or for mails, otherwise the first six
+    attributes."""
     if "MAIL:subject" in indices and is_mail:
         return [_KNOWN[it] for it in _MAIL if it in indices]
     if "name" in indices:
@@ -124,7 +123,7 @@ def columns_of(attributes: Iterable[str], indices: Mapping[str, bestore.Kind]) -
 
 
 def edited_text(attribute: str, value: Optional[bestore.Value]) -> str:
-    """An attribute's value as the text to edit."""
+    """Returns an attribute's value as text to edit."""
     if value is None:
         return ""
     if isinstance(value, bytes):
@@ -133,7 +132,7 @@ def edited_text(attribute: str, value: Optional[bestore.Value]) -> str:
 
 
 def _edited_time(seconds: int) -> str:
-    """A time as a date that can be read back. A number outside the calendar is edited as it is."""
+    """Returns a time as a date that can be read back. A number outside the calendar is edited unchanged."""
     try:
         return datetime.fromtimestamp(seconds).isoformat(" ")
     except (ValueError, OverflowError, OSError):
@@ -141,19 +140,19 @@ def _edited_time(seconds: int) -> str:
 
 
 def typed_value(attribute: str, text: str, kind: bestore.Kind) -> bestore.Value:
-    """The value of a kind that was typed for an attribute. Raises `NotAValue` if it isn't one."""
+    """Reads the value of this kind that was typed for an attribute. Raises `NotAValue` if the text isn't a valid value."""
     if kind == bestore.RAW:
         try:
             return bytes.fromhex(text)
         except ValueError:
             raise NotAValue(f"“{text}” isn't data: type two hexadecimal digits for each byte") from None
-    if kind not in _NUMBERS:
+    if kind not in RANGES:
         return _typed_text(text)
     if re.fullmatch(r"[+-]?[0-9]{1,20}", text.strip(), re.ASCII):
-        least, greatest = _RANGES[kind]
-        if least <= int(text) <= greatest:
+        numbers = RANGES[kind]
+        if int(text) in numbers:
             return int(text)
-        raise NotAValue(f"{text.strip()} is out of range: from {least} to {greatest}")
+        raise NotAValue(f"{text.strip()} is out of range: from {numbers[0]} to {numbers[-1]}")
     if is_time(attribute):
         try:
             return dates.span_of(text).begin

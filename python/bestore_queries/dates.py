@@ -15,7 +15,7 @@ _UNITS = ("second", "minute", "hour", "day", "week", "month", "year")
 _REASONS = {
     "day is out of range for month": "that month doesn't have so many days", "month must be in 1..12": "a year has 12 months",
     "hour must be in 0..23": "hours go from 0 to 23", "minute must be in 0..59": "minutes go from 0 to 59",
-    "second must be in 0..59": "seconds go from 0 to 59",
+    "second must be in 0..59": "seconds go from 0 to 59", "year 0 is out of range": "it is outside the calendar",
 }
 _TIME = re.compile(r"(?:^|[ t]|\bat )(\d{1,2}):(\d{2})(?::(\d{2}))?$", re.ASCII)
 _AGO = re.compile(r"(\d{1,9}|an?|one) (second|minute|hour|day|week|month|year)s? ago", re.ASCII)
@@ -25,7 +25,7 @@ _NAMED = re.compile(r"(?:(\d{1,2})\.? )?([a-z]{3,9})\.?(?: (\d{1,2})(?!\d),?)?(?
 
 
 class NotADate(ValueError):
-    """A text that isn't a date."""
+    """The text isn't a date."""
 
     def __init__(self, text: str, reason: Optional[str] = None) -> None:
         super().__init__(text, reason)
@@ -50,8 +50,8 @@ class _Moment(NamedTuple):
 
 
 def span_of(text: str, now: Optional[datetime] = None) -> Span:
-    """The time that a typed date means, by the local clock: a date is the whole day, a month the whole month, a time of day a
-    minute. `NotADate`."""
+    """Returns the time that a typed date means, by the local clock: a date is the whole day, a month the whole month,
+    and a time of day one minute. Raises `NotADate`."""
     at = datetime.now() if now is None else now
     words = " ".join(text.lower().split())
     try:
@@ -75,7 +75,7 @@ def _moment(words: str, now: datetime) -> Optional[_Moment]:
 
 
 def _with_time(words: str, now: datetime) -> Optional[_Moment]:
-    """A day and a time on it: today if no day is named."""
+    """A day and a time on that day: today if no day is named."""
     found = _TIME.search(words)
     if found is None:
         return None
@@ -88,7 +88,7 @@ def _with_time(words: str, now: datetime) -> Optional[_Moment]:
 
 
 def _start_of(unit: str, at: datetime) -> datetime:
-    """The beginning of the part of the calendar that a time is in."""
+    """Returns the beginning of the part of the calendar that contains a time."""
     if unit == "week":
         at -= timedelta(days=at.weekday())
     fields = {"second": 5, "minute": 4, "hour": 3, "day": 2, "week": 2, "month": 1, "year": 0}[unit]
@@ -98,7 +98,7 @@ def _start_of(unit: str, at: datetime) -> datetime:
 
 
 def _moved(at: datetime, unit: str, count: int) -> datetime:
-    """A time this many units later. A day beyond the end of the month becomes its last day."""
+    """Returns a time this many units later. A day beyond the end of the month becomes the month's last day."""
     if unit in ("month", "year"):
         months = at.year * 12 + at.month - 1 + count * (12 if unit == "year" else 1)
         year, month = divmod(months, 12)
@@ -132,7 +132,7 @@ def _ago(words: str, now: datetime) -> Optional[_Moment]:
 
 
 def _weekday(words: str, now: datetime) -> Optional[_Moment]:
-    """A day of the week: the last one before today. `next monday` is the first after it."""
+    """A day of the week: the last such day before today. `next monday` is the first Monday after today."""
     which, _, name = words.rpartition(" ")
     days = [place for place, day in enumerate(_DAYS) if len(name) >= 3 and day.startswith(name)]
     if which not in ("", "last", "next") or len(days) != 1:
@@ -166,7 +166,7 @@ def _dotted(words: str, now: datetime) -> Optional[_Moment]:
 
 
 def _named(words: str, now: datetime) -> Optional[_Moment]:
-    """31 Jan 2024, Jan 31, 2024, Jan 2024, 31 Jan. Without a year it is the last one that isn't after today."""
+    """31 Jan 2024, Jan 31, 2024, Jan 2024, 31 Jan. Without a year, it is the last such date that isn't after today."""
     found = _NAMED.fullmatch(words)
     if found is None:
         return None

@@ -7,6 +7,7 @@ from typing import List, Mapping, Optional
 
 import bestore
 from bestore.language import quoted
+from bestore.values import RANGES
 
 from . import columns
 
@@ -30,7 +31,6 @@ class Relation(enum.Enum):
 _TEXT = [Relation.CONTAINS, Relation.IS, Relation.BEGINS, Relation.ENDS, Relation.ISNT]
 _NUMBER = [Relation.GREATER, Relation.LESS, Relation.IS, Relation.ISNT]
 _TIME = [Relation.SINCE, Relation.AFTER, Relation.BEFORE, Relation.ON]
-_LEAST = {bestore.INT32: -2**31, bestore.INT64: -2**63, bestore.UINT32: 0, bestore.UINT64: 0}
 _SIGNS = {Relation.LESS: "<", Relation.GREATER: ">", Relation.BEFORE: "<", Relation.AFTER: ">", Relation.SINCE: ">=",
           Relation.ISNT: "!=", Relation.IS: "==", Relation.ON: "=="}
 
@@ -49,21 +49,21 @@ def attributes_of(indices: Mapping[str, bestore.Kind]) -> List[str]:
 
 
 def everything(indices: Mapping[str, bestore.Kind]) -> Optional[str]:
-    """The query that finds all files, or all nodes with some other attribute. None if there are no indices."""
+    """Returns the query that finds all files, or all nodes with some other attribute. Returns None if there are no indices."""
     for attribute in attributes_of(indices)[:1]:
-        least = _LEAST.get(indices[attribute])
-        return query_of(attribute, Relation.CONTAINS, "") if least is None else f"{_quoted(attribute)}>={least}"
+        numbers = RANGES.get(indices[attribute])
+        return query_of(attribute, Relation.CONTAINS, "") if numbers is None else f"{_quoted(attribute)}>={numbers[0]}"
     return None
 
 
 def _quoted(attribute: str) -> str:
-    """An attribute's name in the form of a query."""
+    """Returns an attribute's name as it is written in a query."""
     is_word = attribute.replace("_", "").replace(":", "").isalnum()
     return attribute if is_word else quoted(attribute)
 
 
 def query_of(attribute: str, relation: Relation, typed: str) -> str:
-    """The query of a row. Texts match in upper and lower case. An empty row finds all nodes that have the attribute."""
+    """Returns the query for a row. Texts match regardless of case. An empty row finds all nodes that have the attribute."""
     name, text = _quoted(attribute), typed.strip()
     if relation in _TIME:
         return f"{name}{_SIGNS[relation]}%{text}%" if text else f"{name}>=0"

@@ -13,13 +13,13 @@ from .theme import FACE
 
 
 class FindRow(tk.Frame):
-    """The row. It calls `asks` with its query as that is typed."""
+    """The row. It calls `asks` with its query while the query is being typed."""
 
     def __init__(self, parent: tk.Misc, asks: Callable[[str], None]) -> None:
         super().__init__(parent, background=FACE)
         self._asks, self._is_filled = asks, True
         self._indices: Mapping[str, bestore.Kind] = {}
-        self._attributes: Dict[str, str] = {}  # by what the row shows for them
+        self._attributes: Dict[str, str] = {}  # by the texts that the row shows for them
         self._attribute, self._relation, self._text = tk.StringVar(self), tk.StringVar(self), tk.StringVar(self)
         tk.Label(self, text="Find", background=FACE, padx=2).pack(side="left")
         self._attribute_box = ttk.Combobox(self, textvariable=self._attribute, state="readonly", width=13)
@@ -70,7 +70,7 @@ class FindRow(tk.Frame):
         self._changed()
 
     def empty(self) -> None:
-        """Clears the text, since another query was asked."""
+        """Clears the text, because another query was run."""
         self._is_filled = True
         self._text.set("")
         self._is_filled = False

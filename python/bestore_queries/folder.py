@@ -1,4 +1,4 @@
-"""Importing a folder of files, or of mails, into a store in this process, in a thread of its own that follows the folder."""
+"""Imports a folder of files or mails into a store in this process, in a separate thread that follows the folder."""
 
 from __future__ import annotations
 
@@ -21,13 +21,13 @@ RESERVE = 48
 
 
 def type_of(name: str) -> str:
-    """The MIME type of a file's name."""
+    """Returns the MIME type for a file name."""
     found, encoding = mimetypes.guess_type(name)
     return f"application/{encoding}" if encoding else found or "application/octet-stream"
 
 
 def files_below(folder: str) -> Iterator[os.DirEntry[str]]:
-    """The files of a folder and of those inside it. Whatever disappears meanwhile, or may not be read, is skipped."""
+    """Yields the files in a folder and its subfolders. Skips anything that disappears meanwhile or may not be read."""
     waiting = [folder]
     while waiting:
         try:
@@ -51,7 +51,7 @@ class Known(NamedTuple):
 
 
 class Waiting(NamedTuple):
-    """A file that is to be written, or one that is gone."""
+    """A file that is to be written, or a file that is gone."""
 
     path: str
     values: Dict[str, bestore.Value]
@@ -97,7 +97,7 @@ class FolderReader(threading.Thread):
             self.fault = fault
 
     def end(self) -> None:
-        """Ends the thread, and closes its pass."""
+        """Stops the thread, and closes its pass."""
         self._ended.set()
         if self.is_alive():
             self.join()
@@ -117,7 +117,7 @@ class FolderReader(threading.Thread):
             try:
                 self._read_file(entry)
             except OSError:
-                gone.add(entry.path)  # it disappeared meanwhile, or may not be read
+                gone.add(entry.path)  # the file has disappeared meanwhile, or may not be read
         for path in gone & self._known.keys():
             self._wait(Waiting(path, {}, None))
         self._write()
@@ -146,7 +146,7 @@ class FolderReader(threading.Thread):
         return values
 
     def _wait(self, file: Waiting) -> None:
-        """Queues the file until there are enough for one change."""
+        """Queues the file until there are enough files for one change."""
         if sum(it.operations for it in [*self._waiting, file]) > bestore.MOST_OPERATIONS:
             self._write()
         self._waiting.append(file)
@@ -165,8 +165,8 @@ class FolderReader(threading.Thread):
             self._remove([file for file in files if file.about is None])
 
     def _remove(self, gone: List[Waiting]) -> None:
-        """Removes files from a full store. Since that takes pages too, fewer are removed at a time if necessary, and one that
-        can't be removed now is removed in a later round."""
+        """Removes files from a full store. Since removal takes pages too, fewer files are removed at a time if
+        necessary, and a file that can't be removed now is removed in a later round."""
         try:
             self._commit(gone)
         except bestore.Full:
@@ -176,7 +176,7 @@ class FolderReader(threading.Thread):
                 self._remove(gone[half:])
 
     def _commit(self, files: List[Waiting]) -> None:
-        """Writes files, with one change per volume. New files go into the volume with the most room."""
+        """Writes files, with one change per volume. New files go into the volume with the most free space."""
         parts: Dict[Optional[int], List[Waiting]] = {}
         for file in files:
             known = self._known.get(file.path)

@@ -1,4 +1,4 @@
-"""The list of hits. The widget has only the visible rows, so it takes the same time for ten hits as for a million."""
+"""The list of hits. The widget has only the visible rows, so ten hits take the same time as a million."""
 
 from __future__ import annotations
 
@@ -17,7 +17,7 @@ SHIFT, CONTROL = 0x1, 0x4     # in the state of an event
 SLOW_CLICK = 600              # milliseconds after which a click on a selected hit edits it, if no second one comes
 WHEEL = 3                     # rows by which a wheel turns
 STEP_SIDEWAYS = 60            # pixels by which a key or a wheel scrolls sideways
-NARROWEST, NARROWEST_FIRST = 40, 160  # pixels of a column, and of the first one, which names the hit
+NARROWEST, NARROWEST_FIRST = 40, 160  # minimum width in pixels: of a column, and of the first column, which names the hit
 MOST_OPENED = 20              # files that are opened at a time
 
 
@@ -39,9 +39,9 @@ class HitList(tk.Frame):
         self.selection = Selection(hits)
         self.columns: List[Column] = []
         self._places: List[str] = []      # the columns, by the widget's names
-        self._painted: List[Tuple[object, ...]] = []  # what its rows have
+        self._painted: List[Tuple[object, ...]] = []  # what the widget's rows contain
         self._top, self._top_node = 0, -1
-        self._room, self._row_height = 1, row_height(self)  # how many rows there is room for
+        self._room, self._row_height = 1, row_height(self)  # how many rows fit
         self._clicked: Optional[Column] = None
         self._edit_later = ""
         # It asks for no rows, so its requested height is just its headings and edges.
@@ -82,7 +82,7 @@ class HitList(tk.Frame):
             tree.bind(f"<{name}>", lambda _: self._open())
         tree.bind("<F2>", lambda _: self.edit())
         tree.bind("<<SelectAll>>", lambda _: self._select_all())
-        tree.bind("<space>", lambda _: "break")  # which would select by the widget's own rules
+        tree.bind("<space>", lambda _: "break")  # the key would select by the widget's own rules
 
     def destroy(self) -> None:
         self._cancel_edit()
@@ -174,7 +174,7 @@ class HitList(tk.Frame):
         return [[str(self.tree.item(it, "text"))[1:], *map(str, self.tree.item(it, "values"))] for it in rows]
 
     def see(self, place: int) -> None:
-        """Scrolls as little as is needed to show a place."""
+        """Scrolls as little as necessary to show a position."""
         if place < self._top:
             self._paint_from(place)
         elif place >= self._top + self._room:
@@ -183,7 +183,7 @@ class HitList(tk.Frame):
             self._paint_from(self._top)
 
     def _scroll(self, what: str, number: str, unit: str = "") -> None:
-        """What the scroll bar asks for."""
+        """Scrolls as the scroll bar asks."""
         if what == "moveto":
             self._paint_from(round(float(number) * len(self._hits)))
         else:
@@ -194,7 +194,7 @@ class HitList(tk.Frame):
         return "break"
 
     def _scroll_sideways(self, what: str, number: str, unit: str = "") -> None:
-        """What the bar below asks for."""
+        """Scrolls sideways as the bar below asks."""
         if what == "moveto":
             self.tree.xview_moveto(float(number))
         elif unit.startswith("page"):
@@ -216,7 +216,7 @@ class HitList(tk.Frame):
         self.editor.move(self._box_of_editor())
 
     def _see_column(self, column: Column) -> None:
-        """Scrolls sideways as little as is needed to show a column, from its beginning on."""
+        """Scrolls sideways as little as necessary to show a column, from its left edge on."""
         widths = [int(self.tree.column(it, "width")) for it in self._places]
         at = self.columns.index(column)
         begin, end, total = sum(widths[:at]), sum(widths[:at + 1]), sum(widths)
@@ -225,7 +225,7 @@ class HitList(tk.Frame):
             self.tree.xview_moveto(min(begin, max(first, end - (last - first))) / total)
 
     def _place_at(self, event: "tk.Event[Any]") -> Optional[int]:
-        """The place in the list at the pointer, or None if there is none."""
+        """Returns the position in the list under the pointer, or None if the pointer isn't on a hit."""
         row = self.tree.identify_row(event.y)
         is_hit = self.tree.identify_region(event.x, event.y) in ("cell", "tree") and row
         return self._top + int(row) if is_hit else None
@@ -272,7 +272,7 @@ class HitList(tk.Frame):
         self._edit_later = ""
 
     def _steps_of(self, key: str) -> int:
-        """How many places a key moves."""
+        """Returns how many positions a key moves."""
         return {"Up": -1, "Down": 1, "Prior": -self._room, "Next": self._room, "Home": -len(self._hits)}.get(key, len(self._hits))
 
     def _move(self, steps: int, extends: bool) -> str:
@@ -303,7 +303,8 @@ class HitList(tk.Frame):
         if place is None:
             return "break"
         if not can:
-            self._actions.warn("What these columns show is of the files themselves. Choose others by Attributes to edit them")
+            self._actions.warn(
+                "What these columns show comes from the files themselves. Choose others in the menu Attributes to edit them")
             return "break"
         column = self._clicked if self._clicked in can else can[0]
         assert column is not None
@@ -313,7 +314,7 @@ class HitList(tk.Frame):
         return "break"
 
     def edit_cell(self, cell: Cell, text: str) -> None:
-        """Edits a cell, starting with a text, if its hit is still there."""
+        """Edits a cell, starting with this text, if the cell's hit is still in the list."""
         place = self._hits.place_of(cell.node)
         if place is None or cell.column not in self.columns:
             return
@@ -329,7 +330,7 @@ class HitList(tk.Frame):
         return None if self.editor.cell is None else self._box(self.editor.cell)
 
     def _box(self, cell: Cell) -> Optional[Box]:
-        """Where a cell is visible, or None."""
+        """Returns where a cell is visible, or None if it isn't."""
         place = self._hits.place_of(cell.node)
         if place is None or not self._top <= place < self._top + len(self._painted):
             return None

@@ -20,12 +20,12 @@ _ENCODED = re.compile(rf"{_WORD}(?:\s+{_WORD})*", re.IGNORECASE)  # words of a h
 
 
 def cut(text: str) -> str:
-    """As much of a text as fits into a value."""
+    """Returns as much of a text as fits into a value."""
     return text.replace("\0", "").encode(errors="replace")[:255].decode(errors="ignore")
 
 
 def is_mailbox(folder: str) -> bool:
-    """Whether a folder holds the mails of a Maildir, as one of its two folders."""
+    """Returns whether a folder is one of the two folders in a Maildir that hold mails."""
     maildir, side = os.path.split(folder)
     return side in ("cur", "new") and is_maildir(maildir)
 
@@ -36,7 +36,7 @@ def is_maildir(folder: str) -> bool:
 
 
 def header_of(head: email.message.Message, name: str) -> str:
-    """A header in plain text. Bytes that aren't ASCII are UTF-8, and otherwise Windows-1252."""
+    """A header in plain text. Bytes that aren't ASCII are read as UTF-8 or, if they aren't valid UTF-8, as Windows-1252."""
     raw = next((str(value) for key, value in head.raw_items() if key.lower() == name.lower()), "")
     return _ENCODED.sub(_decoded_words, _decoded_bytes(raw.encode(errors="surrogateescape")))
 
@@ -57,7 +57,7 @@ def _decoded_words(found: Match[str]) -> str:
 
 
 def mail_attributes(path: str) -> Dict[str, bestore.Value]:
-    """What the headers of a mail say."""
+    """Returns what a mail's headers say."""
     with open(path, "rb") as file:
         head = email.parser.BytesHeaderParser().parse(file)
     is_read = "S" in os.path.basename(path).rpartition(":2,")[2] and os.path.basename(os.path.dirname(path)) == "cur"
@@ -68,5 +68,5 @@ def mail_attributes(path: str) -> Dict[str, bestore.Value]:
     try:
         values["MAIL:when"] = int(email.utils.parsedate_to_datetime(str(head.get("Date"))).timestamp())
     except (TypeError, ValueError, OverflowError, OSError):
-        pass  # no date, or none that can be read
+        pass  # there is no date, or it can't be read
     return values

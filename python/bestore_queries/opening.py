@@ -16,7 +16,7 @@ class CannotOpen(Exception):
 
 
 class Opening:
-    """A file that is being opened, by xdg-open. Raises `CannotOpen` if that can't be tried."""
+    """A file that xdg-open is opening. Raises `CannotOpen` if xdg-open can't be started."""
 
     def __init__(self, path: Optional[str], name: str) -> None:
         if path is None:

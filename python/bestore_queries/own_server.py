@@ -16,7 +16,7 @@ PATIENCE = 10.0
 
 
 class CannotStart(Exception):
-    """There is no server, and none can be started."""
+    """No server is running, and no server can be started."""
 
 
 def kept_path() -> str:

@@ -18,8 +18,8 @@ MANY = 50_000
 
 @contextlib.contextmanager
 def short_pauses(root: tk.Tk) -> Iterator[None]:
-    """Until the end of the `with`, threads take turns quickly, and the garbage collector looks only at new objects: looking
-    at all hits takes longer the more there are."""
+    """Until the end of the `with`, threads take turns quickly, and the garbage collector looks only at new objects,
+    since looking at all hits takes longer the more hits there are."""
     before = sys.getswitchinterval()
     sys.setswitchinterval(SWITCH)
     gc.disable()
@@ -37,7 +37,7 @@ def short_pauses(root: tk.Tk) -> Iterator[None]:
     try:
         yield
     finally:
-        with contextlib.suppress(tk.TclError):  # the window may be gone
+        with contextlib.suppress(tk.TclError):  # the window may have been closed
             root.after_cancel(waiting)
         gc.unfreeze()
         gc.enable()

@@ -25,7 +25,7 @@ class Places:
         return any(node in self._paths for node in nodes)
 
     def locate(self, version: bestore.Version, attributes: Dict[str, bestore.Value]) -> None:
-        """Adds the folder of a file, if an import has written only its node."""
+        """Adds a file's folder, if an import has written only the folder's node."""
         parent, root = attributes.get("FILE:parent"), attributes.get("FILE:root")
         if "folder" in attributes:
             return
@@ -46,7 +46,7 @@ class Places:
 
 
 def _decoded(value: Optional[bestore.Value]) -> Optional[str]:
-    """A path or a name in the form that system calls take. Its bytes needn't be text."""
+    """Returns a path or a name in the form that system calls take. Its bytes needn't be valid text."""
     if value is None or isinstance(value, int):
         return None
     return os.fsdecode(value)
@@ -63,7 +63,7 @@ def _above(root: Optional[bestore.Value]) -> Optional[str]:
 
 
 def path_of(attributes: Mapping[str, bestore.Value]) -> Optional[str]:
-    """The path of a file, or None if its attributes don't say it."""
+    """The path of a file, or None if its attributes don't give it."""
     whole = _decoded(attributes.get("FILE:root")) or _decoded(attributes.get("path"))
     if whole is not None:
         return whole

@@ -93,7 +93,7 @@ class NameRow(tk.Frame):
         self.entry.select_range(0, "end")
 
     def finish(self) -> None:
-        """Saves under the name, if there is one."""
+        """Saves the query under the name, if the row has one."""
         name = self._typed.get().strip()
         if name:
             self.pack_forget()

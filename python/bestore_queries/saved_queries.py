@@ -21,7 +21,7 @@ class Saved(NamedTuple):
 
 
 class BadFile(Exception):
-    """The file can't be read or written. It stays as it is."""
+    """The file can't be read or written. It is left unchanged."""
 
     def __init__(self, path: str, reason: str) -> None:
         super().__init__(path, reason)
@@ -44,16 +44,16 @@ class SavedQueries:
         self.path = default_path() if path is None else path
 
     def all(self) -> List[Saved]:
-        """The queries, in the order of their names. Raises `BadFile`."""
+        """Returns the queries in order of their names. Raises `BadFile`."""
         return sorted(self._read(), key=lambda it: it.name.casefold())
 
     def save(self, saved: Saved) -> None:
-        """Saves a query, replacing the one that has its name. Raises `BadFile`, and then the file is as it was."""
+        """Saves a query, replacing any query of the same name. Raises `BadFile`; the file is then unchanged."""
         with self._alone():
             self._write([it for it in self._read() if it.name != saved.name] + [saved])
 
     def remove(self, name: str) -> None:
-        """Removes a query, if it is there. Raises `BadFile`."""
+        """Removes a query, if it exists. Raises `BadFile`."""
         with self._alone():
             self._write([it for it in self._read() if it.name != name])
 
@@ -82,7 +82,7 @@ class SavedQueries:
             raise BadFile(self.path, f"it has no list of queries: {error}") from error
 
     def _write(self, queries: List[Saved]) -> None:
-        """Replaces the file: a reader gets either the old one or the new one."""
+        """Replaces the file: a reader gets either the old file or the new file."""
         text = json.dumps({"queries": [it._asdict() for it in queries]}, ensure_ascii=False, indent=1)
         folder = os.path.dirname(self.path)
         descriptor, path = tempfile.mkstemp(dir=folder, prefix=".queries-")

@@ -8,7 +8,7 @@ from .sorted_hits import Node, SortedHits
 
 
 class Selection:
-    """The selected hits, the one that keys move from, and the one that a range begins at."""
+    """The selected hits, the hit that keys move from, and the hit that a range begins at."""
 
     def __init__(self, hits: SortedHits) -> None:
         self._hits = hits
@@ -24,13 +24,13 @@ class Selection:
 
     @property
     def nodes(self) -> List[Node]:
-        """The selected hits that are there, in the list's order."""
+        """The selected hits that are still in the list, in the list's order."""
         places = [(self._hits.place_of(node), node) for node in self._nodes if node in self._hits]
         return [node for _, node in sorted(places)]
 
     @property
     def cursor(self) -> Optional[int]:
-        """The place of the hit that keys move from."""
+        """The position of the hit that keys move from."""
         return None if self._cursor is None else self._hits.place_of(self._cursor)
 
     def clear(self) -> None:
@@ -53,7 +53,7 @@ class Selection:
         self._cursor = self._anchor = node
 
     def extend(self, place: int) -> None:
-        """Selects from where the range begins up to a hit."""
+        """Selects the hits from the beginning of the range up to this hit."""
         begin = None if self._anchor is None else self._hits.place_of(self._anchor)
         if begin is None:
             self.choose(place)
@@ -69,7 +69,7 @@ class Selection:
             self._anchor = self._hits[0].node
 
     def move(self, steps: int, extends: bool = False) -> Optional[int]:
-        """Moves by this many places, and selects the hit there, or all hits up to there. Returns the place."""
+        """Moves by this many positions, and selects the hit at the new position, or all hits up to it. Returns the new position."""
         if not len(self._hits):
             return None
         at = self.cursor

@@ -1,5 +1,5 @@
-"""The hits of a query, in order. A new one is put in its place, and re-sorting is done in steps, so that no step takes long
-however many hits there are."""
+"""A query's hits, in order. A new hit is inserted at its position, and re-sorting is done in steps, so that no step
+takes long however many hits there are."""
 
 from __future__ import annotations
 
@@ -16,7 +16,7 @@ CHUNK = 1_000
 
 
 class Hit(NamedTuple):
-    """A node that meets the query, with the attributes that are shown."""
+    """A node that matches the query, with the attributes that are shown."""
 
     node: Node
     attributes: Dict[str, bestore.Value]
@@ -36,7 +36,7 @@ def entry_of(attribute: str, hit: Hit) -> Optional[Entry]:
 
 
 class _Listed:
-    """Hits in the order of an attribute, followed by those without it."""
+    """Hits in the order of an attribute, followed by the hits without this attribute."""
 
     def __init__(self, attribute: str, entries: Optional[List[Entry]] = None, lacking: Optional[List[Node]] = None) -> None:
         self.attribute = attribute
@@ -73,7 +73,7 @@ class _Sorting:
         """The hits that came, changed or went meanwhile, as they were at the beginning, or None if they weren't there."""
 
     def step(self) -> Optional[_Listed]:
-        """Goes on. Returns the hits once they are sorted."""
+        """Continues sorting. Returns the hits once they are sorted."""
         if not self._has_read_all:
             self._read_some()
             return None
@@ -99,17 +99,17 @@ class _Sorting:
 
 
 class SortedHits:
-    """The hits, by their place in the list."""
+    """The hits, by their position in the list."""
 
     def __init__(self, attribute: str = "name") -> None:
         self._hits: Dict[Node, Hit] = {}
         self._listed = _Listed(attribute)
         self._sorting: Optional[_Sorting] = None
-        self._sorted: Optional[_Listed] = None  # which still lacks what was touched
-        self._first: List[Node] = []  # the first hits in the order that is being made, which come before the others
-        self._gaps: Optional[List[int]] = None  # their places in the order that the others still have, if these are known
+        self._sorted: Optional[_Listed] = None  # still lacks the hits that were touched
+        self._first: List[Node] = []  # the first hits in the new order, which come before the others
+        self._gaps: Optional[List[int]] = None  # their positions in the order that the other hits still have, if known
         self.is_turned = self.will_be_turned = False
-        """Whether the greatest come first. Hits without the attribute come last in either case."""
+        """Whether the greatest values come first. Hits without the attribute come last in either case."""
 
     def __len__(self) -> int:
         return len(self._hits)
@@ -133,7 +133,7 @@ class SortedHits:
         return self._hits.get(node)
 
     def place_of(self, node: Node) -> Optional[int]:
-        """The place of a node, from 0, or None if it isn't a hit."""
+        """Returns a node's position, from 0, or None if the node isn't a hit."""
         hit = self._hits.get(node)
         if hit is None:
             return None
@@ -143,13 +143,13 @@ class SortedHits:
         return len(self._first) + place - bisect_left(self._gaps_of_first(), place)
 
     def _gaps_of_first(self) -> List[int]:
-        """The places among the listed hits of those that are put first."""
+        """Returns the positions, among the listed hits, of the hits that are put first."""
         if self._gaps is None:
             self._gaps = sorted(self._listed_place(self._hits[node]) for node in self._first)
         return self._gaps
 
     def _listed_place(self, hit: Hit) -> int:
-        """The place among those that are listed."""
+        """Returns the position among the listed hits."""
         node, entries = hit.node, self._listed.entries
         entry = entry_of(self._listed.attribute, hit)
         if entry is None:
@@ -158,7 +158,7 @@ class SortedHits:
         return len(entries) - 1 - place if self.is_turned else place
 
     def put(self, hit: Hit) -> None:
-        """Puts a hit at its place. If it is there already, with its attributes as they were, it takes the place of that."""
+        """Inserts a hit at its position. If the hit is already in the list with earlier attributes, replaces it."""
         old = self._hits.get(hit.node)
         if old == hit:
             return
@@ -170,7 +170,7 @@ class SortedHits:
         self._listed.add(hit)
 
     def remove(self, node: Node) -> None:
-        """Removes a hit, if it is there."""
+        """Removes a hit, if it is in the list."""
         old = self._hits.pop(node, None)
         if old is not None:
             self._touch(node, old)
@@ -178,7 +178,7 @@ class SortedHits:
             self._set_first([it for it in self._first if it != node])
 
     def clear(self) -> None:
-        """Removes all hits. The order stays."""
+        """Removes all hits. The order is unchanged."""
         self._hits, self._listed = {}, _Listed(self.attribute)
         self._set_first([])
         self._sorting, self._sorted, self.is_turned = None, None, self.will_be_turned
@@ -217,7 +217,7 @@ class SortedHits:
         return self._sorting is not None
 
     def step(self) -> bool:
-        """Goes on with sorting. Returns whether the order is the new one now."""
+        """Continues sorting. Returns whether the hits are now in the new order."""
         sorting = self._sorting
         if sorting is None:
             return False

@@ -1,4 +1,4 @@
-"""The store that a window asks: a server's, or one in this process with the files of a folder."""
+"""The store that a window queries: a server's store, or a store in this process with a folder's files."""
 
 from __future__ import annotations
 
@@ -14,10 +14,10 @@ from . import own_server
 from .folder import INDICES, FolderReader, files_below
 from .sorted_hits import Node
 
-MANY = 5_000           # entries of the journal that are read for what they set
+MANY = 5_000           # journal entries that are read to find what they set
 MOST_PAGES = 16_384    # of a volume
 PAGES_OF_A_FILE = 1.1  # with five attributes, all indexed
-GROWTH = 1.3           # how many more files than there are at first have room
+GROWTH = 1.3           # the growth to allow for, as a multiple of the files at the start
 
 
 class Condition(NamedTuple):
@@ -36,7 +36,7 @@ class LiveAnswer(ABC):
 
     @abstractmethod
     def refresh(self, version: bestore.Version) -> Tuple[List[Node], List[Node]]:
-        """Which nodes came and which went between the last call and this version. At first all come."""
+        """Returns which nodes came and which went between the last call and this version. At first, all nodes come."""
 
     @abstractmethod
     def close(self) -> None:
@@ -52,14 +52,14 @@ class Session(ABC):
 
     @abstractmethod
     def begin(self, text: str) -> LiveAnswer:
-        """Asks a query. A `bestore.QueryError` if the store can't answer it."""
+        """Runs a query. Raises a `bestore.QueryError` if the store can't answer the query."""
 
     @abstractmethod
     def has_news(self) -> bool:
-        """Whether something may have been written since the last call."""
+        """Returns whether something may have been written since the last call."""
 
     def written(self, since: Numbers, version: bestore.Version) -> Optional[Set[Node]]:
-        """The nodes whose attributes were set after these commits and up to a snapshot. None if that is too much to read."""
+        """Returns the nodes whose attributes were set after these commits and up to a snapshot, or None if there is too much to read."""
         now = version.numbers
         if len(now) != len(since) or sum(now) - sum(since) > MANY:
             return None
@@ -89,7 +89,7 @@ class Source(ABC):
 
     @abstractmethod
     def open(self) -> Session:
-        """Opens the store. Raises a `bestore.Error` if it isn't there."""
+        """Opens the store. Raises a `bestore.Error` if the store isn't available."""
 
     @property
     @abstractmethod
@@ -101,12 +101,12 @@ class Source(ABC):
 
 
 class _Prepared(LiveAnswer):
-    """A query of a store in this process."""
+    """A query in a store in this process."""
 
     def __init__(self, user: bestore.Pass, text: str) -> None:
         self._query = bestore.prepare(text)
         with user.pin() as version:
-            version.explain(text)  # the errors that the query has with this store
+            version.explain(text)  # raises the errors that the query has in this store
 
     def refresh(self, version: bestore.Version) -> Tuple[List[Node], List[Node]]:
         return version.refresh(self._query)
@@ -116,7 +116,7 @@ class _Prepared(LiveAnswer):
 
 
 class _Watched(LiveAnswer):
-    """A query of a server's store, which pushes what changes."""
+    """A query in a server's store, which pushes what changes."""
 
     def __init__(self, user: ConnectedPass, text: str) -> None:
         bestore.prepare(text).close()
@@ -155,15 +155,15 @@ class _ServerSession(Session):
 
 
 def size_for(files: int) -> Tuple[int, int]:
-    """How many volumes a store needs for this many files and a few more, and how many pages each needs."""
+    """Returns how many volumes a store needs for this many files and a few more, and how many pages each volume needs."""
     pages = 4096 + math.ceil(files * PAGES_OF_A_FILE * GROWTH)
     volumes = min(math.ceil(pages / MOST_PAGES), MOST_VOLUMES)
     return volumes, min(math.ceil(pages / volumes), MOST_PAGES)
 
 
 class FolderSource(Source):
-    """A store in this process, with the files of a folder. It is made when it is first opened, with room for the files
-    that there are then."""
+    """A store in this process, with a folder's files. The store is made when it is first opened, with space for the
+    files that exist at that time."""
 
     def __init__(self, folder: str, pages: Optional[int] = None, pause: float = 1.0) -> None:
         self.title, self._folder, self._pages, self._pause = folder, folder, pages, pause
@@ -204,7 +204,7 @@ class FolderSource(Source):
 
 
 class ServerSource(Source):
-    """The store of a server. If none is named and none is listening, it starts one."""
+    """A server's store. If no server is named and no server is listening, a server is started."""
 
     def __init__(self, path: Optional[str] = None) -> None:
         self._server: Optional[own_server.OwnServer] = None

@@ -12,7 +12,7 @@ from .columns import MAIL_TYPE
 DESKTOP, TAB, FACE, LINE, PAPER, STRIPE, MARKED = "#336698", "#ffcb00", "#d8d8d8", "#989898", "#ffffff", "#f3f6fa", "#9fb6d2"
 FAULT, FAULT_PAPER, QUIET = "#b3261e", "#fbe4e1", "#4f4f4f"
 ICON_HEIGHT = 16  # in pixels
-SELECT_ALL = ("Control-a", "Control-Lock-A")  # the keys, by which Tk goes to the beginning of the line on X11
+SELECT_ALL = ("Control-a", "Control-Lock-A")  # the keys with which Tk goes to the beginning of the line on X11
 
 # The sheet of a file's icon, and the colours of the lines on it, by the beginning of the file's type.
 _SHEETS = [
@@ -25,7 +25,7 @@ _FOLDERS = ("inode/directory", "application/x-vnd.Be-directory", "application/x-
 
 
 def _image(parts: List[Tuple[str, int, int, int, int]]) -> tk.PhotoImage:
-    """Rectangles: each with its colour, place, width and height."""
+    """Rectangles, each with its colour, position, width and height."""
     image = tk.PhotoImage(width=20, height=ICON_HEIGHT)
     for colour, x, y, width, height in parts:
         row = "{" + " ".join([colour] * width) + "}"

@@ -1,4 +1,4 @@
-"""A typed query, in the form that the store is asked: dates become numbers. Errors are shown at their place in what was typed."""
+"""A typed query, in the form that is sent to the store: dates become numbers. Errors are shown at their position in what was typed."""
 
 from __future__ import annotations
 
@@ -32,7 +32,7 @@ class Fault(NamedTuple):
 
 
 class TypedFault(Exception):
-    """What was typed can't be sent, because a date in it isn't one."""
+    """What was typed can't be sent, because a date in it isn't valid."""
 
     def __init__(self, fault: Fault) -> None:
         super().__init__(fault.message)
@@ -71,7 +71,8 @@ class TypedQuery(NamedTuple):
     parts: Tuple[_Part, ...]
 
     def column_of(self, offset: int) -> int:
-        """The typed character that a byte of the sent text comes from. For a date, it is the first one of its comparison."""
+        """Returns the typed character that a byte of the sent text comes from. For a date, it is the first character of the date's
+        comparison."""
         column = len(self.sent.encode(errors="surrogatepass")[:offset].decode(errors="ignore"))
         for part in self.parts:
             if column < part.start:
@@ -88,7 +89,7 @@ class TypedQuery(NamedTuple):
 
 def read(typed: str, now: Optional[datetime] = None) -> TypedQuery:
     """The query that is sent for what was typed. A value in `%` is a date, and so is any value of a time attribute, unless it is
-    a number of seconds or has a wildcard. `TypedFault` if it isn't one."""
+    a number of seconds or has a wildcard. Raises `TypedFault` if a date isn't valid."""
     found, parts = _tokens(typed), []
     for name, operator, value in zip(found, found[1:], found[2:]):
         if name.kind in ("word", "quoted") and operator.kind == "compares" and _is_date(name, value):
@@ -172,7 +173,7 @@ def _not_covered(error: bestore.NotCovered, query: TypedQuery, indices: Mapping[
 
 
 def _missing(typed: str, place: Optional[int]) -> str:
-    """What is missing, or superfluous, at this character."""
+    """Says what is missing or superfluous at this character."""
     column = len(typed) if place is None else place
     before = [token for token in _tokens(typed) if token.end <= column]
     last = before[-1] if before else None
@@ -203,8 +204,8 @@ def _open_quote(typed: str) -> bool:
 
 
 def lines_of(fault: Fault, typed: str, width: int) -> List[str]:
-    """A fault, in lines of up to this many columns: what it is, and what was typed, with a caret under the place. If that is
-    wider, only the part around the place is shown."""
+    """A fault, in lines of up to this many columns: what it is, and what was typed, with a caret under the position. If
+    what was typed is wider, only the part around the position is shown."""
     message = fault.message[:1].upper() + fault.message[1:]
     lines = [shortened(message, width)]
     if fault.column is not None:
@@ -213,7 +214,7 @@ def lines_of(fault: Fault, typed: str, width: int) -> List[str]:
 
 
 def shortened(line: str, width: int) -> str:
-    """As much of a line as fits."""
+    """Returns as much of a line as fits."""
     if columns_of(line) <= width:
         return line
     while line and columns_of(line) > width - 1:
@@ -222,6 +223,6 @@ def shortened(line: str, width: int) -> str:
 
 
 def hint_of(hint: bestore.Hint) -> str:
-    """A comparison that no node can meet, in words."""
+    """Describes a comparison that no node can match."""
     why = "it is out of range" if hint.is_number else "it isn't a whole number"
     return f"Nothing has {hint.name} “{hint.value}”: {why}."

@@ -27,16 +27,16 @@ from .sorted_hits import Hit, SortedHits
 from .sources import Source
 from .theme import DESKTOP, FACE, FAULT, FAULT_PAPER, QUIET, TAB
 
-BUDGET = 0.015      # seconds that the window takes for reports at a time
-BUSY_PAUSE = 5      # milliseconds to the next look for reports, if there were some
+BUDGET = 0.015      # seconds that the window spends on reports in one go
+BUSY_PAUSE = 5      # milliseconds to the next look for reports, if there were any
 IDLE_PAUSE = 50     # milliseconds to the next look, if there were none
-TYPING_PAUSE = 150  # milliseconds without a key before a query is asked
-FIRST_PAUSE = 0.1   # seconds that sorting waits for the first hits of an order, which the store may have at once
+TYPING_PAUSE = 150  # milliseconds without a key before a query is run
+FIRST_PAUSE = 0.1   # seconds that sorting waits for the first hits of an order, which the store may have immediately
 LINES = 3           # below the query: what is wrong with it, and where
 
 
 class Window:
-    """The window over a source."""
+    """The window that shows a source."""
 
     def __init__(self, root: tk.Tk, source: Source, saved: Optional[SavedQueries] = None, is_mail: bool = False) -> None:
         self.root, self._source, self._is_mail = root, source, is_mail
@@ -120,7 +120,7 @@ class Window:
             self.root.destroy()
 
     def end(self) -> None:
-        """Ends the thread that asks."""
+        """Stops the thread that runs queries."""
         self._is_ended = True
         for waiting in (self._next_step, self._typing):
             if waiting:
@@ -130,12 +130,12 @@ class Window:
     # What the user asks for.
 
     def ask(self, text: str) -> None:
-        """Writes a query into the line, and asks it at once."""
+        """Writes a query into the line, and runs it immediately."""
         self._query.set(text)
         self._ask()
 
     def ask_saved(self, saved: Saved) -> None:
-        """Asks a saved query, with the columns that it was saved with."""
+        """Runs a saved query, with the columns that it was saved with."""
         self._chosen = list(saved.columns)
         self.find_row.empty()
         self.name(saved.name)
@@ -151,7 +151,7 @@ class Window:
         self._typing = self.root.after(TYPING_PAUSE, self._ask)
 
     def _ask(self) -> None:
-        """Asks what is in the line. The old answer disappears at once, even if nothing can be asked."""
+        """Runs the query in the line. The old answer disappears immediately, even if there is no query to run."""
         if self._typing:
             self.root.after_cancel(self._typing)
         self._typing = ""
@@ -177,7 +177,7 @@ class Window:
         self._ask()
 
     def sort(self, column: Column) -> None:
-        """Sorts the hits by a column from now on; the second time, the other way round."""
+        """Sorts the hits by a column from now on; the second time, in reverse."""
         is_turned = self.hits.attribute == column.attribute and not self.hits.will_be_turned
         self.hits.sort(column.attribute, is_turned)
         begin = self._begin()
@@ -203,11 +203,11 @@ class Window:
             self._look_after(BUSY_PAUSE)
 
     def _may_sort(self) -> bool:
-        """Whether there are hits to be sorted, which would keep the thread that asks from reading the first of them."""
+        """Returns whether there are hits to sort. Sorting would keep the thread that runs queries from reading the first hits."""
         return self.hits.is_sorting and not (self._awaits_first and time.monotonic() < self._sorts_at)
 
     def _look_after(self, milliseconds: int) -> None:
-        """Looks for reports next after this time."""
+        """Schedules the next look for reports after this time."""
         if self._next_step:
             self.root.after_cancel(self._next_step)
         self._next_step = self.root.after(milliseconds, self._step)
@@ -274,7 +274,7 @@ class Window:
                 break
             self._take(report)
             is_busy = is_changed = True
-        has_first = awaited_first and not self._awaits_first  # which is painted before anything is sorted
+        has_first = awaited_first and not self._awaits_first  # the first hits are painted before anything is sorted
         while not has_first and self._may_sort() and time.monotonic() < end:
             is_changed = self.hits.step() or is_changed
         if is_changed:

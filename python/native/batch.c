@@ -1,11 +1,11 @@
-/* Batches: operations, and the bytes of their names and values, in the form that the library takes. */
+/* Batches: operations, and the bytes of their names and values, in the library's form. */
 #include "native.h"
 
 #include <string.h>
 
 PyTypeObject *batch_type;
 
-/* Makes room for this many more things, at least doubling it. */
+/* Makes space for this many more elements, at least doubling the capacity. */
 static void *grown(void *kept, size_t *room, size_t needed, size_t size)
 {
     size_t more = *room == 0 ? 4 : *room;
@@ -64,7 +64,7 @@ bool add_operation(Batch *batch, bes_operation operation, const uint8_t *name, s
     return true;
 }
 
-/* Adds an operation to a batch, and returns the batch, like every call that adds one. */
+/* Adds an operation to a batch, and returns the batch, like every call that adds an operation. */
 static PyObject *added(PyObject *self, bes_operation operation, PyObject *name, const uint8_t *value, size_t value_length)
 {
     const uint8_t *bytes = NULL;
@@ -229,7 +229,7 @@ static PyObject *part_of(const Batch *batch, uint32_t at, uint32_t length)
     return PyBytes_FromStringAndSize(length == 0 ? "" : (const char *)batch->bytes + at, length);
 }
 
-/* The operations: kind, code, node, number, name and value of each. */
+/* Returns the operations, each with its kind, code, node, number, name and value. */
 static PyObject *batch_parts(PyObject *self, PyObject *nothing)
 {
     Batch *batch = (Batch *)self;
@@ -247,7 +247,7 @@ static PyObject *batch_parts(PyObject *self, PyObject *nothing)
     return list;
 }
 
-/* Replaces what the batch had with operations in the library's form, and their bytes. */
+/* Replaces the batch's contents with operations in the library's form, and their bytes. */
 static PyObject *batch_put(PyObject *self, PyObject *arguments)
 {
     Batch *batch = (Batch *)self;
@@ -280,7 +280,7 @@ PyObject *batch_of(const Listed *listed)
     return made;
 }
 
-/* Adds each of the operations that a batch is made with, using its method `add`. */
+/* Adds each operation that a batch is made with, using the batch's method `add`. */
 static int add_all(PyObject *self, PyObject *operations)
 {
     PyObject *all = PyObject_GetIter(operations), *operation;

@@ -3,7 +3,7 @@
 
 #include <string.h>
 
-/* Abandons the draft, if there is one. That needs no call on the pass, so another thread may be using it. */
+/* Abandons the draft, if there is one. This needs no call on the pass, so another thread may be using the pass. */
 void abandon_draft(Reader *reader)
 {
     bes_pass none = BES_PASS_INIT;
@@ -12,7 +12,7 @@ void abandon_draft(Reader *reader)
     reader->count = reader->length = 0;
 }
 
-/* Begins a draft on the reader's snapshot, if there is none yet. The caller has the pass. */
+/* Begins a draft on the reader's snapshot, if there is no draft yet. The caller has the pass. */
 static uint32_t begin_draft(Reader *reader, Handle *user)
 {
     uint64_t number, next;

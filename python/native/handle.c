@@ -1,4 +1,4 @@
-/* Handles: whose turn it is, what happens to them in a forked child, and unpinning for versions that are gone. */
+/* Handles: whose turn it is, what happens to handles in a forked child, and unpinning for versions that are gone. */
 #include "native.h"
 
 #include <pythread.h>
@@ -17,12 +17,12 @@ PyObject *after_fork(PyObject *module, PyObject *nothing)
 
 /* A thread that waits for its turn. */
 struct Waiter {
-    PyThread_type_lock lock; /* which is taken, until the turn is given to the thread */
+    PyThread_type_lock lock; /* this lock is taken until the thread gets its turn */
     bool has_turn;
     struct Waiter *next;
 };
 
-/* Whether this thread may use the handle now. Waiting threads come first, so that a thread that keeps calling can't keep them out. */
+/* Returns whether this thread may use the handle now. Waiting threads come first, so a thread that keeps calling can't shut them out. */
 static bool may_enter(const Handle *handle, unsigned long self)
 {
     if (handle->depth != 0)
@@ -47,7 +47,7 @@ static void step_out(Handle *handle, const Waiter *waiter)
     *at = waiter->next;
 }
 
-/* Gives the turn to the first thread that waits. */
+/* Gives the turn to the first waiting thread. */
 static void give_turn(Handle *handle)
 {
     Waiter *waiter = handle->first;
@@ -119,7 +119,7 @@ void leave(Handle *handle)
     give_turn(handle);
 }
 
-/* The object as a handle, if it is of this sort. */
+/* Returns the object as a handle, if it is of this sort. */
 Handle *handle_of(PyObject *object, enum Sort sort)
 {
     static const char *const names[] = { "handle", "pass", "prepared query", "cursor", "witness" };

@@ -6,7 +6,7 @@
 Library library;
 Known known;
 
-/* A call by its name in the library, and where it goes. */
+/* A call's name in the library, and where its address is stored. */
 typedef struct Named {
     const char *name;
     size_t offset;
@@ -23,7 +23,7 @@ static const Named calls[] = {
     CALL(abandon_change),
 };
 
-/* Takes the calls of the library that was loaded: a dict of their names and addresses. */
+/* Takes the loaded library's calls: a dict from their names to their addresses. */
 static PyObject *use(PyObject *module, PyObject *addresses)
 {
     (void)module;

@@ -19,8 +19,8 @@ enum {
     MOST_OPERATIONS = 64,
     BYTES_OF_A_BATCH = MOST_OPERATIONS * (63 + 255),
     BYTES_OF_A_VALUE = 255,
-    /* A write of up to this many operations keeps the GIL: it takes microseconds, and waiting for the GIL beside a thread that
-     * computes takes milliseconds. */
+    /* A write of up to this many operations keeps the GIL: it takes microseconds, whereas getting the GIL back from a thread
+     * that computes takes milliseconds. */
     SHORT_OPERATIONS = 8,
     SHORT_BYTES = 2048,
 };
@@ -75,15 +75,15 @@ enum { KINDS = 7 };
 
 /* What the module knows about the package: it is handed over once, through `know`. */
 typedef struct Known {
-    PyObject *refusal;       /* makes the error of a number */
+    PyObject *refusal;       /* makes the error for an error number */
     PyObject *forked;        /* the class of the error */
-    PyObject *encoded_query; /* raises the error of a query's text that isn't valid UTF-8 */
-    PyObject *encode_value;  /* encodes what isn't of a common type */
+    PyObject *encoded_query; /* raises the error for a query's text that isn't valid UTF-8 */
+    PyObject *encode_value;  /* encodes values of less common types */
     PyObject *typed;         /* a class of pairs */
     PyObject *batch;         /* the class */
     PyObject *user;          /* the class of passes whose writes need nothing else */
-    PyObject *wrong_kind;    /* makes the error of a value whose kind isn't its index's */
-    PyObject *kinds[KINDS];  /* by the order of kind_index */
+    PyObject *wrong_kind;    /* makes the error for a value whose kind isn't its index's kind */
+    PyObject *kinds[KINDS];  /* in the order of kind_index */
 } Known;
 
 extern Known known;
@@ -103,20 +103,20 @@ typedef struct Handle {
         bes_witness witness;
     } held;
     enum Sort sort;
-    unsigned long forks; /* how many forks there had been when it was made */
-    unsigned long owner; /* the thread that is using it, if depth isn't 0 */
+    unsigned long forks; /* how many forks there had been when the handle was made */
+    unsigned long owner; /* the thread that is using the handle, if depth isn't 0 */
     unsigned depth;
     Waiter *first;     /* the first of the waiting threads */
-    bool is_given;     /* whether the turn was given to one that hasn't run since */
+    bool is_given;     /* whether the turn was given to a thread that hasn't run since */
     bool is_pinned;    /* for a pass: whether a version has it pinned */
     bool is_left;      /* whether that version is gone, and the thread that is using the pass has to unpin */
     uint64_t snapshot; /* the commit number of the snapshot, if it is pinned */
     uint64_t committed;     /* for a pass: the commit number of its last write, or 0 */
     unsigned long changing; /* the thread that is running the function of a change, or 0 */
-    uint64_t *nodes;   /* for a pass: what queries are written into, or NULL */
+    uint64_t *nodes;   /* for a pass: the buffer that queries write into, or NULL */
     size_t room;
-    bool is_long;   /* for a prepared query: whether the GIL is released while it is asked */
-    unsigned asked; /* how often it was asked with the GIL */
+    bool is_long;   /* for a prepared query: whether the GIL is released while the query runs */
+    unsigned asked; /* how often the query was run with the GIL */
 } Handle;
 
 extern PyTypeObject *handle_type;
@@ -155,7 +155,7 @@ void unpin(Handle *handle);
 PyObject *call_guarded(Handle *handle, PyObject *const *arguments, Py_ssize_t count);
 Handle *handle_of(PyObject *object, enum Sort sort);
 
-/* Values: values.c. Each raises, and returns NULL or false, if it can't do it. */
+/* Values: values.c. Each function raises, and returns NULL or false, if it fails. */
 PyObject *refused(uint32_t answer);
 PyObject *refused_at(uint32_t answer, uint64_t carried, const char *listed);
 PyObject *refused_kind(PyObject *name, uint32_t kind, uint32_t index_kind);
@@ -178,7 +178,7 @@ typedef struct Signature {
 
 bool read_arguments(const Signature *signature, PyObject *const *given, Py_ssize_t count, PyObject *names, PyObject **read);
 
-/* A value in the form that the library takes. Its bytes belong to `keeper`, unless that is NULL; the keeper has to be released then. */
+/* A value in the form that the library takes. Its bytes belong to `keeper`, which has to be released unless it is NULL. */
 typedef struct Encoded {
     uint32_t code;
     uint64_t number;

@@ -1,4 +1,4 @@
-/* Queries of readers, and lists of nodes. */
+/* Queries on readers, and lists of nodes. */
 #include "reader.h"
 
 #include <string.h>
@@ -6,14 +6,14 @@
 
 enum {
     LEAST_ROOM = 1024,
-    MANY_NODES = 256,       /* a list of more nodes is read without the GIL */
-    LONG_TIME = 50000,      /* a prepared query that took more nanoseconds is asked without the GIL the next time */
-    SHORT_TIME = 20000,     /* one that took less is asked with it */
+    MANY_NODES = 256,       /* a longer list of nodes is read without the GIL */
+    LONG_TIME = 50000,      /* a prepared query that took more nanoseconds runs without the GIL the next time */
+    SHORT_TIME = 20000,     /* a prepared query that took fewer runs with the GIL */
     TIMED = 8,              /* one in this many runs with the GIL is timed, and not the first */
 };
 static const uint64_t MOST_NODES = 8u << 20; /* no store has more nodes with attributes: its pages have 64 MiB */
 
-/* A part of an answer: a page in an order, the first nodes from a number on, or any. */
+/* Part of an answer: a page in an order, the first nodes from a number on, or any nodes. */
 typedef struct Part {
     enum { IN_ORDER, FROM_NUMBER, ANY } how;
     size_t limit;
@@ -23,7 +23,7 @@ typedef struct Part {
     uint32_t descending, more;
 } Part;
 
-/* A query in the form in which it is asked: a text, items, or prepared. A prepared one may be asked for a part. */
+/* A query in the form in which it is run: text, items, or prepared. A prepared query may be run for a part. */
 typedef struct Asked {
     Handle *prepared;
     const bes_item *items;
@@ -90,7 +90,7 @@ PyObject *handle_expect(PyObject *self, PyObject *text)
     Py_RETURN_NONE;
 }
 
-/* Asks with the GIL, and measures the time now and then. */
+/* Runs the query with the GIL, and measures the time now and then. */
 static uint32_t ask_short(bes_pass *pass, const Asked *asked, Result *it)
 {
     Handle *prepared = asked->prepared;
@@ -118,7 +118,7 @@ static uint32_t ask_long(bes_pass *pass, const Asked *asked, Result *it)
     return answer;
 }
 
-/* Asks without the GIL if the query may take long, or did the last time. */
+/* Runs the query without the GIL if it may take long, or took long the last time. */
 static uint32_t ask_once(bes_pass *pass, const Asked *asked, Result *it)
 {
     bool is_long = asked->prepared != NULL ? asked->prepared->is_long
@@ -127,7 +127,7 @@ static uint32_t ask_once(bes_pass *pass, const Asked *asked, Result *it)
 }
 
 /* Takes the pass's room for found nodes, or makes more: as many as there can be, so that no query is asked twice. Memory that
- * nothing is written into costs nothing. If there isn't that much, a query that finds more than fits is asked again; a prepared
+ * is never written costs nothing. If there isn't that much, a query that finds more than fits is asked again; a prepared
  * query keeps its result. */
 static bool take_room(Handle *user, uint64_t most, Result *it)
 {
@@ -151,7 +151,7 @@ static bool take_room(Handle *user, uint64_t most, Result *it)
     return true;
 }
 
-/* Makes more room for a query that found more than there was. */
+/* Makes more space for a query that found more nodes than fit. */
 static bool grow_room(Result *it)
 {
     uint64_t *nodes = realloc(it->nodes, it->count * sizeof *nodes);
@@ -170,12 +170,12 @@ static void give_back(Handle *user, Result *it)
         user->nodes = it->nodes;
         user->room = it->room;
     } else {
-        free(it->nodes); /* a query that was asked meanwhile has made its own */
+        free(it->nodes); /* a query that ran meanwhile has made its own buffer */
     }
     it->nodes = NULL;
 }
 
-/* Asks, and writes the nodes if they are wanted. */
+/* Runs the query, and writes the nodes if they are wanted. */
 static bool ask(Handle *user, uint64_t most, const Asked *asked, bool wants_nodes, Result *it, uint32_t *answer)
 {
     *it = (Result){ .nodes = NULL };
@@ -192,7 +192,7 @@ static bool ask(Handle *user, uint64_t most, const Asked *asked, bool wants_node
     return true;
 }
 
-/* Raises the error of a query, which the reader makes. */
+/* Raises the error for a query, which the reader makes. */
 static PyObject *query_refused(Reader *reader, uint32_t answer, uint64_t carried, const Asked *asked)
 {
     PyObject *error = PyObject_CallMethod(
@@ -204,7 +204,7 @@ static PyObject *query_refused(Reader *reader, uint32_t answer, uint64_t carried
     return NULL;
 }
 
-/* The nodes that a query finds, or how many they are. */
+/* Returns the nodes that a query finds, or their number. */
 static PyObject *answered(Reader *reader, const Asked *asked, bool wants_nodes)
 {
     Handle *user;
@@ -283,7 +283,7 @@ static PyObject *named(PyObject *const *given, PyObject *names)
     return dict;
 }
 
-/* Makes a call through the package's method that does the same and knows more parameters. */
+/* Makes a call through the package's method, which does the same and knows more parameters. */
 static PyObject *forward(
     PyObject *self, const char *method, PyObject *const *given, Py_ssize_t count, PyObject *names)
 {
@@ -299,21 +299,29 @@ static PyObject *forward(
     return result;
 }
 
-/* Whether a call has more than a query, so that it asks for a part of the answer. */
+/* Returns whether a call has more parameters than a query, so that it asks for part of the answer. */
 static bool asks_part(Py_ssize_t count, PyObject *names)
 {
     return count + (names == NULL ? 0 : PyTuple_Size(names)) > 1;
 }
 
+/* Returns the nodes that a query finds. If other parameters are given too, the package's method `part` reads them. */
+static PyObject *query_by(
+    PyObject *self, PyObject *const *given, Py_ssize_t count, PyObject *names, const Signature *signature,
+    bool (*read)(PyObject *, Asked *), const char *part)
+{
+    PyObject *query;
+    Asked asked;
+    if (asks_part(count, names))
+        return forward(self, part, given, count, names);
+    if (!read_arguments(signature, given, count, names, &query) || !read(query, &asked))
+        return NULL;
+    return answered((Reader *)self, &asked, true);
+}
+
 PyObject *reader_query(PyObject *self, PyObject *const *given, Py_ssize_t count, PyObject *names)
 {
-    PyObject *text;
-    Asked asked;
-    bool is_read;
-    if (asks_part(count, names))
-        return forward(self, "_query_part", given, count, names);
-    is_read = read_arguments(&of_text, given, count, names, &text) && read_query(text, &asked);
-    return is_read ? answered((Reader *)self, &asked, true) : NULL;
+    return query_by(self, given, count, names, &of_text, read_query, "_query_part");
 }
 
 PyObject *reader_query_items(PyObject *self, PyObject *arguments)
@@ -324,13 +332,7 @@ PyObject *reader_query_items(PyObject *self, PyObject *arguments)
 
 PyObject *reader_query_prepared(PyObject *self, PyObject *const *given, Py_ssize_t count, PyObject *names)
 {
-    PyObject *prepared;
-    Asked asked;
-    bool is_read;
-    if (asks_part(count, names))
-        return forward(self, "_query_prepared_part", given, count, names);
-    is_read = read_arguments(&of_prepared, given, count, names, &prepared) && read_prepared(prepared, &asked);
-    return is_read ? answered((Reader *)self, &asked, true) : NULL;
+    return query_by(self, given, count, names, &of_prepared, read_prepared, "_query_prepared_part");
 }
 
 PyObject *reader_count(PyObject *self, PyObject *const *given, Py_ssize_t count, PyObject *names)
@@ -348,7 +350,7 @@ PyObject *reader_count_items(PyObject *self, PyObject *arguments)
     return read_items(arguments, &asked) ? answered((Reader *)self, &asked, false) : NULL;
 }
 
-/* The part of a prepared query's answer. */
+/* Returns part of a prepared query's answer. */
 static PyObject *answered_part(PyObject *self, PyObject *prepared, Part *part)
 {
     Asked asked;
@@ -411,13 +413,13 @@ PyObject *reader_page(PyObject *self, PyObject *arguments)
                          (Py_ssize_t)part.cursor.length);
 }
 
-/* The changes that a refresh found: room for them, and how many they are. */
+/* The changes that a refresh found: space for them, and their number. */
 typedef struct Changes {
     bes_updates updates;
-    uint64_t *nodes; /* those that came, and after them those that went */
+    uint64_t *nodes; /* the nodes that came, and after them the nodes that went */
 } Changes;
 
-/* A call of the library that refreshes a query. */
+/* A library call that refreshes a query. */
 typedef uint32_t (*Refresh)(bes_pass *, bes_prepared *, bes_updates *);
 
 static uint32_t refresh_now(Refresh refresh, bes_pass *pass, bes_prepared *prepared, Changes *it)
@@ -431,7 +433,7 @@ static uint32_t refresh_now(Refresh refresh, bes_pass *pass, bes_prepared *prepa
     return library.changes(prepared, it->nodes, it->updates.created, it->nodes + it->updates.created, it->updates.removed);
 }
 
-/* What a refresh found, as two lists. */
+/* Returns what a refresh found, as two lists. */
 static PyObject *changes_of(const Changes *it)
 {
     PyObject *came = list_of(it->nodes, it->updates.created), *result = NULL;

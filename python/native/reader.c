@@ -32,7 +32,7 @@ static uint32_t read_attribute(Reader *reader, Handle *user, uint64_t node, cons
     return library.get(pass, node, name, length, &found->attribute, found->bytes, BYTES_OF_A_VALUE);
 }
 
-/* Reads a node's attribute. False, and an exception, if the arguments are wrong. */
+/* Reads a node's attribute. Raises, and returns false, if the arguments are wrong. */
 static bool find(PyObject *self, PyObject *const *given, Py_ssize_t count, PyObject *names, Found *found)
 {
     PyObject *read[2];
@@ -71,7 +71,7 @@ static PyObject *found_typed(const Found *found)
 
 static PyObject *found_kind(const Found *found) { return kind_object(found->attribute.code); }
 
-/* What a reading returns for an attribute, or None if there is none. */
+/* Returns what a reading returns for an attribute, or None if the node has no such attribute. */
 #define OR_NONE(function, made)                                                                                       \
     static PyObject *function(PyObject *self, PyObject *const *given, Py_ssize_t count, PyObject *names)              \
     {                                                                                                                 \
@@ -97,7 +97,7 @@ OR_NONE(reader_kind, found_kind)
 OR_ERROR(reader_read, found_typed)
 OR_ERROR(reader_value, found_value)
 
-/* The contents of an operation that sets an attribute or makes an index, in the form for a dict. */
+/* The contents of an operation that sets an attribute or makes an index, in the form that a dict takes. */
 typedef PyObject *Made(const bes_operation *operation, const uint8_t *bytes);
 
 static PyObject *made_value(const bes_operation *it, const uint8_t *bytes)
@@ -169,7 +169,7 @@ static PyObject *reader_indices(PyObject *self, PyObject *nothing)
     return answer != BES_OK ? refused(answer) : dict_of(&listed, made_kind);
 }
 
-/* The next of the batches that rebuild the snapshot, or None at their end. */
+/* Returns the next batch that rebuilds the snapshot, or None after the last one. */
 static PyObject *reader_state(PyObject *self, PyObject *given)
 {
     Handle *cursor = handle_of(given, OF_CURSOR), *user;
@@ -330,8 +330,8 @@ static PyMethodDef methods[] = {
       "A node's attribute with its kind, or None if there is none. Takes one search in a tree." },
     { "column", METHOD(reader_column),
       "column($self, /, nodes, name)\n--\n\n"
-      "One attribute of many nodes: a list with each node's value, or None if it has none. Takes a\n"
-      "search in a tree for each node, and memory for the list." },
+      "One attribute of many nodes: a list with each node's value, or None if it has none. Takes one\n"
+      "search in a tree per node, and memory for the list." },
     { "columns", METHOD(reader_columns),
       "columns($self, /, nodes, names)\n--\n\n"
       "Several attributes of many nodes: for each name a list, as `column` returns it. Takes less time than a\n"
@@ -355,8 +355,8 @@ static PyMethodDef methods[] = {
       "How many nodes meet the query, given as text or prepared. Costs what the query costs, except for the list." },
     { "refresh", METHOD(reader_refresh),
       "refresh($self, /, prepared)\n--\n\n"
-      "Which nodes came and which went since the prepared query was last refreshed: two lists, ascending. At\n"
-      "first all of its nodes come. Refresh a query in versions of one store, or of another that its state was\n"
+      "Which nodes came and which went since the prepared query was last refreshed: two lists, ascending. The\n"
+      "first time, all of its nodes come. Refresh a query in versions of one store, or of another that its state was\n"
       "carried on to: nodes are compared by their numbers. After an error the query is as it was." },
     { "_refresh_changed", reader_refresh_changed, METH_O,
       "The same, from what was written since the last refresh, which must have been in this store." },

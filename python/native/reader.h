@@ -7,7 +7,7 @@
 typedef struct Reader {
     PyObject_HEAD
     Handle *user;    /* the pass */
-    uint64_t number; /* the commit number of the last write that it includes */
+    uint64_t number; /* the commit number of the last write that the reader includes */
     uint64_t most;   /* how many nodes a query can find: all numbers below the next node's */
     bool is_pinned;
     bool takes_any_kind; /* whether its draft does */

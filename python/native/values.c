@@ -1,7 +1,7 @@
 /* Values, numbers, texts and errors, between Python and the library. */
 #include "native.h"
 
-/* Raises the error with this number, made from arguments that are taken over. */
+/* Raises the error with this number, made from the arguments, of which this takes ownership. */
 static PyObject *raise_refusal(PyObject *arguments)
 {
     PyObject *error = arguments == NULL ? NULL : PyObject_CallObject(known.refusal, arguments);
@@ -20,7 +20,7 @@ PyObject *refused_at(uint32_t answer, uint64_t carried, const char *listed)
     return raise_refusal(Py_BuildValue("(IKOz)", answer, (unsigned long long)carried, Py_None, listed));
 }
 
-/* Raises the error of an attribute whose kind isn't that of its name's index. */
+/* Raises the error for an attribute whose kind its name's index doesn't take. */
 PyObject *refused_kind(PyObject *name, uint32_t kind, uint32_t index_kind)
 {
     PyObject *error = PyObject_CallFunction(known.wrong_kind, "OII", name, kind, index_kind);
@@ -31,7 +31,7 @@ PyObject *refused_kind(PyObject *name, uint32_t kind, uint32_t index_kind)
     return NULL;
 }
 
-/* Reads an integer of 64 bits. If this fails without an exception, the integer is out of range. */
+/* Reads a 64-bit integer. If this fails without an exception, the integer is out of range. */
 bool read_in_range(PyObject *object, uint64_t *number)
 {
     PyObject *index = PyLong_Check(object) ? Py_NewRef(object) : PyNumber_Index(object);
@@ -55,7 +55,7 @@ bool read_number(PyObject *object, uint64_t *number)
     return false;
 }
 
-/* Reads a node of 64 bits. If this fails without an exception, the number is out of range. */
+/* Reads a 64-bit node number. If this fails without an exception, the number is out of range. */
 bool read_node_in_range(PyObject *object, uint64_t *node)
 {
     if (read_in_range(object, node))
@@ -132,10 +132,16 @@ PyObject *value_object(uint32_t code, uint64_t number, const uint8_t *bytes, siz
     switch (code) {
     case BES_STRING_TYPE:
     case BES_MIME_STRING_TYPE: return text_object(bytes, length);
+    /* surface.toml: kinds with a sign */
     case BES_INT32_TYPE:
-    case BES_INT64_TYPE: return PyLong_FromLongLong((long long)number);
+    case BES_INT64_TYPE:
+    /* surface.toml: end */
+        return PyLong_FromLongLong((long long)number);
+    /* surface.toml: kinds without a sign */
     case BES_UINT32_TYPE:
-    case BES_UINT64_TYPE: return PyLong_FromUnsignedLongLong(number);
+    case BES_UINT64_TYPE:
+    /* surface.toml: end */
+        return PyLong_FromUnsignedLongLong(number);
     default: return PyBytes_FromStringAndSize((const char *)bytes, (Py_ssize_t)length);
     }
 }
@@ -171,7 +177,7 @@ PyObject *list_of(const uint64_t *numbers, size_t count)
     return list;
 }
 
-/* The place of the parameter of this name, or -1. */
+/* Returns the position of the parameter with this name, or -1. */
 static int parameter_of(const Signature *signature, PyObject *name)
 {
     for (int at = 0; at < signature->count; at++)

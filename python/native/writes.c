@@ -50,7 +50,7 @@ static bool write_batch(Write *it, const Batch *batch, uint32_t *answer)
     bool is_written = true;
     if (!enter(it->handle))
         return false;
-    it->operations = batch->operations; /* only now, since another thread may have added to it while this one waited */
+    it->operations = batch->operations; /* only now, because another thread may have added to the batch while this thread waited */
     it->count = batch->count;
     it->bytes = batch->length == 0 ? (const uint8_t *)"" : batch->bytes;
     it->length = batch->length;

@@ -84,7 +84,7 @@ def files_store(pages: int = 2048) -> bestore.Pass:
 
 @functools.lru_cache(None)
 def open_display() -> None:
-    """Opens a display in memory for all tests of this process: Tk keeps its connection to one up to the end."""
+    """Opens a display in memory for all tests of this process: Tk keeps its connection to it until the end."""
     displays = ExitStack()
     os.environ["DISPLAY"] = displays.enter_context(display.display()).name
     atexit.register(displays.close)
@@ -120,7 +120,7 @@ class OnDisplay(unittest.TestCase):
         self.assertTrue(wait_for(is_so, seconds), f"{shown(window)} {window.state['text']} {window.message['text']}")
 
     def shows(self, window: "Window", *names: str) -> None:
-        """Fails if the first column doesn't come to be this."""
+        """Fails if the first column doesn't become this."""
         self.becomes(window, lambda: [row[0] for row in window.list.shown()] == list(names))
 
 

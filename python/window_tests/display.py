@@ -1,4 +1,4 @@
-"""A display in memory, by Xvfb, and pictures of it."""
+"""A display in memory, from Xvfb, and pictures of it."""
 
 from __future__ import annotations
 

@@ -78,7 +78,7 @@ class Asking(unittest.TestCase):
         return [[hit.node for hit in it.hits] for it in self.others if isinstance(it, First)]
 
     def test_first_hits_of_an_order(self) -> None:
-        """They come before all others, and for another order as soon as that is asked for."""
+        """They come before all others, and for another order as soon as it is asked for."""
         nodes = [self.file(name, size) for name, size in [("a", 1), ("b", 3), ("c", 2), ("d", 3)]]
         self.start("size>0", begin=Begin(Order("size", True), 2))
         self.becomes("a", "b", "c", "d")
@@ -117,7 +117,7 @@ class Asking(unittest.TestCase):
         self.assertEqual(self.firsts()[-1], ghosts)
 
     def test_first_hits_of_no_index(self) -> None:
-        """Without them the hits come all the same."""
+        """The hits come even without them."""
         self.file("a")
         self.start("size==1", begin=Begin(Order("none"), 2))
         self.becomes("a")
@@ -135,7 +135,7 @@ class Asking(unittest.TestCase):
             self.becomes("b")
 
     def test_snapshot_that_is_taken_back(self) -> None:
-        """Whatever fails within a step is done in a later one, and nothing of it is lost."""
+        """Whatever fails within a step is done in a later one, and none of it is lost."""
         nodes = [self.file(name) for name in "ab"]
         self.start("size==1")
         self.becomes("a", "b")
@@ -185,7 +185,7 @@ class Asking(unittest.TestCase):
         self.assertTrue(wait_for(lambda: self.has(Opened)))
 
     def breaks(self, *errors: Optional[bestore.Error]) -> "mock._patch[object]":
-        """Lets the next writes end so, in the place of being made. None lets one be made."""
+        """Makes the next writes end like this instead of being made. None lets one be made."""
         change, left = bestore.Pass.change, list(errors)
 
         def broken(user: bestore.Pass, *given: object) -> object:
@@ -196,7 +196,7 @@ class Asking(unittest.TestCase):
         return mock.patch.object(bestore.Pass, "change", broken)
 
     def written(self, *errors: Optional[bestore.Error], count: int) -> List[Written]:
-        """What is reported of three writes, given at once, of which some end so: so many reports."""
+        """What is reported about three writes that are requested together, some of which end like this: this many reports."""
         self.nodes = [self.file(name) for name in "abc"]
         for node in self.nodes:
             self.asker.send(Write(node, "BEOS:TYPE", "x", None))
@@ -214,13 +214,13 @@ class Asking(unittest.TestCase):
             return version.column(self.nodes, "BEOS:TYPE")
 
     def test_writes_of_a_store_that_goes(self) -> None:
-        """A write that surely wasn't made, and those after it, are made once the store is there again."""
+        """A write that certainly wasn't made, and those after it, are made once the store is back."""
         reports = self.written(None, bestore.Disconnected("p", "gone"), bestore.TimedOut("p", "late"), count=3)
         self.assertEqual([(it.write.node, it.fault) for it in reports], [(node, None) for node in self.nodes])
         self.assertEqual((self.types(), self.has(Lost)), (["x"] * 3, True))
 
     def test_write_that_may_be_made(self) -> None:
-        """It is reported, and not made again. Neither is one that broke the protocol, which it may do again."""
+        """It is reported, and not made again. Nor is one that broke the protocol, as it might do so again."""
         for error in (bestore.Disconnected("p", "gone", True), bestore.ProtocolError("p", "junk")):
             with self.subTest(error=error):
                 self.setUp()
@@ -230,7 +230,7 @@ class Asking(unittest.TestCase):
                 self.assertEqual(([it.fault for it in reports[1:]], self.types()), ([None, None], [None, "x", "x"]))
 
     def test_writes_of_another_store(self) -> None:
-        """What was typed for a store isn't written to another one that is there later, whose nodes are others."""
+        """What was typed for a store isn't written to another one that is there later, as its nodes are different ones."""
         opened, stores = MadeSource.open, iter("12")
 
         def open_another(source: MadeSource) -> Session:

@@ -1,4 +1,4 @@
-"""Tests of the import of a folder, of mails, of where files are and of what opens them."""
+"""Tests of importing a folder, of mails, of where files are and of what opens them."""
 
 from __future__ import annotations
 
@@ -74,7 +74,7 @@ class Files(InFolder):
             return version.attributes(node)
 
     def test_beside_another_writer(self) -> None:
-        """Another pass makes nodes all the while. Each file has its own attributes all the same."""
+        """Another pass keeps making nodes. Each file still has its own attributes."""
         for number in range(100):
             write(self.path(f"{number}.txt"), "x" * number)
         other, others = self.store.another(), 0
@@ -91,7 +91,7 @@ class Files(InFolder):
         self.assertEqual((len(names), len(files)), (100, 100 + others))
 
     def test_folder_that_went(self) -> None:
-        """It is said, the nodes stay, and the folder is followed again once it is back."""
+        """The window says so, the nodes stay, and the folder is followed again once it is back."""
         write(self.path("a"), "")
         self.reader.start()
         self.becomes("a")
@@ -104,7 +104,7 @@ class Files(InFolder):
         self.assertFalse(self.reader.is_gone)
 
     def test_names(self) -> None:
-        """Names that are no UTF-8, or have more bytes than a value, are cut and replaced."""
+        """Names that aren't valid UTF-8 are changed, and those with more bytes than a value are cut."""
         name = "ü" * 127 + ".x"  # 256 bytes aren't a name of a file; 255 are
         for it in (b"bad\xff", name[1:].encode(), b"a\nb"):
             with open(os.path.join(os.fsencode(self.folder), it), "wb"):
@@ -123,7 +123,7 @@ class Full(InFolder):
     pages = 128
 
     def test_store(self) -> None:
-        """The reader counts what doesn't fit; what is in stays, and room that comes is used."""
+        """The reader counts what doesn't fit. What is in the store stays, and new room is used."""
         for number in range(500):
             write(self.path(f"{number:03}"), "")
         self.reader.start()

@@ -58,7 +58,7 @@ class OfHits(OnDisplay):
 
 class Rows(OfHits):
     def test_as_many_before_a_resize(self) -> None:
-        """The list has as many rows at first as after a resize, however tall its headings are: all that fit, and no more."""
+        """The list has as many rows at first as after it is resized, however tall its headings are: exactly as many as fit."""
         for font_size in (6, 10, 30):
             ttk.Style(self.root).configure("Treeview.Heading", font=("TkHeadingFont", font_size))
             for height in range(200, 222):
@@ -89,7 +89,7 @@ class Columns(OfHits):
         return x >= 0 and x + width <= shown.tree.winfo_width()
 
     def test_eight(self) -> None:
-        """Names keep their room, and the bar below comes to each of eight columns."""
+        """Names keep their room, and the bar below reaches each of eight columns."""
         shown = self.list_of(EIGHT)
         self.assertGreaterEqual(shown.tree.column("#0", "width"), 160)
         self.assertTrue(shown.bar_below.winfo_viewable())
@@ -99,7 +99,7 @@ class Columns(OfHits):
         self.assertEqual([self.is_seen(shown, place) for place in (0, 7)], [False, True])
 
     def test_no_bar_for_few(self) -> None:
-        """The bar is there as long as columns are beyond the edge. Names have what the other columns leave."""
+        """The bar is there while there are columns beyond the edge. Names have what the other columns leave."""
         shown = self.list_of(FEW)
         self.assertFalse(shown.bar_below.winfo_viewable())
         rows, name = len(shown.shown()), shown.tree.column("#0", "width")

@@ -1,4 +1,4 @@
-"""Tests of what the list rests on: sorted hits, the selection, and the file of saved queries."""
+"""Tests of what the list is based on: sorted hits, the selection, and the file of saved queries."""
 
 from __future__ import annotations
 
@@ -19,7 +19,7 @@ VALUES: List[Optional[bestore.Value]] = [None, -3, 0, 7, 2**63, "", "b", "B", "a
 
 
 def hit_of(node: int, chance: random.Random) -> Hit:
-    """A hit that may lack an attribute, or have any kind of it."""
+    """A hit that may lack an attribute, or have it with any kind."""
     values = {name: chance.choice(VALUES) for name in ("name", "size")}
     return Hit(node, {name: value for name, value in values.items() if value is not None})
 
@@ -42,7 +42,7 @@ class Sorted(unittest.TestCase):
         self.assertEqual([hits.place_of(node) for node in nodes], list(range(len(nodes))))
 
     def test_at_random(self) -> None:
-        """Whatever comes, changes and goes, also while the hits are sorted anew, the order is that of a plain sort."""
+        """Whatever comes, changes or goes, even while the hits are being sorted again, the order is that of a plain sort."""
         for seed in range(30):
             chance, hits, model = random.Random(seed), SortedHits(), {}  # type: random.Random, SortedHits, Dict[int, Hit]
             for _ in range(400):
@@ -71,7 +71,7 @@ class Sorted(unittest.TestCase):
             self.assertEqual((len(hits), hits.attribute, hits.is_turned), (0, attribute, is_turned))
 
     def test_many(self) -> None:
-        """More than a step sorts."""
+        """More than one step sorts."""
         hits, chance, model = SortedHits(), random.Random(1), {}  # type: SortedHits, random.Random, Dict[int, Hit]
         for node in range(3 * CHUNK + 1):
             model[node] = Hit(node, {"name": str(chance.random()), "size": chance.randrange(100)})
@@ -125,7 +125,7 @@ class Sorted(unittest.TestCase):
         self.assertEqual(listed(hits), [2, 0, 1])
 
     def test_turning_back(self) -> None:
-        """Who sorts by another attribute and at once by the old one again has the old order."""
+        """Sorting by another attribute and immediately by the old one again gives the old order."""
         hits = SortedHits()
         for node in range(5):
             hits.put(Hit(node, {"name": str(node), "size": -node}))

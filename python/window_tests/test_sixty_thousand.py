@@ -1,9 +1,9 @@
-"""The window over 60,000 nodes: how long its event loop is away, and how soon the first hits of an order are shown.
+"""The window with 60,000 nodes: how long its event loop is busy, and how soon the first hits of an order are shown.
 
     PYTHONPATH=python:python/window_tests python3 python/window_tests/test_sixty_thousand.py --print
 
 prints the longest time of each phase, and after `--nodes 83000` those of this many nodes; it expects a tenth of a second at most, so it
-wants a machine with nothing else to do. Among other tests the bound is a second, since the loop then waits for a processor.
+needs a machine with nothing else to do. Among other tests the bound is a second, since the loop then waits for a processor.
 """
 
 from __future__ import annotations
@@ -48,14 +48,14 @@ def make_nodes(store: bestore.Pass) -> None:
 
 
 def set_attributes(batch: bestore.Batch, node: int, number: int) -> None:
-    """Sets the attributes of a file, most of which others have too."""
+    """Sets the attributes of a file. Other files have most of these values too."""
     batch.set(node, "name", f"file {number * 7919 % 60_013}.txt").set(node, "size", number * 31 % 9973)
     batch.set(node, "last_modified", 1_700_000_000 + number * 101 % 50_000).set(node, "BEOS:TYPE", f"type/{number % 101}")
     batch.set(node, "folder", f"/home/somebody/folder {number % 307}")
 
 
 class Gaps:
-    """The longest time between two moments at which the event loop did what waited."""
+    """The longest time between two moments at which the event loop handled what was waiting."""
 
     def __init__(self, window: "Window") -> None:
         self._root = window.root
@@ -72,7 +72,7 @@ class Gaps:
 
 
 def loop(window: "Window", is_done: Callable[[], bool]) -> float:
-    """Runs the event loop until something is so. Returns the longest time for which it was away."""
+    """Runs the event loop until a condition holds. Returns the longest time for which it was busy."""
     gaps, end = Gaps(window), time.monotonic() + PATIENCE
 
     def look() -> None:
@@ -129,7 +129,7 @@ def measure_first(window: "Window", store: bestore.Pass) -> Dict[str, float]:
 
 
 class Writer(threading.Thread):
-    """Renames files, as another program does."""
+    """Renames files, as another program might."""
 
     def __init__(self, store: bestore.Pass, nodes: List[int], name: str) -> None:
         super().__init__()
@@ -157,7 +157,7 @@ def measure(window: "Window", store: bestore.Pass, name: str) -> Dict[str, float
         window.sort(window.list.columns[column])
         found[f"sorting by {window.list.columns[column].title}"] = loop(window, lambda: settle(window))
     window.sort(window.list.columns[0])
-    found["turning the order"] = loop(window, lambda: settle(window))
+    found["reversing the order"] = loop(window, lambda: settle(window))
     places = iter(range(0, NODES, NODES // 200))
 
     def scroll() -> bool:
@@ -188,7 +188,7 @@ COLUMNS = ["name", "size", "last_modified", "BEOS:TYPE", "folder"]
 
 class SixtyThousand(OnDisplay):
     def shortest(self, source: Callable[[], Source], measured: Callable[["Window", int], Dict[str, float]]) -> Dict[str, float]:
-        """The shortest time of each phase, from some tries in a new window each."""
+        """The shortest time of each phase, from several attempts, each in a new window."""
         best: Dict[str, float] = {}
         for turn in range(TRIES):
             window = self.show(source())

@@ -73,7 +73,7 @@ class OwnServer(unittest.TestCase):
 
 class Sizes(unittest.TestCase):
     def test_size(self) -> None:
-        """A folder's store has room for a third more files, and never more than there can be."""
+        """A folder's store has room for a third more files, and never more than a store can have."""
         for files in (0, 1, 1_000, 15_000, 60_000, 500_000):
             volumes, pages = size_for(files)
             self.assertGreaterEqual(volumes * pages, files * 1.1 * 1.3)

@@ -28,7 +28,7 @@ if HAS_TK:
 
 
 class OverStore(OnDisplay):
-    """A window over a store of the test."""
+    """A window with a store of its own."""
 
     def setUp(self) -> None:
         place = tempfile.TemporaryDirectory()
@@ -43,7 +43,7 @@ class OverStore(OnDisplay):
         return file_of(self.store, **{"name": name, "size": size, "last_modified": 1700000000, "BEOS:TYPE": kind, **others})
 
     def window(self, *names: str) -> "Window":
-        """A window over files of these names, whose sizes are their places."""
+        """A window with files of these names, whose sizes are their places."""
         for place, name in enumerate(names):
             self.file(name, place, folder=self.folder)
         window = self.show(self.source, saved=self.saved)
@@ -52,7 +52,7 @@ class OverStore(OnDisplay):
 
 
 class FirstHits(OverStore):
-    """The first hits of an order, of which the store has an index."""
+    """The first hits of an order for which the store has an index."""
 
     def test_sorting_waits_for_them(self) -> None:
         """They are shown before any other is sorted."""
@@ -90,7 +90,7 @@ class Faults(OverStore):
         self.assertEqual(str(window.message["foreground"]), theme.FAULT)
 
     def test_fault_ends_the_old_answer(self) -> None:
-        """Whatever is wrong, the old hits and their number go with it, and come back with the next query."""
+        """Whatever is wrong, the old hits and their number disappear, and come back with the next query."""
         window = self.window("a", "b", "c")
         for query in ("size<", 'name=="[a"', "none==1", "last_modified>soon", "name==\udcff"):
             window.ask("size>0")
@@ -103,7 +103,7 @@ class Faults(OverStore):
             self.assertNotRegex(str(window.message["text"]), "score|version|grammar")
 
     def test_sorted_insertion(self) -> None:
-        """What comes and what changes is put at its place."""
+        """New and changed hits are put in their places."""
         window = self.window("b", "d", "f")
         added = [self.file("c", 9), self.file("a", 8), self.file("g", 7)]
         self.shows(window, "a", "b", "c", "d", "f", "g")
@@ -130,7 +130,7 @@ class Faults(OverStore):
         self.assertEqual(window.list.tree.heading("#1", "text"), "Size ▼")
 
     def test_store_without_room(self) -> None:
-        """How many files aren't in is said in full view, and what helps."""
+        """The window says in full view how many files are missing, and what helps."""
         for number in range(500):
             write(os.path.join(self.folder, f"{number}"), "")
         window = self.show(FolderSource(self.folder, 128, pause=0.02), saved=self.saved)
@@ -143,7 +143,7 @@ class Faults(OverStore):
         self.assertNotIn("following", str(window.state["text"]))
 
     def test_folder_that_went(self) -> None:
-        """It isn't called followed any more, until it is back."""
+        """It isn't shown as followed until it is back."""
         folder = os.path.join(self.folder, "files")
         os.mkdir(folder)
         write(os.path.join(folder, "a"), "")
@@ -166,7 +166,7 @@ class Faults(OverStore):
         self.becomes(window, lambda: [row[:2] for row in window.list.shown()] == [["Grüße ✉", "Müller <m@x>"]])
 
     def test_missing_index(self) -> None:
-        """The name without an index is named, and those that have one."""
+        """The error gives the name without an index, and those that have one."""
         window = self.window("a")
         window.ask("size>0 || color==red")
         self.becomes(window, lambda: str(window.message["text"]).startswith(
@@ -212,7 +212,7 @@ class Asking(OverStore):
         self.shows(window, "two")
 
     def test_typing(self) -> None:
-        """A query is asked once nobody has typed for a moment, and of those that were asked the last one is shown."""
+        """A query is asked once nothing has been typed for a moment, and only the last one is shown."""
         window = self.window("a", "b", "c")
         for size in (0, 1, 2, 0, 1):
             window.ask(f"size=={size}")
@@ -275,7 +275,7 @@ class SavedOnes(OverStore):
 
 class Editing(OverStore):
     def edited(self, window: "Window", text: str) -> None:
-        """Types a text into the editor, and ends it by Return."""
+        """Types a text into the editor, and ends it with Return."""
         window.root.update()
         entry = window.list.editor.entry
         assert entry is not None
@@ -286,7 +286,7 @@ class Editing(OverStore):
         entry.event_generate("<Return>")
 
     def begin(self, window: "Window", place: int, column: str) -> None:
-        """Edits an attribute of a place by F2."""
+        """Edits an attribute of a row with F2."""
         press(window, place, [it.attribute for it in window.list.columns].index(column))
         window.list.tree.focus_force()
         window.root.update()
@@ -308,7 +308,7 @@ class Editing(OverStore):
         self.becomes(window, lambda: self.value(2, "BEOS:TYPE") is None)
 
     def test_new_attribute(self) -> None:
-        """An attribute that no file has yet. Its kind is that of its index."""
+        """An attribute that no file has yet gets the kind of its index."""
         self.store.make_index("rating", bestore.INT32)
         window = self.window("a")
         window.choose(["name", "rating"])
@@ -346,13 +346,13 @@ class Editing(OverStore):
         self.assertIsNone(window.list.editor.cell)
 
     def test_not_of_files(self) -> None:
-        """What the files themselves say isn't edited."""
+        """What comes from the files themselves can't be edited."""
         window = self.window("a")
         window.choose(["name", "size"])
         self.shows(window, "a")
         self.begin(window, 0, "size")
         self.assertIsNone(window.list.editor.cell)
-        self.assertIn("of the files themselves", str(window.notice["text"]))
+        self.assertIn("from the files themselves", str(window.notice["text"]))
 
     def test_escape(self) -> None:
         window = self.window("a")
@@ -398,7 +398,7 @@ class Typing(OverStore):
         self.selects_all(window, window.entry)
 
     def test_paste(self) -> None:
-        """What is pasted while an attribute is edited takes the place of what is selected."""
+        """What is pasted while an attribute is being edited replaces the selection."""
         window = self.window("a")
         window.list.selection.choose(0)
         window.list.edit()
@@ -449,7 +449,7 @@ class Opening(OverStore):
 
 class Listing(OverStore):
     def test_scrolls_and_selects(self) -> None:
-        """The widget has the rows that are seen alone."""
+        """The widget has only the visible rows."""
         names = [f"{number:03}" for number in range(300)]
         for name in names:
             self.file(name)
@@ -487,7 +487,7 @@ class Listing(OverStore):
         self.shows(window, "a␣b", "node 2")
 
     def test_eight_columns(self) -> None:
-        """Whatever the menu Attributes chooses can be seen, and names keep their room."""
+        """Whatever is chosen in the menu Attributes can be seen, and names keep their room."""
         window = self.window("a", "b")
         window.choose(["name", "size", "last_modified", "BEOS:TYPE", "folder", "created", "Audio:Artist", "rating"])
         self.shows(window, "a", "b")
@@ -514,7 +514,7 @@ class Listing(OverStore):
 
 @unittest.skipUnless(servers.BESTORED, "BESTORED names no bestored")
 class OverServer(OnDisplay):
-    """A window over the store of a server."""
+    """A window with a server's store."""
 
     options: List[object] = []
 
@@ -565,7 +565,7 @@ class OverServer(OnDisplay):
         self.becomes(window, lambda: window.list.shown()[0][3] == "text/x")
 
     def test_server_that_goes(self) -> None:
-        """It is said, the list goes, and all comes back with the server."""
+        """The window says so, the list disappears, and everything comes back with the server."""
         self.make_files()
         window = self.show(ServerSource(self.server.path), saved=self.saved)
         window.ask("size>=0")
@@ -580,7 +580,7 @@ class OverServer(OnDisplay):
         self.becomes(window, lambda: str(window.notice["text"]) == "")
 
     def test_own_server(self) -> None:
-        """If none listens the window starts one, which keeps its store, and ends it."""
+        """If no server listens, the window starts one that keeps its store, and ends it later."""
         folder = tempfile.mkdtemp(prefix="own-", dir=servers.MEMORY)
         self.addCleanup(lambda: __import__("shutil").rmtree(folder))
         program = os.path.join(folder, "bestored")
@@ -602,12 +602,12 @@ class OverServer(OnDisplay):
 
 
 class OverVolumes(OverServer):
-    """The same over a server with several volumes."""
+    """The same with a server that has several volumes."""
 
     options = ["--volumes", 3]
 
     def test_spread(self) -> None:
-        """The files lie in several volumes, and each is followed."""
+        """The files are in several volumes, and each one is followed."""
         self.make_files()
         window = self.show(ServerSource(self.server.path), saved=self.saved)
         names = [f"{number:02}" for number in range(12)]

@@ -1,3 +1,4 @@
+pub mod Comparing
 pub mod Left
 pub mod Outcomes
 pub mod Written

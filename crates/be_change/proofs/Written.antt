@@ -51,10 +51,11 @@ read_on a b c h k = k ∙ ap (λ (x : Knowledge). record x { steps = c.steps }) 
 pub read_change : (change : Changing) (a c : Knowledge) → HasRead a c → IsChangeOf change a → IsChangeOf change c
 read_change change a c h of = subst (IsChangeOf change) (sym h) of
 
+pub wrote_at : (a c : Knowledge) (number n : ℕ) (ops : List Op) (dones : List Done) → IsPinnedTo a number → AcceptsAt a c number ops n dones → dones ≡ outcomes (volume_pinned a).next ops
+wrote_at a c number n ops dones pin h = let agrees = h.read pin in outcomes_are (volume_pinned a) agrees.0 ops dones agrees.1
+
 pub wrote : (change : Changing) (a c : Knowledge) (n : ℕ) (dones : List Done) → AcceptsAt a c change.number change.ops n dones → IsChangeOf change a → dones ≡ outcomes change.first change.ops
-wrote change a c n dones h of =
-    let agrees = h.read of.0 in
-    outcomes_are (volume_pinned a) agrees.0 change.ops dones agrees.1 ∙ ap (λ m. outcomes m change.ops) (sym of.1.first)
+wrote change a c n dones h of = wrote_at a c change.number n change.ops dones of.0 h ∙ ap (λ m. outcomes m change.ops) (sym of.1.first)
 
 pub wrote_all : (change : Changing) (a c : Knowledge) (ops : List Op) (number n : ℕ) (dones : List Done) → ops ≡ change.ops → number ≡ change.number → 1 ≤ length ops → AcceptsAt a c number ops n dones → Wrote change a c n
 wrote_all change a c ops number n dones e f some h =

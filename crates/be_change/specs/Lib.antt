@@ -1,4 +1,5 @@
 pub mod Changing
 pub mod Collecting
 pub mod Ending
+pub mod Comparing
 pub mod Left

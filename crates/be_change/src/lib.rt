@@ -5,6 +5,7 @@
 mod changes;
 mod ending;
 mod errors;
+mod kinds;
 pub mod laws;
 mod once;
 mod overlay;
@@ -12,3 +13,4 @@ mod overlay;
 pub use changes::{Change, MOST_OPERATIONS};
 pub use ending::{Ended, Kinds};
 pub use errors::CollectError;
+pub use kinds::{KindMismatch, check_kinds};

@@ -6,26 +6,38 @@ ghost use Rattle.be_change.specs.Ending.{EndsOnce, Releases};
 
 use crate::ending::release;
 use crate::{Change, Ended};
-use be_store::{ApplyIfError, Pass, Refusal, Store};
+use be_store::{ApplyIfError, ArrayVec, Done, Pass, Refusal, Store};
 
 impl Change {
     /// Ends the change as `end` does, by a single try. It lets no other thread run, as the library
-    /// for C may not. Busy: nothing is written, and the change is gone; begin anew.
-    pub fn end_once(self, store: &Store, pass: &mut Pass) -> Result<Ended, Refusal>
+    /// for C may not. Busy: nothing is written, and the change is gone; begin anew. The list gets
+    /// what the operations return, as from `Store::apply_if_into`, so a caller that keeps one makes
+    /// none anew.
+    pub fn end_once(
+        self,
+        store: &Store,
+        pass: &mut Pass,
+        outcomes: &mut ArrayVec<Done, 64>,
+    ) -> Result<Ended, Refusal>
         requires pass { IsPassOf store.now pass.old }
         requires pinned { (n : ℕ) × IsPinnedTo pass.old.knows n }
         ensures pass { IsPassOf store.now pass.new }
         ensures ends { (c : Knowledge) × EndsOnce self pass.old.knows c result
             × Releases self.pins c pass.new.knows }
     {
-        let ended = write_once(&self, store, pass);
+        let ended = write_once(&self, store, pass, outcomes);
         release(self.pins(), store, pass);
         ended
     }
 }
 
 /// Writes what the change has collected, if it has collected anything. The pin stays.
-fn write_once(change: &Change, store: &Store, pass: &mut Pass) -> Result<Ended, Refusal>
+fn write_once(
+    change: &Change,
+    store: &Store,
+    pass: &mut Pass,
+    outcomes: &mut ArrayVec<Done, 64>,
+) -> Result<Ended, Refusal>
     requires pass { IsPassOf store.now pass.old }
     ensures pass { IsPassOf store.now pass.new }
     ensures ends { EndsOnce change.now pass.old.knows pass.new.knows result }
@@ -35,8 +47,8 @@ fn write_once(change: &Change, store: &Store, pass: &mut Pass) -> Result<Ended, 
     if ops.is_empty() {
         return Ok(Ended::Accepted(change.number()));
     }
-    match store.apply_if(pass, change.number(), ops) {
-        Ok((number, _)) => Ok(Ended::Accepted(number)),
+    match store.apply_if_into(pass, change.number(), ops, outcomes) {
+        Ok(number) => Ok(Ended::Accepted(number)),
         Err(ApplyIfError::Conflict(found)) => Ok(Ended::Again(found)),
         Err(ApplyIfError::Refused(refusal)) => Err(refusal),
     }

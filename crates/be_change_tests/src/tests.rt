@@ -2,11 +2,13 @@
 //! that write by them.
 
 mod endings;
+mod kinds;
 mod moves;
 mod reads;
 mod steps;
 
 use crate::tests::endings::{ends_again, keeps_pins, refusals, written_of};
+use crate::tests::kinds::mismatch_of;
 use crate::tests::moves::move_both_ways;
 use crate::tests::reads::{kinds_taken, own_reads, unchecked_kinds};
 use be_change::CollectError;
@@ -35,12 +37,38 @@ fn reads_its_own_operations(rt: HostRuntime) -> Result<(), Fail> {
     Ok(())
 }
 
-/// A set is checked against the index that the operations before it leave, and against no other.
+/// A set is checked against the index of its name as the operations before it leave that index.
 #[test]
 fn refuses_the_wrong_kind(rt: HostRuntime) -> Result<(), Fail> {
     let taken = again!(kinds_taken(rt.alloc()));
     assert_eq!(rt; taken, Ok(((false, true, true), (true, false, true))));
     assert_eq!(rt; again!(unchecked_kinds(rt.alloc())), Ok(true));
+    Ok(())
+}
+
+/// In a list that is written at once the first set of another kind is found, wherever it is.
+#[test]
+fn finds_the_wrong_kind(rt: HostRuntime) -> Result<(), Fail> {
+    let lists = [
+        ("set 1 a CSTR \"x\"; set 1 b LLNG 1", None),
+        ("set 1 a LLNG 1; set 1 a LLNG 2", Some((0, Kind::Cstr))),
+        (
+            "new; set 1 a CSTR \"x\"; set 1 a LLNG 1",
+            Some((2, Kind::Cstr)),
+        ),
+        ("rmindex a; set 1 a LLNG 1", None),
+        (
+            "rmindex a; mkindex a LLNG; set 1 a CSTR \"x\"",
+            Some((2, Kind::Llng)),
+        ),
+        (
+            "set 1 b LLNG 1; mkindex b CSTR; set 1 b LLNG 1",
+            Some((2, Kind::Cstr)),
+        ),
+    ];
+    for (list, found) in lists {
+        assert_eq!(rt; again!(mismatch_of(rt.alloc(), list)), Ok(found));
+    }
     Ok(())
 }
 

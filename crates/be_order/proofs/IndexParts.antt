@@ -5,9 +5,9 @@ use Rattle.std.specs.List.{Contains, flat_map}
 use Rattle.std.specs.Option.{option_map}
 use Rattle.std.specs.Result.{result_map_both}
 use Rattle.std.proofs.Math.ListN.{drop_of_length-le}
-use Rattle.std.proofs.lemmas.Bool.{lt-ltb}
-use Rattle.std.proofs.lemmas.List.{take-append-drop, take-append-le, take_all}
-use Rattle.std.proofs.lemmas.List.Elements.{Contains-append_right, filter-append}
+use Rattle.std.proofs.lemmas.Bool.{cases_lt, lt-ltb}
+use Rattle.std.proofs.lemmas.List.{drop_all, length-take-le, take-append-drop, take-append-le, take_all}
+use Rattle.std.proofs.lemmas.List.Elements.{Contains-append_left, Contains-append_right, filter-append}
 use Rattle.std.specs.FinMap as fin
 use Rattle.std.specs.FinMap.Entries.{find, is_sorted, is_sorted-where_key}
 use Rattle.std.specs.declared.option.Option.{Option}
@@ -18,6 +18,7 @@ use Rattle.be_value.specs.declared.refusals.Refusal.TheVariants.{NoSuchIndex, No
 use Rattle.be_value.specs.declared.values.Kind.{Kind}
 use Rattle.be_value.specs.declared.values.Value.{Value}
 use Rattle.be_query.specs.Grammar.{Formula}
+use Rattle.be_plan.specs.declared.keytests.KeyTest.{KeyTest}
 use Rattle.be_volume.specs.Query.{covered, sat, scan, sees}
 use Rattle.be_volume.specs.Reading.{index_kind}
 use Rattle.be_volume.specs.Sound.{IsSound, IsPaired}
@@ -26,16 +27,17 @@ use Rattle.be_plan.specs.Bounding.{Bounding}
 use Rattle.be_plan.specs.Narrow.{IsPair, Within, is_above}
 use Rattle.be_volume.specs.Maps.{name_cmp}
 use Rattle.std.specs.Ordering.{is_lt}
+use Rattle.be_plan.proofs.Answering.{has_attribute}
 use Rattle.be_plan.proofs.Rising.{contains_of_is_in}
-use Rattle.be_order.specs.Asked.{HasFront, IsPart, index_after, is_within, true_after}
+use Rattle.be_order.specs.Asked.{HasFront, IsPart, IsTestFor, index_after, is_within, true_after}
 use Rattle.be_order.specs.Ordered.{after, cursor_at, in_order, is_after, key_cmp, keyed, keys_of, nodes_of, page, page_of, page_with}
-use Rattle.be_order.specs.Walks.{AreFirst, HasWalked, IsEntry}
+use Rattle.be_order.specs.Walks.{AreFirst, AreHeld, HasWalked, IsEntry, IsPassing}
 use Rattle.be_order.proofs.Cursors.{after_part}
 use Rattle.be_order.proofs.Filters.{from_filter, in_filter, nodes_filter, sorted_filter}
 use Rattle.be_order.proofs.Fronts.{at_contained, contained_at, first_are, sorted_keys}
 use Rattle.be_order.proofs.KeyLists.{found_after}
-use Rattle.be_order.proofs.PageKeys.{cursor_last}
-use Rattle.be_order.proofs.Walked.{IsOneOf, found_is, has_attribute, is_found, key_of_seen, seen_of_key}
+use Rattle.be_order.proofs.PageKeys.{cursor_last, mapped_contains}
+use Rattle.be_order.proofs.Walked.{IsOneOf, found_is, is_found, key_of_seen, seen_of_key}
 use Rattle.be_order.proofs.WalkedPages.{Ended, contains_front, ended, has_by_kind, keys_append, length_take, nodes_append, nodes_length, nodes_take}
 
 abbrev Entries : Type 0
@@ -64,6 +66,21 @@ within_range low high k e = record {
   from_low = first_false (is_lt (name_cmp k low)) (is_above high k) e;
   to_high = second_false (is_lt (name_cmp k low)) (is_above high k) e;
 }
+
+-- the index has each node that a walk found
+pub walked_held : (s : State) (by low : List ℕ) (high : Option (List ℕ)) (descending : Bool) (cursor : Option (List ℕ)) (most : ℕ) (before after_walk : List ℕ) →
+    HasWalked (IsEntry s by low high) descending cursor most before after_walk → before ≡ [] → AreHeld s by after_walk
+walked_held s by low high descending cursor most before after_walk walked empty = λ n h.
+    let e = mapped_contains (λ (e : List ℕ × ℕ). e.1) walked.entries n (subst (λ (l : List ℕ). Contains l n) (walked.added ∙ ap (λ l. l ++ nodes_of walked.entries) empty) h) in
+    let one = walked.first.only e.0.0 e.0.1 e.1 in
+    (e.0.0, one.0.is_key, one.0.node_is ∙ e.2)
+
+pub passing_held : (s : State) (by low : List ℕ) (high : Option (List ℕ)) (descending : Bool) (cursor : Option (List ℕ)) (test : KeyTest) (most : ℕ) (got : List ℕ) →
+    HasWalked (IsPassing s by low high test) descending cursor most [] got → AreHeld s by got
+passing_held s by low high descending cursor test most got walked = λ n h.
+    let e = mapped_contains (λ (e : List ℕ × ℕ). e.1) walked.entries n (subst (λ (l : List ℕ). Contains l n) walked.added h) in
+    let one = walked.first.only e.0.0 e.0.1 e.1 in
+    (e.0.0, one.0.0.is_key, one.0.0.node_is ∙ e.2)
 
 module _ (s : State) (sound : IsSound s) (by : List ℕ) (kind : Kind) (is : index_kind s by ≡ Some kind) (descending : Bool) where
   abbrev nodes_all : List ℕ
@@ -155,33 +172,95 @@ module _ (s : State) (sound : IsSound s) (by : List ℕ) (kind : Kind) (is : ind
         let all = from_filter Passes (in_order s by descending nodes_all) (q, n) there in
         in_filter Passes held (q, n) (in_filter in_range (in_order s by descending nodes_all) (q, n) all.0 w) e
 
+    -- the two ways to say that an entry of the range comes after the cursor
+    entry_held : (cursor : Option (List ℕ)) (q : List ℕ) (n : ℕ) → IsEntry s by low high q n → is_after descending cursor q ≡ true → Contains (ahead_of cursor) (q, n)
+    entry_held cursor q n e after =
+        let k = e.is_key in
+        let V : ℕ → Type 0 = λ m. sees s m by ≡ Some k.value in
+        let seen : sees s n by ≡ Some k.value = subst V e.node_is (seen_of_key s sound by kind is q k).0 in
+        is_held cursor q n after (lies_within low high q e.within) (k.value, in_nodes n k.value seen, seen, k.is ∙ ap (key k.value) e.node_is)
+
+    held_entry : (cursor : Option (List ℕ)) (q : List ℕ) (n : ℕ) → Contains (ahead_of cursor) (q, n) → IsEntry s by low high q n × (is_after descending cursor q ≡ true)
+    held_entry cursor q n h =
+        let held_one = held_is cursor (q, n) h in
+        let one = held_one.2 in
+        let k = key_of_seen s sound by kind is n one.0 one.2 in
+        let E : List ℕ → Type 0 = λ l. IsEntry s by low high l n in
+        (subst E (sym one.3) (record { is_key = k.0; within = subst (Within low high) one.3 (within_range low high q held_one.1); node_is = k.1 }), held_one.0)
+
     -- a walk over the range finds its front
     module _ (cursor : Option (List ℕ)) (most : ℕ) (es : Entries) (firsts : AreFirst (IsEntry s by low high) descending cursor most es) where
       among : (q : List ℕ) (n : ℕ) → find (key_cmp descending) q es ≡ Some n → find (key_cmp descending) q (ahead_of cursor) ≡ Some n
       among q n h =
           let one = firsts.only q n (contained_at descending q n es h) in
-          let k = one.0.is_key in
-          let V : ℕ → Type 0 = λ m. sees s m by ≡ Some k.value in
-          let seen : sees s n by ≡ Some k.value = subst V one.0.node_is (seen_of_key s sound by kind is q k).0 in
-          at_contained descending q n (ahead_of cursor) (sorted_ahead cursor)
-          (is_held cursor q n one.1 (lies_within low high q one.0.within) (k.value, in_nodes n k.value seen, seen, k.is ∙ ap (key k.value) one.0.node_is))
+          at_contained descending q n (ahead_of cursor) (sorted_ahead cursor) (entry_held cursor q n one.0 one.1)
 
       reaches : (q : List ℕ) (n : ℕ) → find (key_cmp descending) q (ahead_of cursor) ≡ Some n →
           (find (key_cmp descending) q es ≡ Some n) ⊎ ((length es ≡ most) × ((x : List ℕ) (k : ℕ) → find (key_cmp descending) x es ≡ Some k → key_cmp descending x q ≡ Less))
       reaches q n h =
-          let held_one = held_is cursor (q, n) (contained_at descending q n (ahead_of cursor) h) in
-          let one = held_one.2 in
-          let k = key_of_seen s sound by kind is n one.0 one.2 in
-          let E : List ℕ → Type 0 = λ l. IsEntry s by low high l n in
-          let there : IsEntry s by low high q n =
-          subst E (sym one.3) (record { is_key = k.0; within = subst (Within low high) one.3 (within_range low high q held_one.1); node_is = k.1 }) in
-          elim (firsts.all q n there held_one.0) [
+          let there = held_entry cursor q n (contained_at descending q n (ahead_of cursor) h) in
+          elim (firsts.all q n there.0 there.1) [
             | inl i ↦ inl (at_contained descending q n es (sorted_keys descending es firsts.rising) i)
             | inr full ↦ inr (full.0, λ x m i. full.1 x m (contained_at descending x m es i))
           ]
 
       pub walked_index : es ≡ take most (ahead_of cursor)
       walked_index = first_are descending most es (ahead_of cursor) (sorted_keys descending es firsts.rising) (sorted_ahead cursor) among reaches firsts.few
+
+    -- a walk that tests its keys finds the front of those of which what is left is true
+    module _ (test : KeyTest) (left : Formula) (is_for : IsTestFor s by test left) (cursor : Option (List ℕ)) (most : ℕ) (got : List ℕ)
+        (walked : HasWalked (IsPassing s by low high test) descending cursor (suc most) [] got) where
+      abbrev is_true : List ℕ × ℕ → Bool
+      is_true e = sat s left e.1
+
+      abbrev passed : Entries
+      passed = filter is_true (ahead_of cursor)
+
+      sorted_passed : T (is_sorted (key_cmp descending) passed)
+      sorted_passed = sorted_filter descending is_true (ahead_of cursor) (sorted_ahead cursor)
+
+      tested_among : (q : List ℕ) (n : ℕ) → find (key_cmp descending) q walked.entries ≡ Some n → find (key_cmp descending) q passed ≡ Some n
+      tested_among q n h =
+          let one = walked.first.only q n (contained_at descending q n walked.entries h) in
+          at_contained descending q n passed sorted_passed (in_filter is_true (ahead_of cursor) (q, n) (entry_held cursor q n one.0.0 one.1) (sym (is_for n) ∙ one.0.1))
+
+      tested_reaches : (q : List ℕ) (n : ℕ) → find (key_cmp descending) q passed ≡ Some n →
+          (find (key_cmp descending) q walked.entries ≡ Some n) ⊎ ((length walked.entries ≡ suc most) × ((x : List ℕ) (k : ℕ) → find (key_cmp descending) x walked.entries ≡ Some k → key_cmp descending x q ≡ Less))
+      tested_reaches q n h =
+          let kept = from_filter is_true (ahead_of cursor) (q, n) (contained_at descending q n passed h) in
+          let there = held_entry cursor q n kept.0 in
+          elim (walked.first.all q n (there.0, is_for n ∙ kept.1) there.1) [
+            | inl i ↦ inl (at_contained descending q n walked.entries (sorted_keys descending walked.entries walked.first.rising) i)
+            | inr full ↦ inr (full.0, λ x m i. full.1 x m (contained_at descending x m walked.entries i))
+          ]
+
+      abbrev all_true : List ℕ
+      all_true = true_after s left by low high descending cursor
+
+      got_is : got ≡ take (suc most) all_true
+      got_is =
+          let front : walked.entries ≡ take (suc most) passed =
+          first_are descending (suc most) walked.entries passed (sorted_keys descending walked.entries walked.first.rising) sorted_passed tested_among tested_reaches walked.first.few in
+          walked.added ∙ ap nodes_of front ∙ nodes_take (suc most) passed ∙ ap (take (suc most)) (nodes_filter (sat s left) (ahead_of cursor))
+
+      pub tested_front : HasFront most all_true got
+      tested_front = record {
+        rest = drop (suc most) all_true;
+        parts = sym (ap (λ l. l ++ drop (suc most) all_true) got_is ∙ take-append-drop (suc most) all_true);
+        enough = elim (cases_lt most (length all_true)) [
+          | inl longer ↦ let full : length got ≡ suc most = ap length got_is ∙ length-take-le (suc most) all_true (omega (arith, longer)) in inr (omega (arith, full))
+          | inr short ↦ inl (drop_all (suc most) all_true (omega (arith, short)))
+        ];
+      }
+
+    -- the index has each node of a front
+    pub front_held : (f : Formula) (cursor : Option (List ℕ)) (most : ℕ) (got : List ℕ) → HasFront most (true_after s f by low high descending cursor) got → AreHeld s by got
+    front_held f cursor most got has = λ n h.
+        let there : Contains (true_after s f by low high descending cursor) n = subst (λ (l : List ℕ). Contains l n) (sym has.parts) (Contains-append_left got has.rest n h) in
+        let e = mapped_contains (λ (e : List ℕ × ℕ). e.1) (ahead_of cursor) n (from_filter (sat s f) (nodes_of (ahead_of cursor)) n there).0 in
+        let one = (held_is cursor e.0 e.1).2 in
+        let k = key_of_seen s sound by kind is e.0.1 one.0 one.2 in
+        (key one.0 e.0.1, k.0, k.1 ∙ e.2)
 
     -- the entries of the range of whose nodes what is left is true are the whole answer
     module _ (f left : Formula) (bounding : Bounding f by kind low high (Some left)) (cursor : Option (List ℕ)) where

@@ -7,6 +7,7 @@ pub mod KeyLists
 pub mod Listed
 pub mod PageKeys
 pub mod Some
+pub mod Tests
 pub mod Walked
 pub mod WalkedPages
 pub mod Wholes

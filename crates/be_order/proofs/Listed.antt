@@ -4,25 +4,19 @@ use Rattle.std.proofs.lemmas.List.Sorted.{searched}
 use Rattle.std.proofs.lemmas.List.{get_or_default}
 use Rattle.std.specs.List.{Contains}
 use Rattle.std.specs.List.Sorted.{IsBinarySearchResult, IsStrictlyIncreasing}
-use Rattle.std.specs.Option.{option_map_or}
 use Rattle.std.specs.Prelude.{MatchResult}
 use Rattle.std.specs.FinMap as fin
-use Rattle.std.specs.declared.option.Option.{Option}
 use Rattle.std.specs.declared.result.Result.{Result}
 use Rattle.be_value.specs.declared.refusals.Refusal.{Refusal}
 use Rattle.be_value.specs.declared.refusals.Refusal.TheVariants.{NotCovered}
-use Rattle.be_value.specs.declared.values.Value.{Value}
-use Rattle.be_query.specs.Grammar.{Formula, Leaf, And, Or}
-use Rattle.be_volume.specs.Query.{covered, holds, sat, scan, sees, seen_in}
-use Rattle.be_volume.specs.Reading.{attribute}
-use Rattle.be_volume.specs.Sound.{IsSound, IsPaired}
+use Rattle.be_query.specs.Grammar.{Formula}
+use Rattle.be_volume.specs.Query.{covered, sat, scan}
+use Rattle.be_volume.specs.Sound.{IsSound}
 use Rattle.be_volume.specs.Volume.{State}
-use Rattle.be_volume.specs.declared.maps.Index.{Index}
+use Rattle.be_plan.proofs.Answering.{true_there}
 use Rattle.be_plan.proofs.Rising.{contains_of_is_in}
-use Rattle.be_plan.proofs.Ways.{and_first, or_cases}
 use Rattle.be_order.specs.Asked.{Lists}
 use Rattle.be_order.proofs.Filters.{from_filter, in_filter}
-use Rattle.be_order.proofs.Walked.{has_attribute}
 
 not_falling : (xs : List ℕ) → IsStrictlyIncreasing xs → (i d : ℕ) → i + d < length xs → get_or xs i 0 ≤ get_or xs (i + d) 0
 not_falling xs rising i zero below = let same : get_or xs (i + 0) 0 ≡ get_or xs i 0 = ap (λ k. get_or xs k 0) (omega arith) in omega (arith, same)
@@ -68,23 +62,6 @@ nodes_in (Ok nodes) = nodes
 nodes_in (Err e) = []
 
 module _ (s : State) (sound : IsSound s) where
-  seen_there : (n : ℕ) (name : List ℕ) (value : Value) → sees s n name ≡ Some value → fin.contains_key s.nodes n ≡ true
-  seen_there n name value seen = by (fin.get s.indices name) refl seen
-    where
-      by : (i : Option Index) → fin.get s.indices name ≡ i → seen_in i (attribute s n name) n ≡ Some value → fin.contains_key s.nodes n ≡ true
-      by None e t = has_attribute s n name value t
-      by (Some index) e t = let p : IsPaired s name index.kind n value = sound.pairs name index n value e t in has_attribute s n name value p.attribute_is
-
-  -- a node of which a formula is true is a node of the volume
-  true_there : (f : Formula) (n : ℕ) → sat s f n ≡ true → fin.contains_key s.nodes n ≡ true
-  true_there (Leaf name op literal) n h = by (sees s n name) refl h
-    where
-      by : (o : Option Value) → sees s n name ≡ o → option_map_or (λ value. holds op value literal) o false ≡ true → fin.contains_key s.nodes n ≡ true
-      by None e t = cc
-      by (Some value) e t = seen_there n name value e
-  true_there (And a b) n h = true_there a n (and_first (sat s a n) (sat s b n) h)
-  true_there (Or a b) n h = or_cases (sat s a n) (sat s b n) h (fin.contains_key s.nodes n ≡ true) (true_there a n) (true_there b n)
-
   -- the scan lists all of them
   pub scan_lists : (f : Formula) (found : List ℕ) → IsStrictlyIncreasing found → scan s f ≡ Ok found → Lists s f found
   unfolding nodes_in
@@ -96,6 +73,6 @@ module _ (s : State) (sound : IsSound s) where
             rising = rising;
             only = λ n h. (from_filter (sat s f) (fin.keys s.nodes) n (subst (λ l. Contains l n) (sym same) h)).1;
             all = λ n h. subst (λ l. Contains l n) same
-                (in_filter (sat s f) (fin.keys s.nodes) n (contains_of_is_in (fin.keys s.nodes) n (sym (fin.contains_key-keys s.nodes n) ∙ true_there f n h)) h);
+                (in_filter (sat s f) (fin.keys s.nodes) n (contains_of_is_in (fin.keys s.nodes) n (sym (fin.contains_key-keys s.nodes n) ∙ true_there s sound f n h)) h);
           }
       by false e = cc

@@ -1,7 +1,7 @@
 -- A walk over an index in its order, whose range decides a query, finds the front of the answer.
-use Rattle.std.proofs.Common.{◌≡◌, ◌⊎◌, ◌<◌, ◌+◌, ◌^◌, ℕ, zero, suc, Bool, true, false, cond, List, [], ◌∷◌, ◌++◌, refl, sym, ap, ◌∙◌, subst, arith, Some, None, is_some, inl, inr, take, length, filter, if◌then◌else◌}
+use Rattle.std.proofs.Common.{◌≡◌, ◌⊎◌, ◌<◌, ◌+◌, ◌^◌, ℕ, zero, suc, Bool, true, false, cond, List, [], ◌∷◌, ◌++◌, refl, sym, ap, ◌∙◌, subst, arith, Some, None, inl, inr, take, length, filter, IsTrue, if◌then◌else◌}
 use Rattle.std.specs.List.{Contains, flat_map}
-use Rattle.std.specs.Option.{option_and_then, option_map, option_map_or}
+use Rattle.std.specs.Option.{option_map, option_map_or}
 use Rattle.std.proofs.lemmas.Option.{same_Some}
 use Rattle.std.specs.Ordering.{eq_by_cmp}
 use Rattle.std.specs.FinMap as fin
@@ -11,12 +11,12 @@ use Rattle.std.specs.declared.cmp.Ordering.{Ordering}
 use Rattle.std.specs.declared.cmp.Ordering.TheVariants.{Less}
 use Rattle.std.specs.declared.result.Result.TheVariants.{Ok, Err}
 use Rattle.be_value.specs.Key.{key}
+use Rattle.be_value.specs.Value.{is_indexable, kind_of}
 use Rattle.be_value.specs.declared.values.Kind.{Kind}
 use Rattle.be_value.specs.declared.values.Value.{Value}
 use Rattle.be_query.specs.Grammar.{Formula, Leaf, And, Or, comparisons}
 use Rattle.be_value.specs.declared.refusals.Refusal.TheVariants.{NotCovered}
 use Rattle.be_volume.specs.Keys.{IsKey}
-use Rattle.be_volume.specs.Maps.{Attributes}
 use Rattle.be_volume.specs.Query.{holds, sat, scan, sees, seen_in}
 use Rattle.be_volume.specs.Reading.{attribute, index_kind}
 use Rattle.be_volume.specs.Sound.{IsSound, IsPaired}
@@ -25,12 +25,13 @@ use Rattle.be_volume.specs.declared.maps.Index.{Index}
 use Rattle.be_plan.specs.Narrow.{Allows, IsPair, Within}
 use Rattle.be_plan.specs.Prepared.{Decides}
 use Rattle.be_plan.specs.Walk.{AreAllOn}
+use Rattle.be_plan.proofs.Answering.{has_attribute}
 use Rattle.be_plan.proofs.Seen.{key_node, left_key}
 use Rattle.be_plan.proofs.Rising.{contains_of_is_in, from_filter, in_by_place, in_filter}
 use Rattle.be_plan.proofs.Sides.{named_rests}
 use Rattle.be_plan.proofs.Ways.{and_first, and_second}
 use Rattle.be_order.specs.Ordered.{after, in_order, is_after, key_cmp, keyed}
-use Rattle.be_order.specs.Walks.{AreFirst, IsEntry}
+use Rattle.be_order.specs.Walks.{AreFirst, IsEntry, IsHeld}
 use Rattle.be_order.proofs.KeyLists.{found_after, is_itself, is_same}
 use Rattle.be_order.proofs.PageKeys.{entry}
 use Rattle.be_order.proofs.Fronts.{first_are, contained_at, at_contained, sorted_keys}
@@ -43,6 +44,20 @@ allowed s (And a b) name n value pick at on h seen = (
   allowed s b name n value pick (at + comparisons a) on.1 (and_second (sat s a n) (sat s b n) h) seen,
 )
 allowed s (Or a b) name n value pick at on h seen = absurd on
+
+-- what a node has in an index is its attribute, of a kind that an index may have
+pub held_value : (s : State) → IsSound s → (by : List ℕ) (n : ℕ) → IsHeld s by n → (value : Value) × (attribute s n by ≡ Some value) × (sees s n by ≡ Some value) × IsTrue (is_indexable (kind_of value))
+held_value s sound by n held =
+    let h = held.1 in
+    let p : IsPaired s by h.index.kind h.node h.value = sound.pairs by h.index h.node h.value h.there h.paired in
+    let A : ℕ → Type 0 = λ m. attribute s m by ≡ Some h.value in
+    let V : ℕ → Type 0 = λ m. sees s m by ≡ Some h.value in
+    let Q : Kind → Type 0 = λ k. IsTrue (is_indexable k) in (
+      h.value,
+      subst A held.2 p.attribute_is,
+      subst V held.2 (ap (λ i. seen_in i (attribute s h.node by) h.node) h.there ∙ h.paired),
+      subst Q (sym p.kind_is) (sound.kinds by h.index h.there),
+    )
 
 module _ (s : State) (sound : IsSound s) (by : List ℕ) (kind : Kind) (is : index_kind s by ≡ Some kind) where
   -- the key of what is seen of a node
@@ -125,13 +140,6 @@ module _ (s : State) (sound : IsSound s) (by : List ℕ) (kind : Kind) (is : ind
       is_found [] (k, below, at) = absurd (omega arith)
       is_found (m ∷ nodes) (zero, below, at) = found_seen m nodes (sees s m by) refl (inl at)
       is_found (m ∷ nodes) (suc k, below, at) = found_seen m nodes (sees s m by) refl (inr (is_found nodes (k, omega arith, at)))
-
-pub has_attribute : (s : State) (node : ℕ) (name : List ℕ) (value : Value) → attribute s node name ≡ Some value → fin.contains_key s.nodes node ≡ true
-has_attribute s node name value h = by (fin.get s.nodes node) h
-  where
-    by : (found : Option Attributes) → option_and_then (λ attributes. fin.get attributes name) found ≡ Some value → is_some found ≡ true
-    by None e = cc
-    by (Some a) e = refl
 
 module _ (s : State) (sound : IsSound s) (f : Formula) (by : List ℕ) (kind : Kind) (is : index_kind s by ≡ Some kind) (on : AreAllOn f by) (low : List ℕ) (high : Option (List ℕ)) (decides : Decides f kind low high) where
   -- the nodes of the scan

@@ -1,17 +1,22 @@
 -- What a walk over the keys of a range finds, of whose nodes a part of a query is asked.
 use Rattle.std.specs.Prelude.{◌≡◌, ◌⊎◌, ◌<◌, ◌&&◌, ℕ, Bool, true, false, not, List, [], ◌++◌}
-use Rattle.std.specs.Prelude.{drop, filter, length, take}
+use Rattle.std.specs.Prelude.{IfSome, Ok, Some, drop, filter, length, take}
 use Rattle.std.specs.List.{Contains}
 use Rattle.std.specs.FinMap as map
 use Rattle.std.specs.List.Sorted.{IsStrictlyIncreasing}
 use Rattle.std.specs.Ordering.{is_lt}
 use Rattle.std.specs.declared.option.Option.{Option}
-use Rattle.be_query.specs.Grammar.{Formula}
+use Rattle.be_value.specs.declared.values.Kind.{Kind}
+use Rattle.be_query.specs.Grammar.{And, Formula, Leaf, Literal, Or}
+use Rattle.be_query.specs.declared.tree.Cmp.{Cmp}
 use Rattle.be_volume.specs.Maps.{name_cmp}
-use Rattle.be_volume.specs.Query.{sat}
+use Rattle.be_volume.specs.Query.{covered, sat}
 use Rattle.be_volume.specs.Volume.{State}
+use Rattle.be_plan.specs.Bounding.{Bounding}
+use Rattle.be_plan.specs.KeyTests.{passes_node}
 use Rattle.be_plan.specs.Narrow.{is_above}
-use Rattle.be_order.specs.Ordered.{after, in_order, nodes_of}
+use Rattle.be_plan.specs.declared.keytests.KeyTest.{KeyTest}
+use Rattle.be_order.specs.Ordered.{after, in_order, nodes_of, page, page_with}
 
 -- whether a key lies from `low` to `high`
 abbrev pub is_within : List ℕ → Option (List ℕ) → List ℕ → Bool
@@ -43,8 +48,31 @@ pub record HasFront (most : ℕ) (all found : List ℕ) : Type 0 where
   pub parts : all ≡ found ++ rest
   pub enough : (rest ≡ []) ⊎ (most < length found)
 
+-- Of each query that rests on an index, and of which the keys from `low` to `high` of the order's
+-- own index leave this to ask, these are the nodes of a page, the cursor after it, and whether
+-- there are more.
+abbrev pub IsPageOfRest : State → Formula → List ℕ → Kind → List ℕ → Option (List ℕ) → Bool → ℕ
+    → Option (List ℕ) → List ℕ → Option (List ℕ) → Bool → Type 0
+IsPageOfRest s rest by kind low high descending most cursor nodes next more = (f : Formula)
+    → covered s f ≡ true → Bounding f by kind low high (Some rest)
+    → page s f by descending cursor most ≡ Ok (page_with nodes next more)
+
 -- The list has exactly the nodes of which the formula is true, ascending.
 pub record Lists (s : State) (f : Formula) (nodes : List ℕ) : Type 0 where
   pub rising : IsStrictlyIncreasing nodes
   pub only : (n : ℕ) → Contains nodes n → sat s f n ≡ true
   pub all : (n : ℕ) → sat s f n ≡ true → Contains nodes n
+
+-- the test is the comparison that the formula is, if it is one
+abbrev pub IsTestOf : Formula → Cmp × Literal → Type 0
+IsTestOf (Leaf name op literal) test = test ≡ (op, literal)
+IsTestOf (And a b) test = Unit {0}
+IsTestOf (Or a b) test = Unit {0}
+
+-- what a formula is asked by: a test of it, or a list of all nodes of which it is true
+abbrev pub IsAsked : State → Formula → Option (Cmp × Literal) → Option (List ℕ) → Type 0
+IsAsked s f test nodes = IfSome test (IsTestOf f) × IfSome nodes (Lists s f)
+
+-- in the index of that name the test is true of exactly the nodes of which the formula is true
+abbrev pub IsTestFor : State → List ℕ → KeyTest → Formula → Type 0
+IsTestFor s name test f = (n : ℕ) → passes_node s name test n ≡ sat s f n

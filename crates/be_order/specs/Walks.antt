@@ -6,7 +6,9 @@ use Rattle.std.specs.declared.option.Option.{Option}
 use Rattle.std.specs.declared.cmp.Ordering.TheVariants.{Less}
 use Rattle.be_volume.specs.Keys.{IsKey}
 use Rattle.be_volume.specs.Volume.{State}
+use Rattle.be_plan.specs.KeyTests.{passes_node}
 use Rattle.be_plan.specs.Narrow.{Within}
+use Rattle.be_plan.specs.declared.keytests.KeyTest.{KeyTest}
 use Rattle.be_order.specs.Ordered.{is_after, key_cmp, keys_of, nodes_of}
 
 -- the key is one of the index of that name, from `low` to `high`, and it is this node's
@@ -33,3 +35,15 @@ pub record HasWalked (Is : List ℕ → ℕ → Type 0) (descending : Bool) (cur
   pub entries : List (List ℕ × ℕ)
   pub first : AreFirst Is descending cursor most entries
   pub added : after ≡ before ++ nodes_of entries
+
+-- and the node passes a test
+abbrev pub IsPassing : State → List ℕ → List ℕ → Option (List ℕ) → KeyTest → List ℕ → ℕ → Type 0
+IsPassing s name low high test k node = IsEntry s name low high k node
+    × (passes_node s name test node ≡ true)
+
+-- the index of that name has a pair of the node
+abbrev pub IsHeld : State → List ℕ → ℕ → Type 0
+IsHeld s name node = (k : List ℕ) × (h : IsKey s name k) × (h.node ≡ node)
+
+abbrev pub AreHeld : State → List ℕ → List ℕ → Type 0
+AreHeld s name nodes = (n : ℕ) → Contains nodes n → IsHeld s name n

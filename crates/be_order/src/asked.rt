@@ -2,26 +2,25 @@
 //!
 //! The walk goes in parts. It ends when the page is full or the range has no more. Once it has
 //! passed as many keys as its limit says, it gives up, and another way is taken. What is left of
-//! the query is asked of the source, or looked up in a list of all nodes of which it is true.
-ghost use Rattle.std.specs.Prelude.{◌≡◌, ◌++◌, ◌∷◌, [], None, Ok, OnErr, OnOk, IfErr, IfOk, IfSome};
+//! the query is asked of the source, or looked up in a list of all nodes of which it is true. One
+//! comparison is made ready before it is asked of many nodes.
+ghost use Rattle.std.specs.Prelude.{◌≡◌, ◌++◌, ◌∷◌, [], None, OnErr, OnOk, IfErr, IfOk, IfSome};
 ghost use Rattle.std.specs.Prelude.{Some, filter, true};
 ghost use Rattle.std.specs.Option.{option_copied};
 ghost use Rattle.be_value.specs.declared.refusals.Refusal.TheVariants.{OutOfMemory};
-ghost use Rattle.be_query.specs.Grammar.{Formula};
 ghost use Rattle.be_query.specs.View.{formula};
-ghost use Rattle.be_volume.specs.Query.{covered, sat};
+ghost use Rattle.be_volume.specs.Query.{sat};
 ghost use Rattle.be_volume.specs.Reading.{index_kind};
 ghost use Rattle.be_volume.specs.Volume.{State};
-ghost use Rattle.be_plan.specs.Bounding.{Bounding};
-ghost use Rattle.be_order.specs.Asked.{HasFront, IsPart, Lists, true_after};
-ghost use Rattle.be_order.specs.Ordered.{cursor_bytes, page, page_with};
+ghost use Rattle.be_order.specs.Asked.{HasFront, IsAsked, IsPageOfRest, IsPart, IsTestOf};
+ghost use Rattle.be_order.specs.Asked.{true_after};
+ghost use Rattle.be_order.specs.Ordered.{cursor_bytes};
 
 use crate::costs::Pace;
-use crate::keys::Index;
 use crate::prepared::keep_first;
 use crate::{OrderedKeys, OrderedSource};
 use arrayvec::ArrayVec;
-use be_plan::{KeyRange, Source, is_true};
+use be_plan::{KeyRange, Source, TextTest, is_true};
 use be_query::Tree;
 use be_value::{Kind, Refusal};
 use std::alloc::{AllocError, Global};
@@ -37,10 +36,12 @@ pub(crate) struct Walk<'a> {
     pub(crate) descending: bool,
 }
 
-/// What is left to ask of nodes, and a list of all nodes of which it is true, if there is one.
+/// What is left to ask of nodes. If it is one comparison, the test may be that one, made ready; and
+/// there may be a list of all nodes of which it is true.
 #[derive(Clone, Copy)]
-pub(crate) struct Left<'t, 'n> {
+pub(crate) struct Left<'t, 'r, 'n> {
     pub(crate) tree: &'t Tree,
+    pub(crate) test: Option<&'r TextTest<'t>>,
     pub(crate) listed: Option<&'n [u64]>,
 }
 
@@ -74,39 +75,61 @@ fn next_part<S: OrderedSource>(
         return Ok(None);
     }
     let more = count <= nodes.len();
-    let index = Index {
-        name: walk.keys.name,
-        kind: walk.kind,
-    };
-    keep_first(source, index, count, cursor, nodes);
+    keep_first(source, walk.keys.name, count, cursor, nodes);
     Ok(Some(more))
 }
 
-/// Whether what is left is true of the node.
-fn is_left_true<S: Source>(source: &mut S, left: Left<'_, '_>, node: u64) -> bool
+/// Whether a part of a query is true of the node. If it is one comparison, the test may be that
+/// one, made ready.
+fn is_part_true<S: Source>(
+    source: &mut S,
+    tree: &Tree,
+    test: Option<&TextTest<'_>>,
+    node: u64,
+) -> bool
     ghost volume: { State }
     requires answers { S.answers_for source.old volume }
-    requires listed { IfSome (option_copied left.listed) (Lists volume (formula left.tree.now)) }
+    requires test { IfSome (option_copied test) (IsTestOf (formula tree.now)) }
+    ensures answer { result ≡ sat volume (formula tree.now) node }
+    ensures stays { S.kept source.new ≡ S.kept source.old }
+    ensures answers { S.answers_for source.new volume }
+{
+    match tree {
+        Tree::Leaf(comparison) => match test {
+            Some(test) => source.holds_tested(node, comparison, test),
+            None => source.holds(node, comparison),
+        },
+        _ => is_true(source, tree, node),
+    }
+}
+
+/// Whether what is left is true of the node.
+fn is_left_true<S: Source>(source: &mut S, left: Left<'_, '_, '_>, node: u64) -> bool
+    ghost volume: { State }
+    requires answers { S.answers_for source.old volume }
+    requires asked { IsAsked volume (formula left.tree.now) (option_copied left.test)
+        (option_copied left.listed) }
     ensures answer { result ≡ sat volume (formula left.entry.tree.now) node }
     ensures stays { S.kept source.new ≡ S.kept source.old }
     ensures answers { S.answers_for source.new volume }
 {
     match left.listed {
         Some(nodes) => nodes.binary_search(&node).is_ok(),
-        None => is_true(source, left.tree, node),
+        None => is_part_true(source, left.tree, left.test, node),
     }
 }
 
 /// Adds the node, if what is left is true of it.
 fn push_if_true<S: Source>(
     source: &mut S,
-    left: Left<'_, '_>,
+    left: Left<'_, '_, '_>,
     node: u64,
     found: &mut Vec<u64>,
 ) -> Result<(), AllocError>
     ghost volume: { State }
     requires answers { S.answers_for source.old volume }
-    requires listed { IfSome (option_copied left.listed) (Lists volume (formula left.tree.now)) }
+    requires asked { IsAsked volume (formula left.tree.now) (option_copied left.test)
+        (option_copied left.listed) }
     ensures found { OnOk result (found.new.items
         ≡ found.old.items ++ filter (sat volume (formula left.entry.tree.now)) (node ∷ [])) }
     ensures stays { S.kept source.new ≡ S.kept source.old }
@@ -121,13 +144,14 @@ fn push_if_true<S: Source>(
 /// Adds those of the nodes of which what is left is true.
 fn push_true<S: Source>(
     source: &mut S,
-    left: Left<'_, '_>,
+    left: Left<'_, '_, '_>,
     nodes: &[u64],
     found: &mut Vec<u64>,
 ) -> Result<(), AllocError>
     ghost volume: { State }
     requires answers { S.answers_for source.old volume }
-    requires listed { IfSome (option_copied left.listed) (Lists volume (formula left.tree.now)) }
+    requires asked { IsAsked volume (formula left.tree.now) (option_copied left.test)
+        (option_copied left.listed) }
     ensures found { OnOk result (found.new.items
         ≡ found.old.items ++ filter (sat volume (formula left.entry.tree.now)) nodes.now) }
     ensures stays { S.kept source.new ≡ S.kept source.old }
@@ -143,7 +167,7 @@ fn push_true<S: Source>(
 /// what it had: the first of them, more than `most` or all. Returns false if it gave up.
 fn ask_parts<S: OrderedSource>(
     alloc: Global,
-    left: Left<'_, '_>,
+    left: Left<'_, '_, '_>,
     source: &mut S,
     walk: Walk<'_>,
     most: usize,
@@ -153,7 +177,8 @@ fn ask_parts<S: OrderedSource>(
 ) -> Result<bool, Refusal>
     ghost volume: { State }
     requires answers { S.answers_for source.old volume }
-    requires listed { IfSome (option_copied left.listed) (Lists volume (formula left.tree.now)) }
+    requires asked { IsAsked volume (formula left.tree.now) (option_copied left.test)
+        (option_copied left.listed) }
     requires kind { index_kind volume walk.keys.name.now ≡ Some walk.kind }
     ensures front { IfOk result (λ done. done ≡ true → HasFront most
         (true_after volume (formula left.entry.tree.now) walk.entry.keys.name.now
@@ -205,7 +230,7 @@ fn copy_of(cursor: &Option<ArrayVec<u8, 264>>) -> Option<ArrayVec<u8, 264>>
 /// source doesn't walk so, or the walk gave up.
 pub(crate) fn ask_page<S: OrderedSource>(
     alloc: Global,
-    left: Left<'_, '_>,
+    left: Left<'_, '_, '_>,
     source: &mut S,
     walk: Walk<'_>,
     most: usize,
@@ -215,14 +240,13 @@ pub(crate) fn ask_page<S: OrderedSource>(
 ) -> Result<Option<bool>, Refusal>
     ghost volume: { State }
     requires answers { S.answers_for source.old volume }
-    requires listed { IfSome (option_copied left.listed) (Lists volume (formula left.tree.now)) }
+    requires asked { IsAsked volume (formula left.tree.now) (option_copied left.test)
+        (option_copied left.listed) }
     requires kind { index_kind volume walk.keys.name.now ≡ Some walk.kind }
-    ensures page { IfOk result (λ asked. IfSome asked (λ more. (f : Formula)
-        → covered volume f ≡ true
-        → Bounding f walk.entry.keys.name.now walk.entry.kind walk.entry.keys.low.now
-        (option_copied walk.entry.keys.high) (Some (formula left.entry.tree.now))
-        → page volume f walk.entry.keys.name.now walk.entry.descending (cursor_bytes cursor.old)
-        most ≡ Ok (page_with found.new.items (cursor_bytes cursor.new) more))) }
+    ensures page { IfOk result (λ asked. IfSome asked (IsPageOfRest volume
+        (formula left.entry.tree.now) walk.entry.keys.name.now walk.entry.kind
+        walk.entry.keys.low.now (option_copied walk.entry.keys.high) walk.entry.descending most
+        (cursor_bytes cursor.old) found.new.items (cursor_bytes cursor.new))) }
     ensures memory { IfErr result (λ e. e ≡ OutOfMemory) }
     ensures cursor { OnErr result (cursor.new ≡ cursor.old) }
     ensures none { IfOk result (λ asked. asked ≡ None → cursor.new ≡ cursor.old) }
@@ -234,10 +258,6 @@ pub(crate) fn ask_page<S: OrderedSource>(
         return Ok(None);
     }
     let more = found.len() > most;
-    let index = Index {
-        name: walk.keys.name,
-        kind: walk.kind,
-    };
-    keep_first(source, index, most, cursor, found);
+    keep_first(source, walk.keys.name, most, cursor, found);
     Ok(Some(more))
 }

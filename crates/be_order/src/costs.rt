@@ -10,13 +10,15 @@ ghost use Rattle.be_volume.specs.Volume.{State};
 use crate::OrderedSource;
 use be_plan::{KeyBounds, KeyRange};
 use be_query::{Cmp, Comparison, Literal, Tree};
-use be_value::Name;
 
-/// A question about a node takes the time in which a walk passes so many keys, or more.
-const KEYS_A_QUESTION: u64 = 8;
+/// A question about a node takes as many instructions as a walk over so many keys.
+const KEYS_A_QUESTION: u64 = 32;
 
-/// The key of a node, which a sort needs, takes so many questions.
-const QUESTIONS_A_KEY: u64 = 2;
+/// The key of a node, which a sort needs, and its place take so many questions.
+const QUESTIONS_A_KEY: u64 = 4;
+
+/// A key whose text is tested takes as many instructions as so many others.
+const KEYS_A_TEXT: u64 = 4;
 
 /// How many keys a walk takes at a time at most that asks each node for a short page, and that
 /// looks each node up at least.
@@ -31,8 +33,8 @@ const TEXTS_A_HIT: u64 = 8;
 /// What it costs to answer a part of a query.
 #[derive(Clone, Copy)]
 struct Cost {
-    /// About how many keys a walk passes that lists the nodes; the greatest number without an
-    /// index.
+    /// About how many keys a walk passes that lists the nodes, or as many more as cost the same;
+    /// the greatest number without an index.
     keys: u64,
     /// About how many nodes these are.
     hits: u64,
@@ -106,9 +108,9 @@ fn cost_of_comparison<S: OrderedSource>(
     let keys = source.about(bounds.keys(&comparison.name));
     if is_loose(comparison) {
         return Cost {
-            keys,
+            keys: keys.saturating_mul(KEYS_A_TEXT),
             hits: keys / TEXTS_A_HIT,
-            asking: 4,
+            asking: 2,
         };
     }
     Cost {
@@ -142,14 +144,6 @@ fn cost_of<S: OrderedSource>(
             let right = cost_of(source, bounds, b, b);
             left.and(right)
         }
-    }
-}
-
-/// Whether a part is one pattern that few texts of this name match.
-fn is_pattern_of(tree: &Tree, name: &Name) -> bool {
-    match tree {
-        Tree::Leaf(comparison) => comparison.name == *name && is_loose(comparison),
-        Tree::And(_, _) | Tree::Or(_, _) => false,
     }
 }
 
@@ -226,11 +220,5 @@ pub(crate) fn paces_of<S: OrderedSource>(
         };
     }
     let all = source.about(keys);
-    if is_pattern_of(left, keys.name) {
-        return Paces {
-            asking: asking_pace(most, 0),
-            looking_up: looking_up_pace(passed_for(most as u64, all, cost.hits), u64::MAX),
-        };
-    }
     paces_for(cost, all, most)
 }

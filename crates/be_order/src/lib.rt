@@ -14,6 +14,7 @@ mod laws;
 mod pages;
 mod prepared;
 mod sources;
+mod tested;
 
 pub use firsts::{any_into, any_prepared_into, first_by_number, first_prepared_into};
 pub use laws::{next_page_goes_on, pages_are_the_whole};

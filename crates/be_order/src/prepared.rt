@@ -6,6 +6,7 @@ ghost use Rattle.std.specs.Option.{option_copied, option_map};
 ghost use Rattle.be_value.specs.Key.{key as key_bytes};
 ghost use Rattle.be_value.specs.Refusal.{Answers};
 ghost use Rattle.be_value.specs.declared.refusals.Refusal.TheVariants.{OutOfMemory};
+ghost use Rattle.be_value.specs.declared.values.Kind.{Kind as AnyKind};
 ghost use Rattle.be_query.specs.Grammar.{Formula, comparisons};
 ghost use Rattle.be_query.specs.View.{formula};
 ghost use Rattle.be_volume.specs.Query.{covered, sees};
@@ -14,42 +15,45 @@ ghost use Rattle.be_volume.specs.Volume.{State};
 ghost use Rattle.be_plan.specs.Bounding.{Bounding};
 ghost use Rattle.be_plan.specs.Prepared.{Decides};
 ghost use Rattle.be_plan.specs.Walk.{AreAllOn};
-ghost use Rattle.be_order.specs.Asked.{Lists};
+ghost use Rattle.be_order.specs.Asked.{IsPageOfRest, IsTestOf, Lists};
 ghost use Rattle.be_order.specs.Ordered.{cursor_bytes, page, page_with};
+ghost use Rattle.be_order.specs.Walks.{AreHeld};
 
 use crate::asked::{Left, Walk, ask_page};
 use crate::costs::{Pace, paces_of};
-use crate::keys::{Index, key_in};
+use crate::keys::key_held;
+use crate::tested::{marked_page, text_page};
 use crate::{Order, OrderedKeys, OrderedSource, ordered_into};
 use arrayvec::ArrayVec;
-use be_plan::{KeyBounds, KeyRange, PreparedQuery, Source, choose_from, true_nodes_into};
+use be_plan::{KeyBounds, KeyRange, PreparedQuery, Source, TextTest, choose_from, true_nodes_into};
 use be_query::{Query, Tree};
 use be_value::{Kind, Name, Refusal};
 use std::alloc::Global;
 
-/// Keeps the first of the nodes, and moves the cursor to the last of these.
+/// Keeps the first of the nodes, all of which the index has, and moves the cursor to the last of
+/// these.
 pub(crate) fn keep_first<S: OrderedSource>(
     source: &mut S,
-    index: Index<'_>,
+    name: &Name,
     most: usize,
     cursor: &mut Option<ArrayVec<u8, 264>>,
     found: &mut Vec<u64>,
 )
     ghost volume: { State }
     requires answers { S.answers_for source.old volume }
-    requires kind { index_kind volume index.name.now ≡ Some index.kind }
+    requires held { AreHeld volume name.now found.old.items }
     ensures kept { found.new.items ≡ take most found.old.items }
     ensures empty { length found.new.items ≡ 0 → cursor.new ≡ cursor.old }
     ensures last { (node : ℕ) (front : List ℕ) → found.new.items ≡ front ++ node ∷ []
         → cursor_bytes cursor.new ≡ option_map (λ value. key_bytes value node)
-        (sees volume node index.entry.name.now) }
+        (sees volume node name.now) }
     ensures stays { S.kept source.new ≡ S.kept source.old }
     ensures answers { S.answers_for source.new volume }
 {
     found.truncate(most);
     let count = found.len();
     if count > 0 {
-        *cursor = key_in(source, index, found[count - 1]);
+        *cursor = key_held(source, name, found[count - 1]);
     }
 }
 
@@ -57,16 +61,14 @@ pub(crate) fn keep_first<S: OrderedSource>(
 fn walk_page<S: OrderedSource>(
     source: &mut S,
     keys: KeyRange<'_>,
-    kind: Kind,
     order: Order<'_>,
     cursor: &mut Option<ArrayVec<u8, 264>>,
     found: &mut Vec<u64>,
 ) -> Result<Option<bool>, Refusal>
     ghost volume: { State }
-    requires answers { S.answers_for source.old volume }
-    requires kind { index_kind volume keys.name.now ≡ Some kind }
-    ensures page { IfOk result (λ walked. IfSome walked (λ more. (f : Formula)
-        → AreAllOn f keys.entry.name.now
+    requires { S.answers_for source.old volume }
+    ensures page { IfOk result (λ walked. IfSome walked (λ more. (f : Formula) (kind : AnyKind)
+        → index_kind volume keys.entry.name.now ≡ Some kind → AreAllOn f keys.entry.name.now
         → Decides f kind keys.entry.low.now (option_copied keys.entry.high)
         → page volume f keys.entry.name.now order.entry.descending (cursor_bytes cursor.old)
         order.entry.most ≡ Ok (page_with found.new.items (cursor_bytes cursor.new) more))) }
@@ -89,16 +91,12 @@ fn walk_page<S: OrderedSource>(
         return Ok(None);
     }
     let more = found.len() > order.most;
-    let index = Index {
-        name: keys.name,
-        kind,
-    };
-    keep_first(source, index, order.most, cursor, found);
+    keep_first(source, keys.name, order.most, cursor, found);
     Ok(Some(more))
 }
 
-/// A list of all nodes of which a part of a query is true; none if it rests on no index, or there
-/// is no memory for it.
+/// A list of all nodes of which a part of a query is true. None if the part rests on no index, or
+/// if memory runs out.
 fn list_true<S: Source>(alloc: Global, tree: &Tree, source: &mut S) -> Option<Vec<u64>>
     ghost volume: { State }
     requires answers { S.answers_for source.old volume }
@@ -114,8 +112,9 @@ fn list_true<S: Source>(alloc: Global, tree: &Tree, source: &mut S) -> Option<Ve
     }
 }
 
-/// A page of a query that rests on an index, by a walk that looks each node up in a list of all
-/// nodes of which what is left is true. None if there is no such list, or the walk gave up.
+/// A page of a query that rests on an index, by a walk that looks each node up among all nodes of
+/// which what is left is true: by their marks, or in a list. None if these nodes can't be listed,
+/// or the walk gave up.
 fn look_up_page<S: OrderedSource>(
     alloc: Global,
     tree: &Tree,
@@ -130,12 +129,10 @@ fn look_up_page<S: OrderedSource>(
     requires answers { S.answers_for source.old volume }
     requires few { comparisons (formula tree.now) ≤ 256 }
     requires kind { index_kind volume walk.keys.name.now ≡ Some walk.kind }
-    ensures page { IfOk result (λ asked. IfSome asked (λ more. (f : Formula)
-        → covered volume f ≡ true
-        → Bounding f walk.entry.keys.name.now walk.entry.kind walk.entry.keys.low.now
-        (option_copied walk.entry.keys.high) (Some (formula tree.now))
-        → page volume f walk.entry.keys.name.now walk.entry.descending (cursor_bytes cursor.old)
-        most ≡ Ok (page_with found.new.items (cursor_bytes cursor.new) more))) }
+    ensures page { IfOk result (λ asked. IfSome asked (IsPageOfRest volume (formula tree.now)
+        walk.entry.keys.name.now walk.entry.kind walk.entry.keys.low.now
+        (option_copied walk.entry.keys.high) walk.entry.descending most (cursor_bytes cursor.old)
+        found.new.items (cursor_bytes cursor.new))) }
     ensures memory { IfErr result (λ e. e ≡ OutOfMemory) }
     ensures cursor { OnErr result (cursor.new ≡ cursor.old) }
     ensures none { IfOk result (λ asked. asked ≡ None → cursor.new ≡ cursor.old) }
@@ -148,9 +145,29 @@ fn look_up_page<S: OrderedSource>(
     let Some(nodes) = list_true(alloc, tree, source) else {
         return Ok(None);
     };
+    let looked_up = marked_page(alloc, &nodes, source, walk, most, cursor, found)?;
+    if let Some(more) = looked_up {
+        return Ok(Some(more));
+    }
     let listed = Some(nodes.as_slice());
-    let left = Left { tree, listed };
+    let left = Left {
+        tree,
+        test: None,
+        listed,
+    };
     ask_page(alloc, left, source, walk, most, pace, cursor, found)
+}
+
+/// The comparison that a part of a query is, made ready to be asked of many texts; none if the part
+/// has several.
+fn ready_test(alloc: Global, tree: &Tree) -> Result<Option<TextTest<'_>>, Refusal>
+    ensures test { IfOk result (λ test. IfSome test (IsTestOf (formula tree.now))) }
+    ensures memory { IfErr result (λ e. e ≡ OutOfMemory) }
+{
+    match tree {
+        Tree::Leaf(comparison) => Ok(Some(TextTest::new(alloc, comparison)?)),
+        _ => Ok(None),
+    }
 }
 
 /// The same by a walk that asks each node.
@@ -167,12 +184,10 @@ fn asking_page<S: OrderedSource>(
     ghost volume: { State }
     requires answers { S.answers_for source.old volume }
     requires kind { index_kind volume walk.keys.name.now ≡ Some walk.kind }
-    ensures page { IfOk result (λ asked. IfSome asked (λ more. (f : Formula)
-        → covered volume f ≡ true
-        → Bounding f walk.entry.keys.name.now walk.entry.kind walk.entry.keys.low.now
-        (option_copied walk.entry.keys.high) (Some (formula tree.now))
-        → page volume f walk.entry.keys.name.now walk.entry.descending (cursor_bytes cursor.old)
-        most ≡ Ok (page_with found.new.items (cursor_bytes cursor.new) more))) }
+    ensures page { IfOk result (λ asked. IfSome asked (IsPageOfRest volume (formula tree.now)
+        walk.entry.keys.name.now walk.entry.kind walk.entry.keys.low.now
+        (option_copied walk.entry.keys.high) walk.entry.descending most (cursor_bytes cursor.old)
+        found.new.items (cursor_bytes cursor.new))) }
     ensures memory { IfErr result (λ e. e ≡ OutOfMemory) }
     ensures cursor { OnErr result (cursor.new ≡ cursor.old) }
     ensures none { IfOk result (λ asked. asked ≡ None → cursor.new ≡ cursor.old) }
@@ -182,7 +197,13 @@ fn asking_page<S: OrderedSource>(
     if pace.limit == 0 {
         return Ok(None);
     }
-    let left = Left { tree, listed: None };
+    let ready = ready_test(alloc, tree)?;
+    let test = ready.as_ref();
+    let left = Left {
+        tree,
+        test,
+        listed: None,
+    };
     ask_page(alloc, left, source, walk, most, pace, cursor, found)
 }
 
@@ -226,10 +247,14 @@ fn find_page<S: OrderedSource>(
     ensures stays { S.kept source.new ≡ S.kept source.old }
     ensures answers { S.answers_for source.new volume }
 {
-    let paces = paces_of(source, walk.keys, tree, most);
     if !rests_on_index(alloc, query, source) {
         return Ok(None);
     }
+    let tested = text_page(alloc, tree, source, walk, most, cursor, found)?;
+    if let Some(more) = tested {
+        return Ok(Some(more));
+    }
+    let paces = paces_of(source, walk.keys, tree, most);
     let asked = asking_page(alloc, tree, source, walk, most, paces.asking, cursor, found)?;
     if let Some(more) = asked {
         return Ok(Some(more));
@@ -331,7 +356,7 @@ pub fn ordered_prepared_into<S: OrderedSource>(
     meet_by(prepared, order.by, kind);
     if let Some(keys) = prepared.keys_for(kind) {
         if *keys.name == *order.by {
-            let walked = walk_page(source, keys, kind, order, cursor, found)?;
+            let walked = walk_page(source, keys, order, cursor, found)?;
             if let Some(more) = walked {
                 return Ok(more);
             }

@@ -1,14 +1,14 @@
 //! Sources that walk an index in its order.
-ghost use Rattle.std.specs.Prelude.{◌≡◌, true, false, IfErr, IfOk};
+ghost use Rattle.std.specs.Prelude.{◌≡◌, [], true, false, IfErr, IfOk};
 ghost use Rattle.std.specs.Option.{option_copied};
 ghost use Rattle.be_value.specs.declared.refusals.Refusal.TheVariants.{OutOfMemory};
 ghost use Rattle.be_volume.specs.Volume.{State};
 ghost use Rattle.be_plan.specs.Sources.{StillAnswers};
 ghost use Rattle.be_order.specs.Ordered.{cursor_bytes};
-ghost use Rattle.be_order.specs.Walks.{HasWalked, IsEntry};
+ghost use Rattle.be_order.specs.Walks.{HasWalked, IsEntry, IsPassing};
 
 use arrayvec::ArrayVec;
-use be_plan::{KeyRange, Source};
+use be_plan::{KeyRange, KeyTest, Source};
 use be_value::Refusal;
 
 /// The keys of a range of an index, in one of both directions, strictly after a cursor.
@@ -38,6 +38,30 @@ pub trait OrderedSource: Source {
             (cursor_bytes keys.entry.cursor.now) most found.old.items found.new.items) }
         ensures none { IfOk result (λ walked. walked ≡ false
             → found.new.items ≡ found.old.items) }
+        ensures stays { Self.kept self.new ≡ Self.kept self.old }
+        ensures answers { StillAnswers Self.answers_for self.old self.new }
+    {
+        Ok(false)
+    }
+
+    /// Puts the nodes of the first of these keys that pass a test into a list, in place of what it
+    /// had, `most` at most, in the order of the keys, and returns true. If the source doesn't test
+    /// keys where they are, or the test is of texts and the index has none, it returns false, and
+    /// the list has any numbers.
+    fn first_passing(
+        &mut self,
+        keys: OrderedKeys<'_>,
+        test: KeyTest<'_, '_>,
+        most: usize,
+        found: &mut Vec<u64>,
+    ) -> Result<bool, Refusal>
+        requires { (volume : State) × Self.answers_for self.old volume }
+        ensures memory { IfErr result (λ e. e ≡ OutOfMemory) }
+        ensures tested { IfOk result (λ tested. tested ≡ true → (volume : State)
+            → Self.answers_for self.old volume →
+            HasWalked (IsPassing volume keys.entry.keys.name.now keys.entry.keys.low.now
+            (option_copied keys.entry.keys.high) test.entry) keys.entry.descending
+            (cursor_bytes keys.entry.cursor.now) most [] found.new.items) }
         ensures stays { Self.kept self.new ≡ Self.kept self.old }
         ensures answers { StillAnswers Self.answers_for self.old self.new }
     {

@@ -1,7 +1,7 @@
 -- The entries of an index that a walk over its tree passes.
-use Rattle.std.proofs.Common.{◌≡◌, ◌⊎◌, ◌≤◌, ℕ, suc, Bool, true, false, ◌&&◌, IfNone, IfSome, List, [], ◌∷◌, ◌++◌, None, Some, refl, sym, ap, ◌∙◌, subst, arith, inl, inr, take, length, map, get_or}
+use Rattle.std.proofs.Common.{◌≡◌, ◌⊎◌, ◌≤◌, ℕ, zero, suc, Bool, true, false, cond, ◌&&◌, IfNone, IfSome, List, [], ◌∷◌, ◌++◌, None, Some, refl, sym, ap, ◌∙◌, subst, arith, inl, inr, take, length, map, get_or, if◌then◌else◌}
 use Rattle.std.specs.FinMap as fin
-use Rattle.std.specs.List.{Contains}
+use Rattle.std.specs.List.{Contains, filter}
 use Rattle.std.specs.Option.{option_copied}
 use Rattle.std.specs.declared.option.Option.{Option}
 use Rattle.std.specs.declared.cmp.Ordering.TheVariants.{Less}
@@ -11,17 +11,21 @@ use Rattle.be_pages.specs.declared.room.Standing.{Standing}
 use Rattle.be_value.specs.declared.values.Kind.TheVariants as kinds
 use Rattle.be_order.proofs.PageKeys.{contains_mapped, mapped_contains}
 use Rattle.be_order.specs.Ordered.{is_after, key_cmp, nodes_of}
-use Rattle.be_order.specs.Walks.{HasWalked, IsEntry}
+use Rattle.be_order.specs.Walks.{HasWalked, IsEntry, IsPassing}
 use Rattle.be_paged_reading.specs.Catalog.{IsPairOf}
 use Rattle.be_paged_reading.specs.Entry.{Entry}
 use Rattle.be_paged_reading.specs.Page.{Contents, contents_of, IsNamedAt}
-use Rattle.be_paged_reading.specs.Source.{HasNumbers, IsFound}
+use Rattle.be_paged_reading.specs.Source.{HasNumbers, HasPassing, IsFound}
+use Rattle.be_paged_reading.specs.KeyTests.{nodes_passing}
 use Rattle.be_paged_reading.specs.Version.{IsVersion, Spells}
 use Rattle.be_paged_reading.specs.declared.on_page.FoundIndex.{FoundIndex}
+use Rattle.be_paged_reading.proofs.Asking.Picking.{passes_as_node}
 use Rattle.be_paged_reading.proofs.Asking.RangeNodes.{node_of_key}
 use Rattle.be_paged_reading.proofs.Asking.SourceKeys.{entry_tree, key_finds, no_key}
 use Rattle.be_paged_reading.proofs.CatalogPairs.Finding.{found_pair}
 use Rattle.be_paged_reading.proofs.IndexEntries.Indexing.{named_found}
+use Rattle.be_plan.specs.KeyTests.{passes_key, reads_texts}
+use Rattle.be_plan.specs.declared.keytests.KeyTest.{KeyTest}
 use Rattle.be_plan.specs.Narrow.{Within}
 use Rattle.be_plan.proofs.Ways.{and_first, and_second}
 use Rattle.be_tree_reading.specs.Key.{IsRising}
@@ -43,6 +47,29 @@ both false b h k = cc
 numbers_are : (xs : List Pair) → numbers_in xs ≡ nodes_of (map entry xs)
 numbers_are [] = refl
 numbers_are (x ∷ xs) = ap (λ l. number_of x.key ∷ l) (numbers_are xs)
+
+map_length : (xs : List Pair) → length (map entry xs) ≡ length xs
+map_length [] = refl
+map_length (x ∷ xs) = ap suc (map_length xs)
+
+all_pass : (xs : List Pair) → filter (λ x. true) xs ≡ xs
+all_pass [] = refl
+all_pass (x ∷ xs) = ap (λ l. x ∷ l) (all_pass xs)
+
+numbers_taken : (n : ℕ) (xs : List Pair) → take n (numbers_in xs) ≡ numbers_in (take n xs)
+numbers_taken zero xs = refl
+numbers_taken (suc n) [] = refl
+numbers_taken (suc n) (x ∷ xs) = ap (λ l. number_of x.key ∷ l) (numbers_taken n xs)
+
+-- the nodes of the keys that pass
+one_passing : (x : Pair) (rest : List Pair) (more : List ℕ) (b : Bool) → more ≡ numbers_in rest → (if b then number_of x.key ∷ [] else []) ++ more ≡ numbers_in (cond b (x ∷ rest) rest)
+one_passing x rest more true same = ap (λ l. number_of x.key ∷ l) same
+one_passing x rest more false same = same
+
+numbers_passing : (test : KeyTest) (xs : List Pair) → nodes_passing test xs ≡ numbers_in (filter (λ x. passes_key test x.key (number_of x.key)) xs)
+numbers_passing test [] = refl
+numbers_passing test (x ∷ xs) =
+    one_passing x (filter (λ y. passes_key test y.key (number_of y.key)) xs) (nodes_passing test xs) (passes_key test x.key (number_of x.key)) (numbers_passing test xs)
 
 -- a walk over no index
 none_walked : (Is : List ℕ → ℕ → Type 0) (descending : Bool) (cursor : Option (List ℕ)) (most : ℕ) (before : List ℕ) → ((k : List ℕ) (n : ℕ) → Is k n → ⊥) → HasWalked Is descending cursor most before before
@@ -105,30 +132,35 @@ module _ (w : ℕ → ℕ → ℕ) (c : Contents) (s : State) (name : List ℕ) 
       let fits = (sound.pairs name q.index q.node q.value q.there q.paired).node_fits in
       (x.0, x.1, x.2, ap number_of q.is ∙ node_of_key q.value q.node fits ∙ h.node_is)
 
-  module _ (descending : Bool) (cursor : Option (List ℕ)) (way : Way) (is : IsWayOf low high descending cursor way) (most : ℕ) where
+  -- the pairs on a way that pass a test are the entries that are wanted
+  module _ (Is : List ℕ → ℕ → Type 0) (test : Pair → Bool) (wanted : (x : Pair) → IsEntry s name low high x.key (number_of x.key) → test x ≡ true → Is x.key (number_of x.key))
+      (entry_of : (k : List ℕ) (n : ℕ) → Is k n → IsEntry s name low high k n) (tested : (k : List ℕ) (n : ℕ) → Is k n → (x : Pair) → x.key ≡ k → number_of k ≡ n → test x ≡ true)
+      (descending : Bool) (cursor : Option (List ℕ)) (way : Way) (is : IsWayOf low high descending cursor way) (most : ℕ) where
     abbrev walked : List Pair
-    walked = walk_of way all
+    walked = filter test (walk_of way all)
 
     walked_ordered : InOrder descending walked
-    walked_ordered = subst (λ b. InOrder b walked) is.back_is (walk_ordered way.strict way.low.now (option_copied way.high) all way.back rising)
+    walked_ordered = ordered_filtered descending test (walk_of way all) (subst (λ b. InOrder b (walk_of way all)) is.back_is (walk_ordered way.strict way.low.now (option_copied way.high) all way.back rising))
 
-    only : (k : List ℕ) (n : ℕ) → Contains (map entry (take most walked)) (k, n) → IsEntry s name low high k n × (is_after descending cursor k ≡ true)
+    only : (k : List ℕ) (n : ℕ) → Contains (map entry (take most walked)) (k, n) → Is k n × (is_after descending cursor k ≡ true)
     only k n h =
         let from = mapped_contains entry (take most walked) (k, n) h in
         let x = from.0 in
-        let on = from_walk way.strict way.low.now (option_copied way.high) all way.back x (from_taken most walked x from.1) in
+        let passed = from_filter test (walk_of way all) x (from_taken most walked x from.1) in
+        let on = from_walk way.strict way.low.now (option_copied way.high) all way.back x passed.0 in
         let lies = is.only x.key on.1 in
         let keys : x.key ≡ k = ap (λ (p : List ℕ × ℕ). p.0) from.2 in
         let nodes : number_of x.key ≡ n = ap (λ (p : List ℕ × ℕ). p.1) from.2 in
-        (subst (λ (q : List ℕ). IsEntry s name low high q n) keys (subst (λ (m : ℕ). IsEntry s name low high x.key m) nodes (is_entry x on.0 lies.0)), ap (is_after descending cursor) (sym keys) ∙ lies.1)
+        (subst (λ (q : List ℕ). Is q n) keys (subst (λ (m : ℕ). Is x.key m) nodes (wanted x (is_entry x on.0 lies.0) passed.1)), ap (is_after descending cursor) (sym keys) ∙ lies.1)
 
-    reached : (k : List ℕ) (n : ℕ) → IsEntry s name low high k n → is_after descending cursor k ≡ true →
+    reached : (k : List ℕ) (n : ℕ) → Is k n → is_after descending cursor k ≡ true →
         Contains (map entry (take most walked)) (k, n) ⊎ ((length (map entry (take most walked)) ≡ most) × ((x : List ℕ) (m : ℕ) → Contains (map entry (take most walked)) (x, m) → key_cmp descending x k ≡ Less))
     reached k n h after =
-        let has = has_entry k n h in
+        let an_entry = entry_of k n h in
+        let has = has_entry k n an_entry in
         let x = has.0 in
-        let lies : lies_on way.back way.strict way.low.now (option_copied way.high) x.key ≡ true = ap (lies_on way.back way.strict way.low.now (option_copied way.high)) has.2 ∙ is.all k h.within after in
-        let there = in_walk way.strict way.low.now (option_copied way.high) all way.back x has.1 lies in
+        let lies : lies_on way.back way.strict way.low.now (option_copied way.high) x.key ≡ true = ap (lies_on way.back way.strict way.low.now (option_copied way.high)) has.2 ∙ is.all k an_entry.within after in
+        let there = in_filter test (walk_of way all) x (in_walk way.strict way.low.now (option_copied way.high) all way.back x has.1 lies) (tested k n h x has.2 has.3) in
         let pair : entry x ≡ (k, n) = λ j. (has.2 j, (ap number_of has.2 ∙ has.3) j) in
         elim (first_or descending most walked x walked_ordered there) [
           | inl first ↦ inl (subst (Contains (map entry (take most walked))) pair (contains_mapped entry (take most walked) x first))
@@ -140,24 +172,13 @@ module _ (w : ℕ → ℕ → ℕ) (c : Contents) (s : State) (name : List ℕ) 
                 subst (λ (q : List ℕ). key_cmp descending q k ≡ Less) keys (subst (λ (q : List ℕ). key_cmp descending from.0.key q ≡ Less) has.2 (full.1 from.0 from.1)),
           )
         ]
-      where
-        map_length : (xs : List Pair) → length (map entry xs) ≡ length xs
-        map_length [] = refl
-        map_length (x ∷ xs) = ap suc (map_length xs)
 
-    few : (xs : List Pair) → length xs ≤ most → length (map entry xs) ≤ most
-    few xs h = omega (arith, h, mapped xs)
-      where
-        mapped : (xs : List Pair) → length (map entry xs) ≡ length xs
-        mapped [] = refl
-        mapped (x ∷ xs) = ap suc (mapped xs)
-
-    has_walked : (before after : List ℕ) → after ≡ before ++ numbers_in (take most walked) → HasWalked (IsEntry s name low high) descending cursor most before after
+    has_walked : (before after : List ℕ) → after ≡ before ++ numbers_in (take most walked) → HasWalked Is descending cursor most before after
     has_walked before after added = record {
       entries = map entry (take most walked);
       first = record {
         rising = keys_ordered descending (take most walked) (ordered_taken descending most walked walked_ordered);
-        few = few (take most walked) (few_taken most walked);
+        few = omega (arith, map_length (take most walked), few_taken most walked);
         only = only;
         all = reached;
       };
@@ -183,9 +204,33 @@ module _ (standing : ℕ → Standing) (w : ℕ → ℕ → ℕ) (page : ℕ) (s
       (none_walked (IsEntry s name low high) descending cursor most before (λ k n e. no_key w contents s name found.absent.0 version.spells found.absent.1 k e.is_key))
   walked_by (Some index) found added same =
       let tree = entry_tree standing w contents index.place nowhere version.in_hand found.named.in_range in
+      let own = pairs w (get_or contents.entries index.place nowhere).root in
       has_walked w contents s name index.place nowhere version.spells found.named version.sound (tree_rising standing w (get_or contents.entries index.place nowhere).root tree) low high
-      descending cursor way is most before after
-      (added ∙ ap (λ (r : ℕ). before ++ numbers_in (take most (walk_of way (pairs w r)))) (found.root nowhere))
+      (IsEntry s name low high) (λ x. true) (λ x e t. e) (λ k n e. e) (λ k n e x same node. refl) descending cursor way is most before after
+      (added ∙ ap (λ (r : ℕ). before ++ numbers_in (take most (walk_of way (pairs w r)))) (found.root nowhere) ∙ ap (λ (xs : List Pair). before ++ numbers_in (take most xs)) (sym (all_pass (walk_of way own))))
 
   pub numbers_walked : HasNumbers w contents.entries name way most before after → Walked
   numbers_walked h = walked_by h.index h.found h.added h.same
+
+-- the nodes of the keys on a way over an index that pass a test
+module _ (standing : ℕ → Standing) (w : ℕ → ℕ → ℕ) (page : ℕ) (s : State) (version : IsVersion standing w page s) (name low : List ℕ) (high : Option (List ℕ)) (test : KeyTest) (descending : Bool)
+    (cursor : Option (List ℕ)) (way : Way) (is : IsWayOf low high descending cursor way) (most : ℕ) (nodes : List ℕ) where
+  pub passing_walked : HasPassing w (contents_of (w page)).entries name way test most nodes → HasWalked (IsPassing s name low high test) descending cursor most [] nodes
+  passing_walked h =
+      let contents = contents_of (w page) in
+      let place = h.index.place in
+      let named = h.found.named in
+      let own = get_or contents.entries place nowhere in
+      let walk_own = walk_of way (pairs w own.root) in
+      let of_texts : reads_texts test ≡ true → own.kind ≡ kinds.Cstr = λ e. sym (h.found.kind nowhere) ∙ h.has_texts e in
+      let says = passes_as_node w contents s name place nowhere version.spells named version.sound test of_texts low high in
+      has_walked w contents s name place nowhere version.spells named version.sound (tree_rising standing w own.root (entry_tree standing w contents place nowhere version.in_hand named.in_range)) low high
+      (IsPassing s name low high test) (λ x. passes_key test x.key (number_of x.key))
+      (λ x e t. (e, sym (says x.key (number_of x.key) e.is_key e.node_is) ∙ t))
+      (λ k n e. e.0)
+      (λ k n e x same node. ap (λ q. passes_key test q (number_of q)) same ∙ ap (passes_key test k) node ∙ says k n e.0.is_key e.0.node_is ∙ e.1)
+      descending cursor way is most [] nodes
+      (h.nodes_are
+      ∙ ap (λ (r : ℕ). take most (nodes_passing test (walk_of way (pairs w r)))) (h.found.root nowhere)
+      ∙ ap (take most) (numbers_passing test walk_own)
+      ∙ numbers_taken most (filter (λ x. passes_key test x.key (number_of x.key)) walk_own))

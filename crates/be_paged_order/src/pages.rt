@@ -8,7 +8,7 @@ use arrayvec::ArrayVec;
 use be_order::{OrderedKeys, OrderedSource};
 use be_paged_reading::{PagedSource, source};
 use be_pages::Look;
-use be_plan::{KeyRange, Source, TextTest};
+use be_plan::{KeyRange, KeyTest, Source, TextTest};
 use be_query::Comparison;
 use be_value::{Kind, Name, Refusal, Value};
 
@@ -89,6 +89,10 @@ impl<L: Look> Source for OrderedPages<L> {
         self.reader.holds(node, comparison)
     }
 
+    fn holds_tested(&mut self, node: u64, comparison: &Comparison, test: &TextTest<'_>) -> bool {
+        self.reader.holds_tested(node, comparison, test)
+    }
+
     fn estimate(&mut self, name: &Name) -> u64 {
         self.reader.estimate(name)
     }
@@ -105,6 +109,18 @@ impl<L: Look> OrderedSource for OrderedPages<L> {
         self.reader
             .numbers_in_order(keys.keys.name, way, most, found)?;
         Ok(true)
+    }
+
+    fn first_passing(
+        &mut self,
+        keys: OrderedKeys<'_>,
+        test: KeyTest<'_, '_>,
+        most: usize,
+        found: &mut Vec<u64>,
+    ) -> Result<bool, Refusal> {
+        let way = way_of(keys.keys.low, keys.keys.high, keys.descending, keys.cursor);
+        self.reader
+            .passing_in_order(keys.keys.name, way, test, most, found)
     }
 
     fn about(&mut self, keys: KeyRange<'_>) -> u64 {

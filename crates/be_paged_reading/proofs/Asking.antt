@@ -3,5 +3,6 @@ pub mod Walks
 pub mod SourceKeys
 pub mod RangeNodes
 pub mod PassingNodes
+pub mod Picking
 pub mod Counting
 pub mod SeenValues

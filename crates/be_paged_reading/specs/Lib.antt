@@ -2,6 +2,7 @@ pub mod Entry
 pub mod Page
 pub mod Catalog
 pub mod Texts
+pub mod KeyTests
 pub mod Version
 pub mod Reading
 pub mod Nodes

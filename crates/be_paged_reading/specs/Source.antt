@@ -1,5 +1,5 @@
 -- What a source over a version has in hand.
-use Rattle.std.specs.Prelude.{◌≡◌, ℕ, ◌<◌, ◌&&◌, Bool, IfSome, IfNone, List, true}
+use Rattle.std.specs.Prelude.{◌≡◌, ℕ, ◌<◌, ◌&&◌, Bool, IfSome, IfNone, List, Some, true}
 use Rattle.std.specs.Prelude.{◌++◌, is_some, length, slice_index_or, take}
 use Rattle.std.specs.declared.option.Option.{Option}
 use Rattle.be_pages.specs.declared.room.Standing.{Standing}
@@ -12,13 +12,17 @@ use Rattle.be_tree_reading.specs.Tree.{pairs}
 use Rattle.be_tree_reading.specs.Way.{numbers_in, walk_of}
 use Rattle.be_tree_reading.specs.declared.cursor.Cursor.{Cursor}
 use Rattle.be_tree_reading.specs.declared.way.Way.{Way}
+use Rattle.be_plan.specs.KeyTests.{reads_texts}
+use Rattle.be_plan.specs.declared.keytests.KeyTest.{KeyTest}
 use Rattle.be_value.specs.Key.{IsValue, key}
 use Rattle.be_value.specs.Value.{kind_of, is_indexable}
+use Rattle.be_value.specs.declared.values.Kind.TheVariants.{Cstr}
 use Rattle.be_value.specs.declared.values.Value.{Value}
 use Rattle.be_volume.specs.Volume.{State}
 use Rattle.be_paged_reading.specs.Catalog.{payload_of}
 use Rattle.be_paged_reading.specs.Entry.{Entry}
 use Rattle.be_paged_reading.specs.Page.{contents_of, IsGapAt, IsNamedAt}
+use Rattle.be_paged_reading.specs.KeyTests.{nodes_passing}
 use Rattle.be_paged_reading.specs.Version.{IsVersion}
 use Rattle.be_paged_reading.specs.declared.on_page.FoundIndex.{FoundIndex}
 
@@ -82,3 +86,12 @@ pub record SourceOf (standing : ℕ → Standing) (words : ℕ → ℕ → ℕ) 
   pub known_is : IsKnown (contents_of (words page)).entries known
   pub beyond : StandsAfter standing words (contents_of (words page)).entries cursor place last_page
       last_at
+
+-- The list has the nodes of the first keys on a way over the index of a name that pass a test, in
+-- the way's order, `most` at most. If the test reads texts, the index is one of texts.
+pub record HasPassing (words : ℕ → ℕ → ℕ) (entries : List Entry) (name : List ℕ) (way : Way)
+    (test : KeyTest) (most : ℕ) (nodes : List ℕ) : Type 0 where
+  pub index : FoundIndex
+  pub found : IsFound entries name (Some index)
+  pub has_texts : reads_texts test ≡ true → index.kind ≡ Cstr
+  pub nodes_are : nodes ≡ take most (nodes_passing test (walk_of way (pairs words index.root)))

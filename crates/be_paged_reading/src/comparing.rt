@@ -2,8 +2,10 @@
 //!
 //! A value in hand has room for the longest text, and costs that room at each move, whatever it is.
 //! So a comparison is asked of the item: an integer is read as a number, and of a text no more than
-//! its bytes is filled.
-ghost use Rattle.std.specs.Prelude.{◌≡◌, ◌+◌, ◌≤◌, ℕ, List, ◌∷◌, Ok, IsTrue, IsUtf8};
+//! its bytes is filled. A caller that asks one comparison of many items makes it ready first, and
+//! then no text is decoded.
+ghost use Rattle.std.specs.Prelude.{◌≡◌, ◌+◌, ◌≤◌, ℕ, List, ◌∷◌, IfSome, Ok, IsTrue, IsUtf8};
+ghost use Rattle.std.specs.Option.{option_copied};
 ghost use Rattle.be_pages.specs.Pages.{IsUnchanged, is_readable};
 ghost use Rattle.be_query.specs.View.{literal as literal_of};
 ghost use Rattle.be_tree_reading.specs.Page.{IsItem, item_at};
@@ -16,17 +18,27 @@ ghost use Rattle.be_paged_reading.specs.Catalog.{payload_of as payload};
 use crate::catalog::{kind_at, number32_at, number64_at};
 use arrayvec::ArrayVec;
 use be_pages::Look;
+use be_plan::TextTest;
 use be_query::{Cmp, Comparison, Literal};
 use be_tree_reading::fill_payload;
 use be_value::Kind;
 use be_volume::{is_true_of, literal_number};
 use std::str;
 
-/// Whether a comparison is true of the value that the payload of the item at a place encodes.
-pub(crate) fn holds_at<L: Look>(look: &mut L, page: u64, at: usize, comparison: &Comparison) -> bool
+/// Whether a comparison is true of the value that the payload of the item at a place encodes. The
+/// test is the same comparison, if the caller has made it ready.
+pub(crate) fn holds_at<L: Look>(
+    look: &mut L,
+    page: u64,
+    at: usize,
+    comparison: &Comparison,
+    test: Option<&TextTest<'_>>,
+) -> bool
     requires readable { IsTrue (is_readable (L.standing look.old page)) }
     requires in_page { at + 42 ≤ 512 }
     requires item { IsItem (L.words look.old page) at }
+    requires test { IfSome (option_copied test) (λ t. t
+        ≡ (comparison.now.op, literal_of comparison.now.literal)) }
     ensures holds { (v : AnyValue) → IsValue v → (item_at (L.words look.old page) at).payload
         ≡ payload v →
         result ≡ holds comparison.now.op v (literal_of comparison.now.literal) }
@@ -36,7 +48,7 @@ pub(crate) fn holds_at<L: Look>(look: &mut L, page: u64, at: usize, comparison: 
         return false;
     };
     match kind {
-        Kind::Cstr | Kind::Mims => text_holds_at(look, page, at, comparison),
+        Kind::Cstr | Kind::Mims => text_holds_at(look, page, at, comparison, test),
         Kind::Long => match number32_at(look, page, at) {
             Some(n) => number_holds(comparison, i128::from(n.cast_signed())),
             None => false,
@@ -58,10 +70,18 @@ pub(crate) fn holds_at<L: Look>(look: &mut L, page: u64, at: usize, comparison: 
 }
 
 /// Whether a comparison is true of the text after a payload's first byte.
-fn text_holds_at<L: Look>(look: &mut L, page: u64, at: usize, comparison: &Comparison) -> bool
+fn text_holds_at<L: Look>(
+    look: &mut L,
+    page: u64,
+    at: usize,
+    comparison: &Comparison,
+    test: Option<&TextTest<'_>>,
+) -> bool
     requires readable { IsTrue (is_readable (L.standing look.old page)) }
     requires in_page { at + 42 ≤ 512 }
     requires item { IsItem (L.words look.old page) at }
+    requires test { IfSome (option_copied test) (λ t. t
+        ≡ (comparison.now.op, literal_of comparison.now.literal)) }
     ensures holds { (k : ℕ) (t : List ℕ) → text_from t ≡ Ok t → IsUtf8 t
         → (item_at (L.words look.old page) at).payload ≡ k ∷ t →
         result ≡ holds_of_text comparison.now.op t (literal_of comparison.now.literal) }
@@ -69,16 +89,21 @@ fn text_holds_at<L: Look>(look: &mut L, page: u64, at: usize, comparison: &Compa
 {
     let mut payload = ArrayVec::new();
     fill_payload(look, page, at, &mut payload);
-    payload_holds(comparison, &payload)
+    payload_holds(comparison, test, &payload)
 }
 
 /// Whether a comparison is true of the text after the first byte of a payload in hand.
-fn payload_holds(comparison: &Comparison, payload: &[u8]) -> bool
+fn payload_holds(comparison: &Comparison, test: Option<&TextTest<'_>>, payload: &[u8]) -> bool
+    requires test { IfSome (option_copied test) (λ t. t
+        ≡ (comparison.now.op, literal_of comparison.now.literal)) }
     ensures { (k : ℕ) (t : List ℕ) → IsUtf8 t → payload.now ≡ k ∷ t → result
         ≡ holds_of_text comparison.now.op t (literal_of comparison.now.literal) }
 {
     match payload.split_first() {
-        Some((_, text)) => text_holds(comparison, text),
+        Some((_, text)) => match test {
+            Some(test) => test.passes(text),
+            None => text_holds(comparison, text),
+        },
         None => false,
     }
 }

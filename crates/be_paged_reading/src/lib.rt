@@ -25,6 +25,7 @@ mod marks;
 mod on_page;
 mod paged_source;
 mod paged_whole;
+mod picking;
 mod prepared;
 mod reading;
 mod rows;

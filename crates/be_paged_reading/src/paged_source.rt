@@ -5,8 +5,9 @@
 //! asked from that very key, it goes on from there and makes no descent. The nodes of a range are
 //! read leaf by leaf, and texts are tested so: no key is unpacked. A query asks for the same index
 //! again and again, so the source keeps what it found last.
-ghost use Rattle.std.specs.Prelude.{◌≡◌, true, IfErr, OnOk};
+ghost use Rattle.std.specs.Prelude.{◌≡◌, true, IfErr, IfOk, OnOk};
 ghost use Rattle.be_pages.specs.Pages.{IsUnchanged};
+ghost use Rattle.be_plan.specs.KeyTests.{reads_texts};
 ghost use Rattle.be_plan.specs.Sources.{StillAnswers};
 ghost use Rattle.be_tree_reading.specs.Cursor.{IsCursor, remaining};
 ghost use Rattle.be_tree_reading.specs.Range.{pairs_from};
@@ -15,15 +16,16 @@ ghost use Rattle.be_value.specs.declared.refusals.Refusal.TheVariants.{OutOfMemo
 ghost use Rattle.be_value.specs.declared.values.Kind.TheVariants.{Cstr};
 ghost use Rattle.be_volume.specs.Volume.{State};
 ghost use Rattle.be_paged_reading.specs.Page.{contents_of};
-ghost use Rattle.be_paged_reading.specs.Source.{HasNumbers, IsIndexOf, StandsAfter};
+ghost use Rattle.be_paged_reading.specs.Source.{HasNumbers, HasPassing, IsIndexOf, StandsAfter};
 ghost use Rattle.be_paged_reading.specs.Version.{HasVersion, IsVersion};
 
 use crate::on_page::{FoundIndex, known_index};
+use crate::picking::passing_in_order;
 use crate::reading::{get, holds_in};
 use crate::texts::nodes_passing;
 use arrayvec::ArrayVec;
 use be_pages::Look;
-use be_plan::{KeyRange, Source, TextTest};
+use be_plan::{KeyRange, KeyTest, Source, TextTest};
 use be_query::Comparison;
 use be_tree_reading::{
     Cursor, Way, about_within, has_key, is_key_at, key_at, numbers_in_order, numbers_within,
@@ -49,6 +51,16 @@ fn has_texts(kind: Kind) -> bool
     ensures { result ≡ true → kind ≡ Cstr }
 {
     kind == Kind::Cstr
+}
+
+/// Whether the keys of an index of a kind have what the test reads.
+fn is_testable(kind: Kind, test: KeyTest<'_, '_>) -> bool
+    ensures { result ≡ true → reads_texts test.entry ≡ true → kind ≡ Cstr }
+{
+    match test {
+        KeyTest::Text(_) => has_texts(kind),
+        KeyTest::Marked(_) => true,
+    }
 }
 
 /// About how many keys a tree has. A page has 6 to 12 items, so it takes eight for each page below
@@ -144,6 +156,37 @@ impl<L: Look> PagedSource<L> {
         Ok(())
     }
 
+    /// Puts the nodes of the first keys on a way over the index of a name that pass a test into a
+    /// list, in place of what it had, in the order of the way, `most` at most, and returns true. It
+    /// returns false without an index, and if the test is of texts and the index isn't; the list
+    /// then stays.
+    pub fn passing_in_order(
+        &mut self,
+        name: &Name,
+        way: Way<'_>,
+        test: KeyTest<'_, '_>,
+        most: usize,
+        found: &mut Vec<u64>,
+    ) -> Result<bool, Refusal>
+        requires { (volume : State) × ⟦<PagedSource<L> as Source>⟧.answers_for self.old volume }
+        ensures memory { IfErr result (λ e. e ≡ OutOfMemory) }
+        ensures passing { IfOk result (λ tested. tested ≡ true → HasPassing (L.words self.old.look)
+            (contents_of (L.words self.old.look self.old.page)).entries name.now way.entry
+            test.entry most found.new.items) }
+        ensures stays { ⟦<PagedSource<L> as Source>⟧.kept self.new
+            ≡ ⟦<PagedSource<L> as Source>⟧.kept self.old }
+        ensures answers { StillAnswers ⟦<PagedSource<L> as Source>⟧.answers_for self.old self.new }
+    {
+        let Some(index) = known_index(&mut self.look, self.page, name, &mut self.known) else {
+            return Ok(false);
+        };
+        if !is_testable(index.kind, test) {
+            return Ok(false);
+        }
+        passing_in_order(&mut self.look, index.root, way, test, most, found)?;
+        Ok(true)
+    }
+
     /// About how many keys the index of a name has in a range. It costs two descents, and is exact
     /// for a range within one leaf.
     pub fn about_within(&mut self, keys: KeyRange<'_>) -> u64
@@ -230,7 +273,20 @@ impl<L: Look> Source for PagedSource<L> {
     }
 
     fn holds(&mut self, node: u64, comparison: &Comparison) -> bool {
-        holds_in(&mut self.look, self.page, node, comparison, &mut self.known)
+        let known = &mut self.known;
+        holds_in(&mut self.look, self.page, node, comparison, None, known)
+    }
+
+    fn holds_tested(&mut self, node: u64, comparison: &Comparison, test: &TextTest<'_>) -> bool {
+        let known = &mut self.known;
+        holds_in(
+            &mut self.look,
+            self.page,
+            node,
+            comparison,
+            Some(test),
+            known,
+        )
     }
 
     fn estimate(&mut self, name: &Name) -> u64 {

@@ -1,6 +1,7 @@
 //! Reading a volume from its version page.
 ghost use Rattle.std.specs.Prelude.{◌≡◌, IsOk, IfErr, IfSome, Ok, is_some};
 ghost use Rattle.std.specs.FinMap as map;
+ghost use Rattle.std.specs.Option.{option_copied};
 ghost use Rattle.be_pages.specs.Pages.{IsUnchanged};
 ghost use Rattle.be_query.specs.Grammar.{Leaf};
 ghost use Rattle.be_query.specs.View.{literal};
@@ -29,6 +30,7 @@ use crate::marks::list_nodes;
 use crate::on_page::{FoundIndex, known_index};
 use crate::version::{Version, fill_version};
 use be_pages::Look;
+use be_plan::TextTest;
 use be_query::Comparison;
 use be_tree_reading::{find_place, has_key};
 use be_value::{Kind, Name, Refusal, Value};
@@ -95,16 +97,19 @@ pub fn value_in<L: Look>(
 }
 
 /// Whether a comparison is true of what it sees of a node: of the node's value at its name, if no
-/// index has that name or its index has the value. The value is compared in place, and the index
-/// that was found last is looked at first.
+/// index has that name or its index has the value. The value is compared in place, by the test if
+/// the caller has made the comparison ready. The index that was found last is looked at first.
 pub(crate) fn holds_in<L: Look>(
     look: &mut L,
     version_page: u64,
     node: u64,
     comparison: &Comparison,
+    test: Option<&TextTest<'_>>,
     known: &mut Option<FoundIndex>,
 ) -> bool
     requires version { HasVersion L.standing L.words look.old version_page }
+    requires test { IfSome (option_copied test) (λ t. t
+        ≡ (comparison.now.op, literal comparison.now.literal)) }
     requires known { IsKnown (contents_of (L.words look.old version_page)).entries known.old }
     ensures answer { (volume : State) → IsVersion (L.standing look.old) (L.words look.old)
         version_page volume →
@@ -118,7 +123,7 @@ pub(crate) fn holds_in<L: Look>(
     let Some((page, at)) = find_place(look, catalog, &key) else {
         return false;
     };
-    if !holds_at(look, page, at, comparison) {
+    if !holds_at(look, page, at, comparison, test) {
         return false;
     }
     match known_index(look, version_page, &comparison.name, known) {

@@ -25,7 +25,7 @@ use be_tree_reading::{
 use std::alloc::AllocError;
 
 /// Room for the longest text, of 255 bytes, in whole words.
-const ROOM: usize = 256;
+pub(crate) const ROOM: usize = 256;
 
 /// How long the text of the key at a place of a page is.
 #[inline(always)]
@@ -94,7 +94,7 @@ fn front(room: &[u8], n: usize) -> &[u8]
 /// Adds the node of the key at a place of a page, if its text passes the test. At an error the list
 /// is as before.
 #[inline(always)]
-fn test_item<L: Look>(
+pub(crate) fn test_item<L: Look>(
     look: &mut L,
     page: u64,
     at: usize,

@@ -22,35 +22,32 @@ use Rattle.be_plan.proofs.Ways.{Way, IsPart, way, is_covered, or_cases, and_firs
 use Rattle.be_plan.proofs.Rising.{in_by_place, contains_of_is_in, same_rising, in_filter, from_filter, rises_filter, rises_increasing, rises_keys}
 
 -- a node with an attribute is there
-has_attribute : (s : State) (node : ℕ) (name : List ℕ) (value : Value) → attribute s node name ≡ Some value → map.contains_key s.nodes node ≡ true
+pub has_attribute : (s : State) (node : ℕ) (name : List ℕ) (value : Value) → attribute s node name ≡ Some value → map.contains_key s.nodes node ≡ true
 has_attribute s node name value h = by (map.get s.nodes node) h
   where
     by : (found : Option Attributes) → option_and_then (λ attributes. map.get attributes name) found ≡ Some value → is_some found ≡ true
     by None e = cc
     by (Some a) e = refl
 
--- a node of which an indexed name is seen is there
-is_node : (s : State) → IsSound s → (node : ℕ) (name : List ℕ) (value : Value) → has_index s name ≡ true → sees s node name ≡ Some value → map.contains_key s.nodes node ≡ true
-is_node s sound node name value indexed seen = by (map.get s.indices name) refl
+-- a node of which a name is seen is there
+seen_there : (s : State) → IsSound s → (node : ℕ) (name : List ℕ) (value : Value) → sees s node name ≡ Some value → map.contains_key s.nodes node ≡ true
+seen_there s sound node name value seen = by (map.get s.indices name) refl seen
   where
-    by : (i : Option Index) → map.get s.indices name ≡ i → map.contains_key s.nodes node ≡ true
-    by None e = let no : false ≡ true = sym (ap (λ o. is_some o) e) ∙ indexed in cc
-    by (Some index) e =
-        let paired : map.get index.pairs node ≡ Some value = sym (ap (λ o. seen_in o (attribute s node name) node) e) ∙ seen in
-        let p : IsPaired s name index.kind node value = sound.pairs name index node value e paired in
+    by : (i : Option Index) → map.get s.indices name ≡ i → seen_in i (attribute s node name) node ≡ Some value → map.contains_key s.nodes node ≡ true
+    by None e t = has_attribute s node name value t
+    by (Some index) e t =
+        let p : IsPaired s name index.kind node value = sound.pairs name index node value e t in
         has_attribute s node name value p.attribute_is
 
--- a node of which a formula that rests on indices is true is there
-there : (s : State) → IsSound s → (f : Formula) → covered s f ≡ true → (n : ℕ) → sat s f n ≡ true → map.contains_key s.nodes n ≡ true
-there s sound (Leaf name op literal) rests n h = by (sees s n name) refl h
+-- a node of which a formula is true is there
+pub true_there : (s : State) → IsSound s → (f : Formula) (n : ℕ) → sat s f n ≡ true → map.contains_key s.nodes n ≡ true
+true_there s sound (Leaf name op literal) n h = by (sees s n name) refl h
   where
     by : (o : Option Value) → sees s n name ≡ o → option_map_or (λ value. holds op value literal) o false ≡ true → map.contains_key s.nodes n ≡ true
     by None e t = cc
-    by (Some value) e t = is_node s sound n name value rests e
-there s sound (And a b) rests n h =
-    or_cases (covered s a) (covered s b) rests (map.contains_key s.nodes n ≡ true) (λ r. there s sound a r n (and_first (sat s a n) (sat s b n) h)) (λ r. there s sound b r n (and_second (sat s a n) (sat s b n) h))
-there s sound (Or a b) rests n h =
-    or_cases (sat s a n) (sat s b n) h (map.contains_key s.nodes n ≡ true) (there s sound a (and_first (covered s a) (covered s b) rests) n) (there s sound b (and_second (covered s a) (covered s b) rests) n)
+    by (Some value) e t = seen_there s sound n name value e
+true_there s sound (And a b) n h = true_there s sound a n (and_first (sat s a n) (sat s b n) h)
+true_there s sound (Or a b) n h = or_cases (sat s a n) (sat s b n) h (map.contains_key s.nodes n ≡ true) (true_there s sound a n) (true_there s sound b n)
 
 -- what is found of a query that rests on indices is the scan
 pub found_all : (s : State) (f : Formula) (found : List ℕ) → IsSound s → covered s f ≡ true → IsStrictlyIncreasing found →
@@ -61,7 +58,7 @@ found_all s f found sound rests rising only has =
     (λ n h. in_by_place found n (has n (from_filter (sat s f) (map.keys s.nodes) n h).1))
     (λ n h.
     let holds_n : sat s f n ≡ true = only n (contains_of_is_in found n h) in
-    in_filter (sat s f) (map.keys s.nodes) n (sym (map.contains_key-keys s.nodes n) ∙ there s sound f rests n holds_n) holds_n))
+    in_filter (sat s f) (map.keys s.nodes) n (sym (map.contains_key-keys s.nodes n) ∙ true_there s sound f n holds_n) holds_n))
 
 -- what is reached by way of picks that cover is all of which the query is true
 pub all_reached : (s : State) (f : Formula) (picks found : List ℕ) → covers_part picks 0 f ≡ true → ((p : ℕ) → list_any (nat_eq p) picks ≡ true → HasReached s f p found) →

@@ -1,6 +1,6 @@
 //! What answers for a volume.
 //!
-//! A source is read by seven calls, and each may change the source itself: a cursor moves, a reader
+//! A source is read by eight calls, and each may change the source itself: a cursor moves, a reader
 //! counts its steps. What stays is said in two ways. `kept` names the facts of the source that no
 //! call changes, and `answers_for` is the relation between the source and the volume that it reads.
 //! It is a relation and not a function, since a reader of pages encodes a volume but can't compute
@@ -147,6 +147,20 @@ pub trait Source {
             return true;
         };
         value.kind().indexable() && self.has_key(name, key_of(&value, node).as_slice())
+    }
+
+    /// The same of a comparison that a caller asks of many nodes and has made ready to be asked of
+    /// texts: a source that compares a text where it lies decodes none. Others ask `holds`.
+    fn holds_tested(&mut self, node: u64, comparison: &Comparison, test: &TextTest<'_>) -> bool
+        requires source { (volume : State) × answers_for self.old volume }
+        requires test { test.now ≡ (comparison.now.op, literal comparison.now.literal) }
+        ensures answer { (volume : State) → answers_for self.old volume →
+            result ≡ sat volume (Leaf comparison.now.name comparison.now.op
+            (literal comparison.now.literal)) node }
+        ensures stays { kept self.new ≡ kept self.old }
+        ensures answers { StillAnswers answers_for self.old self.new }
+    {
+        self.holds(node, comparison)
     }
 
     /// About how many keys the index of that name has. It decides only which way a query goes, so

@@ -199,7 +199,7 @@ fn test_texts<S: Source>(
 }
 
 /// The comparison that is left to ask of the texts of the index, if that is all that is left.
-fn asked_of_texts<'t>(rest: &'t Tree, name: &Name, kind: Kind) -> Option<&'t Comparison>
+pub fn asked_of_texts<'t>(rest: &'t Tree, name: &Name, kind: Kind) -> Option<&'t Comparison>
     ensures leaf { IfSome (option_copied result)
         (λ c. formula rest.now ≡ Leaf name.now c.op (literal c.literal)) }
     ensures kind { IfSome result (λ _. kind ≡ Cstr) }

@@ -1,3 +1,4 @@
+pub mod Page
 pub mod Reply
 pub mod Request
 pub mod Values

@@ -1,5 +1,6 @@
 -- The replies, and their texts.
-use Rattle.std.specs.Prelude.{ℕ, List, [], ◌∷◌, ◌++◌, Some, None, codes, length}
+use Rattle.std.specs.Prelude.{ℕ, Bool, List, [], ◌∷◌, ◌++◌, Some, None, codes, length}
+use Rattle.std.specs.Prelude.{if◌then◌else◌}
 use Rattle.std.specs.List.{flat_map}
 use Rattle.std.specs.Fmt.{decimal}
 use Rattle.std.specs.declared.option.Option.{Option}
@@ -10,6 +11,7 @@ use Rattle.be_value.specs.declared.values.Kind.{Kind}
 use Rattle.be_value.specs.declared.values.Value.{Value}
 use Rattle.be_volume.specs.declared.ops.Done.{Done}
 use Rattle.be_journal.specs.Text.{quoted, value_text, done_text}
+use Rattle.be_script_language.specs.Page.{PageFound}
 
 -- the reply to a line; `none` is that of a line without one
 pub data Reply : Type 0 where
@@ -18,6 +20,7 @@ pub data Reply : Type 0 where
   ok : Reply
   node : ℕ → Reply
   nodes : List ℕ → Reply
+  paged : PageFound → Reply
   value : Option Value → Reply
   attributes : List (List ℕ × Value) → Reply
   kinds : List (List ℕ × Kind) → Reply
@@ -47,6 +50,20 @@ numbers_line word ns = (word ++ numbers ns) ++ codes "\n"
 abbrev pub kind_and_value : Value → List ℕ
 kind_and_value v = kind_name (kind_of v) ++ (codes " " ++ value_text v)
 
+abbrev pub more_word : Bool → List ℕ
+more_word more = if more then codes "more" else codes "end"
+
+-- ` after KIND VALUE NODE`, where the next page begins; nothing after an empty page
+abbrev pub after_text : Option (Value × ℕ) → List ℕ
+after_text None = []
+after_text (Some pair) = codes " after "
+    ++ (kind_and_value pair.0 ++ (codes " " ++ decimal pair.1))
+
+-- the nodes in a line, and in the next one whether there are more, and where they begin
+abbrev pub page_text : PageFound → List ℕ
+page_text p = ((numbers_line (codes "nodes") p.nodes ++ more_word p.more) ++ after_text p.last)
+    ++ codes "\n"
+
 abbrev pub value_line : Option Value → List ℕ
 value_line None = codes "none\n"
 value_line (Some v) = kind_and_value v ++ codes "\n"
@@ -73,6 +90,7 @@ text_of bad_line = codes "bad line\n"
 text_of ok = codes "ok\n"
 text_of (node n) = codes "node " ++ (decimal n ++ codes "\n")
 text_of (nodes ns) = numbers_line (codes "nodes") ns
+text_of (paged p) = page_text p
 text_of (value v) = value_line v
 text_of (attributes list) = listed (codes "attrs ") (length list) attribute_line list
 text_of (kinds list) = listed (codes "indices ") (length list) kind_line list

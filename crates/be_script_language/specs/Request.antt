@@ -17,9 +17,11 @@ use Rattle.be_volume.specs.declared.ops.Op.{Op}
 use Rattle.be_volume.specs.declared.ops.Op.TheVariants.{New, Drop, Set, Unset, MkIndex, RmIndex}
 use Rattle.be_script_language.specs.declared.commands.Command.{Command}
 use Rattle.be_script_language.specs.declared.commands.Command.TheVariants as commands
+use Rattle.be_script_language.specs.declared.pages.Paging.{Paging}
+use Rattle.be_script_language.specs.Page.{asked_in}
 use Rattle.be_script_language.specs.Values.{same, kind_in, value_in}
 use Rattle.be_script_language.specs.Words.{is_blank, is_empty, skip, end_of_word, bytes_of}
-use Rattle.be_script_language.specs.Words.{first_word, one_word, two_words}
+use Rattle.be_script_language.specs.Words.{first_word, one_word, two_words, text_in}
 
 -- What a line asks for. A name or a value may be one that no store takes: then its refusal takes
 -- its place.
@@ -28,6 +30,7 @@ pub data Request : Type 0 where
   malformed : Request
   write : Result Op Refusal → Request
   query : List ℕ → Request
+  page : Result Paging Refusal → List ℕ → Request
   explain : List ℕ → Request
   get : ℕ → Result (List ℕ) Refusal → Request
   attrs : ℕ → Request
@@ -97,9 +100,8 @@ get_in rest = option_map (λ words. get words.0 (name_from words.1)) (number_and
 abbrev pub attrs_in : List ℕ → Option Request
 attrs_in rest = option_map attrs (only_number_in rest)
 
--- the text that follows the blanks, to the line's end
-abbrev pub text_in : List ℕ → List ℕ
-text_in rest = bytes_of (skip rest)
+abbrev pub page_in : List ℕ → Option Request
+page_in rest = option_map (λ asked. page asked.0 asked.1) (asked_in rest)
 
 -- the command of this name
 abbrev pub command_named : List ℕ → Option Command
@@ -111,6 +113,7 @@ command_named word =
     else if same word (codes "mkindex") then Some commands.MkIndex
     else if same word (codes "rmindex") then Some commands.RmIndex
     else if same word (codes "query") then Some commands.Query
+    else if same word (codes "page") then Some commands.Page
     else if same word (codes "explain") then Some commands.Explain
     else if same word (codes "get") then Some commands.Get
     else if same word (codes "attrs") then Some commands.Attrs
@@ -133,6 +136,7 @@ command_in commands.Unset rest = unset_in rest
 command_in commands.MkIndex rest = mkindex_in rest
 command_in commands.RmIndex rest = rmindex_in rest
 command_in commands.Query rest = Some (query (text_in rest))
+command_in commands.Page rest = page_in rest
 command_in commands.Explain rest = Some (explain (text_in rest))
 command_in commands.Get rest = get_in rest
 command_in commands.Attrs rest = attrs_in rest

@@ -1,11 +1,12 @@
 -- The requests and the replies of the code as those of the definitions.
 use Rattle.std.specs.String.{string_bytes}
-use Rattle.be_script_language.specs.Request.{Request, silent, malformed, write, query, explain, get}
-use Rattle.be_script_language.specs.Request.{attrs, indices, pin, unpin, live, refresh, begin}
-use Rattle.be_script_language.specs.Request.{commit, abort}
+use Rattle.be_script_language.specs.Request.{Request, silent, malformed, write, query, page}
+use Rattle.be_script_language.specs.Request.{explain, get, attrs, indices, pin, unpin, live}
+use Rattle.be_script_language.specs.Request.{refresh, begin, commit, abort}
 use Rattle.be_script_language.specs.declared.requests.Request.{Request as Asked}
 use Rattle.be_script_language.specs.declared.requests.Request.TheVariants as asked
-use Rattle.be_script_language.specs.Reply.{Reply, none, bad_line, ok, node, nodes, value}
+use Rattle.be_script_language.specs.Page.{page_found}
+use Rattle.be_script_language.specs.Reply.{Reply, none, bad_line, ok, node, nodes, paged, value}
 use Rattle.be_script_language.specs.Reply.{attributes, kinds, cover, pinned_at, already_pinned}
 use Rattle.be_script_language.specs.Reply.{not_pinned, updates, no_live_query, queued, full_batch}
 use Rattle.be_script_language.specs.Reply.{empty_batch, already_begun, not_begun, committed}
@@ -18,6 +19,7 @@ request_of asked.Silent = silent
 request_of asked.Malformed = malformed
 request_of (asked.Write op) = write op
 request_of (asked.Query text) = query (string_bytes text)
+request_of (asked.Page paging text) = page paging (string_bytes text)
 request_of (asked.Explain text) = explain (string_bytes text)
 request_of (asked.Get number name) = get number name
 request_of (asked.Attrs number) = attrs number
@@ -37,6 +39,7 @@ reply_of answers.BadLine = bad_line
 reply_of answers.Done = ok
 reply_of (answers.Node n) = node n
 reply_of (answers.Nodes found) = nodes found.items
+reply_of (answers.Page p) = paged (page_found p)
 reply_of (answers.Value v) = value v
 reply_of (answers.Attributes list) = attributes list.items
 reply_of (answers.Kinds list) = kinds list.items

@@ -27,6 +27,10 @@ end_of_word text = unwrap_or (position is_blank text) (length text)
 abbrev pub bytes_of : List ℕ → List ℕ
 bytes_of text = flat_map encode_utf8 text
 
+-- the text that follows the blanks, to the line's end
+abbrev pub text_in : List ℕ → List ℕ
+text_in rest = bytes_of (skip rest)
+
 -- what a backslash and this character stand for in a quoted word
 abbrev pub meaning_of : ℕ → Option ℕ
 meaning_of c =

@@ -4,8 +4,10 @@
 //! written, so out of memory never leaves half a reply written.
 ghost use Rattle.std.specs.Prelude.{◌≡◌, ◌++◌, ◌∷◌, IfOk, OnOk, codes, decimal, flat_map};
 ghost use Rattle.std.specs.String.{string_bytes};
+ghost use Rattle.be_script_language.specs.Page.{page_found};
 ghost use Rattle.be_script_language.specs.Reply as spec;
 
+use crate::pages::Page;
 use arrayvec::ArrayVec;
 use be_journal::{done_text, quoted, value_text};
 use be_value::{Kind, Name, Refusal, Value};
@@ -22,6 +24,8 @@ pub enum Reply {
     Node(u64),
     /// What a query finds.
     Nodes(Vec<u64>),
+    /// What `page` finds.
+    Page(Page),
     /// What `get` finds.
     Value(Option<Value>),
     Attributes(Vec<(Name, Value)>),
@@ -57,6 +61,7 @@ pub fn reply_text(alloc: Global, reply: &Reply) -> Result<String, AllocError>
         Reply::Done => String::from_str(alloc, "ok\n"),
         Reply::Node(n) => format!(in alloc; "node {n}\n"),
         Reply::Nodes(nodes) => numbers_line(alloc, "nodes", nodes),
+        Reply::Page(page) => page_text(alloc, page),
         Reply::Value(value) => value_line(alloc, value),
         Reply::Attributes(list) => attributes_text(alloc, list),
         Reply::Kinds(list) => kinds_text(alloc, list),
@@ -110,6 +115,35 @@ fn kind_and_value(alloc: Global, value: &Value) -> Result<String, AllocError>
     let kind = value.kind().name();
     let value = value_text(alloc, value)?;
     format!(in alloc; "{kind} {value}")
+}
+
+fn more_word(more: bool) -> &'static str
+    ensures { result.now ≡ spec.more_word more }
+{
+    if more { "more" } else { "end" }
+}
+
+/// ` after KIND VALUE NODE`.
+fn after_text(alloc: Global, last: &Option<(Value, u64)>) -> Result<String, AllocError>
+    ensures { IfOk result (λ text. string_bytes text ≡ spec.after_text last.now) }
+{
+    match last {
+        Some((value, node)) => {
+            let value = kind_and_value(alloc, value)?;
+            format!(in alloc; " after {value} {node}")
+        }
+        None => Ok(String::new(alloc)),
+    }
+}
+
+fn page_text(alloc: Global, page: &Page) -> Result<String, AllocError>
+    ensures { IfOk result (λ text. string_bytes text ≡ spec.page_text (page_found page.now)) }
+{
+    let mut text = numbers_line(alloc, "nodes", &page.nodes)?;
+    text.push_str(more_word(page.more))?;
+    text.push_str(after_text(alloc, &page.last)?.as_str())?;
+    text.push_str("\n")?;
+    Ok(text)
 }
 
 fn value_line(alloc: Global, value: &Option<Value>) -> Result<String, AllocError>

@@ -13,6 +13,7 @@ ghost use Rattle.be_script_language.specs.Request as spec;
 ghost use Rattle.be_script_language.specs.Words.{is_blank};
 
 use crate::commands::{Command, command_named};
+use crate::pages::{Paging, page_asked};
 use crate::values::{kind_of, value_of};
 use crate::words::{first_word, is_empty, one_word, skip, split_word, text_of, two_words};
 use be_value::{Kind, Name, Refusal, Value, word_of};
@@ -31,6 +32,8 @@ pub enum Request {
     Write(Result<Op, Refusal>),
     /// A query's text.
     Query(String),
+    /// The page that is asked for, or why its name or its value is none; and the query's text.
+    Page(Result<Paging, Refusal>, String),
     /// The text of a query that is to be explained.
     Explain(String),
     Get(u64, Result<Name, Refusal>),
@@ -208,6 +211,15 @@ fn rmindex_request(alloc: Global, rest: &[char]) -> Result<Option<Request>, Allo
     }
 }
 
+fn page_request(alloc: Global, rest: &[char]) -> Result<Option<Request>, AllocError>
+    ensures { IfOk result (λ request. option_map request_of request ≡ spec.page_in rest.now) }
+{
+    match page_asked(alloc, rest)? {
+        Some((paging, text)) => Ok(Some(Request::Page(paging, text))),
+        None => Ok(None),
+    }
+}
+
 /// What a command and what follows its word ask for.
 fn command_request(
     alloc: Global,
@@ -225,6 +237,7 @@ fn command_request(
         Command::MkIndex => mkindex_request(alloc, rest),
         Command::RmIndex => rmindex_request(alloc, rest),
         Command::Query => Ok(Some(Request::Query(text_of(alloc, skip(rest))?))),
+        Command::Page => page_request(alloc, rest),
         Command::Explain => Ok(Some(Request::Explain(text_of(alloc, skip(rest))?))),
         Command::Get => get_request(alloc, rest),
         Command::Attrs => attrs_request(alloc, rest),

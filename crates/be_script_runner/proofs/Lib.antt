@@ -9,6 +9,7 @@ pub mod LineLemmas
 pub mod OrderLemmas
 pub mod OwnLemmas
 pub mod PartLemmas
+pub mod PositionLemmas
 pub mod PassLemmas
 pub mod RaceLemmas
 pub mod ReadLemmas

@@ -25,7 +25,7 @@ use Rattle.be_script_runner.specs.Lines.{IsServedBy}
 use Rattle.be_script_runner.proofs.CallLemmas.{served_output}
 use Rattle.be_script_runner.specs.Own.{IsPartOf, operations, write_op, write_ops}
 use Rattle.be_script_language.specs.Reply.{Reply, queued as queued_word, full_batch}
-use Rattle.be_script_language.specs.Request.{Request, silent, malformed, write, query, explain, get, attrs, indices, pin, unpin, live, refresh, begin, commit, abort, asked, lines_of}
+use Rattle.be_script_language.specs.Request.{Request, silent, malformed, write, query, page, explain, get, attrs, indices, pin, unpin, live, refresh, begin, commit, abort, asked, lines_of}
 use Rattle.be_script_runner.specs.Run.{Wrote}
 use Rattle.be_script_runner.specs.Served.{known}
 use Rattle.be_script_runner.specs.Store.{PinnedVolume, Store, Joins, entered, viewed, written, written_by}
@@ -179,6 +179,7 @@ unwritten_adds s silent ops = nothing_added s ops
 unwritten_adds s malformed ops = nothing_added s ops
 unwritten_adds s (write op) ops = nothing_added s ops
 unwritten_adds s (query text) ops = nothing_added s ops
+unwritten_adds s (page paging text) ops = nothing_added s ops
 unwritten_adds s (explain text) ops = nothing_added s ops
 unwritten_adds s (get n name) ops = nothing_added s ops
 unwritten_adds s (attrs n) ops = nothing_added s ops
@@ -207,6 +208,8 @@ replies_add s malformed reply after h = may_reply_adds s malformed _ reply after
 replies_add s (write (Ok op)) reply after h = may_reply_adds s (write (Ok op)) _ reply after (op ∷ []) (taken_adds s op s.batch refl) h
 replies_add s (write (Err e)) reply after h = may_reply_adds s (write (Err e)) _ reply after [] (nothing_added s []) h
 replies_add s (query text) reply after h = may_reply_to_adds s (query text) text _ reply after [] (λ parsed. nothing_added s []) h
+replies_add s (page (Ok paging) text) reply after h = may_reply_to_adds s (page (Ok paging) text) text _ reply after [] (λ parsed. nothing_added s []) h
+replies_add s (page (Err e) text) reply after h = may_reply_adds s (page (Err e) text) _ reply after [] (nothing_added s []) h
 replies_add s (explain text) reply after h = may_reply_to_adds s (explain text) text _ reply after [] (λ parsed. nothing_added s []) h
 replies_add s (get n name) reply after h = may_reply_adds s (get n name) _ reply after [] (nothing_added s []) h
 replies_add s (attrs n) reply after h = may_reply_adds s (attrs n) _ reply after [] (nothing_added s []) h

@@ -12,7 +12,7 @@ use Rattle.be_value.specs.declared.refusals.Refusal.TheVariants.{OutOfMemory}
 use Rattle.be_script_runner.specs.declared.faults.RunFault.{RunFault}
 use Rattle.be_script_runner.specs.declared.faults.RunFault.TheVariants.{Limits, Read, TooLong, Write, Memory}
 use Rattle.be_script_runner.specs.Store.{Store, start, viewed}
-use Rattle.be_script_language.specs.Request.{Request, silent, malformed, write, query, explain, get, attrs, indices, pin, unpin, live, refresh, begin, commit, abort, asked, lines_of}
+use Rattle.be_script_language.specs.Request.{Request, silent, malformed, write, query, page, explain, get, attrs, indices, pin, unpin, live, refresh, begin, commit, abort, asked, lines_of}
 use Rattle.be_script_language.specs.Reply.{Reply, bad_line, none, refused, text_of}
 use Rattle.be_script_runner.specs.Output.{Session, Replies, Serves, Answered, Outputs, IsOutputTo, IsFrontOfOutput, aborting, beginning, committing, got, opening, pinning, refreshing, taken, unpinning}
 use Rattle.be_script_runner.proofs.ReplyLemmas.{serves_at_once}
@@ -58,6 +58,8 @@ some_reply s malformed = (bad_line, s)
 some_reply s (write (Ok op)) = taken s s.batch op
 some_reply s (write (Err e)) = (refused e, s)
 some_reply s (query text) = (refused OutOfMemory, s)
+some_reply s (page (Ok paging) text) = (refused OutOfMemory, s)
+some_reply s (page (Err e) text) = (refused e, s)
 some_reply s (explain text) = (refused OutOfMemory, s)
 some_reply s (get n name) = (got (viewed s.store) n name, s)
 some_reply s (attrs n) = (refused OutOfMemory, s)
@@ -76,6 +78,8 @@ may_reply s malformed = inl refl
 may_reply s (write (Ok op)) = inl refl
 may_reply s (write (Err e)) = inl refl
 may_reply s (query text) = inr (refl, inl (refl, tt))
+may_reply s (page (Ok paging) text) = inr (refl, inl (refl, tt))
+may_reply s (page (Err e) text) = inl refl
 may_reply s (explain text) = inr (refl, inl (refl, tt))
 may_reply s (get n name) = inl refl
 may_reply s (attrs n) = inr (refl, inl (refl, tt))

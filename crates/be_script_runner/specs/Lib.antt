@@ -3,6 +3,7 @@ pub mod Output
 pub mod Lines
 pub mod Order
 pub mod Own
+pub mod Pages
 pub mod Race
 pub mod Run
 pub mod Served

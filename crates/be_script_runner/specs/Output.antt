@@ -18,14 +18,16 @@ use Rattle.be_volume.specs.Volume.{State}
 use Rattle.be_volume.specs.declared.ops.Done.{Done}
 use Rattle.be_volume.specs.declared.ops.Done.TheVariants.{Node, Unit as Nothing}
 use Rattle.be_volume.specs.declared.ops.Op.{Op}
-use Rattle.be_script_language.specs.Reply.{Reply, none, bad_line, ok, node, nodes, value}
+use Rattle.be_script_language.specs.Reply.{Reply, none, bad_line, ok, node, nodes, paged, value}
 use Rattle.be_script_language.specs.Reply.{attributes, kinds, cover, pinned_at, already_pinned}
 use Rattle.be_script_language.specs.Reply.{not_pinned, updates, no_live_query, queued, full_batch}
 use Rattle.be_script_language.specs.Reply.{empty_batch, already_begun, not_begun, committed}
 use Rattle.be_script_language.specs.Reply.{refused, text_of}
-use Rattle.be_script_language.specs.Request.{Request, silent, malformed, write, query, explain, get}
-use Rattle.be_script_language.specs.Request.{attrs, indices, pin, unpin, live, refresh, begin}
-use Rattle.be_script_language.specs.Request.{commit, abort, asked, lines_of}
+use Rattle.be_script_language.specs.Request.{Request, silent, malformed, write, query, page}
+use Rattle.be_script_language.specs.Request.{explain, get, attrs, indices, pin, unpin, live}
+use Rattle.be_script_language.specs.Request.{refresh, begin, commit, abort, asked, lines_of}
+use Rattle.be_script_language.specs.declared.pages.Paging.{Paging}
+use Rattle.be_script_runner.specs.Pages.{page_read}
 use Rattle.be_script_runner.specs.Store.{PinnedVolume, Store, Meanwhile, IsLeastOf, IsOther, viewed}
 use Rattle.be_script_runner.specs.Store.{pinned, unpinned, written}
 
@@ -124,6 +126,11 @@ abbrev pub queried : State → Result Formula Refusal → Reply
 queried volume (Ok f) = replied nodes (scan volume f)
 queried volume (Err e) = refused e
 
+-- the reply to the query of a text if a page is asked for, or to a text that is no query
+abbrev pub turned : State → Paging → Result Formula Refusal → Reply
+turned volume paging (Ok f) = replied paged (page_read volume paging f)
+turned volume paging (Err e) = refused e
+
 -- the reply to a text whose cover is asked: what is picked by the volume's indices, and its score
 abbrev pub explained : State → Result Formula Refusal → Reply
 explained volume (Ok f) = replied (λ c. cover (explanation f c)) (chosen (has_index volume) f)
@@ -145,6 +152,7 @@ unwritten s silent = s
 unwritten s malformed = s
 unwritten s (write op) = s
 unwritten s (query text) = s
+unwritten s (page paging text) = s
 unwritten s (explain text) = s
 unwritten s (get n name) = s
 unwritten s (attrs n) = s
@@ -188,6 +196,8 @@ TakesMemory s malformed = ⊥
 TakesMemory s (write (Ok op)) = OpTakesMemory s s.batch op
 TakesMemory s (write (Err e)) = ⊥
 TakesMemory s (query text) = Unit {0}
+TakesMemory s (page (Ok paging) text) = Unit {0}
+TakesMemory s (page (Err e) text) = ⊥
 TakesMemory s (explain text) = Unit {0}
 TakesMemory s (get n name) = ⊥
 TakesMemory s (attrs n) = Unit {0}
@@ -231,6 +241,10 @@ Replies s (write (Ok op)) reply after = MayReply s (write (Ok op)) (taken s s.ba
 Replies s (write (Err e)) reply after = MayReply s (write (Err e)) (refused e, s) reply after
 Replies s (query text) reply after = MayReplyTo s (query text) text
     (λ parsed. (queried (viewed s.store) parsed, s)) reply after
+Replies s (page (Ok paging) text) reply after = MayReplyTo s (page (Ok paging) text) text
+    (λ parsed. (turned (viewed s.store) paging parsed, s)) reply after
+Replies s (page (Err e) text) reply after = MayReply s (page (Err e) text) (refused e, s) reply
+    after
 Replies s (explain text) reply after = MayReplyTo s (explain text) text
     (λ parsed. (explained (viewed s.store) parsed, s)) reply after
 Replies s (get n name) reply after = MayReply s (get n name) (got (viewed s.store) n name, s) reply

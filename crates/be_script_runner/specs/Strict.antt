@@ -5,7 +5,7 @@ use Rattle.std.specs.Option.{option_map}
 use Rattle.std.specs.String.{string_bytes}
 use Rattle.std.specs.declared.option.Option.{Option}
 use Rattle.be_journal.specs.declared.entries.Entry.{Entry}
-use Rattle.be_script_language.specs.Reply.{Reply, none, bad_line, ok, node, nodes, value}
+use Rattle.be_script_language.specs.Reply.{Reply, none, bad_line, ok, node, nodes, paged, value}
 use Rattle.be_script_language.specs.Reply.{attributes, kinds, cover, pinned_at, already_pinned}
 use Rattle.be_script_language.specs.Reply.{not_pinned, updates, no_live_query, queued, full_batch}
 use Rattle.be_script_language.specs.Reply.{empty_batch, already_begun, not_begun, committed}
@@ -24,6 +24,7 @@ is_refusal bad_line = true
 is_refusal ok = false
 is_refusal (node n) = false
 is_refusal (nodes ns) = false
+is_refusal (paged p) = false
 is_refusal (value v) = false
 is_refusal (attributes list) = false
 is_refusal (kinds list) = false

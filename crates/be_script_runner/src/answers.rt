@@ -18,7 +18,7 @@ use crate::client::Client;
 use crate::stores::Server;
 use be_plan::explain;
 use be_query::parse;
-use be_script_language::{Reply, Request};
+use be_script_language::{Paging, Reply, Request};
 use be_store::Live;
 use be_value::{Name, Refusal};
 use be_volume::{Done, Op};
@@ -152,6 +152,40 @@ fn query<S: Server>(alloc: Global, server: &mut S, text: &str) -> Reply
             Ok(nodes) => Reply::Nodes(nodes),
             Err(refusal) => Reply::Refused(refusal),
         },
+        Err(refusal) => Reply::Refused(refusal),
+    }
+}
+
+/// A page of the answer to a query's text.
+fn page_of<S: Server>(alloc: Global, server: &mut S, paging: &Paging, text: &str) -> Reply
+    ensures replies { RepliesToAny (S.shows server.new) (requests.page (Ok paging.now) text.now)
+        (reply_of result) }
+    ensures joins { Joins (S.shows server.old) (S.shows server.new) }
+    ensures stays { S.kept server.new ≡ S.kept server.old }
+{
+    match parse(alloc, text) {
+        Ok(query) => match server.page(query, paging) {
+            Ok(page) => Reply::Page(page),
+            Err(refusal) => Reply::Refused(refusal),
+        },
+        Err(refusal) => Reply::Refused(refusal),
+    }
+}
+
+/// The same, or why the page's name or its value is none, which comes first.
+fn page<S: Server>(
+    alloc: Global,
+    server: &mut S,
+    paging: Result<Paging, Refusal>,
+    text: &str,
+) -> Reply
+    ensures replies { RepliesToAny (S.shows server.new) (requests.page paging text.now)
+        (reply_of result) }
+    ensures joins { Joins (S.shows server.old) (S.shows server.new) }
+    ensures stays { S.kept server.new ≡ S.kept server.old }
+{
+    match paging {
+        Ok(paging) => page_of(alloc, server, &paging, text),
         Err(refusal) => Reply::Refused(refusal),
     }
 }
@@ -301,6 +335,7 @@ pub fn answer<S: Server>(
         Request::Malformed => Reply::BadLine,
         Request::Write(op) => write_line(server, client, op),
         Request::Query(text) => query(alloc, server, text.as_str()),
+        Request::Page(paging, text) => page(alloc, server, paging, text.as_str()),
         Request::Explain(text) => explain_query(alloc, server, text.as_str()),
         Request::Get(node, name) => get(server, node, name),
         Request::Attrs(node) => attrs(server, node),

@@ -1,5 +1,16 @@
 //! Laws of the definitions. Each does nothing; its contract is the law.
-ghost use Rattle.std.specs.Prelude.{◌≡◌, ◌≤◌, ◌∷◌, [], ◌++◌, ℕ, All, List, Some, None, length};
+ghost use Rattle.std.specs.Prelude.{◌≡◌, ◌≢◌, ◌≤◌, ◌∷◌, [], ◌++◌, ℕ, All, Bool, List, Ok, Some};
+ghost use Rattle.std.specs.Prelude.{None, length};
+ghost use Rattle.std.specs.Option.{option_map};
+ghost use Rattle.std.specs.declared.option.Option.{Option};
+ghost use Rattle.be_value.specs.declared.values.Kind.{Kind};
+ghost use Rattle.be_query.specs.Grammar.{Formula};
+ghost use Rattle.be_volume.specs.Reading.{index_kind};
+ghost use Rattle.be_volume.specs.Sound.{IsSound};
+ghost use Rattle.be_volume.specs.Volume.{State};
+ghost use Rattle.be_order.specs.Ordered.{Page, page};
+ghost use Rattle.be_script_language.specs.Page.{key_at};
+ghost use Rattle.be_script_runner.specs.Pages.{last_pair};
 ghost use Rattle.be_journal_text.specs.Dump.{dump, state_dump};
 ghost use Rattle.be_journal_text.specs.History.{CanBeJournal, CanBeOp};
 ghost use Rattle.be_journal.specs.Journal.{IsLegal, replay};
@@ -77,4 +88,14 @@ pub fn served_is_output()
         → IsOutputTo (known a) script (known z) out }
     ensures calls { (a z : Knowledge) (script out : List ℕ) → IsServedBy a script z out
         → LeadTo a z }
+{}
+
+/// The value and the number of a page's last node are at the cursor that the page leaves. So pages
+/// of one version, each after the position that the one before it printed, are those of be_order's
+/// `pages_are_the_whole`: the whole list, and each node once.
+pub fn position_is_the_cursor()
+    ensures { (s : State) (f : Formula) (by : List ℕ) (kind : Kind) (descending : Bool)
+        (cursor : Option (List ℕ)) (most : ℕ) (p : Page) → IsSound s → index_kind s by ≡ Some kind
+        → page s f by descending cursor most ≡ Ok p → p.nodes ≢ []
+        → option_map key_at (last_pair s by p.nodes) ≡ p.cursor }
 {}

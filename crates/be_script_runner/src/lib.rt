@@ -19,6 +19,7 @@ mod faults;
 mod files;
 mod gates;
 pub mod laws;
+mod pages;
 mod passes;
 mod races;
 mod runs;

@@ -12,6 +12,7 @@ ghost use Rattle.be_journal_text.specs.Dump.{state_dump};
 ghost use Rattle.be_journal_text.specs.History.{CanBeOp};
 ghost use Rattle.be_plan.specs.Cover.{chosen};
 ghost use Rattle.be_plan.specs.Explain.{are_places};
+ghost use Rattle.be_script_language.specs.Page.{page_found};
 ghost use Rattle.be_store.specs.History.{IsLastReason};
 ghost use Rattle.be_store.specs.Passes.{IsPassOf};
 ghost use Rattle.be_value.specs.Refusal.{Answers};
@@ -23,15 +24,18 @@ ghost use Rattle.be_volume.specs.Reading.{attribute, attributes_at, index_kinds}
 ghost use Rattle.be_table.specs.Rule.{IsWithin};
 ghost use Rattle.be_volume_state.specs.Rebuilding.{state_ops};
 ghost use Rattle.be_script_runner.specs.Lines.{LeadTo};
+ghost use Rattle.be_script_runner.specs.Pages.{page_read};
 ghost use Rattle.be_script_runner.specs.Served.{known, seat_of};
 ghost use Rattle.be_script_runner.specs.Store.{Store, Joins, Meanwhile, start, viewed, pinned};
 ghost use Rattle.be_script_runner.specs.Store.{unpinned, MayWrite};
 
 use crate::Limits;
+use crate::pages::read_page;
 use crate::states::pinned_text;
 use arrayvec::ArrayVec;
 use be_plan::Cover;
 use be_query::Query;
+use be_script_language::{Page, Paging};
 use be_store::Pass;
 use be_value::{Kind, Name, Refusal, Value};
 use be_volume::{Done, Op};
@@ -89,6 +93,15 @@ pub trait Server {
         ensures joins { Joins (shows self.old) (shows self.new) }
         ensures answers { Answers (λ nodes. nodes.items) result
             (scan (viewed (shows self.new)) query.now) };
+
+    /// A page of a query's answer, in the order of an index. NoSuchIndex if there is none of that
+    /// name, or if its kind isn't that of the value after which the page begins; then NotCovered;
+    /// or OutOfMemory.
+    fn page(&mut self, query: Query, paging: &Paging) -> Result<Page, Refusal>
+        ensures stays { kept self.new ≡ kept self.old }
+        ensures joins { Joins (shows self.old) (shows self.new) }
+        ensures answers { Answers page_found result
+            (page_read (viewed (shows self.new)) paging.now query) };
 
     /// What a query would be answered from; or NotCovered or OutOfMemory.
     fn explain(&mut self, query: &Query) -> Result<Cover, Refusal>
@@ -309,6 +322,13 @@ impl<'a> Server for PassServer<'a> {
         let answer = self.store.query(self.alloc, &mut self.pass, query);
         self.end_read(made);
         Ok(answer?.nodes)
+    }
+
+    fn page(&mut self, query: Query, paging: &Paging) -> Result<Page, Refusal> {
+        let made = self.begin_read();
+        let page = read_page(self.alloc, self.store, &mut self.pass, query, paging);
+        self.end_read(made);
+        page
     }
 
     fn explain(&mut self, query: &Query) -> Result<Cover, Refusal> {

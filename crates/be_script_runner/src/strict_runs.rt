@@ -44,7 +44,7 @@ fn is_refusal(reply: &Reply) -> bool
     match reply {
         Reply::Silent | Reply::Done | Reply::Queued => false,
         Reply::Node(_) | Reply::Nodes(_) | Reply::Value(_) | Reply::Attributes(_) => false,
-        Reply::Kinds(_) | Reply::Cover(_) | Reply::Pinned(_) => false,
+        Reply::Page(_) | Reply::Kinds(_) | Reply::Cover(_) | Reply::Pinned(_) => false,
         Reply::Updates(_, _) | Reply::Committed(_, _) => false,
         Reply::BadLine | Reply::Refused(_) => true,
         Reply::AlreadyPinned | Reply::NotPinned | Reply::NoLiveQuery => true,

@@ -11,6 +11,7 @@ mod alike;
 mod examples;
 mod faults;
 mod limits;
+mod pages;
 mod plain;
 mod pools;
 mod readings;

@@ -9,3 +9,4 @@ pub mod Covers
 pub mod Same
 pub mod Crosses
 pub mod Left
+pub mod Written

@@ -1,28 +1,35 @@
 -- Changes by a session's calls: what they collect, what they read, and how they end.
-use Rattle.std.specs.Prelude.{◌≡◌, ◌⊎◌, ℕ, true, List, [], ◌∷◌, ◌++◌, length}
+use Rattle.std.specs.Prelude.{◌≡◌, ◌⊎◌, ℕ, true, List, [], ◌∷◌, ◌++◌, None, length}
 use Rattle.std.specs.declared.option.Option.{Option}
 use Rattle.std.specs.declared.result.Result.{Result}
 use Rattle.std.specs.declared.result.Result.TheVariants.{Ok, Err}
 use Rattle.be_change.specs.Changing.{After, Changing, Reads, outcomes, with_op}
 use Rattle.be_change.specs.Collecting.{HasNoRoom, IsOfRightKind, IsOfWrongKind}
 use Rattle.be_change.specs.Ending.{EndsOnce, Releases}
+use Rattle.be_change.specs.Comparing.{HaveRightKinds, IsFirstOfWrongKind}
 use Rattle.be_change.specs.declared.ending.Ended.{Ended}
 use Rattle.be_change.specs.declared.ending.Ended.TheVariants.{Accepted, Again}
 use Rattle.be_change.specs.declared.errors.CollectError.{CollectError}
-use Rattle.be_store.specs.Passes.{IsPinnedTo, volume_pinned}
+use Rattle.be_store.specs.Conditional.{AcceptsAt, IsUnapplied}
+use Rattle.be_store.specs.Passes.{HasRead, IsPinnedTo, volume_pinned}
+use Rattle.be_store.specs.declared.conditional.ApplyIfError.{ApplyIfError}
+use Rattle.be_table.specs.Seats.{pinned_number}
 use Rattle.be_table.specs.declared.pass.Knowledge.{Knowledge}
 use Rattle.be_value.specs.Value.{kind_of}
 use Rattle.be_value.specs.declared.refusals.Refusal.{Refusal}
+use Rattle.be_value.specs.declared.values.Kind.{Kind}
 use Rattle.be_value.specs.declared.values.Value.{Value}
 use Rattle.be_volume.specs.Reading.{attribute}
 use Rattle.be_volume.specs.Volume.{State}
+use Rattle.be_volume.specs.declared.ops.Done.{Done}
 use Rattle.be_volume.specs.declared.ops.Done.TheVariants.{Node}
 use Rattle.be_volume.specs.declared.ops.Op.{Op}
 use Rattle.be_volume.specs.declared.ops.Op.TheVariants.{New, Drop, Set, Unset, MkIndex, RmIndex}
-use Rattle.be_session.specs.Fault.{fault_of_collecting}
-use Rattle.be_session.specs.Operations.{ArePartsWithin, IsMeantBy, IsMisspeltAt}
+use Rattle.be_session.specs.Fault.{fault_carried, fault_of, fault_of_collecting}
+use Rattle.be_session.specs.Operations.{ArePartsWithin, IsBadCount, IsMeantBy, IsMisspeltAt}
 use Rattle.be_session.specs.declared.faults.Fault.{Fault}
-use Rattle.be_session.specs.declared.faults.Fault.TheVariants.{Conflict, NotPinned, Refused}
+use Rattle.be_session.specs.declared.faults.Fault.TheVariants.{BadCount, Conflict, NotPinned}
+use Rattle.be_session.specs.declared.faults.Fault.TheVariants.{Refused, WrongKind}
 use Rattle.be_session.specs.declared.lists.Operation.{Operation}
 
 -- The number that a change returns for an operation that it has collected. For a new node it is the
@@ -101,3 +108,33 @@ EndsChange change a d result =
 abbrev pub Abandons : Changing → (a d : Knowledge) → Type 0
 Abandons change a d = ((¬ (IsPinnedTo a change.number)) × (d ≡ a))
     ⊎ (IsPinnedTo a change.number × Releases change.pins a d)
+
+-- Operations are written at once as a change on the pinned snapshot, with this commit number:
+-- exactly they, on exactly what was read, as the next entry after the snapshot. Each set has the
+-- kind of the index of its name, and new nodes have the snapshot's next numbers.
+abbrev pub WritesChange : (a d : Knowledge) → List Op → ℕ → Type 0
+WritesChange a d ops n = (number : ℕ) × IsPinnedTo a number
+    × HaveRightKinds (volume_pinned a) ops (length ops)
+    × (c : Knowledge) × HasRead a c × (dones : List Done) × AcceptsAt c d number ops n dones
+    × (dones ≡ outcomes (volume_pinned a).next ops)
+
+-- The first operation of a wrong kind has this place, and the pass has only read.
+abbrev pub IsMismatch : (a d : Knowledge) → List Op → Fault → ℕ → Type 0
+IsMismatch a d ops e place = HasRead a d × (index : Kind) × (e ≡ WrongKind index)
+    × IsFirstOfWrongKind (volume_pinned a) ops place index
+
+-- All operations have the right kinds, and the conditional write at the pin's number wasn't made.
+-- The place is what its error carries.
+abbrev pub IsUnmade : (a d : Knowledge) → ℕ → List Op → Fault → ℕ → Type 0
+IsUnmade a d number ops e place = HaveRightKinds (volume_pinned a) ops (length ops)
+    × (c : Knowledge) × HasRead a c × (why : ApplyIfError) × (e ≡ fault_of why)
+    × IsUnapplied c d number ops why × (place ≡ fault_carried e)
+
+-- Why operations weren't written as a change, and the place that is returned: a count that isn't 1
+-- to 64, or no pin, and then nothing has happened; a set of a wrong kind; or the store's own error.
+abbrev pub IsUnwrittenChange : (a d : Knowledge) → List Op → Fault → ℕ → Type 0
+IsUnwrittenChange a d ops e place =
+    (IsBadCount (length ops) × (e ≡ BadCount) × (place ≡ 0) × (d ≡ a))
+    ⊎ ((pinned_number a.phase ≡ None) × (e ≡ NotPinned) × (place ≡ 0) × (d ≡ a))
+    ⊎ ((number : ℕ) × IsPinnedTo a number
+    × (IsMismatch a d ops e place ⊎ IsUnmade a d number ops e place))

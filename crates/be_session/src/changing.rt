@@ -2,14 +2,16 @@
 ghost use Rattle.std.specs.Prelude.{◌≡◌, IfErr, IfOk, false, true};
 ghost use Rattle.be_change.specs.Ending.{Begins, IsNotBegun};
 ghost use Rattle.be_session.specs.Changes.{Abandons, Collects, CollectsMeant, EndsChange};
-ghost use Rattle.be_session.specs.Changes.{IsNotCollected, IsUncollected, ReadsChanged};
+ghost use Rattle.be_session.specs.Changes.{IsNotCollected, IsUncollected, IsUnwrittenChange};
+ghost use Rattle.be_session.specs.Changes.{ReadsChanged, WritesChange};
 ghost use Rattle.be_session.specs.declared.faults.Fault.TheVariants.{Refused};
 ghost use Rattle.be_store.specs.Passes.{HasRead, IsPinnedTo};
 ghost use Rattle.be_value.specs.declared.refusals.Refusal.TheVariants.{OutOfMemory};
 
 use crate::lists::one;
-use crate::{Fault, Operation, Session};
-use be_change::{Change, CollectError, Ended, Kinds};
+use crate::session::is_batch;
+use crate::{Fault, ListFault, Operation, Session};
+use be_change::{Change, CollectError, Ended, Kinds, check_kinds};
 use be_store::{Name, Op, Refusal, Value};
 use std::alloc::{AllocFailed, Global};
 
@@ -69,6 +71,33 @@ pub fn collect_operation(
 }
 
 impl Session {
+    /// Writes a batch as a change on the pinned snapshot, all or none, if no other write came
+    /// since. Returns the commit number; the pin stays. New nodes get the numbers from `next` on.
+    ///
+    /// BadCount; NotPinned; WrongKind with the place of the first set of another kind than the
+    /// index of its name takes, as the operations before it leave that index; then the errors of
+    /// `apply_if` at the snapshot's number, whose place is the number that they carry. After an
+    /// error nothing is written. Besides the write it reads the version page for each set.
+    pub fn apply_change(&mut self, ops: &[Op]) -> Result<u64, ListFault>
+        ensures store { (self.new.store ≡ self.old.store) × (self.new.spare ≡ self.old.spare) }
+        ensures ok { IfOk result (λ n. WritesChange self.old.knows self.new.knows ops.now n) }
+        ensures err { IfErr result (λ e. IsUnwrittenChange self.old.knows self.new.knows ops.now
+            e.fault e.place) }
+    {
+        if !is_batch(ops) {
+            return Err(ListFault::from(Fault::BadCount));
+        }
+        let Some(number) = self.pass.pinned() else {
+            return Err(ListFault::from(Fault::NotPinned));
+        };
+        let store = self.shared.store();
+        check_kinds(store, &mut self.pass, ops)?;
+        match store.apply_if_into(&mut self.pass, number, ops, &mut self.outcomes) {
+            Ok(length) => Ok(length),
+            Err(error) => Err(ListFault::from(Fault::from(error))),
+        }
+    }
+
     /// Whether this snapshot is pinned.
     fn is_pinned_to(&self, number: u64) -> bool
         ensures yes { result ≡ true → IsPinnedTo self.now.knows number }
@@ -134,7 +163,7 @@ impl Session {
             return Err(Fault::NotPinned);
         }
         let store = self.shared.store();
-        match change.end_once(store, &mut self.pass) {
+        match change.end_once(store, &mut self.pass, &mut self.outcomes) {
             Ok(Ended::Accepted(number)) => Ok(number),
             Ok(Ended::Again(found)) => Err(Fault::Conflict(found)),
             Err(refusal) => Err(Fault::Refused(refusal)),

@@ -2,9 +2,9 @@
 ghost use Rattle.std.specs.Prelude.{◌≡◌};
 ghost use Rattle.be_value.specs.declared.refusals.Refusal.TheVariants.{OutOfMemory};
 ghost use Rattle.be_session.specs.Fault.{fault_carried, fault_code, fault_of, fault_of_collecting};
-ghost use Rattle.be_session.specs.declared.faults.Fault.TheVariants.{Refused};
+ghost use Rattle.be_session.specs.declared.faults.Fault.TheVariants.{Refused, WrongKind};
 
-use be_change::CollectError;
+use be_change::{CollectError, KindMismatch};
 use be_store::{ApplyIfError, Kind, Refusal};
 use std::alloc::{AllocError, AllocFailed};
 
@@ -160,6 +160,18 @@ impl From<Refusal> for ListFault {
         ListFault {
             fault,
             place: fault.carried(),
+        }
+    }
+}
+
+impl From<KindMismatch> for ListFault {
+    ghost from_gives = { λ mismatch e. (e.fault ≡ WrongKind mismatch.index)
+        × (e.place ≡ mismatch.place) };
+
+    fn from(mismatch: KindMismatch) -> ListFault {
+        ListFault {
+            fault: Fault::WrongKind(mismatch.index),
+            place: mismatch.place as u64,
         }
     }
 }

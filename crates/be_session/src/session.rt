@@ -51,6 +51,9 @@ pub struct Session {
     pub(crate) shared: Arc<Shared, Global>,
     pub(crate) pass: Pass,
     spare: Vec<Pass>,
+    /// Room for what the operations of a change return. To clear a list for each change would take
+    /// longer than to look at the kinds of its values.
+    pub(crate) outcomes: ArrayVec<Done, 64>,
 }
 
 impl Model for Session {
@@ -93,6 +96,7 @@ fn seated(
             shared,
             pass,
             spare,
+            outcomes: ArrayVec::new(),
         }),
         Err(_) => Err(Fault::Refused(Refusal::OutOfMemory)),
     }
@@ -108,6 +112,7 @@ fn pass_of(session: Session) -> Pass
         shared: _shared,
         pass,
         spare: _spare,
+        outcomes: _outcomes,
     } = session;
     pass
 }
@@ -128,6 +133,7 @@ fn in_box(
         shared,
         pass,
         spare: Vec::new(alloc),
+        outcomes: ArrayVec::new(),
     };
     match Box::new(alloc, session) {
         Ok(session) => Ok(session),
@@ -169,12 +175,13 @@ fn kept(shared: Arc<Shared, Global>, pass: Pass, spare: Vec<Pass>, fault: Fault)
         shared,
         pass,
         spare,
+        outcomes: ArrayVec::new(),
     };
     Unfinished::Kept(session, fault)
 }
 
 /// Whether a write may have this many operations: 1 to 64.
-fn is_batch(ops: &[Op]) -> bool
+pub(crate) fn is_batch(ops: &[Op]) -> bool
     ensures is { result ≡ true → (1 ≤ length ops.now) × (length ops.now ≤ 64) }
     ensures not { result ≡ false → (length ops.now ≡ 0) ⊎ (64 < length ops.now) }
 {
@@ -263,6 +270,7 @@ impl Session {
             shared,
             mut pass,
             spare,
+            outcomes: _outcomes,
         } = self;
         let witness = shared.store().witness(&mut pass);
         drop(shared.give_back(pass));
@@ -298,6 +306,7 @@ impl Session {
             shared,
             pass,
             mut spare,
+            outcomes: _outcomes,
         } = self;
         if spare.reserve(shared.passes() + 1).is_err() {
             return Err(kept(shared, pass, spare, Fault::Refused(Refusal::OutOfMemory)));

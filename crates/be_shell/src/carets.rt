@@ -1,8 +1,7 @@
 //! A query with an error, and a caret below the place of the error, on standard error.
-use crate::asides::{skip, split_word};
+use be_script_language::{Request, read_line};
 use std::alloc::{AllocError, Global};
 use std::io::Eprint;
-use std::str;
 use unicode_width::UnicodeWidthChar;
 
 /// The number at the front.
@@ -54,13 +53,23 @@ fn under(alloc: Global, text: &str, at: usize) -> Result<(String, String), Alloc
     Ok((shown, spaces))
 }
 
+/// The text of the query in a line.
+fn query_text(alloc: Global, line: &[u8]) -> Option<String> {
+    match read_line(alloc, line) {
+        Ok(Request::Query(text)) => Some(text),
+        Ok(Request::Page(_, text)) => Some(text),
+        Ok(Request::Explain(text)) => Some(text),
+        Ok(Request::Live(text)) => Some(text),
+        _ => None,
+    }
+}
+
 /// Shows a query with a caret below the place of its error.
 pub(crate) fn point_at<R: Eprint>(rt: &R, alloc: Global, line: &[u8], at: usize) {
-    let (_, beyond) = split_word(skip(line));
-    let Ok(text) = str::from_utf8(skip(beyond)) else {
+    let Some(text) = query_text(alloc, line) else {
         return;
     };
-    if let Ok((shown, spaces)) = under(alloc, text, at) {
+    if let Ok((shown, spaces)) = under(alloc, text.as_str(), at) {
         let _ = eprintln!(rt; "    {shown}\n    {spaces}^");
     }
 }

@@ -14,6 +14,7 @@ unset N NAME              remove an attribute
 mkindex NAME KIND         make an index, of what is set from then on
 rmindex NAME              remove an index
 query TEXT                the nodes of which a query is true
+page by NAME limit N TEXT the first N by an index; before limit [descending] [after KIND VALUE NODE]
 explain TEXT              the comparisons that answer a query, and their score
 get N NAME                an attribute
 attrs N                   the attributes of a node

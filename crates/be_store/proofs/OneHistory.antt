@@ -126,6 +126,12 @@ module _ (o : Object) where
       let one = run_kept journal (first_view o r.number) r.steps r.last r.run (All-head (SeenOf journal) r.last later seen) (first_in_time r.number) in
       All-cons (KeepsSteps journal) r runs one (all_kept journal runs (All-tail (SeenOf journal) r.last later seen))
 
+  all_seen : (journal : List o.Entry) (runs : List (PassRun o)) → All (SeenOf journal) (map (λ (r : PassRun o). r.last) runs) → All (λ (r : PassRun o). SeenOf journal r.last) runs
+  all_seen journal [] seen = All-nil (λ (r : PassRun o). SeenOf journal r.last)
+  all_seen journal (r ∷ runs) seen =
+      let later = map (λ (s : PassRun o). s.last) runs in
+      All-cons (λ (s : PassRun o). SeenOf journal s.last) r runs (All-head (SeenOf journal) r.last later seen) (all_seen journal runs (All-tail (SeenOf journal) r.last later seen))
+
   all_passes : (runs : List (PassRun o)) (k : ℕ) → HasNumber o (map (λ (r : PassRun o). r.last) runs) k → HasRun o runs k
   all_passes [] k has = has
   all_passes (r ∷ runs) k (inl is) = inl (sym (run_number o (first_view o r.number) r.steps r.last r.run) ∙ is)
@@ -143,4 +149,5 @@ module _ (o : Object) where
         authors = authors;
         writes = all_written journal runs h.mine;
         kept = all_kept journal runs h.seen;
+        seen = all_seen journal runs h.seen;
       }

@@ -33,7 +33,7 @@ Call a (Read q r) c = (n : ℕ) × IsPinnedTo a n
 
 -- Calls of a pass, one after the other, that are these steps: it knew a at first and knows z at
 -- last. The law `steps_are_shown` says that they have each accepted write, pin and unpin. A read
--- may be missing among them, since a pass knows the same before and after it.
+-- may be missing, or be listed as a Learn: it changes only the count of steps in its pass.
 abbrev pub Calls : Knowledge → List (Step volume) → Knowledge → Type 0
 Calls a [] z = a ≡ z
 Calls a (s ∷ steps) z = (c : Knowledge) × Call a s c × Calls c steps z
@@ -44,12 +44,14 @@ abbrev pub known_after : (a : Knowledge) (steps : List (Step volume)) (z : Knowl
 known_after a [] z calls = []
 known_after a (s ∷ steps) z calls = calls.0 ∷ known_after calls.0 steps z calls.2
 
--- calls of a pass that had seen nothing at first, by their steps, to the last that it made
+-- Calls of a pass that had made no move and seen nothing at first, by their steps, to the last that
+-- it made.
 pub record PassCalls : Type 0 where
   pub first : Knowledge
   pub steps : List (Step volume)
   pub last : Knowledge
   pub new : view_of first ≡ first_view volume first.number
+  pub fresh : first.history ≡ []
   pub made : Calls first steps last
 
 -- the views after them

@@ -1,4 +1,5 @@
--- The statement: one journal explains the steps of several passes, and whatever else they read.
+-- The statement: one journal explains the steps of several passes, and what each could read between
+-- them.
 use Rattle.std.specs.Prelude.{◌≡◌, ◌≢◌, ◌≤◌, ◌⊎◌, ℕ, suc, List, [], ◌∷◌, ◌++◌, All, AllPairs}
 use Rattle.std.specs.Prelude.{length, take, map, slice_get, Some, IfSome}
 use Rattle.be_table.specs.History.{StartsWith}
@@ -32,8 +33,9 @@ IsKept o journal a Unpin = Unit {0}
 IsKept o journal a (Read q r) = (n : ℕ) × (a.pin ≡ Some n)
     × IfSome r (λ x. x ≡ o.answer q (state_of o (take n journal)))
 
--- A pass with this view that is pinned to n reads after the first n entries of the journal,
--- whatever it asks, and whether or not that read is among its steps.
+-- The first n entries that a pass with this view has seen, pinned to n, are the journal's. So each
+-- of its reads is of the object after a prefix of the journal, whether or not it is among the
+-- steps: the contract of a read is about those entries.
 abbrev pub ReadsPrefix : (o : Object) → List o.Entry → PassView o → Type 0
 ReadsPrefix o journal a = (n : ℕ) → a.pin ≡ Some n → take n a.seen ≡ take n journal
 
@@ -60,9 +62,10 @@ abbrev pub HasRun : (o : Object) → List (PassRun o) → ℕ → Type 0
 HasRun o [] k = ⊥
 HasRun o (r ∷ runs) k = (r.number ≡ k) ⊎ HasRun o runs k
 
--- The journal is a legal history of the object. These are runs of different passes. The journal has
--- the writes of each of them once, in the order of its steps, and no others. It says what each step
--- returned, and what the pass read between its steps.
+-- The journal is a legal history of the object. These are runs of different passes, each of which
+-- has seen a prefix of the journal in the end. The journal has the writes of each of them once, in
+-- the order of its steps, and no others. It says what each step returned, and which entries the
+-- pass could read between its steps.
 pub record IsOneHistory (o : Object) (journal : List o.Entry) (runs : List (PassRun o)) : Type 0
   where
     pub legal : IsLegalFor o journal
@@ -70,3 +73,4 @@ pub record IsOneHistory (o : Object) (journal : List o.Entry) (runs : List (Pass
     pub authors : All (λ (e : o.Entry). HasRun o runs (o.by e)) journal
     pub writes : All (λ (r : PassRun o). entries_by o r.number journal ≡ written o r.steps) runs
     pub kept : All (λ (r : PassRun o). AreKept o journal (first_view o r.number) r.steps) runs
+    pub seen : All (λ (r : PassRun o). StartsWith journal r.last.seen) runs

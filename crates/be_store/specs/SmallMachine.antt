@@ -22,7 +22,8 @@ pub record Object : Type 1 where
 abbrev pub state_of : (o : Object) → List o.Entry → o.State
 state_of o log = fold (λ s e. o.after s e) o.empty log
 
--- the object accepts each entry, in the state after the entries before it
+-- The object accepts each entry, in the state after the entries before it. The entry at the place
+-- i, counted from 0, is `get_or log i e` for any e.
 abbrev pub IsLegalFor : (o : Object) → List o.Entry → Type 0
 IsLegalFor o log = (i : ℕ) (e : o.Entry) → i < length log → e ≡ get_or log i e
     → o.Accepts (state_of o (take i log)) e
@@ -48,10 +49,11 @@ pub data Step (o : Object) : Type 0 where
   -- an accepted write: its entry, and the number that it returned
   Apply : o.Entry → ℕ → Step o
   -- A call that asks nothing of the object: a refused write, a meeting, a look at the journal. Its
-  -- pass has then seen these entries, and it returns how many there are, or some of them, or why
-  -- the write is refused after them.
+  -- pass has then seen these entries. What it returns of them, or why the write is refused, is in
+  -- the call's contract and not here.
   Learn : List o.Entry → Step o
-  -- a pin, which returned this number
+  -- A pin, which returned this number. That a pass pins only while it isn't pinned, and unpins
+  -- only while it is, is required by these calls and not said here.
   Pin : ℕ → Step o
   Unpin : Step o
   -- a read at the pin: the question, and the answer that it returned, if memory didn't run out
@@ -83,10 +85,10 @@ abbrev pub HasNumber : (o : Object) → List (PassView o) → ℕ → Type 0
 HasNumber o [] k = ⊥
 HasNumber o (z ∷ views) k = (z.number ≡ k) ⊎ HasNumber o views k
 
--- The last step: all passes close the store, with these views, and get this journal. No two views
--- are of one pass. Each entry is by one of these passes; the journal begins with what each has
--- seen, and has just its own entries of each. Only from here on is anything said of two passes at
--- once.
+-- In the end these passes close the store, with these views, and get this journal. No two views are
+-- of one pass. Each entry is by one of these passes; the journal begins with what each has seen,
+-- and has just its own entries of each. `IsClosed` says that these are all passes of the store.
+-- Only from here on is anything said of two passes at once.
 pub record Closes (o : Object) (journal : List o.Entry) (views : List (PassView o)) : Type 0 where
   pub apart : AllPairs ◌≢◌ (map (λ (z : PassView o). z.number) views)
   pub authors : All (λ (e : o.Entry). HasNumber o views (o.by e)) journal

@@ -17,7 +17,7 @@ use Rattle.be_volume.specs.Volume.{State, empty}
 use Rattle.be_store.specs.SmallMachine.{Object, PassView, Step, Leads}
 
 -- What a read returns: nodes, or why there are none; an attribute of a node; all of its attributes;
--- the indices; a number.
+-- the indices; a number. What else a call returns, such as a page's cursor, is in its contract.
 pub data Answer : Type 0 where
   Nodes : Result (List ℕ) Refusal → Answer
   Attribute : Option Value → Answer
@@ -26,7 +26,8 @@ pub data Answer : Type 0 where
   Number : ℕ → Answer
 
 -- The volume. It accepts an entry whose outcomes are those of its operations. A question is any
--- function of it, as the scan of a query.
+-- function of it, as the scan of a query. So a Read says something only where its question is
+-- written down, as example_history does.
 abbrev pub volume : Object
 volume = record {
   State = State;

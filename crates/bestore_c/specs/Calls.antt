@@ -146,8 +146,8 @@ PutsOutAtPin None answer places filled count code = Refuses NotPinned count code
 PutsOutAtPin (Some n) answer places filled count code = Refuses (Refused OutOfMemory) count code
     ⊎ PutsOutAnswer answer places filled count code
 
--- A query by its text. If the bytes are no query, nothing happens; otherwise the call returns the
--- answer of the query.
+-- A query by its text. If the bytes aren't a query, nothing happens; otherwise the call returns
+-- the query's answer.
 abbrev pub Finds : Sitting → Sitting → List ℕ → List ℕ → List ℕ → ℕ → ℕ → Type 0
 Finds s t text places filled count code =
     ((e : Fault) × Refuses e count code × IsNoQuery text e × (t ≡ s))
@@ -155,8 +155,8 @@ Finds s t text places filled count code =
     × PutsOutAtPin (pinned_number s.knows.phase) (scan (volume_pinned s.knows) query) places filled
     count code)
 
--- The index cover of a query, by its text. If the bytes are no query, nothing happens; otherwise
--- the call returns the text that describes the cover.
+-- The index cover of a query, by its text. If the bytes aren't a query, nothing happens;
+-- otherwise the call returns the text that describes the cover.
 abbrev pub Explains : Sitting → Sitting → List ℕ → List ℕ → List ℕ → ℕ → ℕ → Type 0
 Explains s t text places filled count code =
     ((e : Fault) × Refuses e count code × IsNoQuery text e × (t ≡ s))
@@ -240,7 +240,7 @@ Listed makes (Some n) (Err why) counts places filled byte_places bytes code = (c
 Listed makes (Some n) (Ok list) counts places filled byte_places bytes code = IsPutOut
     (map makes list) counts places filled byte_places bytes code
 
--- why a text is no query, and what that error carries
+-- why a text isn't a query, and what that error carries
 abbrev pub IsTextFault : List ℕ → Fault → ℕ → Type 0
 IsTextFault text e place = IsNoQuery text e × (place ≡ fault_carried e)
 

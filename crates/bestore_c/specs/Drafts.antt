@@ -1,12 +1,14 @@
 -- What calls do to the handle of a change.
-use Rattle.std.specs.Prelude.{◌≡◌, ◌⊎◌, ℕ, IsUtf8, List, Option, None, Some, true, false}
+use Rattle.std.specs.Prelude.{◌≡◌, ◌⊎◌, ℕ, IsUtf8, List, Option, None, Some, true, false, length}
 use Rattle.std.specs.declared.result.Result.{Result}
 use Rattle.std.specs.declared.result.Result.TheVariants.{Ok, Err}
 use Rattle.be_change.specs.Changing.{After, Changing, Reads}
 use Rattle.be_change.specs.Ending.{Begins, IsNotBegun}
 use Rattle.be_session.specs.Changes.{Abandons, CollectsMeant, EndsChange, IsNotCollected}
+use Rattle.be_session.specs.Changes.{IsUnwrittenChange, WritesChange}
 use Rattle.be_session.specs.Fault.{fault_code}
 use Rattle.be_session.specs.Meaning.{IsNoName}
+use Rattle.be_session.specs.Operations.{AreMeant, IsMisspelt, IsWriteCount}
 use Rattle.be_session.specs.Sitting.{Sitting}
 use Rattle.be_session.specs.declared.faults.Fault.{Fault}
 use Rattle.be_session.specs.declared.faults.Fault.TheVariants.{Refused}
@@ -17,6 +19,7 @@ use Rattle.be_value.specs.Name.{name_from}
 use Rattle.be_value.specs.declared.refusals.Refusal.TheVariants.{OutOfMemory}
 use Rattle.be_value.specs.declared.values.Value.{Value}
 use Rattle.be_volume.specs.Reading.{attribute}
+use Rattle.be_volume.specs.declared.ops.Op.{Op}
 use Rattle.bestore_c.specs.Calls.{IsClosed, IsPutOut, Refuses, Shown}
 use Rattle.bestore_c.specs.declared.handle.Attribute.{Attribute}
 use Rattle.bestore_c.specs.declared.handle.Counts.{Counts}
@@ -91,3 +94,14 @@ EndsDraft s t (Some c) number code = (answer : Result ℕ Fault)
 abbrev pub AbandonsDraft : Sitting → Sitting → Option Changing → ℕ → Type 0
 AbandonsDraft s t None code = (code ≡ 64) × (t ≡ s)
 AbandonsDraft s t (Some c) code = (code ≡ 0) × Abandons c s.knows t.knows
+
+-- A change that is written at once, by encoded operations. If one of them is invalid, nothing
+-- happens, and the number is its index in the list. Otherwise they encode operations. If the
+-- session writes these, the number is the commit number; if it doesn't, the number is the index of
+-- the set of a wrong kind, or what the error carries.
+abbrev pub WritesSpelledChange : Sitting → Sitting → List Operation → List ℕ → ℕ → ℕ → Type 0
+WritesSpelledChange s t spelled bytes number code =
+    ((e : Fault) × (code ≡ fault_code e) × IsMisspelt spelled bytes e number × (t ≡ s))
+    ⊎ (IsWriteCount (length spelled) × (ops : List Op) × AreMeant spelled bytes ops
+    × (((code ≡ 0) × WritesChange s.knows t.knows ops number)
+    ⊎ ((e : Fault) × (code ≡ fault_code e) × IsUnwrittenChange s.knows t.knows ops e number)))

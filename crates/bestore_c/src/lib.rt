@@ -27,6 +27,7 @@ ghost use Rattle.bestore_c.specs.Calls.{HoldsName, ReadsHeld, ShowsChanges, Tell
 ghost use Rattle.bestore_c.specs.Calls.{TellsJournal, TellsNumber, WritesSpelled, WritesSpelledIf};
 ghost use Rattle.bestore_c.specs.Drafts.{AbandonsDraft, AddsSpelled, BeginsDraft, EndsDraft};
 ghost use Rattle.bestore_c.specs.Drafts.{ListsDraft, ReadsDraft, TakesAnyKind};
+ghost use Rattle.bestore_c.specs.Drafts.{WritesSpelledChange};
 ghost use Rattle.bestore_c.specs.Finishing.{Finishes};
 ghost use Rattle.bestore_c.specs.Ordering.{AnyFew, First, IsRefreshedHere, Ordered};
 ghost use Rattle.bestore_c.specs.Ordering.{ReadsPrepared, RefreshesByWrites};
@@ -438,6 +439,38 @@ pub extern "C" fn bes_apply_if(
             DONE
         }
         Err(fault) => refuse(fault, entries),
+    }
+}
+
+/// Writes encoded operations as a change on the pinned snapshot, all or none, if no other write
+/// came since. A set of another kind than the index of its name takes is refused, and its place is
+/// returned. Otherwise as `bes_apply_if` with the snapshot's number.
+#[unsafe(no_mangle)]
+pub extern "C" fn bes_apply_change(
+    alloc: Global,
+    pass: &mut Handle,
+    spelled: &[Operation],
+    bytes: &[u8],
+    number: &mut u64,
+) -> u32
+    ensures pass { Calls pass.old.owned.value pass.new.owned.value (IsClosed number.new result)
+        (λ s t. WritesSpelledChange s t spelled.now bytes.now number.new result) }
+{
+    if !pass.live {
+        *number = 0;
+        return CLOSED;
+    }
+    let ops = match operations(alloc, spelled, bytes) {
+        Ok(ops) => ops,
+        Err(misspelt) => return refuse_list(misspelt, number),
+    };
+    let session = pass.owned.lent();
+    match session.apply_change(ops.as_slice()) {
+        Ok(commit) => {
+            *number = commit;
+            DONE
+        }
+        Err(fault) => refuse_list(fault, number),
     }
 }
 

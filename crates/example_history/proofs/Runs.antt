@@ -26,6 +26,9 @@ number_of a k h = ap (λ (x : Knowledge). x.number) h.2
 view_of_new : (a : Knowledge) (k : ℕ) → IsNew a k → view_of a ≡ first_view volume a.number
 view_of_new a k h = subst (λ (x : Knowledge). view_of x ≡ first_view volume x.number) (sym h.2) refl
 
+history_of_new : (a : Knowledge) (k : ℕ) → IsNew a k → a.history ≡ []
+history_of_new a k h = subst (λ (x : Knowledge). x.history ≡ []) (sym h.2) refl
+
 -- a pass keeps its number
 pub last_number : (a : Knowledge) (k : ℕ) (steps : List (Step volume)) (z : Knowledge) → IsNew a k → Calls a steps z → z.number ≡ k
 last_number a k steps z new calls = calls_number a steps z calls ∙ number_of a k new
@@ -33,8 +36,8 @@ last_number a k steps z new calls = calls_number a steps z calls ∙ number_of a
 pub history : Law → (journal : List Entry) (a b z y : Knowledge) (first second : List (Step volume)) → IsNew a 0 → IsNew b 1 → Calls a first z → Calls b second y → IsClosed 2 journal (z ∷ y ∷ [])
     → IsHistoryOf journal first second
 history law journal a b z y first second new_a new_b made_a made_b closed =
-    let one : PassCalls = record { first = a; steps = first; last = z; new = view_of_new a 0 new_a; made = made_a } in
-    let other : PassCalls = record { first = b; steps = second; last = y; new = view_of_new b 1 new_b; made = made_b } in
+    let one : PassCalls = record { first = a; steps = first; last = z; new = view_of_new a 0 new_a; fresh = history_of_new a 0 new_a; made = made_a } in
+    let other : PassCalls = record { first = b; steps = second; last = y; new = view_of_new b 1 new_b; fresh = history_of_new b 1 new_b; made = made_b } in
     let r = law 2 journal (one ∷ other ∷ []) closed in
     (r.0, r.1 ∙ (λ j. number_of a 0 new_a j ∷ number_of b 1 new_b j ∷ []), r.2, r.5)
 

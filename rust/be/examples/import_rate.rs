@@ -1,8 +1,8 @@
-//! How long `be import` takes for a folder, beside the same attributes in a table of SQLite, and how soon a follower has written a
-//! change.
+//! How long `be import` takes for a folder, compared with putting the same attributes into a table of SQLite, and how soon a
+//! follower has written a change.
 //!
 //! `cargo build --release && cargo run --release -p be --example import_rate [FOLDER [VOLUMES]]`. The folder is /usr/share if none
-//! is named, and there is a volume for 10,000 files. Each row is printed as docs/MEASURED.md has it.
+//! is named, and there is one volume for every 10,000 files. Each row is printed as docs/MEASURED.md has it.
 
 use bestore_client::{Client, Query};
 use bestore_types::Value;
@@ -29,7 +29,7 @@ const COLUMNS: [&str; 8] = [
     "FILE:root",
 ];
 
-/// A server in a folder of its own, both of which go at the end.
+/// A server in a folder of its own. Both are removed at the end.
 struct Server {
     child: Child,
     folder: PathBuf,
@@ -141,7 +141,7 @@ fn compare(server: &Server, folder: &str) -> Result<()> {
     Ok(())
 }
 
-/// A file's row of a table.
+/// A file's row in a table.
 type Row = Vec<Option<Value>>;
 
 /// The attributes of all files, as the store has them.
@@ -208,7 +208,7 @@ fn shown(what: &str, (seconds, counts): &(f64, serde_json::Value)) {
     );
 }
 
-/// How many milliseconds it takes until the query finds so many files.
+/// How many milliseconds it takes until the query finds this many files.
 fn until(client: &mut Client, query: &str, count: u64) -> Result<u128> {
     let begun = Instant::now();
     while client.count(query)? != count {

@@ -6,7 +6,7 @@ use crate::output::Output;
 use bestore_client::wire::{ClientInfo, Info, Latency, OldestReader};
 use bestore_client::Client;
 
-/// A time in a readable form.
+/// Returns a time in a readable form.
 fn time(milliseconds: u64) -> String {
     let seconds = milliseconds / 1_000;
     match seconds {
@@ -18,7 +18,7 @@ fn time(milliseconds: u64) -> String {
     }
 }
 
-/// A number of bytes in a readable form.
+/// Returns a number of bytes in a readable form.
 fn size(bytes: u64) -> String {
     match bytes {
         0..=9_999 => format!("{bytes} bytes"),
@@ -39,8 +39,9 @@ fn oldest(reader: &OldestReader) -> String {
     };
     let volume = reader.volume.map(|volume| format!(" of volume {volume}"));
     let held = reader.milliseconds.map(|held| format!(", for {}", time(held)));
+    let earlier = if reader.earlier { ", in earlier memory" } else { "" };
     let (volume, held) = (volume.unwrap_or_default(), held.unwrap_or_default());
-    format!("{}{volume}, by {by}{held}", reader.commit)
+    format!("{}{volume}, by {by}{held}{earlier}", reader.commit)
 }
 
 fn lines(info: &Info) -> Vec<(&'static str, String)> {
@@ -157,5 +158,29 @@ mod tests {
         for (given, shown) in sizes {
             assert_eq!(size(given), shown);
         }
+    }
+
+    #[test]
+    fn who_keeps_the_oldest_snapshot_is_named() {
+        let of_server = OldestReader {
+            commit: 5,
+            ..OldestReader::default()
+        };
+        assert_eq!(oldest(&of_server), "5, by the server itself");
+        let of_client = OldestReader {
+            commit: 7,
+            volume: Some(2),
+            client: Some(3),
+            process: Some(77),
+            milliseconds: Some(12_345),
+            earlier: false,
+        };
+        let named = "7 of volume 2, by client 3 (process 77), for 12 s";
+        assert_eq!(oldest(&of_client), named);
+        let before = OldestReader {
+            earlier: true,
+            ..of_client
+        };
+        assert_eq!(oldest(&before), format!("{named}, in earlier memory"));
     }
 }

@@ -30,7 +30,7 @@ pub struct Added {
 }
 
 impl Added {
-    /// Parses the command line, and reads the value. The error is a text if the command line is wrong.
+    /// Parses the command line, and reads the value. If the command line is wrong, the error is a string.
     pub fn read(line: AddAttribute) -> Result<Result<Self, Failure>, String> {
         let AddAttribute {
             kind,
@@ -99,7 +99,7 @@ pub fn add(client: &mut Client, added: &Added, output: &mut Output) -> Result<()
     output.line(node.to_string().as_bytes())
 }
 
-/// Prints a warning if the index of this name will leave the value out.
+/// Prints a warning if the index of this name will leave out the value.
 fn warn_of_index(client: &mut Client, name: &str, value: &Value) -> Result<(), Failure> {
     let indices = server::indices(client)?;
     let taken = indices
@@ -247,14 +247,10 @@ fn list_node(
     output.line(format!("\n{total} bytes total in attributes").as_bytes())
 }
 
-/// The value's bytes in BeOS: numbers are little-endian.
+/// Returns the value's bytes as in BeOS: numbers are little-endian.
 fn bytes_of(value: &Value) -> Vec<u8> {
-    match value {
-        Value::Int32(number) => number.to_le_bytes().to_vec(),
-        Value::Int64(number) => number.to_le_bytes().to_vec(),
-        Value::Uint32(number) => number.to_le_bytes().to_vec(),
-        Value::Uint64(number) => number.to_le_bytes().to_vec(),
-        Value::Text(text) | Value::Mime(text) => text.clone().into_bytes(),
-        Value::Raw(bytes) => bytes.clone(),
+    match value.as_bytes() {
+        Some(bytes) => bytes.to_vec(),
+        None => value.number().to_le_bytes()[..size(value)].to_vec(),
     }
 }

@@ -28,7 +28,7 @@ pub fn make(client: &mut Client, line: &Line, output: &mut Output) -> Result<(),
     shown.print(&String::from_utf8_lossy(&file), line.json, output)
 }
 
-/// The batch with its volume's own node numbers.
+/// Returns the batch with its volume's own node numbers.
 fn to_volume(batch: &Batch, volume: Option<u32>) -> Result<Batch, Failure> {
     match volume {
         None => Ok(batch.clone()),

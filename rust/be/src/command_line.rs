@@ -1,4 +1,4 @@
-//! The words of the command line. `docs/be.1` describes them.
+//! The command line. `docs/be.1` describes them.
 
 use crate::kind::Type;
 use crate::paths::Place;
@@ -8,7 +8,7 @@ use std::ffi::OsString;
 use std::path::PathBuf;
 use std::time::Duration;
 
-/// The attribute tools of BeOS, over a store that bestored shares
+/// The attribute tools of BeOS, for a store that bestored shares
 #[derive(Debug, Parser)]
 #[command(name = "be", version, disable_help_subcommand = true)]
 pub struct CommandLine {

@@ -57,14 +57,14 @@ pub enum Failure {
 pub struct QueryRefused {
     pub text: String,
     pub refusal: Refusal,
-    /// The byte of the text at which it is wrong, if that is known.
+    /// The byte offset of the error in the text, if it is known.
     pub offset: Option<usize>,
     /// The names of the kinds, by the names of the indices, if the query lacks an index.
     pub indices: Option<BTreeMap<String, String>>,
 }
 
 impl Failure {
-    /// Whether the server is gone or has no place. A later connection may succeed.
+    /// Returns whether the server is gone or has no place for the client. A later connection may succeed.
     pub fn is_of_connection(&self) -> bool {
         match self {
             Failure::NoServer(..) | Failure::Server(Error::Io(_) | Error::Closed | Error::TimedOut(_)) => true,
@@ -73,7 +73,7 @@ impl Failure {
         }
     }
 
-    /// Prints the reason, if that hasn't been done, and returns the exit status.
+    /// Prints the reason, if it hasn't been printed yet, and returns the exit status.
     pub fn report(&self) -> ExitCode {
         match self {
             Failure::Output(error) if error.kind() == io::ErrorKind::BrokenPipe => return ExitCode::SUCCESS,
@@ -198,7 +198,7 @@ fn shown(path: &Path) -> String {
     escaped(&path.to_string_lossy())
 }
 
-/// Why bytes aren't a value of a type.
+/// Returns why bytes aren't a value of a type.
 fn value_fault(kind: &str) -> String {
     match kind {
         "string" | "mime" => format!("the value isn't valid UTF-8, as a {kind} is; the type raw takes any bytes"),
@@ -206,12 +206,12 @@ fn value_fault(kind: &str) -> String {
     }
 }
 
-/// Prints on standard error. If that fails, nothing can be done about it.
+/// Prints to standard error. If that fails, nothing can be done about it.
 pub fn complain(text: &str) {
     let _ = writeln!(io::stderr(), "be: {text}");
 }
 
-/// The message of an error.
+/// Returns the message of an error.
 pub fn message(error: &Error) -> String {
     match error {
         Error::Refused(refusal) => escaped(&refusal.message),

@@ -7,16 +7,16 @@ use bestore_client::{Client, Query};
 use serde::Serialize;
 use std::borrow::Cow;
 
-/// The values of a node's columns.
+/// The values in a node's columns.
 pub type Row = Vec<Option<Json>>;
 
 /// What was found, as one page of the protocol.
 #[derive(Debug, Serialize)]
 #[serde(untagged)]
 pub enum Found {
-    /// By the nodes' numbers.
+    /// Nodes by number.
     Hits(Hits),
-    /// In an order, or any nodes.
+    /// Nodes in an order, or any nodes.
     Page(Page),
 }
 
@@ -30,7 +30,7 @@ impl Found {
         }
     }
 
-    /// The nodes, and their rows if columns were asked for.
+    /// Returns the nodes, and their rows if columns were asked for.
     pub fn into_rows(self) -> (Vec<u64>, Vec<Row>) {
         let (nodes, rows) = match self {
             Found::Hits(hits) => (hits.nodes.unwrap_or_default(), hits.rows),
@@ -40,7 +40,7 @@ impl Found {
     }
 }
 
-/// How many nodes the next page has, if the earlier pages had this many. `None`: there is no next page.
+/// Returns how many nodes the next page has, if the earlier pages had this many, or `None` if there is no next page.
 fn left(limit: Option<u64>, had: usize) -> Option<Option<u64>> {
     match limit.map(|limit| limit.saturating_sub(had as u64)) {
         Some(0) => None,
@@ -81,7 +81,7 @@ fn joined(rows: Option<Vec<Row>>, more: Option<Vec<Row>>) -> Option<Vec<Row>> {
     })
 }
 
-/// The columns of the command line, in the form of a request.
+/// Returns the columns from the command line, in the form of a request.
 fn columns_of(line: &Line) -> Option<Columns<'_>> {
     let names: Vec<_> = line.columns.iter().map(Cow::from).collect();
     (!names.is_empty()).then_some(Columns(names))
@@ -112,7 +112,7 @@ fn in_order(client: &mut Client, text: &str, by: &str, line: &Line) -> Result<Pa
     Ok(all)
 }
 
-/// As many of the wanted nodes as one page may have.
+/// Returns as many of the wanted nodes as one page can have.
 fn of_a_page(limit: u64) -> u64 {
     limit.min(NODES as u64)
 }

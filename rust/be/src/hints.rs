@@ -1,5 +1,4 @@
-//! Warnings about comparisons that no node can meet: the name has an index of integers, and the value isn't an integer or is out of
-//! range.
+//! Warnings about comparisons that are true for no node: the name has an integer index, and the value isn't an integer or is out of range.
 
 use crate::dates::{span_of, Clock};
 use crate::kind::kind_name;
@@ -10,13 +9,13 @@ use std::collections::BTreeMap;
 /// A comparison that is never true.
 #[derive(Debug, PartialEq, Eq)]
 pub struct Hint {
-    /// Why, and what would be right.
+    /// Why it is never true, and what would be right.
     pub message: String,
-    /// The byte of the text at which the comparison begins.
+    /// The byte offset in the text at which the comparison begins.
     pub offset: usize,
 }
 
-/// The comparisons of this text that no node meets. The indices have these kinds.
+/// Returns the comparisons in this text that are true for no node. The indices have these kinds.
 pub fn hints(text: &str, compared: &[Comparison], indices: &BTreeMap<String, Kind>) -> Vec<Hint> {
     let hint = |one: &Comparison| {
         let kind = *indices.get(&one.name).filter(|kind| one.is_never(**kind))?;
@@ -57,7 +56,7 @@ mod tests {
     use super::*;
     use std::slice::from_ref;
 
-    /// A comparison of the whole text, from the byte `offset` on.
+    /// Returns a comparison in the whole text, from the byte `offset` on.
     fn compared(text: &str, offset: usize, value: &str, form: Form) -> Comparison {
         Comparison {
             name: "t".into(),

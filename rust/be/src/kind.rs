@@ -24,7 +24,7 @@ pub enum Type {
 }
 
 impl Type {
-    /// The library's kind for the type.
+    /// Returns the library's kind for the type.
     pub fn kind(self) -> Kind {
         match self {
             Type::String => Kind::Text,
@@ -37,26 +37,21 @@ impl Type {
         }
     }
 
-    /// The bytes as a value of this type. Numbers are decimal digits, and may have blanks around them.
+    /// Reads the bytes as a value of this type. Numbers are decimal digits, and may have blanks around them.
     pub fn value(self, bytes: Vec<u8>) -> Result<Value, Failure> {
         let value = match self {
             Type::String => String::from_utf8(bytes).ok().map(Value::Text),
             Type::Mime => String::from_utf8(bytes).ok().map(Value::Mime),
-            Type::Int32 => number(&bytes).map(Value::Int32),
-            Type::Int64 => number(&bytes).map(Value::Int64),
-            Type::Uint32 => number(&bytes).map(Value::Uint32),
-            Type::Uint64 => number(&bytes).map(Value::Uint64),
             Type::Raw => Some(Value::Raw(bytes)),
+            _ => std::str::from_utf8(&bytes)
+                .ok()
+                .and_then(|text| Value::integer(self.kind(), text.trim())),
         };
         value.ok_or_else(|| Failure::Value(kind_name(self.kind())))
     }
 }
 
-fn number<T: std::str::FromStr>(bytes: &[u8]) -> Option<T> {
-    std::str::from_utf8(bytes).ok()?.trim().parse().ok()
-}
-
-/// The name of a kind in the tools, which is the protocol's except for texts.
+/// Returns the name of a kind in the tools, which is the protocol's name except for strings.
 pub fn kind_name(kind: Kind) -> &'static str {
     match kind {
         Kind::Text => "string",
@@ -64,7 +59,7 @@ pub fn kind_name(kind: Kind) -> &'static str {
     }
 }
 
-/// The tools' name for a kind with this name in the protocol.
+/// Returns the tools' name for a kind with this name in the protocol.
 pub fn shown_name(protocol: &str) -> &str {
     match bestore_client::wire::kind_named(protocol) {
         Some(kind) => kind_name(kind),
@@ -72,14 +67,10 @@ pub fn shown_name(protocol: &str) -> &str {
     }
 }
 
-/// How many bytes a value has in BeOS.
+/// Returns how many bytes a value has in BeOS.
 pub fn size(value: &Value) -> usize {
-    match value {
-        Value::Int32(_) | Value::Uint32(_) => 4,
-        Value::Int64(_) | Value::Uint64(_) => 8,
-        Value::Text(text) | Value::Mime(text) => text.len(),
-        Value::Raw(bytes) => bytes.len(),
-    }
+    let bytes = value.as_bytes().unwrap_or_default();
+    value.kind().width().unwrap_or(bytes.len())
 }
 
 #[cfg(test)]

@@ -1,4 +1,4 @@
-//! The attribute tools of BeOS, over a store that bestored shares. `docs/be.1` describes the commands.
+//! The attribute tools of BeOS, for a store that bestored shares. `docs/be.1` describes the commands.
 #![warn(rust_2018_idioms)]
 
 mod activity;

@@ -54,7 +54,7 @@ impl Output {
         }
     }
 
-    /// The printed form of the name.
+    /// Returns the printed form of the name.
     pub fn name<'a>(&self, name: &'a str) -> Cow<'a, str> {
         match self.escapes {
             true => escaped(name).into(),
@@ -62,7 +62,7 @@ impl Output {
         }
     }
 
-    /// The printed form of the value: a text, digits, or bytes.
+    /// Returns the printed form of the value: a string, digits, or bytes.
     pub fn value(&self, value: &Value) -> Vec<u8> {
         match value.as_bytes() {
             Some(bytes) if !self.escapes => bytes.to_vec(),
@@ -117,7 +117,7 @@ impl Output {
         self.line(&path)
     }
 
-    /// The printed form of the path.
+    /// Returns the printed form of the path.
     pub fn path_bytes(&self, path: &Path) -> Vec<u8> {
         let bytes = path.as_os_str().as_bytes();
         match (self.escapes, path.to_str()) {

@@ -36,7 +36,7 @@ pub fn run(client: &mut Client, line: &Line, output: &mut Output) -> Result<(), 
     })
 }
 
-/// Prints which comparisons of an accepted query no node can meet.
+/// Prints which comparisons in an accepted query are true for no node.
 fn warn(client: &mut Client, query: &TypedQuery) -> Result<(), Failure> {
     let compared = match client.comparisons(&query.sent) {
         // The server is older, and can't tell.
@@ -56,7 +56,7 @@ fn warn(client: &mut Client, query: &TypedQuery) -> Result<(), Failure> {
     Ok(())
 }
 
-/// Adds details to a query's error that help to see the reason.
+/// Adds details to a query's error that help to find the reason.
 fn refused(client: &mut Client, query: &TypedQuery, refusal: wire::Refusal) -> Failure {
     let lacks_index = matches!(refusal.name, ErrorName::NotCovered | ErrorName::NoIndex);
     if !lacks_index && !matches!(refusal.name, ErrorName::Syntax | ErrorName::BadPattern) {
@@ -111,7 +111,8 @@ fn find(client: &mut Client, query: &TypedQuery, line: &Line, output: &mut Outpu
     output.rows(&headings(line), &rows)
 }
 
-/// The contents of the first column: the numbers of the nodes, or the paths of their files. A node that isn't a file has its number.
+/// Returns the contents of the first column: the numbers of the nodes, or the paths of their files. A node that isn't a file is shown by
+/// its number.
 fn names_of(client: &mut Client, nodes: &[u64], line: &Line, output: &Output) -> Result<Vec<Vec<u8>>, Failure> {
     let number = |node: &u64| node.to_string().into_bytes();
     if !line.path {
@@ -138,7 +139,7 @@ fn cells(node: Vec<u8>, row: &Row, output: &Output) -> Vec<Vec<u8>> {
     std::iter::once(node).chain(values).collect()
 }
 
-/// A push as a line of JSON, with the columns of the nodes that came.
+/// A push as a line of JSON, with the columns of the nodes that joined the answer.
 #[derive(Serialize)]
 struct Change<'a> {
     #[serde(flatten)]
@@ -147,7 +148,7 @@ struct Change<'a> {
     rows: Option<Vec<Row>>,
 }
 
-/// Prints what the query finds, and then what comes and goes, until the server or the watch ends.
+/// Prints what the query finds, and then the nodes that join and leave the answer, until the server or the watch ends.
 fn watch(client: &mut Client, query: &TypedQuery, line: &Line, output: &mut Output) -> Result<(), Failure> {
     let begun = client.watch(Some(&query.sent))?;
     warn(client, query)?;
@@ -212,7 +213,7 @@ fn show_change(client: &mut Client, push: &Push, line: &Line, output: &mut Outpu
     Ok(())
 }
 
-/// The columns of the nodes as they are now. A node that is gone has none.
+/// Returns the columns of the nodes as they are now. A node that is gone has no columns.
 fn columns_of(client: &mut Client, nodes: &[u64], columns: &[String]) -> Result<Vec<Row>, Failure> {
     let row = |node: &u64| {
         let mut attributes = match client.attributes(*node) {

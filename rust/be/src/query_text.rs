@@ -3,9 +3,9 @@
 /// What a token is.
 #[derive(Clone, Copy, Debug, PartialEq, Eq)]
 pub enum Form {
-    /// A date between `%`, where a value may be.
+    /// A date between `%`, at a position where a value may be.
     Date,
-    /// A text between quotes.
+    /// A string in quotes.
     Quoted,
     Word,
     /// An operator such as `==`.
@@ -14,7 +14,7 @@ pub enum Form {
     Sign,
 }
 
-/// A token, and the byte at which it begins.
+/// A token, and the byte offset at which it begins.
 #[derive(Clone, Copy, Debug, PartialEq, Eq)]
 pub struct Token<'a> {
     pub form: Form,
@@ -48,7 +48,7 @@ impl<'a> Token<'a> {
     }
 }
 
-/// The tokens of a text, up to the first character that begins none.
+/// Returns the tokens in a text, up to the first character that begins none.
 pub fn tokens(text: &str) -> Vec<Token<'_>> {
     let mut found: Vec<Token<'_>> = Vec::new();
     let mut at = 0;
@@ -67,7 +67,7 @@ pub fn tokens(text: &str) -> Vec<Token<'_>> {
     }
 }
 
-/// The form and the length of the token with which the text begins.
+/// Returns the form and the length of the token with which the text begins.
 fn first_token(text: &str, may_be_date: bool) -> Option<(Form, usize)> {
     let rest = text.get(1..).unwrap_or_default();
     match text.as_bytes() {
@@ -87,7 +87,7 @@ fn first_token(text: &str, may_be_date: bool) -> Option<(Form, usize)> {
     }
 }
 
-/// How many bytes come before the first such character. A backslash protects the next character.
+/// Returns how many bytes come before the first such character. A backslash protects the next character.
 fn length_until(text: &str, is_end: impl Fn(char) -> bool) -> Option<usize> {
     let mut characters = text.char_indices();
     while let Some((at, character)) = characters.next() {
@@ -100,13 +100,13 @@ fn length_until(text: &str, is_end: impl Fn(char) -> bool) -> Option<usize> {
     None
 }
 
-/// The length of a text, without a final backslash that protects nothing.
+/// Returns the length of a text, without a final backslash that protects nothing.
 fn whole_length(text: &str) -> usize {
     let backslashes = text.len() - text.trim_end_matches('\\').len();
     text.len() - backslashes % 2
 }
 
-/// The comparisons of a text that is a query, from left to right.
+/// Returns the comparisons in a text that is a query, from left to right.
 pub fn comparisons(text: &str) -> Vec<Comparison<'_>> {
     let tokens = tokens(text);
     let three = tokens.windows(3).filter_map(|tokens| match tokens {

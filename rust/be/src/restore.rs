@@ -15,7 +15,7 @@ const AHEAD: usize = 64;
 
 /// Writes a backup into the server, whose store has to be empty. If anybody else writes meanwhile, this fails.
 pub fn restore(client: &mut Client, line: &Line, output: &mut Output) -> Result<(), Failure> {
-    // All of it is read and checked before anything is written.
+    // The whole backup is read and checked before anything is written.
     let backup = saved::read_until(&line.file, &line.until.iter().copied().collect())?;
     let hello = client.hello()?;
     if hello.volumes as usize != backup.len() {
@@ -37,14 +37,14 @@ pub fn restore(client: &mut Client, line: &Line, output: &mut Output) -> Result<
     shown.print(&String::from_utf8_lossy(&file), line.json, output)
 }
 
-/// A batch that was sent, and whose reply is still to come.
+/// A batch that was sent, and whose reply hasn't come yet.
 struct Sent<'b> {
     id: u64,
     place: Place,
     batch: &'b Batch,
 }
 
-/// A volume that is written.
+/// A volume to write to.
 struct Restoring<'b, 'c> {
     client: &'c mut Client,
     volume: Option<u32>,

@@ -1,4 +1,4 @@
-//! The server: where it is, and what several commands ask it for.
+//! The server: where it is, and requests that several commands send it.
 
 use crate::command_line::ServerOptions;
 use crate::failure::{complain, message, Failure};
@@ -7,13 +7,13 @@ use bestore_client::{Client, Error, ErrorName, Options, SocketPath};
 use bestore_types::Batch;
 use std::collections::BTreeMap;
 
-/// How often a write is tried again if another client is writing.
+/// How often to retry a write if another client is writing.
 const TRIES: u32 = 100;
 
 /// The maximum number of operations in a batch.
 const OPERATIONS: usize = 64;
 
-/// How many snapshots a read is tried on.
+/// How many snapshots to try a read on.
 const SNAPSHOTS: u32 = 5;
 
 /// Connects to the server at the socket that the option names, or otherwise the environment.
@@ -23,8 +23,8 @@ pub fn connect(line: &ServerOptions) -> Result<Client, Failure> {
     Ok(client)
 }
 
-/// Connects like [`connect`], for a command that asks a few things and ends: it is served for a moment even when there is no place for
-/// another client.
+/// Connects like [`connect`], for a command that sends a few requests and ends: the server serves it for a moment even when there is no
+/// place for another client.
 pub fn visit(line: &ServerOptions) -> Result<Client, Failure> {
     match connect(line) {
         Err(Failure::Server(error)) if error.is(ErrorName::NoPass) => {
@@ -49,13 +49,13 @@ fn open(line: &ServerOptions) -> Result<Client, Failure> {
     }
 }
 
-/// The names of kinds by the names of the indices.
+/// Returns the names of kinds by the names of the indices.
 pub fn indices(client: &mut Client) -> Result<BTreeMap<String, String>, Error> {
     let read: Indices = client.call(Command::Indices(Nothing {}))?;
     Ok(read.indices)
 }
 
-/// Writes the batch, and tries again while another client is writing.
+/// Writes the batch, and retries while another client is writing.
 pub fn apply(client: &mut Client, batch: &Batch) -> Result<(), Error> {
     let mut left = TRIES;
     loop {
@@ -67,8 +67,8 @@ pub fn apply(client: &mut Client, batch: &Batch) -> Result<(), Error> {
     }
 }
 
-/// Writes an operation for each node, as many at a time as fit into a batch. If a batch is refused, its operations are
-/// written one by one, and refused ones are reported.
+/// Writes an operation for each node, with as many in a batch as fit. If a batch is refused, its operations are written individually, and
+/// refused ones are reported.
 pub fn apply_each(client: &mut Client, nodes: &[u64], add: impl Fn(&mut Batch, u64)) -> Result<(), Failure> {
     let mut all = true;
     for nodes in nodes.chunks(OPERATIONS) {
@@ -112,7 +112,7 @@ pub fn report(node: u64, why: &str) {
     complain(&format!("node {node}: {why}"));
 }
 
-/// Runs the closure while the client keeps one snapshot. If the server takes that back, the closure runs again on the next one.
+/// Runs the closure while the client keeps one snapshot. If the server takes the snapshot back, the closure runs again on the next one.
 pub fn pinned<T>(client: &mut Client, read: impl Fn(&mut Client) -> Result<T, Failure>) -> Result<T, Failure> {
     let mut left = SNAPSHOTS;
     loop {

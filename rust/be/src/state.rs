@@ -31,7 +31,7 @@ impl Shown {
         }
     }
 
-    /// Prints it after these words.
+    /// Prints the snapshot, preceded by these words.
     pub fn print(&self, what: &str, is_json: bool, output: &mut Output) -> Result<(), Failure> {
         match is_json {
             true => output.json(self),
@@ -45,13 +45,13 @@ impl Shown {
     }
 }
 
-/// The volumes of the server, as requests name them.
+/// Returns the volumes of the server, as requests name them.
 pub fn volumes(hello: &Hello) -> impl Iterator<Item = Option<u32>> {
     let count = hello.volumes;
     (0..count).map(move |volume| (count > 1).then_some(volume))
 }
 
-/// Hands each of the collected snapshot's batches for this volume to the closure. Returns the volume's numbers.
+/// Passes each of the collected snapshot's batches for this volume to the closure. Returns the volume's numbers.
 pub fn each_batch(
     client: &mut Client,
     volume: Option<u32>,

@@ -1,10 +1,10 @@
-//! A typed query, in the form that is sent to the server: dates between `%` become numbers. Errors are shown at their place in what
-//! was typed.
+//! A typed query, in the form that is sent to the server: dates between `%` become numbers. Errors are shown at their position in the typed
+//! text.
 
 use crate::dates::{span_of, Clock, NotADate, Span};
 use crate::query_text::{comparisons, Comparison, Form};
 
-/// A comparison with a date, and what is sent for it.
+/// A comparison with a date, and what is sent instead of it.
 #[derive(Debug)]
 struct Part {
     start: usize,
@@ -24,7 +24,7 @@ pub struct TypedQuery {
 #[derive(Debug)]
 pub struct BadDate {
     pub typed: String,
-    /// The byte of the typed text where it begins.
+    /// The byte offset in the typed text where the date begins.
     pub offset: usize,
     pub why: NotADate,
 }
@@ -60,7 +60,7 @@ impl TypedQuery {
         Ok(Self { typed, sent, parts })
     }
 
-    /// The byte of the typed text that a byte of the sent text comes from. For a date, it is the first byte of its comparison.
+    /// Returns the byte of the typed text that a byte of the sent text comes from. For a date, it is the first byte of its comparison.
     pub fn place_of(&self, mut offset: usize) -> usize {
         for part in &self.parts {
             if offset < part.start {
@@ -75,7 +75,7 @@ impl TypedQuery {
     }
 }
 
-/// The comparison with the time that a date means: it is after the date, before it, or within it.
+/// Returns the comparison with the time that a date means: after the date, before it, or within it.
 fn with_numbers(comparison: &Comparison<'_>, span: Span) -> String {
     let Span { begin, end } = span;
     let name = comparison.name.text;

@@ -1,11 +1,11 @@
-//! The tools load nothing of libbestore: they ask the server.
+//! The tools don't load libbestore: they ask the server.
 
 use crate::common::{server_program, Server, BE};
 use std::fs;
 use std::path::Path;
 use std::process::Command;
 
-/// Whether a program has the names of the library's calls, as one that is linked with it has, be it stripped or not.
+/// Whether a program has the names of the library's calls, as any program that is linked with it has, stripped or not.
 fn has_calls(program: &Path) -> bool {
     let bytes = fs::read(program).unwrap();
     let text = String::from_utf8_lossy(&bytes);

@@ -1,4 +1,4 @@
-//! Backups of servers, also while others write; what is restored from them; and what is refused.
+//! Backups of servers, even while others write; what is restored from them; and what is refused.
 
 use crate::common::{Said, Server};
 use bestore::saved::Options;
@@ -32,7 +32,7 @@ fn text(path: &Path) -> &str {
     path.to_str().unwrap()
 }
 
-/// Makes a backup, and returns what is said of it.
+/// Makes a backup, and returns what the tool says about it.
 fn back_up(server: &Server, path: &Path) -> Value {
     serde_json::from_str(&server.done(&["backup", "--json", text(path)])).unwrap()
 }
@@ -46,6 +46,16 @@ fn dump(server: &Server) -> (Value, String) {
 
 fn load(path: &Path) -> ShelfPass {
     Options::new().load(path).unwrap().pass().unwrap()
+}
+
+/// A server that keeps its store, with an index and three nodes, which are entries in the file.
+fn kept_with_entries() -> Option<Server> {
+    let server = Server::start_with(&["--keep", "kept"])?;
+    server.done(&["mkindex", "name"]);
+    for name in ["a", "b", "c"] {
+        server.done(&["addattr", "--new", "name", name]);
+    }
+    Some(server)
 }
 
 #[test]
@@ -117,12 +127,8 @@ fn what_is_no_backup_is_not_restored() {
 /// A server's own file has the entries since its state, whose nodes keep their numbers too.
 #[test]
 fn a_kept_file_with_entries_is_restored() {
-    let mut server = server!(Server::start_with(&["--keep", "kept"]));
-    server.done(&["mkindex", "name"]);
-    for name in ["a", "b", "c"] {
-        server.done(&["addattr", "--new", "name", name]);
-    }
-    // Opening it again writes the state; what comes then are entries.
+    let mut server = server!(kept_with_entries());
+    // Opening it again writes the state; everything after that is an entry.
     server.end();
     server.start_again();
     Client::connect(server.socket())
@@ -139,7 +145,7 @@ fn a_kept_file_with_entries_is_restored() {
     assert_eq!(restored.done(&["addattr", "--new", "name", "e"]), "5\n");
 }
 
-/// Makes a file one of the first format, whose rows have no checksums.
+/// Turns a file into one of the first format, whose rows have no checksums.
 const REMOVE_CHECKSUMS: &str = "
     ALTER TABLE about DROP COLUMN checksum;
     ALTER TABLE state DROP COLUMN checksum;
@@ -147,7 +153,7 @@ const REMOVE_CHECKSUMS: &str = "
     PRAGMA user_version = 1;
 ";
 
-/// Changes a backup of three nodes, which then is refused. Returns how many entries the server that should get it has.
+/// Changes a backup of three nodes, so that it is refused. Returns how many entries the server has that it was to be restored into.
 fn restore_changed(change: &str, why: &str) -> Option<u64> {
     let server = Server::with_three()?;
     let path = file(&server, "backup");
@@ -221,11 +227,7 @@ fn several_volumes_are_a_folder() {
 
 #[test]
 fn what_comes_before_a_damaged_entry_is_restored() {
-    let mut server = server!(Server::start_with(&["--keep", "kept"]));
-    server.done(&["mkindex", "name"]);
-    for name in ["a", "b", "c"] {
-        server.done(&["addattr", "--new", "name", name]);
-    }
+    let mut server = server!(kept_with_entries());
     server.end();
     let kept = file(&server, "kept");
     let damage =
@@ -249,7 +251,7 @@ fn what_comes_before_a_damaged_entry_is_restored() {
     assert_eq!(restored.done(&["query", "name==\"*\""]), "1\n");
 }
 
-/// What the clients that write know: how many of each one's writes were answered.
+/// What the writing clients know: how many writes of each were answered.
 #[derive(Default)]
 struct Writers {
     answered: [AtomicU64; WRITERS as usize],
@@ -266,7 +268,7 @@ impl Writers {
         client.apply(&batch).unwrap().number
     }
 
-    /// Counts in the writer's node, one more with each write.
+    /// Counts in the writer's node, by one with each write.
     fn write(&self, socket: &Path, node: u64) {
         let mut client = Client::connect(socket).unwrap();
         let answered = &self.answered[node as usize - 1];
@@ -277,7 +279,7 @@ impl Writers {
         }
     }
 
-    /// Makes a backup while they write: it is the state of the commit that it says, and has all that was answered before.
+    /// Makes a backup while they write: it is the state of the commit that it names, and has everything that was answered before.
     fn check_backup(&self, server: &Server, path: &Path, begin: u64) {
         let before: Vec<_> = self.answered.iter().map(|count| count.load(SeqCst)).collect();
         let about = back_up(server, path);

@@ -1,4 +1,4 @@
-//! A server that sends what is no protocol, and output that can't be written.
+//! A server that breaks the protocol, and output that can't be written.
 
 use crate::common::{Said, Server, BE};
 use std::fs::OpenOptions;

@@ -13,7 +13,7 @@ use std::sync::mpsc::{channel, Receiver};
 use std::thread;
 use std::time::{Duration, Instant};
 
-/// How long a change may take on a machine that has other things to do.
+/// How long a change may take on a busy machine.
 const WITHIN: Duration = Duration::from_secs(20);
 
 /// An import that follows its folder.
@@ -166,7 +166,7 @@ fn a_followed_file_keeps_its_node_when_an_editor_saves() {
         server.paths("size==18").len() == 1 && same(&server, &folder)
     });
     assert_eq!(server.value("mark", &folder.path("y")), "x");
-    // Names that change faster than they are read.
+    // Names that change faster than they can be read.
     for round in 0..200 {
         folder.rename("y", &format!("y{round}"));
         folder.rename(&format!("y{round}"), "y");
@@ -214,7 +214,7 @@ fn many_changes_at_once_are_followed() {
     soon("many changes", || same(&server, &folder));
     thread::sleep(Duration::from_millis(700));
     assert!(same(&server, &folder));
-    // All that is known is as it was followed.
+    // Everything that is known is as it was followed.
     let [new, _, _, removed] = server.import(&folder);
     assert_eq!((new, removed), (0, 0));
 }
@@ -260,7 +260,7 @@ fn a_follower_ends_if_its_folder_is_gone() {
     assert!(said.error.contains("is gone, and nothing was removed"), "{said:?}");
     assert_eq!(server.done(&["query", "--count", "name==\"*\""]), "2\n");
 
-    // Also while it waits for its server.
+    // The same while it waits for its server.
     folder.rename("other", "inner");
     let follower = Follower::start(&server, &inner);
     server.end();
@@ -288,7 +288,7 @@ fn a_follower_waits_for_its_server_and_catches_up() {
         let follower = Follower::start(&server, &folder);
         server.done(&["addattr", "mark", "x", &folder.word("renamed"), &folder.word("a/b")]);
         server.end();
-        // It notices that though nothing has changed in the folder.
+        // It notices that even if nothing has changed in the folder.
         follower.wait_until_it_says("the server closed the connection; waiting for the server");
         folder.file("changed", "more of it");
         folder.file("a/new", "");

@@ -1,14 +1,14 @@
-//! The lines of the guide and of the README do what these say.
+//! The lines of the guide and of the README do what the pages say.
 
 use crate::common::files::Folder;
 use crate::common::{server_program, Said, Server, BE};
 use std::io::Write;
 use std::process::{Command, Stdio};
 
-/// How often the lines of the README are pasted.
+/// How many times the lines of the README are pasted.
 const TIMES: usize = 50;
 
-/// A shell in a home folder, which finds the tools.
+/// A shell in a home folder that finds the tools.
 fn shell(home: &Folder) -> Command {
     let tools = std::path::Path::new(BE).parent().unwrap();
     let path = format!("{}:{}", tools.display(), std::env::var("PATH").unwrap_or_default());
@@ -24,7 +24,7 @@ fn run(server: &Server, home: &Folder, line: &str) -> Said {
     command.args(["-c", line]).output().unwrap().into()
 }
 
-/// Gives a shell all lines at once.
+/// Gives all lines to a shell together.
 fn paste(home: &Folder, lines: &str) -> Said {
     let mut command = shell(home);
     command
@@ -63,8 +63,8 @@ fn the_lines_of_the_readme_may_be_pasted_at_once() {
         return println!("be, the lines of the README: skipped, bestored isn't beside the tool");
     }
     let readme = include_str!("../../../README.md");
-    let (_, lines) = readme.split_once("**One store for several programs**").unwrap();
-    let (lines, _) = lines.split_once("**With the program").unwrap();
+    let (_, lines) = readme.split_once("**To share a store between programs**").unwrap();
+    let (lines, _) = lines.split_once("**The program `bestore`**").unwrap();
     let lines: Vec<&str> = lines.lines().filter_map(|line| line.strip_prefix("    ")).collect();
     assert_eq!(lines.len(), 5);
     for time in 0..TIMES {

@@ -138,7 +138,7 @@ fn what_a_user_has_set_stays_when_an_editor_saves() {
     folder.rename("a/.x.swp", "a/x.txt");
     assert_eq!(server.import(&folder)[0], 0);
     stays();
-    // Also if the other file has a node by then.
+    // Even if the other file has a node by then.
     folder.file("a/.x.swp", "saved again");
     server.import(&folder);
     folder.rename("a/.x.swp", "a/x.txt");
@@ -278,8 +278,8 @@ fn files_that_come_and_go_meanwhile_do_no_harm() {
     assert_eq!(server.paths("name==\"*\""), folder.paths());
 }
 
-/// Gives the path of a file a second node, as an import leaves it that a rename of another file onto this one has overtaken: one of
-/// the two nodes is that of a file which is gone. Returns the file's own node, and the other.
+/// Gives the path of a file a second node, as an import does when another file is renamed onto this one meanwhile: one of the two
+/// nodes belongs to a file that is gone. Returns the file's own node, and the other.
 fn double(server: &Server, folder: &Folder, name: &str, is_own_first: bool) -> [u64; 2] {
     let first = node_of(server, folder, name);
     let mut client = Client::connect(server.socket()).unwrap();
@@ -308,7 +308,7 @@ fn double(server: &Server, folder: &Folder, name: &str, is_own_first: bool) -> [
 fn of_two_nodes_at_one_path_one_is_removed() {
     let server = server!(Server::start());
     let folder = small();
-    // Which of the two nodes a user has set something at, and which of them stays.
+    // On which of the two nodes a user has set something, and which of them stays.
     let cases = [
         ([false, false], 0),
         ([true, false], 0),
@@ -386,7 +386,7 @@ fn a_store_that_is_full_says_what_would_help() {
             "be: the store is full: {files} files are in it, and {left} are not\n  bestored --pages 1024 has room for all\n"
         )
     );
-    // The store can still be written, and has room again once files went.
+    // The store can still be written, and has room again once files are gone.
     server.done(&["addattr", "mark", "x", &folder.word("a")]);
     let roomy = server!(Server::start_with(&["--pages", "1024"]));
     assert_eq!(roomy.import(&folder)[0], 506);
@@ -467,7 +467,7 @@ fn extended_attributes_are_read_and_written() {
     assert_eq!(server.paths("rating==5"), [file.clone()].into());
     assert_eq!(server.value("name", &file), "x.txt");
 
-    // What is set at the node is written into the file, and is no change at the next import.
+    // What is set on the node is written into the file, and doesn't count as a change at the next import.
     server.done(&["addattr", "-t", "int32", "rating", "3", &folder.word("a/x.txt")]);
     server.done(&["addattr", "mark", "x", &folder.word("a/b"), &folder.word("a/x.txt")]);
     let json = server.be(&["import", "--json", "--xattr", &folder.all()]).out;
@@ -556,7 +556,7 @@ fn mails_have_the_attributes_of_their_heads() {
         "From: =?iso-8859-1?q?J=FCrgen?= <j@example.org>\nTo: ann@example.org\nSubject: =?utf-8?b?R3LDvMOfZQ==?=\n\
                 Date: Fri, 27 Nov 2026 10:00:00 +0100\n\n";
     folder.file("cur/1:2,S", head);
-    // A mail of a size that no one reads as a whole.
+    // A mail that is too large to be read as a whole.
     let huge = File::create(folder.path("cur/2:2,")).unwrap();
     fs::write(folder.path("cur/2:2,"), head).unwrap();
     huge.set_len(1 << 40).unwrap();

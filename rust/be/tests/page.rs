@@ -59,13 +59,3 @@ fn the_completion_has_each_command_and_option() {
         }
     }
 }
-
-#[test]
-fn the_page_has_no_fault() {
-    let mut command = Command::new("mandoc");
-    command.args(["-T", "lint", "-W", "warning"]).arg(page());
-    match command.output() {
-        Ok(output) => assert!(output.status.success(), "{}", String::from_utf8_lossy(&output.stdout)),
-        Err(_) => println!("the page of be: skipped, there is no mandoc"),
-    }
-}

@@ -80,7 +80,7 @@ fn nodes_are_sorted_by_an_index_page_after_page() {
     server.done(&["rmnode", "1"]);
     let third = page(&["--after", second["cursor"].as_str().unwrap()]);
     assert_eq!((&third["nodes"], third.get("more")), (&vec![3].into(), None));
-    // Of those without a size there are none in the order of sizes.
+    // Nodes without a size aren't in the order of sizes.
     server.done(&["rmattr", "size", "3"]);
     assert_eq!(server.done(&["query", "--sort", "size", "name==*"]), "2\n");
 }
@@ -194,7 +194,7 @@ fn a_caret_shows_the_fault_of_a_query() {
     assert_eq!(lines[2].len(), lines[1].chars().count());
 }
 
-/// What the tool says about a query, in the time of Berlin.
+/// What the tool says about a query, with the clock in Berlin.
 fn said(server: &Server, words: &[&str]) -> Said {
     let mut command = server.command(&[&["query"], words].concat());
     command.env("TZ", "CET-1CEST,M3.5.0,M10.5.0/3").output().unwrap().into()
@@ -235,7 +235,7 @@ fn a_comparison_that_is_never_true_is_a_warning() {
     for query in ["size>1", "name>1.5 && other==1.5", "!(size==-1)"] {
         assert_eq!(said(&server, &[query]).error, "", "{query}");
     }
-    // A query that is refused has its error alone.
+    // A refused query gets only its error.
     assert_eq!(said(&server, &["size==x ||"]).error.lines().count(), 3);
     let mut command = server.command(&["query", "--watch", "size==x"]);
     let mut child = command.stderr(Stdio::piped()).spawn().unwrap();
@@ -282,7 +282,7 @@ fn dates_between_percent_signs_are_times() {
         error.contains("\n  kind==%2024%\n  ^\n  kind has no index\n"),
         "{error}"
     );
-    // Between quotes a percent sign is itself.
+    // In quotes a percent sign is just a character.
     server.done(&["addattr", "name", "%x%", "3"]);
     assert_eq!(said(&server, &["name==\"%x%\""]).out, "3\n");
 }

@@ -11,7 +11,7 @@ use std::path::Path;
 use std::process::{Child, Command, Stdio};
 use std::thread;
 
-/// A user who is neither the one of the tests nor root.
+/// A user who is neither the one who runs the tests nor root.
 const NOBODY: u32 = 65_534;
 
 /// The tool in an environment that names no server.
@@ -144,7 +144,7 @@ fn another_users_server_at_a_default_path_is_refused() {
         socket.display()
     );
     assert_eq!((found.status, found.error), (1, why));
-    // Who names the socket says whose server it is.
+    // Whoever names the socket chooses the server.
     let named = said(be(&["--socket"]).arg(&socket).arg("status"));
     assert_eq!((named.status, named.error.as_str()), (0, ""));
 }

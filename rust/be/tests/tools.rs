@@ -164,7 +164,7 @@ fn nodes_are_removed_with_their_attributes() {
     server.done(&["rmnode", "1"]);
     assert_eq!(server.done(&["query", "name==*"]), "2\n3\n");
     refused(&server, &["listattr", "1"], "be: node 1: there is no such node\n");
-    // One that is gone, or given twice, doesn't keep the others.
+    // One that is gone, or given twice, doesn't stop the others.
     refused(
         &server,
         &["rmnode", "2", "1", "2"],
@@ -373,7 +373,7 @@ fn the_tools_work_over_volumes() {
     let volumes: Vec<&str> = status.lines().filter(|line| line.starts_with("volume")).collect();
     assert_eq!(volumes.len(), 2, "{status}");
     assert!(volumes[1].contains("1024 pages, "), "{status}");
-    // These are in two volumes, so they are no single transaction.
+    // These are in two volumes, so they aren't a single transaction.
     server.done(&["rmattr", "size", &nodes[0], &nodes[19]]);
     server.done(&["rmnode", &nodes[1], &nodes[18]]);
     assert_eq!(server.done(&["query", "--count", "size==5"]), "16\n");

@@ -6,7 +6,7 @@ use bestore_types::{Batch, Kind, Node, Operation};
 use std::collections::BTreeMap;
 use std::time::Instant;
 
-/// What the closure of [`Client::change`] reads through, and the operations that it collects.
+/// A change in progress. The closure of [`Client::change`] reads through it, and collects operations in it.
 ///
 /// Reads see the pinned snapshot, and none of the collected operations.
 #[derive(Debug)]
@@ -16,30 +16,31 @@ pub struct Change<'a> {
     next: u64,
     /// The next node of each volume, if there are several.
     nexts: Vec<u64>,
-    /// The volume that the batch has to be in, if it is known.
+    /// The volume that the batch has to be in, if it is known yet.
     volume: Option<u32>,
     checks_kinds: bool,
 }
 
 impl Change<'_> {
-    /// The client, which is pinned: its reads see one snapshot.
+    /// Returns the client, which is pinned: its reads see one snapshot.
     pub fn client(&mut self) -> &mut Client {
         self.client
     }
 
-    /// The operations. Add to them, but make nodes only with [`new_node`](Self::new_node).
+    /// Returns the operations. Add to them, but make nodes only with [`new_node`](Self::new_node).
     pub fn batch(&mut self) -> &mut Batch {
         &mut self.batch
     }
 
-    /// Accepts values of any kind. Otherwise a value under an index of another kind is an error, since no query would find it.
+    /// Accepts values of any kind. Without this call, setting a value whose kind differs from its index's kind is an error, since no query
+    /// would find the value.
     pub fn any_kind(&mut self) -> &mut Self {
         self.checks_kinds = false;
         self
     }
 
-    /// From now on, makes nodes in this volume instead of the one with the most free pages. A batch has one volume, so call this
-    /// before the first [`new_node`](Self::new_node). A volume that doesn't exist is refused when the change is written.
+    /// From now on, makes nodes in this volume instead of the volume with the most free pages. A batch has one volume, so call this before
+    /// the first [`new_node`](Self::new_node). If the volume doesn't exist, writing the change fails.
     pub fn in_volume(&mut self, volume: u32) -> &mut Self {
         if let Some(next) = self.nexts.get(volume as usize) {
             self.next = *next;
@@ -61,16 +62,16 @@ impl Change<'_> {
 }
 
 impl Client {
-    /// Reads and writes as one: runs the closure on the current snapshot, and writes the operations that it collects if no
-    /// other write came between. Otherwise it runs the closure again, up to 1,000 times.
+    /// Reads and writes atomically: runs the closure on the current snapshot, and writes the operations that it collects if there was no
+    /// other write in between. Otherwise it runs the closure again, up to 1,000 times.
     ///
-    /// If the server has several volumes, the operations are in one of them, and no other write came between there. What the closure
-    /// reads of other volumes may have changed.
+    /// If the server has several volumes, all operations are in one volume, and there was no other write to that volume in between. Data
+    /// that the closure reads from other volumes may have changed.
     ///
-    /// If an attribute is set, this asks the server which indices there are, which takes one more request.
+    /// If an attribute is set, this call asks the server for its indices, which takes one more request.
     ///
     /// # Errors
-    /// Those of the closure; [`Error::KindMismatch`], if an attribute's kind isn't that of its name's index, unless the closure has
+    /// The closure's errors; [`Error::KindMismatch`] if an attribute has a kind that its name's index doesn't take, unless the closure has
     /// called [`any_kind`](Change::any_kind); [`Error::Refused`].
     pub fn change<T>(&mut self, mut change: impl FnMut(&mut Change<'_>) -> Result<T>) -> Result<T> {
         let mut left = 1_000_u32;
@@ -78,7 +79,7 @@ impl Client {
         loop {
             match self.try_change(&mut change, until) {
                 Err(error) if error.is(ErrorName::Conflict) && left > 0 => left -= 1,
-                // A write is sent again until that time, so what fails earlier has written nothing.
+                // A write is sent again until that time, so a failure before then means that nothing was written.
                 Err(error) if self.may_repeat(&error, until) => {}
                 answer => return answer,
             }
@@ -127,14 +128,14 @@ impl Client {
             _ => Ok(None),
         };
         match self.unpin_quietly() {
-            // If this fails, the connection's next call says so. The write has been made.
+            // If this fails, the connection's next call reports it. The write has been made.
             Err(error) if matches!(written, Ok(Some(_))) && error.refusal().is_none() => {}
             unpinned => unpinned?,
         }
         value.and_then(|value| written.map(|_| value))
     }
 
-    /// Fails if the batch sets an attribute whose kind isn't the one that its name's index takes by then.
+    /// Fails if the batch sets an attribute of a kind that the index of that name doesn't take by then.
     fn check_kinds(&mut self, batch: &Batch) -> Result<()> {
         if !batch
             .operations()
@@ -165,7 +166,7 @@ impl Client {
         Ok(())
     }
 
-    /// Unpins. It isn't an error if the closure has done so, or if the server took the snapshot back.
+    /// Unpins. It isn't an error if the closure has already unpinned, or if the server took the snapshot back.
     fn unpin_quietly(&mut self) -> Result<()> {
         match self.unpin() {
             Err(error) if error.is(ErrorName::NotPinned) => Ok(()),

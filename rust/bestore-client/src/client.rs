@@ -18,15 +18,15 @@ use std::time::{Duration, Instant};
 /// The maximum number of bytes in a line from the server.
 const LINE: usize = 2 << 20;
 
-/// How long a command waits on the server by default, and at most.
+/// How long a command waits in the server by default, and at most.
 const WITHIN: Duration = Duration::from_secs(5);
 const MOST_WITHIN: Duration = Duration::from_secs(60);
 
-/// A connection, which has a pass of the server's store.
+/// A connection to the server. It has its own pass of the server's store.
 #[derive(Debug)]
 pub struct Client {
     stream: UnixStream,
-    /// The socket of the server, to connect again.
+    /// The socket of the server, for connecting again.
     pub(crate) socket: Option<SocketPath>,
     /// The server's run, once the server has named it.
     pub(crate) run: Option<String>,
@@ -36,25 +36,25 @@ pub struct Client {
     pub(crate) options: Options,
     last: u64,
     received: Vec<u8>,
-    /// How many of the received bytes have been searched and have no end of a line.
+    /// How many of the received bytes have been searched without finding the end of a line.
     searched: usize,
     pushes: Pushes,
-    /// How long the server may wait before it replies, of each such request.
+    /// How long each request may wait in the server, for requests that may wait.
     waits: BTreeMap<u64, Duration>,
-    /// The queries of requests whose replies haven't come.
+    /// The queries in requests whose replies haven't come yet.
     queries: BTreeMap<u64, String>,
-    /// The features that the server has named.
+    /// The features that the server has listed.
     features: Vec<String>,
-    /// Whether a call has timed out. What the server sends after that belongs to no call.
+    /// Whether a call has timed out. What the server sends afterwards doesn't belong to any call.
     is_over: bool,
 }
 
-/// A query, and what the reply should have besides the nodes: for [`Client::hits`].
+/// A query, and what the reply should contain besides the nodes. For [`Client::hits`].
 #[derive(Clone, Copy, Debug, Default)]
 pub struct Query<'a> {
     /// The text of the query.
     pub text: &'a str,
-    /// The attributes of each node that are wanted.
+    /// The attributes to return for each node.
     pub columns: &'a [&'a str],
     /// The maximum number of nodes.
     pub limit: Option<u64>,
@@ -64,7 +64,7 @@ pub struct Query<'a> {
     pub uncounted: bool,
 }
 
-/// A line of the server, whose result is read later.
+/// A line from the server, whose result is read later.
 #[derive(Deserialize)]
 struct Line<'a> {
     #[serde(default)]
@@ -87,7 +87,7 @@ fn wait_of(command: &Command<'_>) -> Option<Duration> {
     Some(within.map_or(WITHIN, Duration::from_millis).min(MOST_WITHIN))
 }
 
-/// The text of the query that is sent to the server.
+/// Returns the text of the query that is sent to the server.
 fn query_of<'a>(command: &'a Command<'_>) -> Option<&'a str> {
     match command {
         Command::Query(wire::Query { query, .. }) => Some(query),
@@ -101,28 +101,29 @@ fn bad(error: impl std::fmt::Display) -> Error {
     Error::BadLine(error.to_string())
 }
 
-/// The socket, to be polled along with other files. It is readable once the server has sent something or closed the connection.
+/// Gives access to the socket, so that you can poll it along with other files. It is readable once the server has sent something or closed
+/// the connection.
 impl AsRawFd for Client {
     fn as_raw_fd(&self) -> RawFd {
         self.stream.as_raw_fd()
     }
 }
 
-/// Reads a line that isn't the reply to a request: a push, or why the server closes the connection.
+/// Reads a line that isn't the reply to a request: a push, or the server's reason for closing the connection.
 fn pushed(line: &[u8]) -> Result<Push> {
     let read: Line<'_> = serde_json::from_slice(line).map_err(bad)?;
     match (read.watch, read.id, read.error) {
         (None, None, Some(refusal)) => Err(Error::Refused(refusal)),
         (Some(_), ..) => serde_json::from_slice(line).map_err(bad),
-        _ => Err(bad("the reply belongs to no request")),
+        _ => Err(bad("the reply doesn't belong to a request")),
     }
 }
 
 impl Client {
-    /// Connects to the server at this socket, whoever runs it. A reply may take a minute; [`Options`] sets another time.
+    /// Connects to the server at this socket, no matter who runs it. A reply may take a minute; [`Options`] sets another timeout.
     ///
     /// # Errors
-    /// Those of [`Options::connect`].
+    /// The same as [`Options::connect`].
     pub fn connect(path: impl AsRef<Path>) -> Result<Self> {
         Options::new().connect(path.as_ref())
     }
@@ -130,7 +131,7 @@ impl Client {
     /// Connects to the server that [`SocketPath::find`] finds.
     ///
     /// # Errors
-    /// Those of [`Options::connect`].
+    /// The same as [`Options::connect`].
     pub fn connect_default() -> Result<Self> {
         Options::new().connect(SocketPath::find(None))
     }
@@ -154,7 +155,7 @@ impl Client {
         }
     }
 
-    /// Continues on the connection of another client.
+    /// Takes over the connection of another client.
     pub(crate) fn continue_as(&mut self, other: Client) {
         *self = Client {
             last: self.last,
@@ -172,7 +173,7 @@ impl Client {
         self.receive(id)
     }
 
-    /// Sends a command. [`receive`](Self::receive) receives its reply, after those of earlier ones.
+    /// Sends a command. [`receive`](Self::receive) receives its reply, after the replies to earlier commands.
     ///
     /// # Errors
     /// [`Error::Io`], [`Error::TimedOut`], and [`Error::Closed`] after a call that timed out.
@@ -204,7 +205,7 @@ impl Client {
         }
     }
 
-    /// The error of a write. Nothing can follow part of a line.
+    /// Returns the error for a failed write. Nothing can follow part of a line.
     fn failed(&mut self, error: io::Error) -> Error {
         let error = self.options.late_or(error);
         if matches!(error, Error::TimedOut(_)) {
@@ -223,7 +224,7 @@ impl Client {
     /// Receives the reply to the request with this number, which is the oldest one without a reply.
     ///
     /// # Errors
-    /// Those of [`call`](Self::call).
+    /// The same as [`call`](Self::call).
     pub fn receive<T: DeserializeOwned>(&mut self, id: u64) -> Result<T> {
         let query = self.queries.remove(&id);
         self.receive_any(id).map_err(|error| match error {
@@ -252,7 +253,7 @@ impl Client {
         }
     }
 
-    /// Reads a line. `None`: it was a push.
+    /// Reads a line. Returns `None` if it was a push.
     fn reply<T: DeserializeOwned>(&mut self, id: u64, end: usize) -> Result<Option<Result<T>>> {
         let line: Line<'_> = serde_json::from_slice(&self.received[..end]).map_err(bad)?;
         if line.watch.is_some() {
@@ -267,7 +268,7 @@ impl Client {
         }
     }
 
-    /// The length of the next line, once it is received. `None` when the time is up.
+    /// Returns the length of the next line once it is received, or `None` when the time is up.
     fn read_line(&mut self, until: Option<Instant>) -> Result<Option<usize>> {
         loop {
             let unseen = &self.received[self.searched..];
@@ -315,11 +316,11 @@ impl Client {
         }
     }
 
-    /// The next line that is pushed for a live query, if one comes within the time. Lines that come while another call waits for its
-    /// reply are kept up to [`Options::most_pushed`]. A push with an `error` is the last one of its live query.
+    /// Returns the next line pushed for a live query, if one comes within the time. Lines that come while another call waits for its reply
+    /// are kept, up to [`Options::most_pushed`]. A push with an `error` is the last one of its live query.
     ///
     /// # Errors
-    /// [`Error::Refused`]: the server says why it closes the connection. [`Error::Io`], [`Error::Closed`], [`Error::BadLine`].
+    /// [`Error::Refused`]: the server's reason for closing the connection. [`Error::Io`], [`Error::Closed`], [`Error::BadLine`].
     pub fn next_push(&mut self, within: Duration) -> Result<Option<Push>> {
         if let Some(push) = self.pushes.take() {
             return Ok(Some(push));
@@ -336,20 +337,20 @@ impl Client {
         Ok(None)
     }
 
-    /// Versions and limits of the server.
+    /// Returns the versions and limits of the server.
     ///
     /// # Errors
-    /// Those of [`call`](Self::call), like all calls below.
+    /// The same as [`call`](Self::call), like all calls below.
     pub fn hello(&mut self) -> Result<wire::Hello> {
         self.greet(false)
     }
 
-    /// Like [`hello`](Self::hello), for a client that asks a few things and leaves. As the first request, it gets the client a place
-    /// even when all others are taken: for 2 seconds, or until it sends nothing for a quarter of a second. Such a client can't wait
-    /// for commits or begin a live query.
+    /// Like [`hello`](Self::hello), for a client that sends a few requests and leaves. As the first request, it lets the client in even
+    /// when all places are taken: for 2 seconds, or until it sends nothing for a quarter of a second. Such a client can't wait for commits
+    /// or begin a live query.
     ///
     /// # Errors
-    /// Those of `call`.
+    /// The same as `call`.
     pub fn visit(&mut self) -> Result<wire::Hello> {
         self.greet(true)
     }
@@ -363,8 +364,7 @@ impl Client {
         Ok(self.greeted(hello))
     }
 
-    /// Whether the server has named this in the reply to [`hello`](Self::hello): one of its `features`, such
-    /// as `by` for pages in an order.
+    /// Returns whether the server's reply to [`hello`](Self::hello) lists this among its `features`, such as `by` for pages in an order.
     #[must_use]
     pub fn has(&self, feature: &str) -> bool {
         self.features.iter().any(|it| it == feature)
@@ -373,24 +373,24 @@ impl Client {
     /// Writes all operations of the batch or none.
     ///
     /// # Errors
-    /// Those of `call`.
+    /// The same as `call`.
     pub fn apply(&mut self, batch: &Batch) -> Result<Written> {
         self.write(batch, None, None)
     }
 
-    /// Writes like [`apply`](Self::apply), but only if the journal has exactly `expected` entries. Otherwise the error is `Conflict`.
+    /// Writes like [`apply`](Self::apply), but only if the journal has exactly `expected` entries. If it doesn't, the error is `Conflict`.
     ///
     /// # Errors
-    /// Those of `call`.
+    /// The same as `call`.
     pub fn apply_if(&mut self, expected: u64, batch: &Batch) -> Result<Written> {
         self.write(batch, Some(Numbers::One(expected)), None)
     }
 
-    /// Writes like [`apply`](Self::apply), in this volume of a server that has several. Without a volume it is that of the nodes that
-    /// the batch names, or the one with the most free pages. The returned commit number is the volume's.
+    /// Writes like [`apply`](Self::apply), but in this volume of a server that has several. Without a volume, the batch goes to the volume
+    /// of the nodes that it names, or to the volume with the most free pages. The returned commit number is the volume's.
     ///
     /// # Errors
-    /// Those of `call`.
+    /// The same as `call`.
     pub fn apply_in(&mut self, volume: u32, batch: &Batch) -> Result<Written> {
         self.write(batch, None, Some(volume))
     }
@@ -398,7 +398,7 @@ impl Client {
     /// Writes like [`apply_in`](Self::apply_in), but only if the volume's journal has exactly `expected` entries.
     ///
     /// # Errors
-    /// Those of `call`.
+    /// The same as `call`.
     pub fn apply_in_if(&mut self, volume: u32, expected: u64, batch: &Batch) -> Result<Written> {
         self.write(batch, Some(Numbers::One(expected)), Some(volume))
     }
@@ -419,12 +419,12 @@ impl Client {
         })
     }
 
-    /// Waits up to this time until the journal of each volume has at least this many entries: one number for a server with one volume.
-    /// Later reads of the current snapshot include them. Otherwise, or once the server has to take back a pinned snapshot, the
-    /// error is `NotReached`.
+    /// Waits up to this time until the journal of each volume has at least this many entries. A server with one volume takes one number.
+    /// Later reads of the current snapshot include the entries. If they don't come in time, or if the server has to take back a pinned
+    /// snapshot, the error is `NotReached`.
     ///
     /// # Errors
-    /// Those of `call`.
+    /// The same as `call`.
     pub fn reach(&mut self, numbers: &[u64], within: Duration) -> Result<wire::Commit> {
         self.call(Command::Reach(wire::Reach {
             commit: match numbers {
@@ -435,18 +435,18 @@ impl Client {
         }))
     }
 
-    /// Keeps the current snapshot for reads, until [`unpin`](Self::unpin).
+    /// Pins the current snapshot for reads, until [`unpin`](Self::unpin).
     ///
     /// # Errors
-    /// Those of `call`.
+    /// The same as `call`.
     pub fn pin(&mut self) -> Result<wire::Next> {
         self.call(Command::Pin(Nothing {}))
     }
 
-    /// The number of the pinned snapshot, or of the current one if none is pinned, and that of the next node.
+    /// Returns the number of the pinned snapshot, or of the current snapshot if none is pinned, and the number of the next node.
     ///
     /// # Errors
-    /// Those of `call`.
+    /// The same as `call`.
     pub fn next_node(&mut self) -> Result<wire::Next> {
         self.call(Command::Next(Nothing {}))
     }
@@ -454,7 +454,7 @@ impl Client {
     /// Makes the server copy the snapshot, so that the command `state` can read it without a pin.
     ///
     /// # Errors
-    /// Those of `call`.
+    /// The same as `call`.
     pub fn collect(&mut self) -> Result<wire::Next> {
         self.call(Command::Collect(Nothing {}))
     }
@@ -462,36 +462,36 @@ impl Client {
     /// Unpins the snapshot.
     ///
     /// # Errors
-    /// Those of `call`.
+    /// The same as `call`.
     pub fn unpin(&mut self) -> Result<()> {
         self.call::<Nothing>(Command::Unpin(Nothing {})).map(drop)
     }
 
-    /// An attribute, or `None` if the node or the attribute doesn't exist.
+    /// Returns an attribute, or `None` if the node or the attribute doesn't exist.
     ///
     /// # Errors
-    /// Those of `call`.
+    /// The same as `call`.
     pub fn get(&mut self, node: u64, name: &str) -> Result<Option<Value>> {
         let name = name.into();
         let read: wire::Value = self.call(Command::Get(wire::Get { node, name }))?;
         Ok(read.value.map(|value| value.0))
     }
 
-    /// The attributes of a node.
+    /// Returns the attributes of a node.
     ///
     /// # Errors
-    /// Those of `call`.
+    /// The same as `call`.
     pub fn attributes(&mut self, node: u64) -> Result<BTreeMap<String, Value>> {
         let read: wire::Attributes = self.call(Command::Attributes(wire::Node { node }))?;
         let attributes = read.attributes.into_iter();
         Ok(attributes.map(|(name, Json(value))| (name, value)).collect())
     }
 
-    /// All nodes that the query finds, ascending. If they take more than one page, they come from one snapshot only if the client is
-    /// pinned.
+    /// Returns all nodes that the query finds, in ascending order. If they take more than one page, they come from one snapshot only if the
+    /// client is pinned.
     ///
     /// # Errors
-    /// Those of `call`.
+    /// The same as `call`.
     pub fn query(&mut self, text: &str) -> Result<Vec<u64>> {
         let mut found = Vec::new();
         let mut query = Query {
@@ -508,10 +508,10 @@ impl Client {
         }
     }
 
-    /// A page of what a query finds, with columns.
+    /// Returns a page of the nodes that a query finds, with columns.
     ///
     /// # Errors
-    /// Those of `call`.
+    /// The same as `call`.
     pub fn hits(&mut self, query: Query<'_>) -> Result<wire::Hits> {
         let columns: Vec<_> = query.columns.iter().map(|name| Cow::from(*name)).collect();
         self.call(Command::Query(wire::Query {
@@ -524,10 +524,10 @@ impl Client {
         }))
     }
 
-    /// How many nodes the query finds.
+    /// Returns how many nodes the query finds.
     ///
     /// # Errors
-    /// Those of `call`.
+    /// The same as `call`.
     pub fn count(&mut self, text: &str) -> Result<u64> {
         let hits: wire::Hits = self.call(Command::Query(wire::Query {
             query: text.into(),
@@ -540,17 +540,17 @@ impl Client {
     /// Begins a live query; [`next_push`](Self::next_push) returns its changes. Without a query, every commit is pushed.
     ///
     /// # Errors
-    /// Those of `call`.
+    /// The same as `call`.
     pub fn watch(&mut self, query: Option<&str>) -> Result<wire::Watched> {
         let query = query.map(Cow::from);
         self.call(Command::Watch(wire::Watch { query }))
     }
 
-    /// Runs a live query now, or in the pinned snapshot, and returns what changed since the last line of the watch. Any pushes
-    /// that [`next_push`](Self::next_push) hasn't returned yet come before it. With `more`, call it again for the rest.
+    /// Runs a live query now, or in the pinned snapshot, and returns what changed since the last line of the watch. Pushes that
+    /// [`next_push`](Self::next_push) hasn't returned yet come before that line. If `more` is set, call it again for the rest.
     ///
     /// # Errors
-    /// Those of `call`.
+    /// The same as `call`.
     pub fn refresh(&mut self, watch: u64) -> Result<Push> {
         self.call(Command::Refresh(wire::Watching { watch }))
     }
@@ -558,58 +558,58 @@ impl Client {
     /// Ends a live query. Earlier pushes may still be waiting.
     ///
     /// # Errors
-    /// Those of `call`.
+    /// The same as `call`.
     pub fn unwatch(&mut self, watch: u64) -> Result<()> {
         let command = Command::Unwatch(wire::Watching { watch });
         self.call::<Nothing>(command).map(drop)
     }
 
-    /// How full the store is.
+    /// Returns how full the store is.
     ///
     /// # Errors
-    /// Those of `call`.
+    /// The same as `call`.
     pub fn status(&mut self) -> Result<wire::Status> {
         self.call(Command::Status(Nothing {}))
     }
 
-    /// What the server is doing.
+    /// Returns what the server is doing.
     ///
     /// # Errors
-    /// Those of `call`.
+    /// The same as `call`.
     pub fn info(&mut self) -> Result<wire::Info> {
         self.call(Command::Info(Nothing {}))
     }
 
-    /// Who is connected.
+    /// Returns the clients that are connected.
     ///
     /// # Errors
-    /// Those of `call`.
+    /// The same as `call`.
     pub fn clients(&mut self) -> Result<Vec<wire::ClientInfo>> {
         let read: wire::Clients = self.call(Command::Clients(Nothing {}))?;
         Ok(read.clients)
     }
 
-    /// Ends the connection of the client with this number, which [`clients`](Self::clients) lists. Its snapshot is unpinned, and a
-    /// write that it has sent may still be made.
+    /// Ends the connection of the client with this number, as listed by [`clients`](Self::clients). Its snapshot is unpinned. A write that
+    /// the client has sent may still be made.
     ///
     /// # Errors
-    /// Those of `call`; `NoClient`.
+    /// The same as `call`; `NoClient`.
     pub fn kick(&mut self, client: u64) -> Result<()> {
         self.call::<Nothing>(Command::Kick(wire::Kick { client })).map(drop)
     }
 
-    /// What the server is doing in the log that machines share.
+    /// Returns what the server is doing in the log that machines share.
     ///
     /// # Errors
-    /// Those of `call`; `NoLog` if there is no such log.
+    /// The same as `call`; `NoLog` if there is no such log.
     pub fn log(&mut self) -> Result<wire::LogStatus> {
         self.call(Command::Log(wire::OfLog::default()))
     }
 
-    /// Waits until the server has this entry of the log that machines share. Reads after it see at least that entry.
+    /// Waits until the server has this entry of the log that machines share. Later reads see at least that entry.
     ///
     /// # Errors
-    /// Those of `call`; `NotReached` when the time is up, which is a minute at most; `NoLog`; `Pinned`.
+    /// The same as `call`; `NotReached` when the time is up, which is a minute at most; `NoLog`; `Pinned`.
     pub fn wait_for_entry(&mut self, entry: u64, within: Duration) -> Result<wire::LogStatus> {
         self.call(Command::Log(wire::OfLog {
             entry: Some(entry),
@@ -617,10 +617,10 @@ impl Client {
         }))
     }
 
-    /// A page of the journal, from the entry with this index on.
+    /// Returns a page of the journal, starting at the entry with this index.
     ///
     /// # Errors
-    /// Those of `call`.
+    /// The same as `call`.
     pub fn journal_from(&mut self, from: u64) -> Result<wire::Journal> {
         self.call(Command::Journal(wire::JournalFrom {
             from,
@@ -628,10 +628,10 @@ impl Client {
         }))
     }
 
-    /// The same for this volume, which has to be given if the server has several.
+    /// Like [`journal_from`](Self::journal_from), for this volume. If the server has several volumes, you have to give one.
     ///
     /// # Errors
-    /// Those of `call`.
+    /// The same as `call`.
     pub fn journal_of(&mut self, volume: u32, from: u64) -> Result<wire::Journal> {
         self.call(Command::Journal(wire::JournalFrom {
             from,
@@ -646,7 +646,7 @@ mod tests {
     use super::*;
     use crate::ErrorName;
 
-    /// A client whose server sends these lines.
+    /// Returns a client whose server sends these lines.
     fn client_of(lines: &str) -> (UnixStream, Client) {
         let (stream, mut server) = UnixStream::pair().unwrap();
         server.write_all(lines.as_bytes()).unwrap();

@@ -6,7 +6,7 @@ use std::path::PathBuf;
 use std::time::Duration;
 use std::{fmt, io};
 
-/// The result of a call of this crate.
+/// The result of a call in this crate.
 pub type Result<T> = std::result::Result<T, Error>;
 
 /// Why a call failed.
@@ -44,7 +44,7 @@ pub enum Error {
 }
 
 impl Error {
-    /// The server's refusal, if this is one.
+    /// Returns the server's refusal, if this is one.
     #[must_use]
     pub fn refusal(&self) -> Option<&Refusal> {
         match self {
@@ -53,7 +53,7 @@ impl Error {
         }
     }
 
-    /// Whether the server refused the request with this error.
+    /// Returns whether the server refused the request with this error.
     ///
     /// ```
     /// use bestore_client::wire::{ErrorName, Refusal};
@@ -65,7 +65,7 @@ impl Error {
         self.refusal().map_or(false, |refusal| refusal.name == name)
     }
 
-    /// What a program can do about the error.
+    /// Returns what a program can do about the error.
     #[must_use]
     pub fn class(&self) -> Class {
         match self {

@@ -1,14 +1,14 @@
-//! What a client does about indices with several requests.
+//! What a client does with indices that takes several requests.
 
 use crate::wire::{self, Command, ErrorName, Form, Nothing, Refusal};
 use crate::{Client, Error, Result};
 use bestore_types::{all_in, Hint, Kind, Node, Value};
 use std::collections::BTreeMap;
 
-/// The maximum number of operations in a batch, and of requests for nodes before the first reply is read.
+/// The maximum number of operations in a batch, and of requests for nodes that are sent before the first reply is read.
 const OPERATIONS: usize = 64;
 
-/// How many of these ascending nodes can be in one batch: those in the volume of the first one.
+/// Returns how many of these ascending nodes can be in one batch: those in the same volume as the first node.
 fn of_a_batch(nodes: &[u64]) -> usize {
     let volume = |node: &u64| Node::from(*node).volume;
     let first = nodes.first().map(volume);
@@ -20,10 +20,10 @@ fn of_a_batch(nodes: &[u64]) -> usize {
 }
 
 impl Client {
-    /// The indices with their kinds.
+    /// Returns the indices with their kinds.
     ///
     /// # Errors
-    /// Those of [`call`](Self::call).
+    /// The same as [`call`](Self::call).
     pub fn indices(&mut self) -> Result<BTreeMap<String, Kind>> {
         let read: wire::Indices = self.call(Command::Indices(Nothing {}))?;
         let named = read.indices.into_iter();
@@ -38,30 +38,30 @@ impl Client {
             .ok_or_else(|| Error::Refused(Refusal::new(ErrorName::NoIndex, format!("there is no index {name:?}"))))
     }
 
-    /// How many pairs of a value and a node the index of this name has.
+    /// Returns how many pairs of a value and a node the index of this name has.
     ///
     /// # Errors
-    /// `NoIndex`; otherwise as [`call`](Self::call).
+    /// `NoIndex`; otherwise the same as [`call`](Self::call).
     pub fn pairs(&mut self, name: &str) -> Result<u64> {
         let kind = self.index(name)?;
         self.count(&all_in(name, kind))
     }
 
-    /// The comparisons of a query, from left to right. The server reads only the text, and nothing in its store.
+    /// Returns the comparisons in a query, from left to right. The server reads only the text, and nothing in its store.
     ///
     /// # Errors
-    /// `Syntax`, `BadPattern`, `TooLong`, `TooDeep` or `TooMany`: the text isn't a query. `BadRequest`: the server is older,
-    /// and doesn't [have](Self::has) `text`. Otherwise as [`call`](Self::call).
+    /// `Syntax`, `BadPattern`, `TooLong`, `TooDeep` or `TooMany`: the text isn't a query. `BadRequest`: the server is older, and doesn't
+    /// [have](Self::has) `text`. Otherwise the same as [`call`](Self::call).
     pub fn comparisons(&mut self, query: &str) -> Result<Vec<wire::Comparison>> {
         let query = query.into();
         let read: wire::Comparisons = self.call(Command::Text(wire::QueryText { query }))?;
         Ok(read.comparisons)
     }
 
-    /// The comparisons of a query that are never true with the indices of the store, such as `size>1.5`.
+    /// Returns the comparisons in a query that are never true with the store's indices, such as `size>1.5`.
     ///
     /// # Errors
-    /// Those of [`comparisons`](Self::comparisons).
+    /// The same as [`comparisons`](Self::comparisons).
     pub fn hints(&mut self, query: &str) -> Result<Vec<Hint>> {
         let compared = self.comparisons(query)?;
         if compared.iter().all(|one| one.never.is_empty()) {
@@ -81,11 +81,11 @@ impl Client {
         Ok(compared.into_iter().filter_map(hint).collect())
     }
 
-    /// Sets the attributes that the index of this name lacks, because they were set before it was made, to the same values again. Each
-    /// change sets up to 64 of them, so no newer value is lost. Returns how many were set. Reads each node that isn't in the index.
+    /// Sets attributes that the index of this name lacks, because they were set before it was made, to the same values again. Each change
+    /// sets up to 64 attributes, so no newer value is lost. Returns how many were set. It reads each node that isn't in the index.
     ///
     /// # Errors
-    /// `NoIndex`; otherwise as [`change`](Self::change).
+    /// `NoIndex`; otherwise the same as [`change`](Self::change).
     pub fn reindex(&mut self, name: &str) -> Result<u64> {
         let kind = self.index(name)?;
         let lacking = self.not_indexed(name, kind)?;
@@ -104,7 +104,7 @@ impl Client {
         Ok(set)
     }
 
-    /// The nodes with an attribute of this name and kind that the index of the name lacks.
+    /// Returns the nodes that have an attribute of this name and kind but aren't in the index of that name.
     fn not_indexed(&mut self, name: &str, kind: Kind) -> Result<Vec<u64>> {
         let held = self.query(&all_in(name, kind))?;
         let (mut lacking, mut from) = (Vec::new(), Some(0));
@@ -126,7 +126,8 @@ impl Client {
         Ok(lacking)
     }
 
-    /// These nodes' attributes of this name, if they are of this kind. All requests are sent before the first reply is read.
+    /// Returns these nodes' attributes of this name, if the attributes are of this kind. All requests are sent before the first reply is
+    /// read.
     fn values_of(&mut self, nodes: &[u64], name: &str, kind: Kind) -> Result<Vec<(u64, Value)>> {
         let mut asked = Vec::with_capacity(nodes.len());
         for &node in nodes {

@@ -11,10 +11,10 @@ const TIMEOUT: Duration = Duration::from_secs(60);
 /// How many bytes of pushed lines are kept by default.
 const PUSHED: usize = 64 << 20;
 
-/// How often to try again if a server isn't there yet.
+/// How often to retry connecting while the server isn't there yet.
 const AGAIN: Duration = Duration::from_millis(10);
 
-/// How a client connects, and how long it waits.
+/// Options for connecting a client, and how long it waits.
 ///
 /// ```no_run
 /// use bestore_client::{Options, SocketPath};
@@ -46,15 +46,15 @@ impl Default for Options {
 }
 
 impl Options {
-    /// The defaults of each call below.
+    /// Returns the default options.
     #[must_use]
     pub fn new() -> Self {
         Self::default()
     }
 
-    /// Sets how long connecting and each reply may take: a minute by default, and forever with `None`. A command that waits on the
-    /// server, such as [`Client::reach`], gets that time on top. When the time is up the call fails with [`Error::TimedOut`], and the
-    /// connection is closed.
+    /// Sets how long connecting and each reply may take: a minute by default, or forever if `None`. A command that waits on the server,
+    /// such as [`Client::reach`], gets its own waiting time in addition. When the time is up, the call fails with [`Error::TimedOut`], and
+    /// the connection is closed.
     pub fn timeout(&mut self, timeout: Option<Duration>) -> &mut Self {
         // The system doesn't accept a time of zero.
         self.timeout = timeout.map(|time| time.max(Duration::from_millis(1)));
@@ -74,18 +74,18 @@ impl Options {
         self
     }
 
-    /// Lets writes survive a restart of the server. A write whose reply doesn't come, or that the server can't keep for now, is sent
-    /// again for up to this time, on a new connection if necessary, and is made once: its token identifies it. It then returns the
-    /// first outcome. [`Client::change`] runs its closure again.
+    /// Lets writes survive a restart of the server. If the reply to a write doesn't come, or the server can't keep the write for now, the
+    /// write is sent again for up to this time, on a new connection if necessary. It is made only once, since its token identifies it, and
+    /// returns the first outcome. [`Client::change`] runs its closure again.
     ///
-    /// A write isn't repeated while a snapshot is pinned (except by `change`), or if there were live queries: a new connection has
-    /// neither. The number for [`Client::apply_if`] belongs to the run that [`Client::run`] names.
+    /// A write isn't repeated while a snapshot is pinned (except by `change`), or if there were live queries: a new connection has neither.
+    /// The number for [`Client::apply_if`] belongs to the run that [`Client::run`] returns.
     pub fn repeat(&mut self, time: Duration) -> &mut Self {
         self.repeat = Some(time);
         self
     }
 
-    /// Connects to the server at this socket: that of [`SocketPath::find`], or a path.
+    /// Connects to the server at this socket, which is a path or comes from [`SocketPath::find`].
     ///
     /// # Errors
     /// [`Error::Io`]: there is no server. [`Error::OtherUser`]: nobody named the socket, and the server runs neither as the effective
@@ -96,7 +96,7 @@ impl Options {
         loop {
             match self.connect_once(&socket) {
                 Err(Error::Io(error)) if may_start(&error) && Instant::now() < until => thread::sleep(AGAIN),
-                // The server has ended before it could name its run.
+                // The server has ended before it could send its run.
                 Err(Error::Closed) if self.repeat.is_some() && Instant::now() < until => thread::sleep(AGAIN),
                 answer => return answer,
             }
@@ -112,7 +112,7 @@ impl Options {
         Ok(client)
     }
 
-    /// The error of a call that the system ended because the time was up, otherwise that of the connection.
+    /// Returns the error for a call that the system ended because the time was up, otherwise the connection's error.
     pub(crate) fn late_or(&self, error: io::Error) -> Error {
         match (error.kind(), self.timeout) {
             (ErrorKind::WouldBlock | ErrorKind::TimedOut, Some(time)) => Error::TimedOut(time),
@@ -121,7 +121,7 @@ impl Options {
     }
 }
 
-/// Whether this may be a starting server that has no socket yet.
+/// Returns whether this may be a starting server that has no socket yet.
 fn may_start(error: &io::Error) -> bool {
     matches!(error.kind(), ErrorKind::NotFound | ErrorKind::ConnectionRefused)
 }

@@ -5,24 +5,25 @@ use crate::{Client, Error, Result};
 use bestore_types::{Cursor, Order, Page, Paging, Value};
 use std::borrow::Cow;
 
-/// A page in an order, with the values that each node has in the columns.
+/// A page in an order, with each node's values in the columns.
 #[derive(Clone, Debug, PartialEq, Eq)]
 pub struct PageOfRows {
-    /// The nodes, whether there are more, and the position of the last one.
+    /// The nodes, whether there are more nodes, and the position of the last one.
     pub page: Page,
-    /// Each node's values in the order of the columns, `None` where it has none.
+    /// Each node's values in the order of the columns, or `None` if the node has no value there.
     pub rows: Vec<Vec<Option<Value>>>,
 }
 
-/// What a query finds in an order, by [`Client::ordered`]: the nodes, page after page, each twice as long as the last one. An error
-/// ends them. Each page goes on where the last one ended, even in a later snapshot; pin the client to read all pages from one snapshot.
+/// An iterator over the nodes that a query finds in an order, returned by [`Client::ordered`]. It reads page after page, each twice as long
+/// as the last one. An error ends it. Each page continues where the last one ended, even in a later snapshot; pin the client to read all
+/// pages from one snapshot.
 #[derive(Debug)]
 pub struct Ordered<'c> {
     asking: Asking<'c>,
     paging: Paging,
 }
 
-/// Who is asked for pages of which query, in which order.
+/// The client from which pages are requested, the query and its order.
 #[derive(Debug)]
 struct Asking<'c> {
     client: &'c mut Client,
@@ -31,26 +32,26 @@ struct Asking<'c> {
 }
 
 impl Ordered<'_> {
-    /// The nodes after this cursor, which comes from a page of the same query and order.
+    /// Continues after this cursor, which must come from a page of the same query and order.
     #[must_use]
     pub fn after(mut self, cursor: Cursor) -> Self {
         self.paging.set_after(cursor);
         self
     }
 
-    /// The first `most` nodes as a page, 1 to 50,000.
+    /// Returns the first `most` nodes as a page, 1 to 50,000.
     ///
     /// # Errors
-    /// Those of [`Client::page`].
+    /// The same as [`Client::page`].
     pub fn page(&mut self, most: usize) -> Result<Page> {
         Ok(self.rows(most, &[])?.page)
     }
 
-    /// Like [`page`](Self::page), with these attributes of each node, in one request. It has fewer nodes if not all rows fit on one
-    /// line; the page's `more` is then true.
+    /// Like [`page`](Self::page), with these attributes of each node, in one request. The page has fewer nodes if not all rows fit on one
+    /// line; its `more` is then true.
     ///
     /// # Errors
-    /// Those of [`Client::page`].
+    /// The same as [`Client::page`].
     pub fn rows(&mut self, most: usize, columns: &[&str]) -> Result<PageOfRows> {
         self.asking.rows(self.paging.position(), most, columns)
     }
@@ -97,8 +98,8 @@ impl Iterator for Ordered<'_> {
 impl std::iter::FusedIterator for Ordered<'_> {}
 
 impl Client {
-    /// The nodes that a query finds, in an order: an iterator that reads page after page. A node without a value in the index
-    /// isn't among them.
+    /// Returns an iterator over the nodes that the query finds, in an order. The iterator reads page after page. A node without a value in
+    /// the index is left out.
     ///
     /// ```no_run
     /// # use bestore_client::Order;
@@ -119,11 +120,11 @@ impl Client {
         }
     }
 
-    /// The first `most` nodes of a query in an order, 1 to 50,000, or those after a cursor.
+    /// Returns the first `most` nodes that a query finds in an order, 1 to 50,000, or the first ones after a cursor.
     ///
     /// # Errors
-    /// `NoIndex`: the order's index doesn't exist. `BadCursor`: the cursor belongs to another order or query, or the index has
-    /// another kind now. `BadRequest`: `most` isn't 1 to 50,000. Otherwise as [`call`](Self::call).
+    /// `NoIndex`: the order's index doesn't exist. `BadCursor`: the cursor belongs to another order or query, or the index has another kind
+    /// now. `BadRequest`: `most` isn't 1 to 50,000. Otherwise the same as [`call`](Self::call).
     pub fn page(&mut self, text: &str, order: &Order, after: Option<&Cursor>, most: usize) -> Result<Page> {
         let mut ordered = self.ordered(text, order.clone());
         if let Some(cursor) = after {
@@ -132,10 +133,10 @@ impl Client {
         ordered.page(most)
     }
 
-    /// The first `most` nodes that the query finds, ascending from the number `from` on.
+    /// Returns the first `most` nodes that the query finds, in ascending order, starting at the number `from`.
     ///
     /// # Errors
-    /// Those of [`call`](Self::call).
+    /// The same as [`call`](Self::call).
     pub fn first(&mut self, text: &str, from: u64, most: usize) -> Result<Vec<u64>> {
         let (mut found, mut next) = (Vec::new(), Some(from));
         while let (Some(from), true) = (next, found.len() < most) {
@@ -152,11 +153,11 @@ impl Client {
         Ok(found)
     }
 
-    /// Any `most` of the nodes that the query finds, 1 to 50,000, or all if there are fewer, in no particular order. If the answer
-    /// is large, this takes less time than finding all of it.
+    /// Returns any `most` of the nodes that the query finds, 1 to 50,000, or all of them if there are fewer, in no particular order. If the
+    /// answer is large, this takes less time than finding all of it.
     ///
     /// # Errors
-    /// `BadRequest`: `most` isn't 1 to 50,000. Otherwise as [`call`](Self::call).
+    /// `BadRequest`: `most` isn't 1 to 50,000. Otherwise the same as [`call`](Self::call).
     pub fn any(&mut self, text: &str, most: usize) -> Result<Vec<u64>> {
         let page: wire::Page = self.call(Command::Query(wire::Query {
             query: text.into(),

@@ -1,4 +1,4 @@
-//! Calls of the system that the standard library doesn't have. All unsafe code of the crate is here.
+//! System calls that the standard library doesn't have. All unsafe code of the crate is here.
 #![allow(unsafe_code)]
 #![deny(unsafe_op_in_unsafe_fn)]
 
@@ -19,24 +19,24 @@ fn check(answer: libc::c_int) -> io::Result<libc::c_int> {
     }
 }
 
-/// The effective user of this process.
+/// Returns the effective user of this process.
 pub fn user() -> u32 {
     // SAFETY: the call takes nothing and always succeeds.
     unsafe { libc::geteuid() }
 }
 
-/// The user that made the other end of the connection.
+/// Returns the user that made the other end of the connection.
 ///
 /// # Errors
-/// Those of the system, if the connection isn't open.
+/// The system's error, if the connection isn't open.
 pub fn peer_user(stream: &UnixStream) -> io::Result<u32> {
     Ok(credentials(stream)?.uid)
 }
 
-/// The number of the process that connected, or that began to listen.
+/// Returns the number of the process that connected, or that began to listen.
 ///
 /// # Errors
-/// Those of [`peer_user`].
+/// The same as [`peer_user`].
 pub fn peer_process(stream: &UnixStream) -> io::Result<u32> {
     Ok(credentials(stream)?.pid.unsigned_abs())
 }
@@ -102,7 +102,7 @@ mod tests {
     fn connecting_to_a_server_that_accepts_nobody_ends() {
         let path = std::env::temp_dir().join(format!("bestore-client-{}", std::process::id()));
         let listener = UnixListener::bind(&path).unwrap();
-        // SAFETY: the call takes only numbers. One connection may wait from now on.
+        // SAFETY: the call takes only numbers. From now on, one connection may wait.
         check(unsafe { libc::listen(listener.as_raw_fd(), 0) }).unwrap();
         let time = Some(Duration::from_millis(20));
         let waiting = connect(&path, time).unwrap();

@@ -3,7 +3,7 @@
 use crate::wire::{ErrorName, Push, Refusal};
 use std::collections::{BTreeSet, VecDeque};
 
-/// Pushed lines with their lengths, up to a number of bytes.
+/// Pushed lines with their lengths, up to a total number of bytes.
 #[derive(Debug)]
 pub struct Pushes {
     waiting: VecDeque<(usize, Push)>,
@@ -23,7 +23,7 @@ impl Pushes {
         }
     }
 
-    /// Adds a push, whose line had this many bytes. If there is no room, all lines of its watch are lost, including later ones.
+    /// Adds a push, whose line had this many bytes. If it doesn't fit, all lines of its watch are lost, including later ones.
     pub fn add(&mut self, length: usize, push: Push) {
         if self.lost.contains(&push.watch) {
             return;
@@ -38,14 +38,14 @@ impl Pushes {
         self.waiting.push_back((0, self.end_of(push)));
     }
 
-    /// The oldest push.
+    /// Returns the oldest push.
     pub fn take(&mut self) -> Option<Push> {
         let (length, push) = self.waiting.pop_front()?;
         self.bytes -= length;
         Some(push)
     }
 
-    /// Whether this push, which has just come, belongs to a watch that has lost lines.
+    /// Returns whether this push, which has just come, belongs to a watch that has lost lines.
     pub fn is_lost(&self, push: &Push) -> bool {
         self.lost.contains(&push.watch)
     }
@@ -55,7 +55,7 @@ impl Pushes {
         self.bytes = self.waiting.iter().map(|(length, _)| length).sum();
     }
 
-    /// The last push of a watch, which says that lines were lost.
+    /// Returns the last push of a watch, which says that lines were lost.
     fn end_of(&self, push: Push) -> Push {
         let message = format!(
             "more than {} bytes of pushes wait to be taken, and those of watch {} are lost; begin it again",

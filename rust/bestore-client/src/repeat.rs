@@ -1,4 +1,4 @@
-//! Writes that are sent again on a new connection until one of them is answered.
+//! Writes that are sent again on a new connection until the server answers.
 
 use crate::wire::{self, Command, ErrorName, Hello, Token};
 use crate::{Client, Error, Result};
@@ -7,7 +7,7 @@ use std::sync::atomic::{AtomicU64, Ordering};
 use std::thread;
 use std::time::{Duration, Instant, SystemTime};
 
-/// How often a write that the server can't keep now is sent again.
+/// How often to resend a write that the server can't keep now.
 const AGAIN: Duration = Duration::from_millis(50);
 
 /// A token that no other write has: made from this machine's time, the process and a count.
@@ -18,7 +18,7 @@ fn new_token() -> Option<Token> {
     Token::new(format!("{time:x}-{:x}-{number:x}", process::id()))
 }
 
-/// Whether the same write may succeed later.
+/// Returns whether the same write may succeed later.
 fn is_passing(error: &Error) -> bool {
     match error {
         Error::Io(_) | Error::Closed | Error::TimedOut(_) => true,
@@ -29,20 +29,20 @@ fn is_passing(error: &Error) -> bool {
 }
 
 impl Client {
-    /// The run of the server that the client last connected to, if [`hello`](Self::hello) was called. Commit numbers start again
+    /// Returns the run of the server that the client last connected to, if [`hello`](Self::hello) was called. Commit numbers start again
     /// with each run.
     #[must_use]
     pub fn run(&self) -> Option<&str> {
         self.run.as_deref()
     }
 
-    /// When to give up on writes that begin now, if they are repeated at all.
+    /// Returns when to give up on writes that begin now, if writes are repeated at all.
     pub(crate) fn repeats_until(&self) -> Option<Instant> {
         self.options.repeat.map(|time| Instant::now() + time)
     }
 
-    /// Whether the call may be made again after this error, before that time: on this connection, or on a new one that is made here.
-    /// A client with live queries stays as it is, since these would be lost.
+    /// Returns whether the call may be made again after this error, before that time: on this connection, or on a new one that is made
+    /// here. A client with live queries keeps its connection, since the live queries would be lost.
     pub(crate) fn may_repeat(&mut self, error: &Error, until: Option<Instant>) -> bool {
         let until = match until {
             Some(until) if is_passing(error) && !self.has_watches && Instant::now() < until => until,
@@ -86,7 +86,7 @@ impl Client {
         hello
     }
 
-    /// Writes once: with a token, if it may have to be sent again.
+    /// Writes once. If the write may have to be sent again, it gets a token.
     pub(crate) fn write_until(&mut self, mut write: wire::Write, until: Option<Instant>) -> Result<wire::Written> {
         if until.is_none() {
             return self.call(Command::Batch(write));

@@ -1,4 +1,4 @@
-//! Where the socket of a server is, and whose server may be there. The server and all clients follow the same rule.
+//! Where the socket of a server is, and which users' servers are trusted there. The server and all clients follow the same rule.
 
 use crate::{os, Error, Result};
 use std::env;
@@ -8,7 +8,7 @@ use std::path::{Path, PathBuf};
 
 pub use crate::os::{peer_process, peer_user, user};
 
-/// The path of a server's socket, and whether somebody named it.
+/// The path of a server's socket, and whether someone chose that path.
 #[derive(Clone, Debug, PartialEq, Eq)]
 pub enum SocketPath {
     /// An option or the variable `BESTORE_SOCKET` names this path.
@@ -18,7 +18,7 @@ pub enum SocketPath {
 }
 
 impl SocketPath {
-    /// The socket that an option names. Without one it is the first of these:
+    /// Returns the socket that an option names. Without an option, it is the first of these:
     ///
     /// 1. the path in `BESTORE_SOCKET`, unless that is empty;
     /// 2. `bestore/socket` in the folder of `XDG_RUNTIME_DIR`, unless that is empty or relative;
@@ -41,7 +41,7 @@ impl SocketPath {
         Self::Default(folder.join("socket"))
     }
 
-    /// The path of the socket.
+    /// Returns the path of the socket.
     #[must_use]
     pub fn path(&self) -> &Path {
         match self {
@@ -49,8 +49,8 @@ impl SocketPath {
         }
     }
 
-    /// Refuses another user's server at a default path, since anybody can make a socket in the folder for temporary files. Naming
-    /// a path means trusting the server there.
+    /// Refuses another user's server at a default path, since anybody can create a socket in the folder for temporary files. If you name a
+    /// path, you trust the server there.
     pub(crate) fn check_server(&self, stream: &UnixStream) -> Result<()> {
         let socket = match self {
             Self::Named(_) => return Ok(()),
@@ -65,7 +65,7 @@ impl SocketPath {
 }
 
 impl<P: AsRef<Path>> From<P> for SocketPath {
-    /// A path that somebody named.
+    /// A path that someone chose.
     fn from(path: P) -> Self {
         Self::Named(path.as_ref().into())
     }

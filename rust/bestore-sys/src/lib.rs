@@ -1,7 +1,7 @@
-//! Declarations of `bestore.h`, the C interface of bestore. The crate `bestore` is the safe one.
+//! Declarations for `bestore.h`, the C interface of bestore. The crate `bestore` is the safe interface.
 //!
-//! Each call, its errors and its cost are described in the header and in bestore(3). Names are those of C. The numbers and the operation
-//! are those of `bestore-types`.
+//! The header and bestore(3) describe each call, its errors and its cost. Names are as in C. The numbers and the operation come from
+//! `bestore-types`.
 //!
 //! The library is looked for in the folder that `BESTORE_LIB_DIR` names, otherwise by pkg-config. `BESTORE_STATIC` links
 //! `libbestore.a`, if it lies beside `libbestore.so`.
@@ -11,7 +11,7 @@
 use core::ffi::c_void;
 use core::ptr::null_mut;
 
-/// The version of the header that these declarations were made from, as `bes_version` returns it.
+/// The version of the header from which these declarations were made, as `bes_version` returns it.
 pub const BES_VERSION_NUMBER: u32 = 4000;
 
 pub use bestore_types::raw::RawOperation as bes_operation;
@@ -35,15 +35,15 @@ macro_rules! handles {
 }
 
 handles! {
-    /// One thread's handle on a store. It is never copied, and keeps its address while it is open.
+    /// One thread's handle to a store. It is never copied, and keeps its address while it is open.
     bes_pass, BES_PASS_INIT;
     /// A query that was parsed once.
     bes_prepared, BES_PREPARED_INIT;
-    /// A place in the operations that rebuild a snapshot.
+    /// A position in the operations that rebuild a snapshot.
     bes_place, BES_PLACE_INIT;
-    /// What a pass has seen, for a pass of the same store in another thread.
+    /// What a pass has seen, to be passed to a pass of the same store in another thread.
     bes_witness, BES_WITNESS_INIT;
-    /// A change that is begun and not ended yet.
+    /// A change that has begun and hasn't ended yet.
     bes_draft, BES_DRAFT_INIT;
 }
 
@@ -118,7 +118,7 @@ pub struct bes_usage {
     pub holder: u64,
 }
 
-/// How many nodes came and went at a refresh.
+/// How many nodes joined and left the answer at a refresh.
 #[repr(C)]
 #[derive(Clone, Copy, Debug, Default, PartialEq, Eq)]
 pub struct bes_updates {
@@ -134,7 +134,7 @@ pub struct bes_counts {
     pub bytes: u64,
 }
 
-/// A comparison of a query's text.
+/// A comparison in a query's text.
 #[repr(C)]
 #[derive(Clone, Copy, Debug, Default, PartialEq, Eq)]
 pub struct bes_compared {
@@ -164,7 +164,7 @@ extern "C" {
     pub fn bes_finish(pass: *mut bes_pass, bytes: *mut u8, bytes_room: usize, count: *mut u64) -> u32;
     pub fn bes_meet(pass: *mut bes_pass, seen: *mut u64) -> u32;
     pub fn bes_witness_of(pass: *mut bes_pass, witness: *mut bes_witness) -> u32;
-    /// The witness is one of a pass of the same store: otherwise the behaviour is undefined.
+    /// The witness belongs to a pass of the same store: otherwise the behaviour is undefined.
     pub fn bes_join(pass: *mut bes_pass, witness: *mut bes_witness, seen: *mut u64) -> u32;
     pub fn bes_dismiss(witness: *mut bes_witness) -> u32;
     pub fn bes_move_witness(witness: *mut bes_witness, other: *mut bes_witness) -> u32;
@@ -191,6 +191,14 @@ extern "C" {
         bytes_count: usize,
         made: *mut u64,
         made_room: usize,
+        number: *mut u64,
+    ) -> u32;
+    pub fn bes_apply_change(
+        pass: *mut bes_pass,
+        operations: *const bes_operation,
+        operations_count: usize,
+        bytes: *const u8,
+        bytes_count: usize,
         number: *mut u64,
     ) -> u32;
     pub fn bes_begin_change(pass: *mut bes_pass, draft: *mut bes_draft, number: *mut u64, next: *mut u64) -> u32;

@@ -4,12 +4,12 @@ use crate::raw::{List, RawOperation, OPERATIONS};
 use crate::{sys, Error, Kind, Result, Value};
 use std::fmt;
 
-/// An operation of a batch, as [`Batch::operations`] reads it back.
+/// An operation in a batch, as returned by [`Batch::operations`].
 #[derive(Clone, Debug, PartialEq, Eq)]
 pub enum Operation<'a> {
     /// Makes a node.
     NewNode {
-        /// The number of the node that was made, in a batch of the journal; otherwise 0.
+        /// The number of the node that was made, in a batch from the journal; otherwise 0.
         node: u64,
     },
     /// Removes a node and all its attributes.
@@ -23,7 +23,7 @@ pub enum Operation<'a> {
         node: u64,
         /// The name of the attribute.
         name: &'a str,
-        /// Its value.
+        /// The value.
         value: Value,
     },
     /// Removes an attribute.
@@ -42,12 +42,12 @@ pub enum Operation<'a> {
     },
     /// Removes an index.
     RemoveIndex {
-        /// Its name.
+        /// The name of the index.
         name: &'a str,
     },
 }
 
-/// The operations of one transaction, 1 to 64: all of them are done, or none.
+/// The operations of one transaction, 1 to 64. Either all of them are done, or none.
 ///
 /// ```
 /// use bestore_types::{Batch, Kind, Operation};
@@ -58,10 +58,11 @@ pub enum Operation<'a> {
 /// # Ok::<(), bestore_types::Error>(())
 /// ```
 ///
-/// No call here checks names and values. The store that the batch is applied to does, and reports the first bad operation.
+/// These calls don't check names and values. The store to which the batch is applied checks them, and reports the first operation that
+/// isn't valid.
 ///
 /// # Panics
-/// A call that adds an operation panics if the names and values have 4 GiB or more.
+/// A call that adds an operation panics if the names and values take 4 GiB or more.
 #[derive(Clone, Default)]
 pub struct Batch {
     list: List,
@@ -69,23 +70,23 @@ pub struct Batch {
 }
 
 impl Batch {
-    /// A batch without operations.
+    /// Makes a batch without operations.
     #[must_use]
     pub fn new() -> Self {
         Self::default()
     }
 
-    /// Adds: make a node. It gets the next number; a change knows it in advance.
+    /// Adds an operation that makes a node. The node gets the next number; a change knows the number in advance.
     pub fn new_node(&mut self) -> &mut Self {
         self.add(sys::BES_NEW_NODE, 0, "", 0, 0, &[])
     }
 
-    /// Adds: remove the node and all its attributes.
+    /// Adds an operation that removes the node and all its attributes.
     pub fn remove_node(&mut self, node: u64) -> &mut Self {
         self.add(sys::BES_REMOVE_NODE, node, "", 0, 0, &[])
     }
 
-    /// Adds: set the attribute.
+    /// Adds an operation that sets the attribute.
     pub fn set(&mut self, node: u64, name: &str, value: impl Into<Value>) -> &mut Self {
         let value = value.into();
         let bytes = value.as_bytes().unwrap_or_default();
@@ -93,47 +94,47 @@ impl Batch {
         self.add(sys::BES_SET, node, name, code, value.number(), bytes)
     }
 
-    /// Adds: remove the attribute.
+    /// Adds an operation that removes the attribute.
     pub fn unset(&mut self, node: u64, name: &str) -> &mut Self {
         self.add(sys::BES_UNSET, node, name, 0, 0, &[])
     }
 
-    /// Adds: make an index of this name for values of this kind.
+    /// Adds an operation that makes an index of this name for values of this kind.
     pub fn make_index(&mut self, name: &str, kind: Kind) -> &mut Self {
         self.add(sys::BES_MAKE_INDEX, 0, name, kind.code(), 0, &[])
     }
 
-    /// Adds: remove the index of this name.
+    /// Adds an operation that removes the index of this name.
     pub fn remove_index(&mut self, name: &str) -> &mut Self {
         self.add(sys::BES_REMOVE_INDEX, 0, name, 0, 0, &[])
     }
 
-    /// How many operations the batch has.
+    /// Returns how many operations the batch has.
     #[must_use]
     pub fn len(&self) -> usize {
         self.list.operations.len()
     }
 
-    /// Whether the batch has no operations.
+    /// Returns whether the batch has no operations.
     #[must_use]
     pub fn is_empty(&self) -> bool {
         self.list.operations.is_empty()
     }
 
-    /// Whether the batch has as many operations as a transaction may have.
+    /// Returns whether the batch has as many operations as a transaction can have.
     #[must_use]
     pub fn is_full(&self) -> bool {
         self.len() >= OPERATIONS
     }
 
-    /// Gives the batch a token, a text of the caller's choice that identifies the batch later. It changes
-    /// neither the operations, nor [`to_bytes`](Self::to_bytes), nor `==`.
+    /// Gives the batch a token, a string of the caller's choice that identifies the batch later. The token changes neither the operations,
+    /// nor [`to_bytes`](Self::to_bytes), nor `==`.
     pub fn set_token(&mut self, token: &str) -> &mut Self {
         self.token = Some(token.into());
         self
     }
 
-    /// The token, if the batch has one.
+    /// Returns the token, if the batch has one.
     #[must_use]
     pub fn token(&self) -> Option<&str> {
         self.token.as_deref()
@@ -146,7 +147,7 @@ impl Batch {
         self.list.bytes.clear();
     }
 
-    /// The operations, in order.
+    /// Returns the operations, in order.
     pub fn operations(&self) -> Operations<'_> {
         Operations {
             list: &self.list,
@@ -154,8 +155,8 @@ impl Batch {
         }
     }
 
-    /// Gives these numbers, in order, to the operations that make nodes. With the nodes of [`Written`](crate::Written) the
-    /// batch is what the journal has.
+    /// Gives these numbers, in order, to the operations that make nodes. With the nodes from [`Written`](crate::Written), the batch equals
+    /// the one in the journal.
     pub fn set_nodes(&mut self, nodes: &[u64]) -> &mut Self {
         let made = self.list.operations.iter_mut();
         let made = made.filter(|operation| operation.kind == sys::BES_NEW_NODE);
@@ -165,8 +166,8 @@ impl Batch {
         self
     }
 
-    /// The nodes that operations name, with the operations' indices. An operation that makes a node names it only in a batch of the
-    /// journal.
+    /// Returns the nodes that operations name, with the operations' indices. An operation that makes a node names it only in a batch from
+    /// the journal.
     pub(crate) fn named_nodes(&mut self) -> impl Iterator<Item = (usize, &mut u64)> {
         let operations = self.list.operations.iter_mut().enumerate();
         operations.filter_map(|(index, operation)| match operation.kind {
@@ -200,7 +201,7 @@ impl Batch {
         self
     }
 
-    /// The operations in the form that the library for C takes.
+    /// Returns the operations in the form that the C library takes.
     #[must_use]
     pub fn raw(&self) -> &List {
         &self.list
@@ -214,10 +215,10 @@ impl Batch {
     }
 }
 
-/// A length in the form that the library for C takes.
+/// Returns a length in the form that the C library takes.
 ///
 /// # Panics
-/// If it is 4 GiB or more.
+/// If the length is 4 GiB or more.
 #[must_use]
 pub fn narrow(length: usize) -> u32 {
     u32::try_from(length).expect("names and values have less than 4 GiB")
@@ -255,13 +256,13 @@ impl<'a> IntoIterator for &'a Batch {
 /// An accepted transaction.
 #[derive(Clone, Debug, PartialEq, Eq)]
 pub struct Written {
-    /// Its commit number: how many entries the journal had with it.
+    /// The commit number: the length of the journal including this transaction.
     pub number: u64,
-    /// The nodes that it made, in the order of the operations.
+    /// The nodes that the transaction made, in the order of the operations.
     pub nodes: Vec<u64>,
 }
 
-/// The operations of a batch, from [`Batch::operations`].
+/// An iterator over the operations in a batch, returned by [`Batch::operations`].
 #[derive(Clone, Debug)]
 pub struct Operations<'a> {
     list: &'a List,
@@ -291,20 +292,20 @@ impl List {
         self.bytes.get(at..at + length as usize).unwrap_or_default()
     }
 
-    /// The name in an operation.
+    /// Returns the name in an operation.
     #[must_use]
     pub fn name(&self, operation: &RawOperation) -> &str {
         let bytes = self.part(operation.name_at, operation.name_length);
         std::str::from_utf8(bytes).unwrap_or_default()
     }
 
-    /// The bytes of the value in an operation.
+    /// Returns the bytes of the value in an operation.
     #[must_use]
     pub fn value_bytes(&self, operation: &RawOperation) -> &[u8] {
         self.part(operation.value_at, operation.value_length)
     }
 
-    /// The value of an operation, which has the code of a kind.
+    /// Returns the value in an operation that has the code of a kind.
     #[must_use]
     pub fn value(&self, operation: &RawOperation) -> Value {
         let kind = Kind::from_code(operation.code).unwrap_or(Kind::Raw);

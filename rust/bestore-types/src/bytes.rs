@@ -13,7 +13,7 @@ use crate::{sys, Batch, Error, Kind, Result};
 const BEGINNING: [u8; 4] = *b"BEB\x01";
 
 impl Batch {
-    /// The batch as bytes: to keep it, or to send it.
+    /// Returns the batch as bytes, to be kept or sent.
     ///
     /// # Errors
     /// [`Error::BadCount`], [`Error::NameLength`] and [`Error::DataLength`]: no store accepts such a batch.
@@ -59,10 +59,10 @@ impl Batch {
         Ok(())
     }
 
-    /// The batch that the bytes hold.
+    /// Returns the batch that the bytes encode.
     ///
     /// # Errors
-    /// [`Error::BadBatch`] with the offset of the first byte that is wrong, or the length of bytes that end too soon.
+    /// [`Error::BadBatch`] with the offset of the first byte that isn't valid, or with the length if the bytes end too soon.
     pub fn from_bytes(bytes: &[u8]) -> Result<Self> {
         let mut reader = Reader { bytes, at: 0 };
         reader.beginning()?;
@@ -99,7 +99,7 @@ struct Reader<'a> {
 }
 
 impl<'a> Reader<'a> {
-    /// The error at the byte this far before the next one.
+    /// Returns the error at the byte this far before the next one.
     fn bad<T>(&self, back: usize, why: &'static str) -> Result<T> {
         Err(Error::BadBatch {
             offset: self.at - back,
@@ -237,13 +237,79 @@ mod tests {
         }
     }
 
-    #[test]
-    fn bytes_are_as_the_format_says() {
-        let mut batch = Batch::new();
-        batch.set(258, "ab", -2_i32).make_index("c", Kind::Text);
-        let bytes = b"BEB\x01\x02\x02\x02\x01\0\0\0\0\0\0\x02abGNOL\xfe\xff\xff\xff\xff\xff\xff\xff\x04\x01cRTSC";
+    /// Returns the lines with this mark from the table that tests the encoders of all languages: the bytes, and the words after them.
+    fn table(mark: &str) -> Vec<(Vec<u8>, String)> {
+        let path = concat!(env!("CARGO_MANIFEST_DIR"), "/../../tests/batches.txt");
+        let text = std::fs::read_to_string(path).unwrap();
+        let lines = text.lines().filter(|line| !line.starts_with('#'));
+        lines
+            .filter_map(|line| line.split_once(mark))
+            .map(|(bytes, words)| (bytes_of(bytes), words.into()))
+            .collect()
+    }
+
+    /// Returns the bytes for words such as `00ff`, `61*63` and `-`.
+    fn bytes_of(words: &str) -> Vec<u8> {
+        words.split_whitespace().flat_map(word_bytes).collect()
+    }
+
+    fn word_bytes(word: &str) -> Vec<u8> {
+        let (digits, times) = word.split_once('*').unwrap_or((word, "1"));
+        let byte = |at: usize| u8::from_str_radix(&digits[at..at + 2], 16).unwrap();
+        let length = if digits == "-" { 0 } else { digits.len() };
+        let bytes: Vec<u8> = (0..length).step_by(2).map(byte).collect();
+        bytes.repeat(times.parse().unwrap())
+    }
+
+    /// Adds the operation that the words describe.
+    fn add_words(batch: &mut Batch, words: &str) {
+        let words: Vec<&str> = words.split_whitespace().collect();
+        let [kind, node, name, code, number, value]: [&str; 6] = words.try_into().unwrap();
+        let name = String::from_utf8(bytes_of(name)).unwrap();
+        let letters = code.bytes().filter(|letter| *letter != b'-');
+        let code = letters.fold(0, |code, letter| code << 8 | u32::from(letter));
+        let number = number.parse::<i128>().unwrap() as u64;
+        let (kind, node) = (kind.parse().unwrap(), node.parse().unwrap());
+        batch.add(kind, node, &name, code, number, &bytes_of(value));
+    }
+
+    fn is_written(batch: &Batch, operations: &[u8]) {
+        let bytes = [&BEGINNING[..], &[batch.len() as u8], operations].concat();
         assert_eq!(batch.to_bytes().unwrap(), bytes);
-        assert_eq!(Batch::from_bytes(bytes).unwrap(), batch);
+        let read = Batch::from_bytes(&bytes).unwrap();
+        assert_eq!((&read, read.to_bytes().unwrap()), (batch, bytes));
+    }
+
+    #[test]
+    fn operations_have_the_bytes_of_the_table() {
+        let (mut all, mut together) = (Batch::new(), Vec::new());
+        for (bytes, words) in table(" = ") {
+            let mut one = Batch::new();
+            add_words(&mut one, &words);
+            add_words(&mut all, &words);
+            is_written(&one, &bytes);
+            together.extend(bytes);
+        }
+        assert!(all.len() > 30);
+        is_written(&all, &together);
+    }
+
+    #[test]
+    fn what_the_table_refuses_is_refused_there() {
+        let lines = table(" ! ");
+        assert!(lines.len() > 12);
+        for (bytes, words) in lines {
+            let (offset, part) = words.split_once(' ').unwrap();
+            let why = match part {
+                "beginning" => "the bytes don't begin with BEB, as those of a batch do",
+                "version" => "the batch has another version of the format; version 1 can be read",
+                "count" => "a batch has 1 to 64 operations",
+                "operation" => "no operation has this number; they are 0 to 5",
+                "kind" => "no kind has this type code",
+                _ => "the batch ends here, and more bytes follow",
+            };
+            assert_eq!(refused(&bytes), (offset.parse().unwrap(), why));
+        }
     }
 
     #[test]
@@ -264,14 +330,8 @@ mod tests {
     }
 
     #[test]
-    fn faults_are_named_with_their_byte() {
-        assert_eq!(refused(b"BEC\x01").0, 2);
-        assert_eq!(refused(b"BEB\x02\x01").0, 3);
-        assert_eq!(refused(b"BEB\x01\0").0, 4);
-        assert_eq!(refused(b"BEB\x01\x41").0, 4);
-        assert_eq!(refused(b"BEB\x01\x01\x06").0, 5);
+    fn values_that_no_operation_has_are_refused_at_their_byte() {
         assert_eq!(refused(b"BEB\x01\x01\x05\x02a\xff").0, 8);
-        assert_eq!(refused(b"BEB\x01\x01\x04\x01aXXXX").0, 8);
         let too_large = b"BEB\x01\x01\x02\0\0\0\0\0\0\0\0\x01aGNOL\0\0\0\0\x01\0\0\0";
         assert_eq!(refused(too_large), (20, "the number doesn't fit its kind"));
     }

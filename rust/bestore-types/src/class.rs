@@ -1,4 +1,4 @@
-//! What each error of the library means, and what a program can do about it.
+//! What each error in the library means, and what a program can do about it.
 
 use crate::sys;
 use std::fmt;
@@ -15,7 +15,7 @@ macro_rules! classes {
             /// Every class.
             pub const ALL: &'static [Class] = &[$(Class::$class),*];
 
-            /// The name of the class in the server's protocol.
+            /// Returns the name of the class in the server's protocol.
             #[must_use]
             pub const fn name(self) -> &'static str {
                 match self {
@@ -40,7 +40,7 @@ classes! {
 }
 
 impl Class {
-    /// The class with this name.
+    /// Returns the class with this name.
     #[must_use]
     pub fn named(name: &str) -> Option<Class> {
         Class::ALL.iter().copied().find(|class| class.name() == name)
@@ -53,7 +53,7 @@ impl fmt::Display for Class {
     }
 }
 
-/// An error of the library, with its details.
+/// An error from the library, with its details.
 #[derive(Debug)]
 pub struct Meaning {
     /// The error's number in `bestore.h`.
@@ -62,11 +62,11 @@ pub struct Meaning {
     pub class: Class,
     /// What was wrong.
     pub what: &'static str,
-    /// What would be right, or an empty text.
+    /// What would be right, or an empty string.
     pub advice: &'static str,
 }
 
-/// The meaning of an error from a later version of the library: nothing says that the same call may succeed later.
+/// The meaning of an error that only a later version of the library has: nothing says that the same call may succeed later.
 const UNKNOWN: Meaning = Meaning {
     code: sys::BES_OK,
     class: Class::Mine,
@@ -83,14 +83,14 @@ impl Meaning {
         }
     }
 
-    /// The meaning of the error with this number.
+    /// Returns the meaning of the error with this number.
     #[must_use]
     pub fn of(code: u32) -> &'static Meaning {
         MEANINGS.iter().find(|meaning| meaning.code == code).unwrap_or(&UNKNOWN)
     }
 }
 
-/// Every error of the library.
+/// Every error in the library.
 pub const MEANINGS: &[Meaning] = &[
     // surface.toml: errors
     Meaning {

@@ -1,11 +1,11 @@
-//! Orders, and the positions in them from which pages go on.
+//! Orders, and positions in an order from which pages continue.
 
 use crate::{Error, Kind, Result, Value};
 use std::fmt;
 use std::str::FromStr;
 
-/// An order of nodes: by the values that an index has, and by number where these are equal. A node without a value in the index
-/// isn't in the order.
+/// An order of nodes: by their values in an index, and by number where the values are equal. A node without a value in the index isn't in
+/// the order.
 ///
 /// ```
 /// let newest_first = bestore_types::Order::by("MAIL:when").descending();
@@ -18,7 +18,7 @@ pub struct Order {
 }
 
 impl Order {
-    /// The ascending order by the index of this name.
+    /// Returns the ascending order by the index of this name.
     #[must_use]
     pub fn by(name: &str) -> Self {
         Self {
@@ -27,7 +27,7 @@ impl Order {
         }
     }
 
-    /// The exact reverse of the ascending order.
+    /// Returns the exact reverse of the ascending order.
     #[must_use]
     pub fn descending(self) -> Self {
         Self {
@@ -36,20 +36,20 @@ impl Order {
         }
     }
 
-    /// The name of the index.
+    /// Returns the name of the index.
     #[must_use]
     pub fn name(&self) -> &str {
         &self.name
     }
 
-    /// Whether it is the reverse of the ascending order.
+    /// Returns whether this is the reverse of the ascending order.
     #[must_use]
     pub fn is_descending(&self) -> bool {
         self.is_descending
     }
 }
 
-/// The name in quotes, and the direction.
+/// Shows the name in quotes, and the direction.
 impl fmt::Display for Order {
     fn fmt(&self, f: &mut fmt::Formatter<'_>) -> fmt::Result {
         let direction = if self.is_descending { "descending" } else { "ascending" };
@@ -57,10 +57,10 @@ impl fmt::Display for Order {
     }
 }
 
-/// A position in the ordered answer of a query: the position of a [`Page`](crate::Page)'s last node. The next page begins right
-/// after it, even in a later snapshot, whatever was written in between.
+/// A position in the ordered answer to a query: the position of a [`Page`](crate::Page)'s last node. The next page begins right after it,
+/// even in a later snapshot, whatever was written in between.
 ///
-/// It prints as a short text, which [`str::parse`] reads, so it can be kept or sent elsewhere.
+/// It prints as a short string, which [`str::parse`] reads, so you can keep it or send it elsewhere.
 #[derive(Clone, Debug, PartialEq, Eq, Hash)]
 pub struct Cursor {
     order: Order,
@@ -76,25 +76,25 @@ struct Position {
 }
 
 impl Cursor {
-    /// The beginning of an answer.
+    /// Returns the beginning of an answer.
     #[must_use]
     pub fn beginning(order: Order, check: u32) -> Self {
         Self { order, check, at: None }
     }
 
-    /// The order of the page.
+    /// Returns the order of the page.
     #[must_use]
     pub fn order(&self) -> &Order {
         &self.order
     }
 
-    /// The value that the last node of the page has in the index. `None` at the beginning, where no node comes before.
+    /// Returns the value that the page's last node has in the index, or `None` at the beginning, where no node comes before.
     #[must_use]
     pub fn value(&self) -> Option<&Value> {
         self.at.as_ref().map(|at| &at.value)
     }
 
-    /// The last node of the page. `None` at the beginning.
+    /// Returns the last node of the page, or `None` at the beginning.
     #[must_use]
     pub fn node(&self) -> Option<u64> {
         self.at.as_ref().map(|at| at.node)
@@ -105,7 +105,7 @@ impl Cursor {
         self.at = Some(Position { value, node });
     }
 
-    /// The same value with another node.
+    /// Returns a cursor with the same value and another node.
     #[must_use]
     pub fn with_node(&self, node: u64) -> Self {
         let mut cursor = self.clone();
@@ -115,7 +115,7 @@ impl Cursor {
         cursor
     }
 
-    /// An error if the cursor belongs to another order or another query.
+    /// Returns an error if the cursor belongs to another order or another query.
     ///
     /// # Errors
     /// [`Error::BadCursor`].
@@ -132,14 +132,14 @@ impl Cursor {
         }
     }
 
-    /// The kind of the index and the key of the last node in it, whose byte order is the order. `None` at the beginning.
+    /// Returns the kind of the index and the last node's key in the index, or `None` at the beginning. The byte order of keys is the order.
     #[must_use]
     pub fn key(&self) -> Option<(Kind, Vec<u8>)> {
         let at = self.at.as_ref()?;
         Some((at.value.kind(), encode_key(&at.value, at.node)))
     }
 
-    /// The cursor after the node with this key of an index of this kind, or the beginning if there is no such key.
+    /// Returns the cursor after the node with this key in an index of this kind, or the beginning if there is no such key.
     #[must_use]
     pub fn of_key(order: Order, check: u32, kind: Option<Kind>, key: &[u8]) -> Self {
         let at = kind.and_then(|kind| decode_key(kind, key));
@@ -151,7 +151,7 @@ impl Cursor {
 #[non_exhaustive]
 #[derive(Clone, Debug, PartialEq, Eq)]
 pub enum CursorFault {
-    /// The text isn't a cursor's.
+    /// The text isn't a valid cursor.
     Text,
     /// The cursor belongs to another order.
     OtherOrder {
@@ -162,13 +162,13 @@ pub enum CursorFault {
     },
     /// The cursor belongs to another query.
     OtherQuery,
-    /// The index has a different kind from when the cursor was made.
+    /// The kind of the index has changed since the cursor was made.
     OtherKind {
         /// The name of the index.
         name: String,
-        /// The kind that it had.
+        /// The kind that the index had.
         cursor: Kind,
-        /// The kind that it has.
+        /// The kind that the index has now.
         index: Kind,
     },
 }
@@ -194,22 +194,22 @@ impl fmt::Display for CursorFault {
     }
 }
 
-// The text of a cursor is base64url, without padding, of these bytes: the format; 1 if it descends; the kind's number, or 0 at the
+// The text of a cursor is these bytes in base64url, without padding: the format; 1 if it descends; the kind's number, or 0 at the
 // beginning; the name's length; the name; the check of the query; the key; and the check of everything before it.
 
 /// The first byte of a cursor's text.
 const FORMAT: u8 = 1;
 
-/// The maximum number of bytes that a cursor's text stands for: with the longest name and the longest key.
+/// The maximum number of bytes that a cursor's text encodes: with the longest name and the longest key.
 const LONGEST: usize = 4 + 63 + 4 + 264 + 4;
 
-/// The number of a kind in a cursor's text, which is its place in [`Kind::ALL`], from 1.
+/// Returns the number of a kind in a cursor's text, which is the kind's position in [`Kind::ALL`], from 1.
 fn kind_number(kind: Kind) -> u8 {
     let place = Kind::ALL.iter().position(|other| *other == kind).unwrap_or_default();
     place as u8 + 1
 }
 
-/// The cursor's text.
+/// Shows the cursor's text.
 impl fmt::Display for Cursor {
     fn fmt(&self, f: &mut fmt::Formatter<'_>) -> fmt::Result {
         let name = self.order.name.as_bytes();
@@ -232,13 +232,13 @@ impl FromStr for Cursor {
 
     fn from_str(text: &str) -> Result<Self> {
         let found = of_base64(text).and_then(|bytes| read(&bytes));
-        // Bits after the last byte may differ, and would give one cursor two texts.
+        // Bits after the last byte could differ, and would give one cursor two texts.
         let found = found.filter(|cursor| cursor.to_string() == text);
         found.ok_or(Error::BadCursor(CursorFault::Text))
     }
 }
 
-/// The cursor of these bytes, if they are those of one.
+/// Returns the cursor that these bytes encode, if they encode one.
 fn read(bytes: &[u8]) -> Option<Cursor> {
     let (front, check) = split_last(bytes)?;
     if crc32(front) != check {
@@ -266,43 +266,49 @@ fn read(bytes: &[u8]) -> Option<Cursor> {
     })
 }
 
-/// All bytes but the last four, and these as a number.
+/// Returns all bytes but the last four, and the last four as a number.
 fn split_last(bytes: &[u8]) -> Option<(&[u8], u32)> {
     let (front, last) = bytes.split_at(bytes.len().checked_sub(4)?);
     Some((front, u32::from_be_bytes(last.try_into().ok()?)))
 }
 
-/// The key of a value and a node in an index. The byte order of keys is the order of values and nodes.
+/// Returns the key for a value and a node in an index. The byte order of keys is the order of values and nodes.
 #[must_use]
 pub fn encode_key(value: &Value, node: u64) -> Vec<u8> {
-    let mut key = match value {
-        Value::Int32(number) => (*number as u32 ^ 1 << 31).to_be_bytes().to_vec(),
-        Value::Int64(number) => (*number as u64 ^ 1 << 63).to_be_bytes().to_vec(),
-        Value::Uint32(number) => number.to_be_bytes().to_vec(),
-        Value::Uint64(number) => number.to_be_bytes().to_vec(),
-        Value::Text(text) | Value::Mime(text) => [text.as_bytes(), &[0]].concat(),
-        Value::Raw(bytes) => bytes.clone(),
+    let mut key = match (value, value.kind().width()) {
+        (_, Some(width)) => in_order(value.kind(), width, value.number()).to_be_bytes()[8 - width..].to_vec(),
+        (Value::Raw(bytes), _) => bytes.clone(),
+        _ => [value.as_bytes().unwrap_or_default(), &[0]].concat(),
     };
     key.extend_from_slice(&node.to_be_bytes());
     key
 }
 
-/// The value and the node of a key in an index of this kind.
+/// Returns the number with its sign bit inverted, if its kind has a sign. Then the order of the bits is the order of the numbers. A second
+/// call inverts the bit again.
+fn in_order(kind: Kind, width: usize, number: u64) -> u64 {
+    match kind.least() {
+        Some(0) | None => number,
+        Some(_) => number ^ 1 << (8 * width - 1),
+    }
+}
+
+/// Returns the value and the node for a key in an index of this kind.
 fn decode_key(kind: Kind, key: &[u8]) -> Option<Position> {
     let (front, node) = key.split_at(key.len().checked_sub(8)?);
-    let value = match kind {
-        Kind::Int32 => Value::Int32((u32::from_be_bytes(front.try_into().ok()?) ^ 1 << 31) as i32),
-        Kind::Int64 => Value::Int64((u64::from_be_bytes(front.try_into().ok()?) ^ 1 << 63) as i64),
-        Kind::Uint32 => Value::Uint32(u32::from_be_bytes(front.try_into().ok()?)),
-        Kind::Uint64 => Value::Uint64(u64::from_be_bytes(front.try_into().ok()?)),
-        Kind::Text => Value::Text(text_of(front)?),
-        Kind::Mime | Kind::Raw => return None,
+    let value = match (kind, kind.width()) {
+        (Kind::Text, _) => Value::Text(text_of(front)?),
+        (_, Some(width)) if front.len() == width => {
+            let number = front.iter().fold(0, |number, byte| number << 8 | u64::from(*byte));
+            Value::of_parts(kind, in_order(kind, width, number), &[])
+        }
+        _ => return None,
     };
     let node = u64::from_be_bytes(node.try_into().ok()?);
     Some(Position { value, node })
 }
 
-/// The text before a final zero byte, if it contains no other.
+/// Returns the text before a final zero byte, if the text contains no other.
 fn text_of(front: &[u8]) -> Option<String> {
     let (last, text) = front.split_last()?;
     if *last != 0 || text.contains(&0) || text.len() > 255 {
@@ -311,7 +317,7 @@ fn text_of(front: &[u8]) -> Option<String> {
     String::from_utf8(text.to_vec()).ok()
 }
 
-/// The CRC-32 of IEEE 802.3.
+/// Returns the CRC-32 of IEEE 802.3.
 #[must_use]
 pub fn crc32(bytes: &[u8]) -> u32 {
     const POLYNOMIAL: u32 = 0xedb8_8320;
@@ -333,7 +339,7 @@ fn to_base64(bytes: &[u8]) -> String {
     text
 }
 
-/// The bytes of a text that isn't longer than a cursor's.
+/// Returns the bytes that a text encodes, if the text isn't longer than a cursor's.
 fn of_base64(text: &str) -> Option<Vec<u8>> {
     if text.len() > LONGEST * 4 / 3 {
         return None;

@@ -4,7 +4,7 @@ use crate::class::Meaning;
 use crate::{sys, text, Class, CursorFault, Kind};
 use std::fmt;
 
-/// The result of a call of this crate.
+/// The result of a call in this crate.
 pub type Result<T> = std::result::Result<T, Error>;
 
 /// Why a call did nothing, with details.
@@ -22,7 +22,7 @@ pub enum Error {
     NoAttribute,
     /// The node has 64 attributes already.
     TooManyAttributes,
-    /// There is an index of this name.
+    /// An index of this name already exists.
     IndexExists,
     /// There is no index of this name.
     NoIndex,
@@ -33,17 +33,17 @@ pub enum Error {
         /// The names that have an index.
         indices: Vec<String>,
     },
-    /// No page can go on from the cursor.
+    /// No page can continue from the cursor.
     BadCursor(CursorFault),
     /// A page has at least one node.
     NoRoom,
     /// There are 32 indices already.
     TooManyIndices,
-    /// No index may have this kind.
+    /// An index can't have this kind.
     NotIndexable,
     /// The journal has as many entries as the store was opened for.
     CommitsSpent,
-    /// Out of memory.
+    /// There isn't enough memory.
     OutOfMemory,
     /// No page is free.
     Full {
@@ -62,7 +62,7 @@ pub enum Error {
         /// Which operation of the batch, from 0.
         operation: Option<u64>,
     },
-    /// A name or a text has a zero byte.
+    /// A name or a string has a zero byte.
     HasNul {
         /// Which operation of the batch, from 0.
         operation: Option<u64>,
@@ -87,7 +87,7 @@ pub enum Error {
         /// The length that was found.
         found: u64,
     },
-    /// The index of this name takes another kind, so it wouldn't hold the value.
+    /// The index of this name takes another kind, so it wouldn't contain the value.
     KindMismatch {
         /// The name of the attribute and of the index.
         name: String,
@@ -107,7 +107,7 @@ pub enum Error {
     OtherVolume {
         /// The volume that is written.
         volume: u32,
-        /// Which operation of the batch, from 0. In a change it is the one that was to be added.
+        /// Which operation of the batch, from 0. In a change, the operation that was to be added.
         operation: Option<u64>,
     },
     /// An index of a shelf is made or removed in all volumes, by separate calls, and not in the volume of a batch.
@@ -117,46 +117,46 @@ pub enum Error {
     },
     /// The next node of the store is too great for a volume of a shelf.
     NodesSpent,
-    /// The error of one volume of a shelf.
+    /// An error from one volume of a shelf.
     InVolume {
         /// The volume.
         volume: u32,
-        /// What is wrong there.
+        /// The error in that volume.
         error: Box<Error>,
     },
     /// Bytes that aren't a batch.
     BadBatch {
-        /// The offset of the first byte that is wrong, or the length of the bytes if they end too soon.
+        /// The offset of the first byte that isn't valid, or the length of the bytes if they end too soon.
         offset: usize,
-        /// What is wrong there.
+        /// What is wrong at that position.
         why: &'static str,
     },
     /// The handle was opened before this process was forked, and belongs to the parent.
     Forked,
-    /// The write was made in memory, and couldn't be saved. The store accepts no more writes.
+    /// The write was made in memory, but couldn't be saved. The store accepts no more writes.
     #[cfg(feature = "saved")]
     NotSaved(std::sync::Arc<crate::saved::Error>),
-    /// Nothing was written, because saving has failed before, or because the file is closed.
+    /// Nothing was written, because saving failed earlier, or because the file is closed.
     #[cfg(feature = "saved")]
     Stopped(std::sync::Arc<crate::saved::Error>),
-    /// An error of the program's own, made by [`Error::other`] in the closure of a change.
+    /// The program's own error, made by [`Error::other`] in the closure of a change.
     Other(Box<dyn std::error::Error + Send + Sync>),
-    /// An error of the library that this crate doesn't know.
+    /// An error in the library that this crate doesn't know.
     Unexpected {
         /// The error, as `bestore.h` lists it.
         code: u32,
-        /// The number that goes with it.
+        /// The number that comes with the error.
         carried: u64,
     },
 }
 
 impl Error {
-    /// An error of the program's own, with which the closure of a change stops it.
+    /// Makes an error of the program's own. The closure of a change returns it to stop the change.
     pub fn other(error: impl Into<Box<dyn std::error::Error + Send + Sync>>) -> Self {
         Error::Other(error.into())
     }
 
-    /// The same error with this volume of a shelf, unless it depends only on the call.
+    /// Returns the same error with this volume of a shelf, unless the error depends only on the call.
     #[must_use]
     pub fn in_volume(self, volume: u32) -> Self {
         match self {
@@ -171,7 +171,7 @@ impl Error {
         }
     }
 
-    /// The volume of a shelf whose error this is, if it is one of a volume.
+    /// Returns the volume of a shelf from which the error comes, if it comes from one.
     #[must_use]
     pub fn volume(&self) -> Option<u32> {
         match self {
@@ -180,7 +180,7 @@ impl Error {
         }
     }
 
-    /// The error without its volume.
+    /// Returns the error without its volume.
     #[must_use]
     pub fn without_volume(self) -> Self {
         match self {
@@ -189,7 +189,7 @@ impl Error {
         }
     }
 
-    /// The number of this error in `bestore.h`, if it has one.
+    /// Returns the number of this error in `bestore.h`, if it has one.
     #[must_use]
     pub fn code(&self) -> Option<u32> {
         Some(match self {
@@ -227,7 +227,7 @@ impl Error {
         })
     }
 
-    /// What a program can do about the error.
+    /// Returns what a program can do about the error.
     #[must_use]
     pub fn class(&self) -> Class {
         match self {
@@ -241,7 +241,7 @@ impl Error {
     }
 }
 
-/// An operation of a batch, between what was wrong with it and what would be right.
+/// Shows an operation in a batch, between what was wrong with it and what would be right.
 fn at_operation(f: &mut fmt::Formatter<'_>, operation: &Option<u64>) -> fmt::Result {
     match operation {
         Some(index) => write!(f, " (operation {index}, counted from 0)"),
@@ -249,7 +249,7 @@ fn at_operation(f: &mut fmt::Formatter<'_>, operation: &Option<u64>) -> fmt::Res
     }
 }
 
-/// What was wrong, what is known about the place, and what would be right.
+/// Shows what was wrong, what is known about the position, and what would be right.
 impl fmt::Display for Error {
     fn fmt(&self, f: &mut fmt::Formatter<'_>) -> fmt::Result {
         match self {
@@ -277,7 +277,7 @@ const BAD_LIMITS: &str =
     "a limit of the store is out of its range; it has 8 to 16,384 pages, 1 to 63 passes and 1 to 4,294,967,295 commits";
 
 impl Error {
-    /// Shows an error of the library.
+    /// Shows an error from the library.
     fn show_coded(&self, f: &mut fmt::Formatter<'_>, code: u32) -> fmt::Result {
         let meaning = Meaning::of(code);
         f.write_str(meaning.what)?;
@@ -324,7 +324,7 @@ impl Error {
     }
 }
 
-/// The names of the existing indices.
+/// Shows the names of the existing indices.
 fn listed(indices: &[String]) -> String {
     match indices {
         [] => "there are no indices".into(),
@@ -376,7 +376,7 @@ impl QueryFault {
         QueryFault::NotCovered,
     ];
 
-    /// The number of the error in `bestore.h`.
+    /// Returns the number of the error in `bestore.h`.
     #[must_use]
     pub const fn code(self) -> u32 {
         match self {
@@ -389,20 +389,20 @@ impl QueryFault {
         }
     }
 
-    /// The fault with this number.
+    /// Returns the fault with this number.
     #[must_use]
     pub fn from_code(code: u32) -> Option<Self> {
         Self::ALL.into_iter().find(|fault| fault.code() == code)
     }
 
-    /// Whether the library reports at which byte of the text it is.
+    /// Returns whether the library reports the byte in the text where the fault is.
     #[must_use]
     pub const fn has_offset(self) -> bool {
         matches!(self, QueryFault::Syntax | QueryFault::BadPattern)
     }
 }
 
-/// What was wrong, and what would be right.
+/// Shows what was wrong, and what would be right.
 impl fmt::Display for QueryFault {
     fn fmt(&self, f: &mut fmt::Formatter<'_>) -> fmt::Result {
         let meaning = Meaning::of(self.code());
@@ -411,7 +411,7 @@ impl fmt::Display for QueryFault {
     }
 }
 
-/// A query that is refused: its text, what is wrong, and where.
+/// A refused query: its text, what is wrong with it, and where.
 #[derive(Clone, Debug, PartialEq, Eq)]
 pub struct QueryError {
     text: String,
@@ -421,7 +421,7 @@ pub struct QueryError {
 }
 
 impl QueryError {
-    /// What is wrong with this text, and at which byte if that is known.
+    /// Makes an error that says what is wrong with this text, and at which byte if that is known.
     #[must_use]
     pub fn new(text: impl Into<String>, fault: QueryFault, offset: Option<usize>) -> Self {
         Self {
@@ -432,7 +432,7 @@ impl QueryError {
         }
     }
 
-    /// The same, because this name, which begins at this byte, has no index.
+    /// Returns the same error, because this name, which begins at this byte, has no index.
     #[must_use]
     pub fn with_missing(self, name: String, offset: usize) -> Self {
         Self {
@@ -442,39 +442,40 @@ impl QueryError {
         }
     }
 
-    /// The text of the query. For a prepared query it is the canonical text, and for a predicate the malformed pattern.
+    /// Returns the text of the query. For a prepared query this is the canonical text, and for a predicate the malformed pattern.
     #[must_use]
     pub fn text(&self) -> &str {
         &self.text
     }
 
-    /// What is wrong.
+    /// Returns what is wrong.
     #[must_use]
     pub fn fault(&self) -> QueryFault {
         self.fault
     }
 
-    /// Of [`QueryFault::NotCovered`]: the first name in the text that has no index. It isn't known of a canonical text of more than
-    /// 4,096 bytes, which a prepared query may have.
+    /// For [`QueryFault::NotCovered`]: returns the first name in the text that has no index. It isn't known if the canonical text has more
+    /// than 4,096 bytes, which is possible for a prepared query.
     #[must_use]
     pub fn missing(&self) -> Option<&str> {
         self.missing.as_deref()
     }
 
-    /// The byte of the text at which it is wrong, from 0, if that is known. If an index is missing, its name begins there.
+    /// Returns the byte offset of the error in the text, from 0, if it is known. If an index is missing, its name begins there.
     #[must_use]
     pub fn offset(&self) -> Option<usize> {
         self.offset
     }
 
-    /// The character of the text at which it is wrong, from 0, if that is known.
+    /// Returns the index of the character in the text where the error is, from 0, if it is known.
     #[must_use]
     pub fn column(&self) -> Option<usize> {
         self.offset.map(|offset| text::column_at(&self.text, offset))
     }
 }
 
-/// What is wrong, the text, and a caret under the place. If the text is long, only the part around the place is shown.
+/// Shows what is wrong, the text, and a caret under the position of the error. If the text is long, only the part around that position is
+/// shown.
 impl fmt::Display for QueryError {
     fn fmt(&self, f: &mut fmt::Formatter<'_>) -> fmt::Result {
         let meaning = Meaning::of(self.fault.code());

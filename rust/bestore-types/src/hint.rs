@@ -3,19 +3,19 @@
 use crate::Kind;
 use std::fmt;
 
-/// A comparison that is never true, because its name has an index of integers and its value isn't an integer or is out of
-/// range, as in `size>1.5`.
+/// A comparison that is never true, because its name has an integer index and its value isn't an integer or is out of range, as in
+/// `size>1.5`.
 #[derive(Clone, Debug, PartialEq, Eq)]
 pub struct Hint {
     /// The name of the attribute.
     pub name: String,
-    /// What is compared with.
+    /// The value to compare with.
     pub value: String,
     /// The kind of the index.
     pub kind: Kind,
-    /// The byte of the query at which the comparison begins.
+    /// The byte offset in the query at which the comparison begins.
     pub offset: usize,
-    /// Whether the value is a whole number, but out of the kind's range.
+    /// Whether the value is a whole number but out of the kind's range.
     pub is_number: bool,
 }
 

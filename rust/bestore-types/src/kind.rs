@@ -15,7 +15,7 @@ macro_rules! kinds {
             /// Every kind.
             pub const ALL: [Kind; [$($name),*].len()] = [$(Kind::$kind),*];
 
-            /// The type code of BeOS.
+            /// Returns the type code that BeOS uses.
             #[must_use]
             pub const fn code(self) -> u32 {
                 match self {
@@ -23,7 +23,7 @@ macro_rules! kinds {
                 }
             }
 
-            /// The four letters of the type code, which scripts and the journal's text use.
+            /// Returns the four letters of the type code, which scripts and the journal's text use.
             #[must_use]
             pub const fn name(self) -> &'static str {
                 match self {
@@ -31,7 +31,7 @@ macro_rules! kinds {
                 }
             }
 
-            /// Whether an index may have this kind.
+            /// Returns whether an index can have this kind.
             #[must_use]
             pub const fn is_indexable(self) -> bool {
                 match self {
@@ -39,7 +39,7 @@ macro_rules! kinds {
                 }
             }
 
-            /// Whether its values are integers.
+            /// Returns whether values of this kind are integers.
             #[must_use]
             pub const fn is_number(self) -> bool {
                 match self {
@@ -48,7 +48,7 @@ macro_rules! kinds {
             }
         }
 
-        /// The kind as its type in Rust, or `text`, `MIME type` and `raw bytes`.
+        /// Shows the kind as its type in Rust, or `text`, `MIME type` and `raw bytes`.
         impl fmt::Display for Kind {
             fn fmt(&self, f: &mut fmt::Formatter<'_>) -> fmt::Result {
                 f.write_str(match self {
@@ -79,7 +79,7 @@ kinds! {
 }
 
 impl Kind {
-    /// The lowest value of an index of this kind. `None` if its values aren't integers.
+    /// Returns the lowest value in an index of this kind, or `None` if its values aren't integers.
     #[must_use]
     pub fn least(self) -> Option<i64> {
         match self {
@@ -93,7 +93,21 @@ impl Kind {
         }
     }
 
-    /// The kind with this type code.
+    /// Returns how many bytes an integer of this kind has, or `None` if its values aren't integers.
+    #[must_use]
+    pub const fn width(self) -> Option<usize> {
+        match self {
+            // surface.toml: widths
+            Kind::Int32 => Some(4),
+            Kind::Int64 => Some(8),
+            Kind::Uint32 => Some(4),
+            Kind::Uint64 => Some(8),
+            Kind::Text | Kind::Mime | Kind::Raw => None,
+            // surface.toml: end
+        }
+    }
+
+    /// Returns the kind with this type code.
     #[must_use]
     pub fn from_code(code: u32) -> Option<Kind> {
         Kind::ALL.into_iter().find(|kind| kind.code() == code)

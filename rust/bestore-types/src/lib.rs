@@ -1,4 +1,4 @@
-//! What stores and clients of bestore share: values and their kinds, batches, nodes, orders and cursors, and errors with their texts.
+//! What stores and clients of bestore share: values and their kinds, batches, nodes, orders and cursors, and errors with their messages.
 //!
 //! Nothing here opens a store or loads libbestore. The crate `bestore` has the store, and `bestore-client` the client of a server; both
 //! re-export what they use from this one.

@@ -1,6 +1,6 @@
 //! How large a store may grow.
 
-/// The maximum number of passes of a store, not counting its own.
+/// The maximum number of passes that a store can have, not counting its own.
 pub const MOST_PASSES: u64 = 63;
 
 /// The maximum number of volumes in a shelf.
@@ -15,7 +15,7 @@ pub const MOST_VOLUMES: u32 = 64;
 /// ```
 #[derive(Clone, Copy, Debug, PartialEq, Eq)]
 pub struct Limits {
-    /// Pages of 4 KiB, all allocated at the start: 8 to 16,384.
+    /// Pages of 4 KiB, all allocated when the store is opened: 8 to 16,384.
     pub pages: u64,
     /// Passes that are open at the same time: 1 to 63. The store itself has one more. Each takes 89 bytes, and adds 13 instructions
     /// to a write's 12,000 or so; a pin and a query cost the same with 8 and with 63 (28 November 2026).
@@ -25,7 +25,7 @@ pub struct Limits {
 }
 
 impl Default for Limits {
-    /// 4,096 pages, and as many passes and entries as possible.
+    /// Returns 4,096 pages, and as many passes and entries as possible.
     fn default() -> Self {
         Self {
             pages: 4096,

@@ -3,13 +3,13 @@
 use crate::{Batch, Error, Operation, Result};
 use std::fmt;
 
-/// How many numbers a volume has for its nodes. A power of ten, so that people can read the volume in a node's digits.
+/// How many node numbers a volume has. It is a power of ten, so that people can read the volume in a node's digits.
 const NUMBERS: u64 = 100_000_000_000_000;
 
 /// How many nodes a store can make: one for each operation of each entry of the longest journal.
 const MADE: u64 = 64 << 32;
 
-/// Where a node of a shelf is: its volume, and its number in that.
+/// Where a node in a shelf is: its volume, and its number in that volume.
 ///
 /// A shelf's calls take and return a node as one integer, `volume` * 10^14 + `number`, so nodes of volume 0 have their own
 /// numbers. The integers ascend by volume, then by number, and are below 2^53, which JSON keeps exactly.
@@ -44,14 +44,14 @@ impl From<Node> for u64 {
     }
 }
 
-/// The integer.
+/// Shows the integer.
 impl fmt::Display for Node {
     fn fmt(&self, f: &mut fmt::Formatter<'_>) -> fmt::Result {
         u64::from(*self).fmt(f)
     }
 }
 
-/// Adds the nodes of a volume to those of a shelf.
+/// Adds a volume's nodes to a shelf's nodes.
 pub fn extend(nodes: &mut Vec<u64>, volume: u32, numbers: Vec<u64>) {
     let before = u64::from(volume) * NUMBERS;
     match nodes.is_empty() {
@@ -60,17 +60,17 @@ pub fn extend(nodes: &mut Vec<u64>, volume: u32, numbers: Vec<u64>) {
     }
 }
 
-/// Whether a store whose next node has this number can be a volume, whatever it makes until it is opened again.
+/// Returns whether a store whose next node has this number can be a volume, no matter what it makes until it is opened again.
 #[must_use]
 pub fn fits(next: u64) -> bool {
     next <= NUMBERS - MADE
 }
 
 impl Batch {
-    /// [`Error::PartialIndex`] if an operation would make or remove an index in one of several volumes.
+    /// Returns [`Error::PartialIndex`] if an operation would make or remove an index in only one of several volumes.
     ///
     /// # Errors
-    /// That one.
+    /// That error.
     pub fn check_no_index(&self, volumes: usize) -> Result<()> {
         let is_of_index = |one| matches!(one, Operation::MakeIndex { .. } | Operation::RemoveIndex { .. });
         match self.operations().position(is_of_index) {
@@ -81,11 +81,11 @@ impl Batch {
         }
     }
 
-    /// The volume that a shelf's batch is written to, and the batch with the numbers that its nodes have there. The volume is the
-    /// one that is `asked` for, otherwise that of the nodes that the operations name; `None` if they name none.
+    /// Returns the volume that a shelf's batch is written to, and the batch with the nodes' numbers in that volume. The volume is the
+    /// `asked` one, otherwise the volume of the nodes that the operations name; `None` if they name no node.
     ///
     /// # Errors
-    /// [`Error::OtherVolume`] with the first operation that names a node of another volume.
+    /// [`Error::OtherVolume`] with the first operation that names a node in another volume.
     pub fn to_volume(&self, asked: Option<u32>) -> Result<(Option<u32>, Batch)> {
         let mut within = self.clone();
         let mut found = asked;
@@ -103,8 +103,8 @@ impl Batch {
         Ok((found, within))
     }
 
-    /// The batch of a volume as a batch of its shelf. The inverse of [`to_volume`](Self::to_volume); nodes that were made have their
-    /// numbers in the shelf too.
+    /// Converts a volume's batch to a batch of its shelf. This is the inverse of [`to_volume`](Self::to_volume); nodes that were made get
+    /// their numbers in the shelf too.
     #[must_use]
     pub fn of_volume(mut self, volume: u32) -> Batch {
         let before = u64::from(volume) * NUMBERS;

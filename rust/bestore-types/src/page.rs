@@ -1,4 +1,4 @@
-//! Pages of an answer in an order, and how an iterator reads one after another.
+//! Pages of an answer in an order, and how an iterator reads them one after another.
 
 use crate::Cursor;
 
@@ -7,17 +7,17 @@ use crate::Cursor;
 pub struct Page {
     /// The nodes.
     pub nodes: Vec<u64>,
-    /// Whether others come after these.
+    /// Whether there are nodes after these.
     pub more: bool,
-    /// The position of the last node, for the next page. For an empty page, where it began.
+    /// The position of the last node, for the next page. If the page is empty, the position where it began.
     pub cursor: Cursor,
 }
 
-/// How many nodes an iterator's first page has, and the most that any page has.
+/// How many nodes an iterator's first page has, and how many any page has at most.
 const FIRST_PAGE: usize = 64;
 const LARGEST_PAGE: usize = 4096;
 
-/// How far an iterator over an answer in an order has read. Each page is twice as long as the last one, and an error ends them.
+/// How far an iterator over an answer in an order has read. Each page is twice as long as the last one, and an error ends the iteration.
 #[derive(Clone, Debug)]
 pub struct Paging {
     after: Option<Cursor>,
@@ -38,18 +38,18 @@ impl Default for Paging {
 }
 
 impl Paging {
-    /// The position after which the next page begins, if it isn't the beginning.
+    /// Returns the position after which the next page begins, if it isn't the beginning.
     #[must_use]
     pub fn position(&self) -> Option<&Cursor> {
         self.after.as_ref()
     }
 
-    /// Goes on after this cursor.
+    /// Continues after this cursor.
     pub fn set_after(&mut self, cursor: Cursor) {
         self.after = Some(cursor);
     }
 
-    /// The next node. `page` returns the page after a cursor, with up to this many nodes.
+    /// Returns the next node. `page` returns the page after a cursor, with up to this many nodes.
     pub fn next<E>(&mut self, page: impl FnOnce(Option<&Cursor>, usize) -> Result<Page, E>) -> Option<Result<u64, E>> {
         if let Some(node) = self.read.next() {
             return Some(Ok(node));
@@ -76,7 +76,7 @@ mod tests {
     use super::*;
     use crate::{Order, Value};
 
-    /// The nodes after a cursor up to a last one, in the order of their numbers.
+    /// Returns the nodes after a cursor up to a last one, sorted by number.
     fn page(last: u64, after: Option<&Cursor>, most: usize) -> Page {
         let first = after.and_then(Cursor::node).unwrap_or(0) + 1;
         let nodes: Vec<u64> = (first..=last).take(most).collect();
@@ -86,7 +86,7 @@ mod tests {
         Page { nodes, more, cursor }
     }
 
-    /// All nodes that are read, and how long each page was.
+    /// Returns all nodes that are read, and the length of each page.
     fn read(last: u64, mut paging: Paging) -> (Vec<u64>, Vec<usize>) {
         let (mut nodes, mut asked) = (Vec::new(), Vec::new());
         while let Some(node) = paging.next::<()>(|after, most| {

@@ -1,5 +1,4 @@
-//! What else the crate `bestore` needs: the forms in which the library for C takes and returns things. Other programs have no use
-//! for it.
+//! What only the crate `bestore` needs: the forms in which the C library takes and returns data.
 
 pub use crate::batch::narrow;
 pub use crate::class::{Meaning, MEANINGS};
@@ -9,8 +8,8 @@ pub use crate::node::{extend, fits};
 /// The maximum number of operations in a batch.
 pub const OPERATIONS: usize = 64;
 
-/// An operation, as `bes_operation` of `bestore.h`: its name and the bytes of its value are in those that go with all operations of a
-/// batch. The crate `bestore-sys` has it from here.
+/// An operation, as `bes_operation` in `bestore.h`: its name and the bytes of its value are among the bytes that come with all operations
+/// of a batch. The crate `bestore-sys` re-exports it from here.
 #[repr(C)]
 #[derive(Clone, Copy, Debug, Default, PartialEq, Eq)]
 pub struct RawOperation {
@@ -22,13 +21,13 @@ pub struct RawOperation {
     pub node: u64,
     /// The value, if it is an integer.
     pub number: u64,
-    /// At which byte the name begins.
+    /// The byte offset at which the name begins.
     pub name_at: u32,
-    /// How many bytes it has.
+    /// The length of the name in bytes.
     pub name_length: u32,
-    /// At which byte the value begins, unless it is an integer.
+    /// The byte offset at which the value begins, unless the value is an integer.
     pub value_at: u32,
-    /// How many bytes it has.
+    /// The length of the value in bytes.
     pub value_length: u32,
 }
 

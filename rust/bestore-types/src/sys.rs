@@ -1,4 +1,4 @@
-//! The numbers of `bestore.h`, which the crate `bestore-sys` has from here.
+//! The numbers in `bestore.h`, which the crate `bestore-sys` re-exports from here.
 
 macro_rules! constants {
     ($($name:ident = $value:expr;)*) => {

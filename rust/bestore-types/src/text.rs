@@ -1,10 +1,10 @@
-//! Query texts: how to put a text into one, and how to show one.
+//! Query texts: how to put a string into one, and how to show one.
 
 use crate::Kind;
 
-/// The text with a backslash before each character that is special in a query or a pattern.
+/// Returns the text with a backslash before each character that is special in a query or a pattern.
 ///
-/// The result stands for the text itself, both as a word of a query and between quotes. An empty text needs the quotes.
+/// The result stands for the text itself, both as a word in a query and between quotes. If the text is empty, the query needs the quotes.
 ///
 /// ```
 /// assert_eq!(bestore_types::escape("[draft].txt"), r"\[draft\]\.txt");
@@ -21,7 +21,7 @@ pub fn escape(text: &str) -> String {
     escaped
 }
 
-/// The query for everything in the index of this name, which has this kind.
+/// Returns the query for everything in the index of this name, which has this kind.
 ///
 /// ```
 /// use bestore_types::{all_in, Kind};
@@ -36,8 +36,8 @@ pub fn all_in(name: &str, kind: Kind) -> String {
     }
 }
 
-/// The text on a line, and on the next one a caret under the character at this byte. If the text is long, only the part around that is
-/// shown.
+/// Returns the text on one line, and on the next line a caret under the character at this byte. If the text is long, only the part around
+/// that character is shown.
 ///
 /// ```
 /// assert_eq!(bestore_types::caret("size<5 || [", 10), "  size<5 || [\n            ^");
@@ -47,16 +47,16 @@ pub fn caret(text: &str, offset: usize) -> String {
     with_caret(text, Some(column_at(text, offset)))
 }
 
-/// How many characters come before this byte.
+/// Returns how many characters come before this byte.
 pub(crate) fn column_at(text: &str, offset: usize) -> usize {
     text.char_indices().take_while(|(at, _)| *at < offset).count()
 }
 
-/// How many characters of a text are shown before and after the one that is wrong.
+/// How many characters of a text are shown before and after the position of the error.
 pub(crate) const SHOWN: usize = 60;
 
-/// The text on a line, and a caret under its character with this index, if there is one. If the text is long, only the part around that
-/// is shown.
+/// Returns the text on one line, and a caret under its character with this index, if there is one. If the text is long, only the part
+/// around that character is shown.
 pub(crate) fn with_caret(text: &str, column: Option<usize>) -> String {
     let first = column.unwrap_or(0).saturating_sub(SHOWN);
     let shown: String = text

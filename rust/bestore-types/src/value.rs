@@ -3,7 +3,7 @@
 use crate::Kind;
 use std::fmt;
 
-/// A value of an attribute. `into` makes one of a text, of an integer of 32 or 64 bits, and of bytes.
+/// A value of an attribute. `into` makes a value from a string, from an integer with 32 or 64 bits, or from bytes.
 ///
 /// ```
 /// use bestore_types::{Kind, Value};
@@ -12,24 +12,24 @@ use std::fmt;
 /// ```
 #[derive(Clone, Debug, PartialEq, Eq, Hash)]
 pub enum Value {
-    /// A text.
+    /// A string.
     Text(String),
-    /// An integer of 32 bits.
+    /// A 32-bit integer.
     Int32(i32),
-    /// An integer of 64 bits.
+    /// A 64-bit integer.
     Int64(i64),
     /// A MIME type.
     Mime(String),
     /// Raw bytes.
     Raw(Vec<u8>),
-    /// An integer of 32 bits without a sign.
+    /// An unsigned 32-bit integer.
     Uint32(u32),
-    /// An integer of 64 bits without a sign.
+    /// An unsigned 64-bit integer.
     Uint64(u64),
 }
 
 impl Value {
-    /// The kind of the value.
+    /// Returns the kind of the value.
     #[must_use]
     pub const fn kind(&self) -> Kind {
         match self {
@@ -43,7 +43,7 @@ impl Value {
         }
     }
 
-    /// A text or a MIME type.
+    /// Returns a string or a MIME type.
     #[must_use]
     pub fn as_str(&self) -> Option<&str> {
         match self {
@@ -52,7 +52,7 @@ impl Value {
         }
     }
 
-    /// The bytes of a text, a MIME type or a raw value.
+    /// Returns the bytes of a string, a MIME type or a raw value.
     #[must_use]
     pub fn as_bytes(&self) -> Option<&[u8]> {
         match self {
@@ -62,7 +62,7 @@ impl Value {
         }
     }
 
-    /// An integer of any kind, if it fits.
+    /// Returns an integer of any kind, if it fits.
     #[must_use]
     pub fn as_i64(&self) -> Option<i64> {
         match *self {
@@ -74,7 +74,7 @@ impl Value {
         }
     }
 
-    /// An integer of any kind, if it fits.
+    /// Returns an integer of any kind, if it fits.
     #[must_use]
     pub fn as_u64(&self) -> Option<u64> {
         match *self {
@@ -83,7 +83,7 @@ impl Value {
         }
     }
 
-    /// An integer in the form of the library for C, otherwise 0.
+    /// Returns an integer in the form that the C library takes, or 0 for other values.
     #[must_use]
     pub fn number(&self) -> u64 {
         match *self {
@@ -95,7 +95,19 @@ impl Value {
         }
     }
 
-    /// The value made of parts that the library has written. They are valid: a text is UTF-8, and a number fits its kind.
+    /// Returns the integer of this kind that the decimal digits in the text stand for, or `None` if the kind can't hold it or isn't an
+    /// integer kind.
+    #[must_use]
+    pub fn integer(kind: Kind, text: &str) -> Option<Value> {
+        let least = i128::from(kind.least()?);
+        let most = least + (1 << (8 * kind.width()?)) - 1;
+        let number: i128 = text.parse().ok()?;
+        (least..=most)
+            .contains(&number)
+            .then(|| Value::of_parts(kind, number as u64, &[]))
+    }
+
+    /// Makes a value from parts that the library has written. They are valid: a string is UTF-8, and a number fits its kind.
     #[must_use]
     pub fn of_parts(kind: Kind, number: u64, bytes: &[u8]) -> Value {
         let text = || String::from_utf8_lossy(bytes).into_owned();
@@ -111,7 +123,7 @@ impl Value {
     }
 }
 
-/// A text in quotes, a number, or bytes in hexadecimal digits.
+/// Shows a string in quotes, a number, or bytes in hexadecimal digits.
 impl fmt::Display for Value {
     fn fmt(&self, f: &mut fmt::Formatter<'_>) -> fmt::Result {
         match self {

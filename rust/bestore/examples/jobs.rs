@@ -1,4 +1,4 @@
-//! A queue: workers claim one job each, by a change, until none is left. No two claim the same one.
+//! A queue: workers claim one job at a time, with a change, until none is left. No two claim the same one.
 
 use bestore::{Batch, Kind, Limits, Order, Pass, Prepared, Result, Store};
 use std::collections::BTreeSet;
@@ -7,7 +7,7 @@ use std::thread;
 const JOBS: i64 = 200;
 const WORKERS: usize = 4;
 
-/// Claims the waiting job that is most urgent, or none if there is none. A claimed job loses its
+/// Claims the most urgent waiting job, or nothing if there is none. A claimed job loses its
 /// urgency, so that the next claim doesn't pass it on its way to a waiting one.
 fn claim(pass: &mut Pass, waiting: &Prepared, urgent_first: &Order) -> Result<Option<u64>> {
     pass.change(|change| {

@@ -1,7 +1,7 @@
-//! How fast a kept store takes writes, beside rusqlite, and how fast it opens. Needs the feature `saved`.
+//! How fast a kept store takes writes, compared with rusqlite, and how fast it opens. Needs the feature `saved`.
 //!
-//! `cargo run --release -p bestore --features saved --example kept_rate -- FOLDER [ROUNDS]`, with a folder on a disk: in memory no
-//! commit waits for one. The cases run in turn, several rounds; the table has the medians.
+//! `cargo run --release -p bestore --features saved --example kept_rate -- FOLDER [ROUNDS]`, with a folder on a disk, since no
+//! commit waits for one in memory. The cases run in turn, several rounds; the table has the medians.
 
 use bestore::{saved, Batch, Kind, Limits};
 use rusqlite::Connection;
@@ -78,7 +78,7 @@ fn insert(connection: &Connection) {
     inserted.expect("a row is inserted");
 }
 
-/// One connection, before which the threads wait for a lock.
+/// One connection, guarded by a lock for which the threads wait.
 fn shared(path: &Path, writers: usize, is_exclusive: bool) -> Outcome<f64> {
     let connection = Mutex::new(connected(path, is_exclusive)?);
     let write = || -> Write<'_> { Box::new(|_| insert(&connection.lock().expect("no writer panics"))) };

@@ -1,4 +1,4 @@
-//! Two threads over one store: one files letters, the other follows the unread ones by a live query.
+//! Two threads that share a store: one files letters, the other follows the unread ones with a live query.
 
 use bestore::{Kind, Limits, Live, Pass, Result, Store};
 use std::sync::atomic::{AtomicBool, Ordering};

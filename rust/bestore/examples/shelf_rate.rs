@@ -1,8 +1,8 @@
-//! How many queries a second a shelf of 1, 2 and 4 volumes answers that has the same nodes, and how full its volumes are.
+//! How many queries a second a shelf of 1, 2 and 4 volumes with the same nodes answers, and how full its volumes are.
 //!
-//! `cargo run --release -p bestore --example shelf_rate -- [NODES] [ROUNDS]`: 15,000 nodes, which fit one volume, and 5 rounds if
-//! nothing is said. Nodes have five attributes, of which three are indexed. The shelves are asked in turn; each figure is the best
-//! of its rounds, of one thread. With more nodes than one or two volumes hold, those rows are left out.
+//! `cargo run --release -p bestore --example shelf_rate -- [NODES] [ROUNDS]`: 15,000 nodes, which fit into one volume, and 5
+//! rounds by default. Nodes have five attributes, three of them indexed. The shelves are asked in turn; each figure is the best
+//! of its rounds, with one thread. With more nodes than one or two volumes hold, those rows are left out.
 
 use bestore::{Batch, Kind, Limits, Node, Prepared, Result, Shelf, ShelfPass};
 use std::time::{Duration, Instant};
@@ -51,7 +51,7 @@ fn rate(mut call: impl FnMut(u64) -> Result<()>) -> Result<f64> {
     Ok(count as f64 / begin.elapsed().as_secs_f64())
 }
 
-/// Queries of one node and of 100 by their text, of 100 prepared, and the count of all: each a second.
+/// Queries for one node and for 100 as text, for 100 prepared, and the count of all: each per second.
 fn rates(pass: &mut ShelfPass, nodes: u64) -> Result<[f64; 4]> {
     let hundreds = nodes / 100;
     let check = |found: Vec<u64>, expected: usize| assert_eq!(found.len(), expected, "the query finds other nodes");

@@ -6,19 +6,20 @@ use crate::refused::of_write;
 use crate::{Batch, Error, Kind, Pass, Result, Snapshot, Value};
 use bestore_sys as sys;
 
-/// What the closure of [`Pass::change`] reads, and the operations that it collects, up to 64.
+/// A change in progress. The closure of [`Pass::change`] reads the store through it, and collects up to 64 operations in it.
 ///
-/// [`get`](Self::get) reads the snapshot with the operations so far, and [`snapshot`](Self::snapshot) the one that they are based on.
+/// [`get`](Self::get) reads the snapshot with the operations so far applied. [`snapshot`](Self::snapshot) returns the snapshot on which
+/// they are based.
 #[derive(Debug)]
 pub struct Change<'a> {
     snapshot: &'a Snapshot<'a>,
     draft: RawDraft,
-    /// What the draft has.
+    /// The operations in the draft.
     batch: Batch,
-    /// The nodes that it makes, and the number of the next one.
+    /// The numbers of the nodes that the change makes. The next node's number is `next`.
     nodes: Vec<u64>,
     next: u64,
-    /// Why an operation wasn't collected, if its call returns no error. It becomes the change's error.
+    /// The error from an operation that wasn't collected, if its call didn't return the error. The change then fails with it.
     refused: Option<Error>,
 }
 
@@ -35,28 +36,28 @@ impl<'a> Change<'a> {
         })
     }
 
-    /// The snapshot on which the change is made.
+    /// Returns the snapshot on which the change is made.
     #[must_use]
     pub fn snapshot(&self) -> &'a Snapshot<'a> {
         self.snapshot
     }
 
-    /// The commit number that the change will have.
+    /// Returns the commit number that the change will have.
     #[must_use]
     pub fn number(&self) -> u64 {
         self.snapshot.number() + 1
     }
 
-    /// The operations that were collected.
+    /// Returns the operations that have been collected.
     #[must_use]
     pub fn batch(&self) -> &Batch {
         &self.batch
     }
 
-    /// An attribute as the operations so far leave it, or `None` if the node or the attribute doesn't exist then.
+    /// Returns an attribute as the operations so far leave it, or `None` if the node or the attribute doesn't exist then.
     ///
     /// # Errors
-    /// Those of [`Snapshot::get`].
+    /// The same as [`Snapshot::get`].
     pub fn get(&self, node: u64, name: &str) -> Result<Option<Value>> {
         let mut bytes = [0; 255];
         let answer = self
@@ -67,16 +68,16 @@ impl<'a> Change<'a> {
         crate::snapshot::value_read(answer, &bytes)
     }
 
-    /// From now on, accepts values of any kind. Before this call, a value under an index of another kind is an error, since no query
-    /// would find it.
+    /// Accepts values of any kind from now on. Until this call, setting a value whose kind differs from its index's kind is an error, since
+    /// no query would find the value.
     pub fn any_kind(&mut self) -> &mut Self {
-        // Fails only in a forked child, where each other call does.
+        // Fails only in a forked child, where every other call does too.
         let _ = self.draft.any_kind();
         self
     }
 
-    /// Makes a node, and returns the number that it will have. The 65th operation, here and in the calls below, is the change's
-    /// [`Error::BadCount`].
+    /// Makes a node, and returns the number that it will have. If this call or one of the calls below adds a 65th operation, the change
+    /// fails with [`Error::BadCount`].
     pub fn new_node(&mut self) -> u64 {
         let node = self.next;
         self.next += 1;
@@ -98,9 +99,9 @@ impl<'a> Change<'a> {
     /// Sets the attribute.
     ///
     /// # Errors
-    /// [`Error::KindMismatch`] if an index of this name takes values of another kind. The attribute would be set, and no
-    /// query would find it. [`Error::NameLength`], [`Error::DataLength`], [`Error::HasNul`], [`Error::BadCount`],
-    /// [`Error::OutOfMemory`]. Nothing is collected then.
+    /// [`Error::KindMismatch`] if an index of this name takes values of another kind: the attribute would be set, but no query would find
+    /// it. [`Error::NameLength`], [`Error::DataLength`], [`Error::HasNul`], [`Error::BadCount`], [`Error::OutOfMemory`]. If there is an
+    /// error, nothing is collected.
     pub fn set(&mut self, node: u64, name: &str, value: impl Into<Value>) -> Result<&mut Self> {
         let value = value.into();
         let bytes = value.as_bytes().unwrap_or_default();
@@ -116,7 +117,8 @@ impl<'a> Change<'a> {
         Ok(self)
     }
 
-    /// Sets the attributes of these nodes to the values that they already have, if those are of this kind. Returns how many are.
+    /// Sets this attribute of each node to the value that it already has, if the value is of this kind. Returns how many attributes were
+    /// set.
     pub(crate) fn set_again(&mut self, nodes: &[u64], name: &str, kind: Kind) -> Result<u64> {
         let mut count = 0;
         for node in nodes {
@@ -142,7 +144,7 @@ impl<'a> Change<'a> {
     /// Makes an index of this name for values of this kind.
     ///
     /// # Errors
-    /// [`Error::NameLength`], [`Error::HasNul`], [`Error::BadCount`], [`Error::OutOfMemory`]. Nothing is collected then.
+    /// [`Error::NameLength`], [`Error::HasNul`], [`Error::BadCount`], [`Error::OutOfMemory`]. If there is an error, nothing is collected.
     pub fn make_index(&mut self, name: &str, kind: Kind) -> Result<&mut Self> {
         self.collect(&of_index(sys::BES_MAKE_INDEX, name, kind.code()))?;
         self.batch.make_index(name, kind);
@@ -152,7 +154,7 @@ impl<'a> Change<'a> {
     /// Removes the index of this name.
     ///
     /// # Errors
-    /// Those of [`make_index`](Self::make_index).
+    /// The same as [`make_index`](Self::make_index).
     pub fn remove_index(&mut self, name: &str) -> Result<&mut Self> {
         self.collect(&of_index(sys::BES_REMOVE_INDEX, name, 0))?;
         self.batch.remove_index(name);
@@ -180,8 +182,8 @@ impl<'a> Change<'a> {
         Err(of_write(at_operation, index + 1, None))
     }
 
-    /// Adds an operation without a value, and returns whether it was added. The first one that isn't ends the change with its error,
-    /// so nothing is added after it.
+    /// Adds an operation without a value, and returns whether it was added. The first operation that can't be added ends the change with
+    /// its error, so nothing is added after it.
     fn collect_or_keep_error(&mut self, kind: u32, node: u64, name: &str) -> bool {
         if self.refused.is_some() {
             return false;
@@ -194,10 +196,10 @@ impl<'a> Change<'a> {
         self.refused.is_none()
     }
 
-    /// Whether there is something to write.
+    /// Returns whether there is anything to write.
     ///
     /// # Errors
-    /// The reason why an operation wasn't collected, if its call returned no error.
+    /// The error from an operation that wasn't collected, if its call didn't return the error.
     pub(crate) fn has_operations(&mut self) -> Result<bool> {
         match self.refused.take() {
             Some(error) => Err(error),
@@ -205,13 +207,13 @@ impl<'a> Change<'a> {
         }
     }
 
-    /// Writes the operations, if nothing else was written since the snapshot. Returns the number for `end_write`.
+    /// Writes the operations if nothing else has been written since the snapshot. Returns the number to pass to `end_write`.
     pub(crate) fn end(self) -> Result<u64> {
         let pass = self.snapshot.pass();
         pass.end_change(&self.draft, self.snapshot.number(), &self.batch, self.nodes)
     }
 
-    /// Runs the closure on one snapshot after another, until its operations are written on the one that it has read.
+    /// Runs the closure on one snapshot after another, until its operations are written on the snapshot that it has read.
     pub(crate) fn run<T>(pass: &mut Pass, closure: &mut impl FnMut(&mut Change<'_>) -> Result<T>) -> Result<T> {
         let mut waits = Waits::of(pass);
         loop {
@@ -231,7 +233,7 @@ impl<'a> Change<'a> {
     }
 }
 
-/// The parts of an operation that has no value and names no node.
+/// Returns the parts of an operation that has no value and names no node.
 fn of_index(kind: u32, name: &str, code: u32) -> Parts<'_> {
     Parts {
         kind,

@@ -1,43 +1,43 @@
-//! The comparisons of a query, and which of them are never true.
+//! The comparisons in a query, and which of them are never true.
 
 use crate::raw::{comparisons, Comparisons};
 use crate::refused::of_query;
 use crate::{Hint, Kind, Result};
 use bestore_sys::{self as sys, bes_compared};
 
-/// What the value of a comparison is.
+/// The form of the value in a comparison.
 #[derive(Clone, Copy, Debug, PartialEq, Eq)]
 pub enum Form {
     /// A whole number from -2^63 to 2^64 - 1.
     Number,
-    /// Another text.
+    /// Any other string.
     Text,
-    /// A pattern, which matches more than one text.
+    /// A pattern, which matches more than one string.
     Pattern,
 }
 
-/// A comparison of a query, by [`compared`].
+/// A comparison in a query, as [`compared`] returns it.
 #[derive(Clone, Debug, PartialEq, Eq)]
 pub struct Compared {
     /// The name of the attribute.
     pub name: String,
     /// `==`, `!=`, `<`, `<=`, `>` or `>=`, as written in the text.
     pub operator: &'static str,
-    /// What is compared with: a text without backslashes, or a pattern in its canonical form.
+    /// The value to compare with: a string without backslashes, or a pattern in its canonical form.
     pub value: String,
-    /// What that is.
+    /// The form of that value.
     pub form: Form,
-    /// The byte of the query at which the comparison begins.
+    /// The byte offset in the query at which the comparison begins.
     pub offset: usize,
-    /// How many bytes it has.
+    /// The length of the comparison in bytes.
     pub length: usize,
     /// Whether a `!` negates it.
     pub is_negated: bool,
-    /// The kinds of indices under which no node meets it, such as those of integers for `size>1.5`.
+    /// The kinds of indices for which the comparison is never true, such as the integer kinds for `size>1.5`.
     pub never: Vec<Kind>,
 }
 
-/// The comparisons of a query, from left to right. No store is read.
+/// Returns the comparisons in a query, from left to right. No store is read.
 ///
 /// ```
 /// use bestore::{compared, Form, Kind};
@@ -82,7 +82,7 @@ const fn sign(kind: u32) -> &'static str {
     }
 }
 
-/// Whether no value of an index of this kind makes the comparison true.
+/// Returns whether the comparison is false for every value in an index of this kind.
 const fn is_never(one: &bes_compared, kind: Kind) -> bool {
     match kind {
         // surface.toml: never true
@@ -95,7 +95,8 @@ const fn is_never(one: &bes_compared, kind: Kind) -> bool {
     }
 }
 
-/// The comparisons of a query that are never true, given the kinds of the indices: `kind_of` returns the kind of a name's index.
+/// Returns the comparisons in a query that are never true, given the kinds of the indices: `kind_of` returns the kind of the index with
+/// that name.
 ///
 /// ```
 /// use bestore::{hints, Kind};
@@ -106,7 +107,7 @@ const fn is_never(one: &bes_compared, kind: Kind) -> bool {
 /// ```
 ///
 /// # Errors
-/// Those of [`compared`].
+/// The same as [`compared`].
 pub fn hints(query: &str, kind_of: impl Fn(&str) -> Option<Kind>) -> Result<Vec<Hint>> {
     let hint = |one: Compared| {
         let kind = kind_of(&one.name).filter(|kind| one.never.contains(kind))?;
@@ -125,7 +126,7 @@ pub fn hints(query: &str, kind_of: impl Fn(&str) -> Option<Kind>) -> Result<Vec<
 mod tests {
     use super::*;
 
-    /// The offsets of what is never true. There are texts `t`, and integers `i`, `l`, `u` and `w`.
+    /// Returns the offsets of the comparisons that are never true. There is a text index `t`, and integer indices `i`, `l`, `u` and `w`.
     fn offsets(query: &str) -> Vec<usize> {
         let kind_of = |name: &str| match name {
             "t" => Some(Kind::Text),

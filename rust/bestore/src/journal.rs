@@ -9,14 +9,14 @@ pub struct Entry {
     pub number: u64,
     /// The number of the pass that wrote it.
     pub pass: u64,
-    /// The operations with their outcomes: each new node has the number that it got.
+    /// The operations with their outcomes: the number of each new node is filled in.
     pub batch: Batch,
 }
 
-/// The entries of a journal, starting at one of them: see [`Pass::journal_from`].
+/// An iterator over the entries of a journal from a given entry on, returned by [`Pass::journal_from`].
 ///
-/// It returns `None` at the end of the journal, and may be asked again when the journal has grown. Each entry is read by
-/// itself, and other passes can't write meanwhile. After an error the same entry is read again.
+/// It returns `None` at the end of the journal, and can be called again once the journal has grown. Each entry is read separately, and
+/// other passes can't write while one is read. After an error, the next call reads the same entry again.
 #[derive(Debug)]
 pub struct Entries<'a> {
     pass: &'a Pass,

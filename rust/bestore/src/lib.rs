@@ -1,8 +1,8 @@
 //! A shared, multi-version attribute store in memory, with the attributes, indices and query language of BeOS.
 //!
-//! A [`Store`] has numbered nodes with typed attributes. A [`Pass`] is one thread's handle on it: it writes transactions, and
-//! pins a [`Snapshot`], in which it reads and asks queries. Readers take no lock, and a snapshot stays as it is while others
-//! write. The store is the library libbestore, whose functions are proved to do what their contracts say.
+//! A [`Store`] has numbered nodes with typed attributes. A [`Pass`] is one thread's handle to it: it writes transactions, and pins a
+//! [`Snapshot`], in which it reads and runs queries. Readers take no lock, and a snapshot doesn't change while others write. The store is
+//! the library libbestore, whose functions are proved to do what their contracts say.
 //!
 //! ```
 //! use bestore::{Kind, Limits, Store};
@@ -21,16 +21,16 @@
 //! # Ok::<(), bestore::Error>(())
 //! ```
 //!
-//! An index takes only attributes that are set after it was made, so the indices come first.
+//! An index takes only attributes that are set after it was made, so make the indices first.
 //!
 //! # What is promised
 //!
-//! Writes are serializable in one order, the journal. A snapshot is a beginning of that order, which includes all that its pass
-//! has written or seen. A write by [`Pass::change`] is made on exactly the snapshot that its closure has read.
+//! Writes are serializable in one order, the journal. A snapshot is a prefix of that order, which includes everything that its
+//! pass has written or seen. A write with [`Pass::change`] is made on exactly the snapshot that its closure has read.
 //!
 //! # Threads and processes
 //!
-//! A [`Store`] may be shared between threads. A [`Pass`] may move to another thread, but can't be shared:
+//! A [`Store`] can be shared between threads. A [`Pass`] can move to another thread, but can't be shared:
 //!
 //! ```
 //! use bestore::{Limits, Store};
@@ -51,11 +51,11 @@
 //! shared(bestore::Store::open(bestore::Limits::default()).unwrap().pass().unwrap());
 //! ```
 //!
-//! In a forked child each handle of the parent is dead: its calls return [`Error::Forked`], and dropping it does nothing.
+//! In a forked child each of the parent's handles is dead: its calls return [`Error::Forked`], and dropping it does nothing.
 //!
 //! # More than one store
 //!
-//! A [`Shelf`] has several stores, which one query searches: see the module [`shelf`].
+//! A [`Shelf`] has several stores, which one query searches. See the module [`shelf`].
 //!
 //! # Features
 //!
@@ -64,6 +64,7 @@
 #![deny(unsafe_code)]
 
 mod change;
+mod copying;
 mod hints;
 mod journal;
 mod page;
@@ -85,6 +86,7 @@ pub use bestore_types::{
     Page, QueryError, QueryFault, Result, Value, Written, MOST_VOLUMES,
 };
 pub use change::Change;
+pub use copying::StateCopy;
 pub use hints::{compared, hints, Compared, Form};
 pub use journal::{Entries, Entry};
 pub use page::Ordered;
@@ -96,7 +98,7 @@ pub use snapshot::{Nodes, Snapshot, State};
 pub use store::Store;
 pub use text::any_case;
 
-/// The version of the running library: major, minor and patch.
+/// Returns the version of the running library: major, minor and patch.
 #[must_use]
 pub fn library_version() -> (u32, u32, u32) {
     let version = raw::version();

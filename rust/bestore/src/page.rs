@@ -1,4 +1,4 @@
-//! Parts of an answer: pages in the order of an index, the first nodes by number, and any few nodes.
+//! Parts of an answer: pages in the order of an index, the first nodes by number, or any nodes up to a limit.
 
 use crate::raw::{cursor_of, of_cursor, Refused};
 use crate::refused::no_order;
@@ -7,7 +7,7 @@ use bestore_sys as sys;
 use bestore_types::Paging;
 
 impl Snapshot<'_> {
-    /// The nodes that the query finds, in an order: an iterator that reads page after page.
+    /// Returns an iterator over the nodes that the query finds, in an order. The iterator reads page after page.
     ///
     /// ```
     /// # use bestore::{Kind, Limits, Order, Store};
@@ -25,26 +25,26 @@ impl Snapshot<'_> {
     /// ```
     ///
     /// # Errors
-    /// [`Error::Query`] of the text, [`Error::OutOfMemory`]. The iterator's are those of [`page`](Self::page).
+    /// [`Error::Query`] if the text isn't a query, [`Error::OutOfMemory`]. The iterator returns the errors of [`page`](Self::page).
     pub fn ordered(&self, text: &str, order: Order) -> Result<Ordered<'_>> {
         Ok(Ordered::new(Source::One(self), Prepared::new(text)?, order))
     }
 
-    /// A page: up to `most` of the nodes that the query finds, in the order, and after the cursor if one is given. Nodes without a
-    /// value in the order's index aren't in it.
+    /// Returns a page: up to `most` of the nodes that the query finds, in the given order, and after the cursor if one is given. Nodes
+    /// without a value in the order's index are left out.
     ///
-    /// A page of a later snapshot goes on where the last one ended, whatever was written in between.
+    /// A page from a later snapshot continues where the last page ended, whatever was written in between.
     ///
     /// # Errors
-    /// [`Error::NoOrder`]: there is no such index. [`Error::BadCursor`]: the cursor belongs to another order or query, or the
-    /// index has another kind now. [`Error::NoRoom`]: `most` is 0. Otherwise as [`query`](Self::query).
+    /// [`Error::NoOrder`]: there is no such index. [`Error::BadCursor`]: the cursor belongs to another order or query, or the index has
+    /// another kind now. [`Error::NoRoom`]: `most` is 0. Otherwise the same as [`query`](Self::query).
     pub fn page(&self, prepared: &Prepared, order: &Order, after: Option<&Cursor>, most: usize) -> Result<Page> {
         let check = prepared.check()?;
         let after = begin(order, check, after, most)?;
         self.page_after(prepared, &after, most)
     }
 
-    /// The page after a cursor, which is one of this query.
+    /// Returns the page after a cursor from this query.
     pub(crate) fn page_after(&self, prepared: &Prepared, after: &Cursor, most: usize) -> Result<Page> {
         let mut raw = cursor_of(after);
         let order = after.order();
@@ -76,10 +76,10 @@ impl Snapshot<'_> {
         }
     }
 
-    /// The first `most` nodes that the query finds, ascending from the number `from` on.
+    /// Returns the first `most` nodes that the query finds, in ascending order, starting at the number `from`.
     ///
     /// # Errors
-    /// [`Error::NoRoom`]: `most` is 0. Otherwise as [`query`](Self::query).
+    /// [`Error::NoRoom`]: `most` is 0. Otherwise the same as [`query`](Self::query).
     pub fn first(&self, text: &str, from: u64, most: usize) -> Result<Vec<u64>> {
         let prepared = Prepared::new(text)?;
         let answer = self.pass().raw().first(prepared.raw(), from, most);
@@ -89,17 +89,17 @@ impl Snapshot<'_> {
     /// Like [`first`](Self::first), for a prepared query.
     ///
     /// # Errors
-    /// Those of `first`.
+    /// The same as `first`.
     pub fn first_prepared(&self, prepared: &Prepared, from: u64, most: usize) -> Result<Vec<u64>> {
         let answer = self.pass().raw().first(prepared.raw(), from, most);
         answer.map_err(|refused| self.query_error(refused, || prepared.text_or_empty()))
     }
 
-    /// Any `most` of the nodes that the query finds, or all if there are fewer, in no particular order. If the answer is large,
-    /// this takes less time than finding all of it.
+    /// Returns any `most` of the nodes that the query finds, or all of them if there are fewer, in no particular order. If the answer is
+    /// large, this takes less time than finding all of it.
     ///
     /// # Errors
-    /// [`Error::NoRoom`]: `most` is 0. Otherwise as [`query`](Self::query).
+    /// [`Error::NoRoom`]: `most` is 0. Otherwise the same as [`query`](Self::query).
     pub fn any(&self, text: &str, most: usize) -> Result<Vec<u64>> {
         let prepared = Prepared::new(text)?;
         let answer = self.pass().raw().any(prepared.raw(), most);
@@ -109,14 +109,14 @@ impl Snapshot<'_> {
     /// Like [`any`](Self::any), for a prepared query.
     ///
     /// # Errors
-    /// Those of `any`.
+    /// The same as `any`.
     pub fn any_prepared(&self, prepared: &Prepared, most: usize) -> Result<Vec<u64>> {
         let answer = self.pass().raw().any(prepared.raw(), most);
         answer.map_err(|refused| self.query_error(refused, || prepared.text_or_empty()))
     }
 }
 
-/// The cursor after which a page begins, if it belongs to this order and query and the page has room.
+/// Returns the cursor after which a page begins. It's an error if the cursor belongs to another order or query, or if `most` is 0.
 pub(crate) fn begin(order: &Order, check: u32, after: Option<&Cursor>, most: usize) -> Result<Cursor> {
     if most == 0 {
         return Err(Error::NoRoom);
@@ -133,8 +133,8 @@ enum Source<'a> {
     Shelf(&'a ShelfSnapshot<'a>),
 }
 
-/// The nodes that a query finds in an order, by [`Snapshot::ordered`] or [`ShelfSnapshot::ordered`]. Each page is twice as long as
-/// the last one. An error ends them.
+/// An iterator over the nodes that a query finds in an order, returned by [`Snapshot::ordered`] or [`ShelfSnapshot::ordered`]. Each page is
+/// twice as long as the last one. An error ends the iteration.
 #[derive(Debug)]
 pub struct Ordered<'a> {
     source: Source<'a>,
@@ -157,17 +157,17 @@ impl<'a> Ordered<'a> {
         Self::new(Source::Shelf(shelf), prepared, order)
     }
 
-    /// The nodes after this cursor, which comes from a page of the same query and order.
+    /// Continues after this cursor, which must come from a page of the same query and order.
     #[must_use]
     pub fn after(mut self, cursor: Cursor) -> Self {
         self.paging.set_after(cursor);
         self
     }
 
-    /// The first `most` nodes as a page.
+    /// Returns the first `most` nodes as a page.
     ///
     /// # Errors
-    /// Those of [`Snapshot::page`].
+    /// The same as [`Snapshot::page`].
     pub fn page(&self, most: usize) -> Result<Page> {
         let after = self.paging.position();
         self.source.page(&self.prepared, &self.order, after, most)

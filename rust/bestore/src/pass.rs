@@ -1,4 +1,4 @@
-//! Passes: one thread's handle on a store.
+//! Passes: one thread's handle to a store.
 
 use crate::raw::{Answer, RawDraft, RawPass, RawWitness};
 use crate::refused::of_write;
@@ -13,19 +13,20 @@ use std::sync::Arc;
 use std::thread;
 use std::time::Duration;
 
-/// How often a call is tried again before its error is returned. [`Pass::change`] runs its closure again each time.
+/// How often to retry a call before its error is returned. [`Pass::change`] runs its closure again each time.
 #[derive(Clone, Copy, Debug, PartialEq, Eq)]
 pub struct Retry {
-    /// While another pass is writing. Between two tries other threads can run, twice as often each time, up to 1,024 times.
+    /// Retries while another pass is writing. Between two attempts it yields to other threads, twice as often each time, up to 1,024 times.
     pub busy: u32,
-    /// While the store is full and another pass holds an older snapshot. Between two tries it waits 1 to 64 milliseconds.
+    /// Retries while the store is full and another pass holds an older snapshot, or did. Between two attempts it waits 1 to 64
+    /// milliseconds.
     pub full: u32,
-    /// For [`Pass::change`], after a conflict with another write. Other threads can run in between, as at `busy`.
+    /// Retries by [`Pass::change`] after a conflict with another write. Between two attempts it yields to other threads, as for `busy`.
     pub conflict: u32,
 }
 
 impl Retry {
-    /// No call is tried again.
+    /// Never retries a call.
     pub const NEVER: Retry = Retry {
         busy: 0,
         full: 0,
@@ -34,7 +35,8 @@ impl Retry {
 }
 
 impl Default for Retry {
-    /// 10,000 times at busy and at a conflict, which takes a few seconds; 40 times at full, which takes about 2 seconds.
+    /// Retries 10,000 times if busy or after a conflict, which takes a few seconds, and 40 times if the store is full, which takes about 2
+    /// seconds.
     fn default() -> Self {
         Self {
             busy: 10_000,
@@ -52,7 +54,7 @@ pub(crate) struct Waits {
 }
 
 impl Waits {
-    /// If a snapshot is held, a conflict is final, since each attempt would read that one.
+    /// If a snapshot is held, a conflict is final, since each attempt would read the same snapshot.
     pub(crate) fn of(pass: &Pass) -> Self {
         let mut left = pass.retry();
         if pass.held().is_some() {
@@ -65,12 +67,12 @@ impl Waits {
         }
     }
 
-    /// Waits after an error, or returns it if no later attempt is made.
+    /// Waits after an error, or returns the error if no attempts are left.
     pub(crate) fn after(&mut self, pass: &Pass, error: Error) -> Result<()> {
         let left = match error {
             Error::Conflict { .. } => &mut self.left.conflict,
             Error::Busy { .. } => &mut self.left.busy,
-            Error::Full { .. } if self.left.full > 0 && pass.is_held_by_another()? => &mut self.left.full,
+            Error::Full { oldest } if self.left.full > 0 && pass.may_find_pages(oldest)? => &mut self.left.full,
             error => return Err(error),
         };
         if *left == 0 {
@@ -87,12 +89,12 @@ impl Waits {
     }
 }
 
-/// Waits for pages, after this many earlier pauses.
+/// Waits for free pages, after this many earlier pauses.
 fn pause_at_full(pauses: u32) {
     thread::sleep(Duration::from_millis(1 << pauses.min(6)));
 }
 
-/// Lets other threads run between two tries, twice as often each time.
+/// Yields to other threads between two attempts, twice as often each time.
 pub(crate) struct StandBack(u32);
 
 impl StandBack {
@@ -110,8 +112,8 @@ impl StandBack {
     }
 }
 
-/// What a pass has seen of its store, for a pass of the same store in another thread: [`Pass::witness`] makes one, and
-/// [`Pass::join`] joins it. It may move to another thread, but can't be shared.
+/// What a pass has seen of its store, to be passed to a pass of the same store in another thread. [`Pass::witness`] makes a witness, and
+/// [`Pass::join`] joins it. It can move to another thread, but can't be shared.
 ///
 /// ```
 /// use bestore::{Batch, Limits, Store};
@@ -138,69 +140,78 @@ pub struct Witness {
 /// How full a store is.
 #[derive(Clone, Copy, Debug, PartialEq, Eq)]
 pub struct Status {
-    /// All pages of the store.
+    /// The number of pages in the store.
     pub pages: u64,
-    /// Those that a write may take.
+    /// The pages that a write can use.
     pub free: u64,
-    /// Those of older snapshots, kept because a pass may read them.
+    /// The pages of older snapshots, kept because a pass may read them.
     pub retired: u64,
     /// How many entries the journal has.
     pub entries: u64,
-    /// How many it may have.
+    /// How many entries the journal can have.
     pub commits: u64,
     /// The oldest active reader, if there is one.
     pub oldest: Option<Oldest>,
 }
 
+impl Status {
+    /// Returns whether a write may find pages when it is retried, because another pass has kept pages for a snapshot, or still does. The
+    /// write came from the pass with the number `own`, and was refused as [`Error::Full`] with this `oldest`.
+    #[must_use]
+    pub fn may_free_pages(&self, own: u64, oldest: u64) -> bool {
+        oldest < self.entries && self.oldest.map_or(true, |reader| reader.pass != own)
+    }
+}
+
 /// The oldest active reader of a store.
 #[derive(Clone, Copy, Debug, PartialEq, Eq)]
 pub struct Oldest {
-    /// The pass reads the snapshot with this number, or a later one.
+    /// The pass reads the snapshot with this number or a later one.
     pub snapshot: u64,
     /// The number of the pass.
     pub pass: u64,
 }
 
-/// A pass: a session with the store, for one thread at a time.
+/// A session with the store, for one thread at a time.
 ///
-/// It writes, and pins the snapshots that it reads. It may move to another thread, but can't be shared. Calls on different passes
-/// run at the same time.
+/// It writes, and pins the snapshots that it reads. It can move to another thread, but can't be shared. Calls on different passes run at
+/// the same time.
 #[derive(Debug)]
 pub struct Pass {
-    /// What is read, and what is written unless another generation has come.
+    /// The generation that is read. Writes go there too, unless there is a newer generation.
     seat: Seat,
-    /// The seat in that one while a snapshot of the earlier one is read.
+    /// The seat in the newer generation, while a snapshot of the earlier one is read.
     ahead: RefCell<Option<Seat>>,
     succession: Arc<Succession>,
-    /// `None`: this is the store's own pass.
+    /// `None` for the store's own pass.
     store: Option<Arc<Shared>>,
     retry: Retry,
     held: Option<u64>,
     keeper: Option<Arc<dyn Keeper>>,
-    /// It is given up after the seats.
+    /// Dropped after the seats.
     _place: Option<Place>,
 }
 
-/// Keeps the writes of a store in another place too, such as a log. [`Pass::kept_by`] sends a pass's writes through it.
+/// Keeps a store's writes somewhere else too, such as in a log. [`Pass::kept_by`] sends a pass's writes through a keeper.
 ///
-/// `keep` makes a write in memory, and the write's call returns after `wait`. So a snapshot may show a write that isn't kept yet.
+/// `keep` makes a write in memory, and the call that writes returns after `wait`. So a snapshot may show a write that isn't kept yet.
 pub trait Keeper: Send + Sync + fmt::Debug {
-    /// Makes a write of the batch by the pass with this number: calls `write` once, while no other write is made, and returns
-    /// what it returned, with a number for [`wait`](Self::wait). The order of these calls is that of the journal.
+    /// Makes a write of the batch by the pass with this number. It calls `write` once, while no other write is made, and returns its
+    /// result, with a number for [`wait`](Self::wait). These calls come in the order of the journal.
     ///
     /// # Errors
-    /// Those of `write`, and [`Error::Other`] of the keeper's own, before `write` is called or after.
+    /// The errors of `write`, and the keeper's own errors as [`Error::Other`], either before or after `write` is called.
     fn keep(&self, pass: u64, batch: &Batch, write: &mut dyn FnMut() -> Result<Written>) -> Result<(Written, u64)>;
 
-    /// Returns when the write with this number is kept.
+    /// Returns once the write with this number is kept.
     ///
     /// # Errors
-    /// [`Error::Other`] of the keeper's own: the write was made in memory, and may be kept or not.
+    /// The keeper's own errors as [`Error::Other`]: the write was made in memory, and may or may not be kept.
     fn wait(&self, number: u64) -> Result<()>;
 }
 
 impl Pass {
-    /// The own pass of a store, which it opens.
+    /// Opens a store, and returns the store's own pass.
     pub(crate) fn open(limits: Limits) -> Result<Self> {
         Ok(Self {
             seat: Seat::open(limits)?,
@@ -214,7 +225,7 @@ impl Pass {
         })
     }
 
-    /// A pass of this store.
+    /// Makes a pass of this store.
     pub(crate) fn new(seat: Seat, store: Arc<Shared>, place: Place) -> Self {
         Self {
             seat,
@@ -228,7 +239,7 @@ impl Pass {
         }
     }
 
-    /// The pass, whose writes go through the keeper from now on. All passes that write must have the same one.
+    /// Returns the pass, whose writes go through the keeper from now on. All passes that write must have the same keeper.
     ///
     /// ```
     /// use bestore::{Batch, Keeper, Limits, Result, Store, Written};
@@ -263,7 +274,7 @@ impl Pass {
         self
     }
 
-    /// The pass of the library by which snapshots are read.
+    /// Returns the library's pass through which snapshots are read.
     pub(crate) fn raw(&self) -> &RawPass {
         self.seat.raw()
     }
@@ -276,7 +287,7 @@ impl Pass {
         &self.succession
     }
 
-    /// Changes the seat of the store's own pass. Returns the one before.
+    /// Changes the seat of the store's own pass. Returns the previous seat.
     pub(crate) fn change_seat(&mut self, seat: Seat) -> Seat {
         std::mem::replace(&mut self.seat, seat)
     }
@@ -285,7 +296,7 @@ impl Pass {
         self.seat
     }
 
-    /// Calls with the seat in the newest generation, if this pass has one.
+    /// Calls the closure with the seat in the newest generation, if this pass has one.
     fn with_newest<T>(&self, call: impl FnOnce(&Seat) -> T) -> Option<T> {
         if self.succession.is_newest(&self.seat) {
             return Some(call(&self.seat));
@@ -302,7 +313,7 @@ impl Pass {
         Ok(())
     }
 
-    /// Calls with a seat in the newest generation.
+    /// Calls the closure with a seat in the newest generation.
     pub(crate) fn on_newest<T>(&self, mut call: impl FnMut(&Seat) -> Answer<T>) -> Answer<T> {
         loop {
             if let Some(answer) = self.with_newest(&mut call) {
@@ -321,20 +332,21 @@ impl Pass {
                 Err(refused) => Err(seat.refused(refused)),
             });
             if let Some(written) = written {
-                if written.is_ok() {
-                    self.succession.written(batch);
+                match &written {
+                    Ok(_) => self.succession.written(batch),
+                    Err(refused) => self.succession.refused(refused),
                 }
                 return written;
             }
-            // A seat is taken outside, since whoever closes the gate has the store's own pass.
+            // The seat is taken before that, since the thread that closes the gate has the store's own pass.
             drop(open);
             self.go_ahead()?;
         }
     }
 
-    /// Lets go of what [`Store::carry_on`](crate::Store::carry_on) has carried on, so that its memory can be freed, unless a snapshot of
-    /// it is held. [`pin`](Self::pin) does the same, so this is for a pass that rests, or only writes. Returns whether there was
-    /// something to let go of. The pass may then have another [`number`](Self::number).
+    /// Gives up what [`Store::carry_on`](crate::Store::carry_on) has carried on, so that its memory can be freed, unless a snapshot of it
+    /// is held. [`pin`](Self::pin) does the same, so this call is for a pass that is idle or only writes. Returns whether there was
+    /// anything to give up. The pass may have another [`number`](Self::number) afterwards.
     ///
     /// # Errors
     /// [`Error::OutOfMemory`], [`Error::Forked`].
@@ -353,12 +365,19 @@ impl Pass {
         self.retry
     }
 
-    /// Sets how often calls of this pass are tried again.
+    /// Sets how often this pass retries its calls.
     pub fn set_retry(&mut self, retry: Retry) {
         self.retry = retry;
     }
 
-    /// The number of this pass, which the journal and [`Error::Busy`] use.
+    /// Returns how often the store had been [carried on](crate::Store::carry_on) when the pass last gave up the earlier memory. While that
+    /// is less than [`Store::generation`](crate::Store::generation), the pass keeps the earlier memory.
+    #[must_use]
+    pub fn generation(&self) -> u64 {
+        self.seat.generation()
+    }
+
+    /// Returns the number of this pass, which the journal and [`Error::Busy`] use.
     ///
     /// # Errors
     /// [`Error::Forked`].
@@ -366,9 +385,9 @@ impl Pass {
         Ok(self.on_newest(|seat| seat.raw().number())?)
     }
 
-    /// Pins the current snapshot, which can be read until it is dropped. Takes constant time.
+    /// Pins the current snapshot, which can be read until it is dropped. It takes constant time.
     ///
-    /// You can still write, through [`Snapshot::pass`]; the snapshot stays as it is.
+    /// You can still write, through [`Snapshot::pass`]; the snapshot doesn't change.
     ///
     /// # Errors
     /// [`Error::Forked`].
@@ -376,8 +395,8 @@ impl Pass {
         Snapshot::pin(self)
     }
 
-    /// Pins the current snapshot, and holds it until [`release`](Self::release): each [`pin`](Self::pin) in between returns it.
-    /// So a session can keep one without a borrow. A snapshot that is already held stays. Returns the number of the snapshot.
+    /// Pins the current snapshot, and holds it until [`release`](Self::release): each [`pin`](Self::pin) in between returns this snapshot.
+    /// So a session can keep a snapshot without a borrow. If a snapshot is already held, it stays held. Returns the number of the snapshot.
     ///
     /// ```
     /// # use bestore::{Limits, Store};
@@ -400,15 +419,15 @@ impl Pass {
         Ok(number)
     }
 
-    /// Unpins the snapshot that is held, if one is.
+    /// Unpins the held snapshot, if there is one.
     pub fn release(&mut self) {
         if self.held.take().is_some() {
-            // Fails in a forked child alone, where nothing is pinned.
+            // Fails only in a forked child, where nothing is pinned.
             let _ = self.raw().unpin();
         }
     }
 
-    /// The number of the snapshot that is held.
+    /// Returns the number of the held snapshot.
     #[must_use]
     pub fn held(&self) -> Option<u64> {
         self.held
@@ -418,17 +437,17 @@ impl Pass {
     ///
     /// # Errors
     /// [`Error::Busy`] and [`Error::Full`] after as many tries as [`Retry`] says. [`Error::BadCount`], [`Error::NameLength`],
-    /// [`Error::DataLength`], [`Error::HasNul`]: an operation is bad. [`Error::NoNode`] to [`Error::NotIndexable`]: the store
-    /// refuses an operation. [`Error::CommitsSpent`], [`Error::OutOfMemory`], [`Error::Forked`].
+    /// [`Error::DataLength`], [`Error::HasNul`]: an operation isn't valid. [`Error::NoNode`] to [`Error::NotIndexable`]: the store refuses
+    /// an operation. [`Error::CommitsSpent`], [`Error::OutOfMemory`], [`Error::Forked`].
     pub fn apply(&self, batch: &Batch) -> Result<Written> {
         self.write(None, batch)
     }
 
-    /// Writes like [`apply`](Self::apply), but only if the journal has exactly `expected` entries. So what was read in the
-    /// snapshot with that number is still true.
+    /// Writes like [`apply`](Self::apply), but only if the journal has exactly `expected` entries. So everything read in the snapshot with
+    /// that number is still true.
     ///
     /// # Errors
-    /// [`Error::Conflict`] if the journal has another length; otherwise as `apply`.
+    /// [`Error::Conflict`] if the journal has another length; otherwise the same as `apply`.
     pub fn apply_if(&self, expected: u64, batch: &Batch) -> Result<Written> {
         self.write(Some(expected), batch)
     }
@@ -437,11 +456,11 @@ impl Pass {
         self.apply_with(expected, batch, |_| ())
     }
 
-    /// Writes like [`apply`](Self::apply), or with `expected` like [`apply_if`](Self::apply_if). `made` gets what was written once
-    /// it is in memory, before a [`Keeper`] has kept it.
+    /// Writes like [`apply`](Self::apply), or with `expected` like [`apply_if`](Self::apply_if). Calls `made` with the result once the
+    /// write is in memory, before a [`Keeper`] has kept it.
     ///
     /// # Errors
-    /// As those calls.
+    /// The same as those calls.
     pub fn apply_with(&self, expected: Option<u64>, batch: &Batch, made: impl FnOnce(&Written)) -> Result<Written> {
         let (written, number) = self.begin_write(expected, batch)?;
         made(&written);
@@ -449,7 +468,7 @@ impl Pass {
         Ok(written)
     }
 
-    /// Writes in memory. Returns the number for `end_write`.
+    /// Writes in memory. Returns the number to pass to `end_write`.
     pub(crate) fn begin_write(&self, expected: Option<u64>, batch: &Batch) -> Result<(Written, u64)> {
         let mut full = 0;
         loop {
@@ -459,7 +478,7 @@ impl Pass {
                 Some(keeper) => keeper.keep(self.number()?, batch, &mut write),
             };
             match written {
-                Err(Error::Full { .. }) if full < self.retry.full && self.is_held_by_another()? => {
+                Err(Error::Full { oldest }) if full < self.retry.full && self.may_find_pages(oldest)? => {
                     pause_at_full(full);
                     full += 1;
                 }
@@ -468,8 +487,8 @@ impl Pass {
         }
     }
 
-    /// Writes the draft of a change in memory. Its operations are those of the batch, and make these nodes. It is tried once. Returns
-    /// the number for `end_write`.
+    /// Writes the draft of a change in memory. Its operations are those in the batch, and make these nodes. It is tried only once. Returns
+    /// the number to pass to `end_write`.
     pub(crate) fn end_change(&self, draft: &RawDraft, expected: u64, batch: &Batch, nodes: Vec<u64>) -> Result<u64> {
         let mut write = || match self.write_draft(draft, expected, batch) {
             Ok(number) => Ok(Written {
@@ -484,7 +503,8 @@ impl Pass {
         }
     }
 
-    /// Writes the draft, or if it is of an earlier generation the same operations, if nothing else was written since.
+    /// Writes the draft if nothing else has been written since. If the draft belongs to an earlier generation, writes the same operations
+    /// instead.
     fn write_draft(&self, draft: &RawDraft, expected: u64, batch: &Batch) -> Answer<u64> {
         let (own, mut made) = (self.raw().store(), vec![0; batch.len()]);
         self.write_on_newest(batch, |seat| match seat.raw().store() == own {
@@ -493,7 +513,7 @@ impl Pass {
         })
     }
 
-    /// Waits until the write is kept, if the writes of this pass are.
+    /// If this pass's writes are kept, waits until this write is kept.
     pub(crate) fn end_write(&self, number: u64) -> Result<()> {
         self.keeper.as_ref().map_or(Ok(()), |keeper| keeper.wait(number))
     }
@@ -520,12 +540,11 @@ impl Pass {
         Ok(repeated.set_nodes(&written.nodes) == batch)
     }
 
-    fn is_held_by_another(&self) -> Result<bool> {
-        let own = self.number()?;
-        Ok(self.status()?.oldest.map_or(false, |oldest| oldest.pass != own))
+    fn may_find_pages(&self, oldest: u64) -> Result<bool> {
+        Ok(self.status()?.may_free_pages(self.number()?, oldest))
     }
 
-    /// Makes a call again while another pass is writing.
+    /// Retries a call while another pass is writing.
     pub(crate) fn tried<T>(&self, mut call: impl FnMut() -> Answer<T>) -> Answer<T> {
         let mut stand_back = StandBack::new();
         for _ in 0..self.retry.busy {
@@ -537,8 +556,8 @@ impl Pass {
         call()
     }
 
-    /// Reads and writes as one: runs the closure on the current snapshot, and writes the operations that it collects if no
-    /// other write came between. Otherwise it runs the closure again, on the next snapshot; likewise if another pass is writing, or if
+    /// Reads and writes atomically: runs the closure on the current snapshot, and writes the operations that it collects if there was no
+    /// other write in between. Otherwise it runs the closure again on the next snapshot. It also does so if another pass is writing, or if
     /// no page is free while another pass holds an older snapshot.
     ///
     /// ```
@@ -557,23 +576,23 @@ impl Pass {
     /// # Ok::<(), bestore::Error>(())
     /// ```
     ///
-    /// While a snapshot is [held](Self::hold), the closure reads that one. A conflict is an error then; if another pass is writing, or no
-    /// page is free, the closure runs again on the same snapshot.
+    /// While a snapshot is [held](Self::hold), the closure reads the held snapshot. A conflict is then an error. If another pass is
+    /// writing, or no page is free, the closure runs again on the same snapshot.
     ///
-    /// A closure that collects no operation writes nothing. One that returns an error stops the change, and nothing is written;
-    /// [`Error::other`] makes one of any error.
+    /// A closure that collects no operations writes nothing. If the closure returns an error, the change stops and nothing is written.
+    /// [`Error::other`] turns any error into an [`Error`].
     ///
     /// # Errors
-    /// Those of the closure; [`Error::Conflict`], [`Error::Busy`] and [`Error::Full`] after as many tries as [`Retry`] says;
-    /// otherwise as [`apply`](Self::apply).
+    /// The closure's errors; [`Error::Conflict`], [`Error::Busy`] and [`Error::Full`] after as many tries as [`Retry`] says; otherwise the
+    /// same as [`apply`](Self::apply).
     pub fn change<T>(&mut self, mut change: impl FnMut(&mut Change<'_>) -> Result<T>) -> Result<T> {
         Change::run(self, &mut change)
     }
 
-    /// Makes a node, and returns its number. It writes like [`apply`](Self::apply), as do the next five calls.
+    /// Makes a node, and returns its number. This call and the next five write like [`apply`](Self::apply).
     ///
     /// # Errors
-    /// Those of `apply`.
+    /// The same as `apply`.
     pub fn new_node(&self) -> Result<u64> {
         Ok(self.apply(Batch::new().new_node())?.nodes[0])
     }
@@ -581,7 +600,7 @@ impl Pass {
     /// Removes the node and all its attributes.
     ///
     /// # Errors
-    /// Those of [`apply`](Self::apply).
+    /// The same as [`apply`](Self::apply).
     pub fn remove_node(&self, node: u64) -> Result<()> {
         self.apply(Batch::new().remove_node(node)).map(drop)
     }
@@ -589,7 +608,7 @@ impl Pass {
     /// Sets the attribute.
     ///
     /// # Errors
-    /// Those of [`apply`](Self::apply).
+    /// The same as [`apply`](Self::apply).
     pub fn set(&self, node: u64, name: &str, value: impl Into<Value>) -> Result<()> {
         self.apply(Batch::new().set(node, name, value)).map(drop)
     }
@@ -597,16 +616,16 @@ impl Pass {
     /// Removes the attribute.
     ///
     /// # Errors
-    /// Those of [`apply`](Self::apply).
+    /// The same as [`apply`](Self::apply).
     pub fn unset(&self, node: u64, name: &str) -> Result<()> {
         self.apply(Batch::new().unset(node, name)).map(drop)
     }
 
-    /// Makes an index, which takes attributes of this name and kind that are set from then on. [`reindex`](Self::reindex) sets the
-    /// others again.
+    /// Makes an index, which takes attributes of this name and kind that are set from then on. [`reindex`](Self::reindex) sets the earlier
+    /// ones again.
     ///
     /// # Errors
-    /// Those of [`apply`](Self::apply).
+    /// The same as [`apply`](Self::apply).
     pub fn make_index(&self, name: &str, kind: Kind) -> Result<()> {
         self.apply(Batch::new().make_index(name, kind)).map(drop)
     }
@@ -614,14 +633,13 @@ impl Pass {
     /// Removes the index.
     ///
     /// # Errors
-    /// Those of [`apply`](Self::apply).
+    /// The same as [`apply`](Self::apply).
     pub fn remove_index(&self, name: &str) -> Result<()> {
         self.apply(Batch::new().remove_index(name)).map(drop)
     }
 
-    /// Sets the attributes that the index of this name lacks, because they were set before it was made, to the same values again. Each
-    /// change sets up to 64 of them, so no newer value is lost. Returns how many were set. Takes a read of each node, and a
-    /// write of each such attribute.
+    /// Sets attributes that the index of this name lacks, because they were set before it was made, to the same values again. Each change
+    /// sets up to 64 attributes, so no newer value is lost. Returns how many were set. It reads each node, and writes each such attribute.
     ///
     /// ```
     /// # use bestore::{Kind, Limits, Store};
@@ -635,7 +653,7 @@ impl Pass {
     /// ```
     ///
     /// # Errors
-    /// [`Error::NoIndex`]; otherwise as [`change`](Self::change).
+    /// [`Error::NoIndex`]; otherwise the same as [`change`](Self::change).
     pub fn reindex(&mut self, name: &str) -> Result<u64> {
         let snapshot = self.pin()?;
         let kind = snapshot.index(name)?;
@@ -648,7 +666,8 @@ impl Pass {
         Ok(set)
     }
 
-    /// How many entries the journal no longer has, because the store was [carried on](crate::Store::carry_on): 0 if it wasn't.
+    /// Returns how many entries the journal no longer has, because the store was [carried on](crate::Store::carry_on), or 0 if it never
+    /// was.
     ///
     /// # Errors
     /// [`Error::OutOfMemory`], [`Error::Forked`].
@@ -656,14 +675,14 @@ impl Pass {
         Ok(self.on_newest(|seat| Ok(seat.state()))?)
     }
 
-    /// The entries of the journal after the first `from`, so the commit numbers `from + 1` and on. Those that the journal
-    /// [no longer has](Self::journal_begin) are left out, and the number of the first entry says so.
+    /// Returns the journal's entries after the first `from`: those with commit numbers from `from + 1` on. Entries that the journal [no
+    /// longer has](Self::journal_begin) are left out; the number of the first entry shows it.
     pub fn journal_from(&self, from: u64) -> Entries<'_> {
         Entries::new(self, from)
     }
 
-    /// The journal as text, a line for each entry. Other passes can't write while it is made. If the store was [carried
-    /// on](crate::Store::carry_on), it begins with the state.
+    /// Returns the journal as text, one line per entry. Other passes can't write while the text is made. If the store was [carried
+    /// on](crate::Store::carry_on), the text begins with the state.
     ///
     /// # Errors
     /// [`Error::Busy`], [`Error::OutOfMemory`], [`Error::Forked`].
@@ -672,7 +691,7 @@ impl Pass {
         Ok(String::from_utf8_lossy(&bytes).into_owned())
     }
 
-    /// How full the store is, and which snapshot keeps pages. Other passes can't write meanwhile.
+    /// Returns how full the store is, and which snapshot keeps pages. Other passes can't write meanwhile.
     ///
     /// # Errors
     /// [`Error::Busy`], [`Error::Forked`].
@@ -696,7 +715,7 @@ impl Pass {
         Ok(status?)
     }
 
-    /// Meets a pass that was dropped: both have then seen what either had. Returns how many entries of the journal that is.
+    /// Meets a dropped pass: afterwards each has seen what either had seen. Returns how many journal entries both have seen.
     ///
     /// # Errors
     /// [`Error::NoPass`]: there is no pass to meet, or another thread is meeting it. [`Error::Forked`].
@@ -704,7 +723,7 @@ impl Pass {
         Ok(self.on_newest(|seat| seat.raw().meet().map(|seen| seat.outside(seen)))?)
     }
 
-    /// A witness of all entries of the journal that the pass has seen so far, including its own. Send it to another thread, whose
+    /// Makes a witness of all journal entries that the pass has seen so far, including its own. Send the witness to another thread, whose
     /// pass joins it.
     ///
     /// # Errors
@@ -716,9 +735,9 @@ impl Pass {
         })
     }
 
-    /// Joins a witness: the pass and the witness have then both seen what either had. So each later snapshot of the pass includes
-    /// everything that the witness's pass had seen, and each later commit number of the pass is greater than those. Returns how many
-    /// entries of the journal both have seen.
+    /// Joins a witness: afterwards the pass and the witness have both seen what either had seen. So each later snapshot of the pass
+    /// includes everything that the witness's pass had seen, and each later commit number of the pass is greater than those entries'
+    /// numbers. Returns how many journal entries both have seen.
     ///
     /// # Errors
     /// [`Error::OtherStore`] if the witness belongs to another store; [`Error::Forked`].
@@ -726,7 +745,7 @@ impl Pass {
         let is_of_store = Arc::ptr_eq(&self.succession, &witness.succession);
         let seen = self.on_newest(|seat| match seat.raw().join(&mut witness.raw)? {
             Some(seen) => Ok(Some(seat.outside(seen))),
-            // Whatever was seen in an earlier generation is in this one from the beginning.
+            // Whatever was seen in an earlier generation is in this generation from the beginning.
             None => Ok(is_of_store.then_some(seat.begin())),
         });
         seen?.ok_or(Error::OtherStore)

@@ -1,4 +1,4 @@
-//! Queries that are built, not parsed.
+//! Queries that are built rather than parsed.
 
 use crate::refused::{of_query, without_offset};
 use crate::{Error, Kind, Prepared, Result};
@@ -7,7 +7,7 @@ use bestore_types::raw::narrow;
 use std::ops::{BitAnd, BitOr, Not};
 use sys::bes_item;
 
-/// A query that is built from comparisons with `&`, `|` and `!`. Texts need no quotes or backslashes.
+/// A query that is built from comparisons with `&`, `|` and `!`. Strings need no quotes or backslashes.
 ///
 /// ```
 /// use bestore::attribute;
@@ -26,18 +26,18 @@ pub struct Predicate {
 #[derive(Clone, Debug)]
 pub struct Attribute(Predicate);
 
-/// The right side of a comparison: a text or an integer.
+/// The right side of a comparison: a string or an integer.
 #[derive(Clone, Debug, PartialEq, Eq)]
 pub enum Operand {
-    /// A text.
+    /// A string.
     Text(String),
     /// An integer.
     Int64(i64),
-    /// An integer without a sign.
+    /// An unsigned integer.
     Uint64(u64),
 }
 
-/// The attribute of this name, to be compared.
+/// Returns the attribute of this name, to be compared.
 #[must_use]
 pub fn attribute(name: &str) -> Attribute {
     let mut predicate = Predicate {
@@ -80,7 +80,7 @@ impl Attribute {
         ends_with by BES_ITEM_ENDS_WITH;
     }
 
-    /// The attribute is in the index of this name, which has this kind.
+    /// Matches nodes whose attribute is in the index of this name. `kind` is the kind of that index.
     #[must_use]
     pub fn any(self, kind: Kind) -> Predicate {
         match kind.least() {
@@ -131,7 +131,7 @@ impl Predicate {
     /// Makes the query.
     ///
     /// # Errors
-    /// [`Error::Query`] with the text of a pattern that is malformed, or if the query is too large. [`Error::NameLength`],
+    /// [`Error::Query`] with the text of a pattern if the pattern is malformed, or if the query is too large. [`Error::NameLength`],
     /// [`Error::HasNul`], [`Error::OutOfMemory`].
     pub fn prepare(&self) -> Result<Prepared> {
         let answer = crate::raw::RawPrepared::build(&self.items, &self.bytes);
@@ -141,7 +141,7 @@ impl Predicate {
         })
     }
 
-    /// The text before the item with this index, which is its value if it is a comparison.
+    /// Returns the text before the item with this index. If the item is a comparison, that text is its value.
     fn pattern_before(&self, item: u64) -> String {
         let index = usize::try_from(item).unwrap_or(usize::MAX).checked_sub(1);
         let value = index.and_then(|index| self.items.get(index));

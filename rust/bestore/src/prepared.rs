@@ -7,8 +7,8 @@ use bestore_types::raw::crc32;
 use std::cell::Cell;
 use std::fmt;
 
-/// A query that was parsed once, or built by [`Predicate::prepare`](crate::Predicate::prepare). It belongs to no store, and can
-/// be asked in any snapshot.
+/// A query that was parsed once, or built by [`Predicate::prepare`](crate::Predicate::prepare). It belongs to no store, and can be run in
+/// any snapshot.
 ///
 /// ```
 /// use bestore::Prepared;
@@ -19,7 +19,7 @@ use std::fmt;
 #[derive(Debug)]
 pub struct Prepared {
     raw: RawPrepared,
-    /// The CRC-32 of the canonical text, once it has been asked for.
+    /// The CRC-32 of the canonical text, once something has asked for it.
     check: Cell<Option<u32>>,
 }
 
@@ -42,7 +42,7 @@ impl Prepared {
         }
     }
 
-    /// The canonical text of the query.
+    /// Returns the canonical text of the query.
     ///
     /// # Errors
     /// [`Error::OutOfMemory`], [`Error::Forked`].
@@ -54,7 +54,7 @@ impl Prepared {
         self.text().unwrap_or_default()
     }
 
-    /// What cursors of this query keep about it.
+    /// Returns what this query's cursors remember about the query.
     pub(crate) fn check(&self) -> Result<u32> {
         match self.check.get() {
             Some(check) => Ok(check),
@@ -92,16 +92,16 @@ impl fmt::Display for Prepared {
     }
 }
 
-/// What changed in the answer of a live query; both lists ascend.
+/// The changes in the answer to a live query. Both lists are in ascending order.
 #[derive(Clone, Debug, Default, PartialEq, Eq)]
 pub struct Updates {
-    /// The nodes that came into the answer.
+    /// The nodes that joined the answer.
     pub created: Vec<u64>,
-    /// The nodes that left it.
+    /// The nodes that left the answer.
     pub removed: Vec<u64>,
 }
 
-/// A live query: each refresh returns what changed since the last one. At the first, all nodes of the answer come.
+/// A live query: each refresh returns what changed since the last one. The first refresh returns all nodes of the answer.
 ///
 /// ```
 /// # use bestore::{Kind, Limits, Live, Store};
@@ -118,7 +118,7 @@ pub struct Updates {
 #[derive(Debug)]
 pub struct Live {
     prepared: Prepared,
-    /// The store of the last refresh, by the number that its passes have.
+    /// The store of the last refresh, as the number that its passes have.
     store: Option<u64>,
 }
 
@@ -131,24 +131,24 @@ impl Live {
         Prepared::new(text).map(Self::from)
     }
 
-    /// Asks the query, and compares with its answer at the last refresh. Use snapshots of one store, or of another that its state was
-    /// carried on to: nodes are compared by their numbers. It asks the whole query and takes no lock, so it doesn't make another
-    /// pass's write [`Error::Busy`].
+    /// Runs the query, and compares the answer with the answer at the last refresh. Use snapshots of one store, or of another store to
+    /// which its state was carried on: nodes are compared by their numbers. It runs the whole query and takes no lock, so it never causes
+    /// [`Error::Busy`] in another pass's write.
     ///
     /// # Errors
-    /// Those of [`Snapshot::query`]. The query stays as it was.
+    /// The same as [`Snapshot::query`]. The query is unchanged then.
     pub fn refresh(&mut self, snapshot: &Snapshot<'_>) -> Result<Updates> {
         self.refresh_by(snapshot, RawPass::refresh)
     }
 
-    /// Returns what [`refresh`](Self::refresh) does. It checks only the nodes that were written since the last refresh, and takes
-    /// less time if the answer has 96 nodes or more and few were written. It reads the journal's entries since then, and
-    /// other passes get [`Error::Busy`] meanwhile. Otherwise, or if the last refresh was in another store, it asks the whole query.
+    /// Returns what [`refresh`](Self::refresh) does. It checks only the nodes that were written since the last refresh, and takes less time
+    /// if the answer has 96 nodes or more and few nodes were written. It reads the journal's entries since then, and other passes get
+    /// [`Error::Busy`] meanwhile. Otherwise, or if the last refresh was in another store, it runs the whole query.
     ///
     /// # Errors
-    /// Those of `refresh`.
+    /// The same as `refresh`.
     pub fn refresh_changed(&mut self, snapshot: &Snapshot<'_>) -> Result<Updates> {
-        // The library requires that the last refresh was in this store, whose entries it reads.
+        // The library requires that the last refresh was in this store, since it reads the store's entries.
         match self.store == Some(snapshot.pass().raw().store()) {
             true => self.refresh_by(snapshot, RawPass::refresh_changed),
             false => self.refresh(snapshot),
@@ -170,7 +170,7 @@ impl Live {
         }
     }
 
-    /// The query, for asking it without a refresh.
+    /// Returns the query, so that you can run it without a refresh.
     #[must_use]
     pub fn prepared(&self) -> &Prepared {
         &self.prepared

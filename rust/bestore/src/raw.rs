@@ -1,12 +1,10 @@
-//! The calls of the library on handles that close themselves. All unsafe code of the crate is in this module.
+//! The library's calls on handles that close themselves. All unsafe code of the crate is in this module.
 //!
 //! What each block rests on:
 //! - a pointer to a handle is one of `Handle`, which keeps the handle at one address until it closes it;
 //! - a handle takes one call at a time: `Handle` isn't `Sync`, and no call of the library calls back;
 //! - a slice has a pointer that isn't null, even with a length of 0;
-//! - of a list the library writes as many items as it counts, up to the room that it is given;
-//! - a pass and a witness have the number of their store, and are joined only if it is the same;
-//! - a `Live` has the number of the store of its last refresh, and only in that one is it refreshed by what changed.
+//! - the library writes as many items of a list as it counts, up to the capacity that it is given.
 #![allow(unsafe_code)]
 #![deny(unsafe_op_in_unsafe_fn)]
 
@@ -28,13 +26,13 @@ use sys::{
     bes_witness,
 };
 
-/// The code of a call in a forked child, which no call of the library returns.
+/// The code returned by a call in a forked child. No call of the library returns it.
 pub(crate) const FORKED: u32 = u32::MAX;
 
 /// The maximum number of bytes in the names and values of a batch.
 const BYTES: usize = OPERATIONS * (63 + 255);
 
-/// A code that isn't `BES_OK`, and the number that goes with it.
+/// A code other than `BES_OK`, and the number that comes with it.
 #[derive(Clone, Copy, Debug, PartialEq, Eq)]
 pub(crate) struct Refused {
     pub(crate) code: u32,
@@ -43,7 +41,7 @@ pub(crate) struct Refused {
 
 pub(crate) type Answer<T> = Result<T, Refused>;
 
-/// The nodes that came and those that went.
+/// The nodes that joined the answer and the nodes that left it.
 pub(crate) type RawUpdates = Answer<(Vec<u64>, Vec<u64>)>;
 
 fn check(code: u32, carried: u64) -> Answer<()> {
@@ -54,7 +52,8 @@ fn check(code: u32, carried: u64) -> Answer<()> {
     }
 }
 
-/// All that a call has which counts what there is and writes what there is room for. It is asked again with more room.
+/// Returns the whole result of a call that counts all items and writes as many as fit. If they don't all fit, it calls again with a larger
+/// buffer.
 fn whole<T>(mut room: usize, mut call: impl FnMut(*mut T, usize, &mut u64) -> u32) -> Answer<Vec<T>>
 where
     T: Copy,
@@ -74,7 +73,7 @@ where
     }
 }
 
-/// A name that is checked once.
+/// A name that has been checked.
 pub(crate) fn checked_name(name: &str) -> Answer<sys::bes_name> {
     let mut checked = sys::bes_name {
         length: 0,
@@ -85,7 +84,7 @@ pub(crate) fn checked_name(name: &str) -> Answer<sys::bes_name> {
     check(code, 0).map(|()| checked)
 }
 
-/// A list of operations, from a call that is asked again with more room if the list is longer.
+/// Returns a list of operations from a call. If the list doesn't fit, it calls again with a larger buffer.
 fn listed(
     room: (usize, usize),
     mut call: impl FnMut(&mut bes_counts, *mut bes_operation, usize, *mut u8, usize) -> Answer<()>,
@@ -102,7 +101,7 @@ fn listed(
         call(&mut counts, operations, operations_room, bytes, bytes_room)?;
         let (operations, bytes) = (counts.operations as usize, counts.bytes as usize);
         if operations <= operations_room && bytes <= bytes_room {
-            // SAFETY: the library has written as many operations and bytes as it counts.
+            // SAFETY: the library has written as many operations and bytes as it counted.
             unsafe {
                 list.operations.set_len(operations);
                 list.bytes.set_len(bytes);
@@ -113,7 +112,7 @@ fn listed(
     }
 }
 
-/// `bes_apply`, or `bes_apply_if` if a length is expected.
+/// Calls `bes_apply`, or `bes_apply_if` if a length is expected.
 ///
 /// # Safety
 /// `pass` points to a handle that no other call uses.
@@ -130,10 +129,10 @@ unsafe fn apply(pass: *mut bes_pass, expected: Option<u64>, list: &List, made: &
     }
 }
 
-/// How many nodes there is room for at the first query.
+/// How many nodes the buffer holds at the first query.
 const NODES: usize = 256;
 
-/// The nodes of a query, with room for as many as the last one had and some more: so few queries are asked twice.
+/// Returns the nodes that a query finds. The buffer holds a few more nodes than the last query found, so that few queries are run twice.
 fn found(room: &Cell<usize>, call: impl FnMut(*mut u64, usize, &mut u64) -> u32) -> Answer<Vec<u64>> {
     let mut nodes = whole(room.get(), call)?;
     room.set((nodes.len() + nodes.len() / 4).max(NODES));
@@ -143,20 +142,21 @@ fn found(room: &Cell<usize>, call: impl FnMut(*mut u64, usize, &mut u64) -> u32)
     Ok(nodes)
 }
 
-/// Up to `most` nodes, from a call that counts them and writes as many as fit. Makes room for at most `all`, since there can't be more.
+/// Returns up to `most` nodes from a call that counts all nodes and writes as many as fit. The buffer holds at most `all` nodes, since
+/// there can't be more.
 fn some(all: u64, most: usize, call: impl FnOnce(*mut u64, usize, &mut u64) -> u32) -> Answer<Vec<u64>> {
-    // Room for at least one, so that a page of a store without nodes is empty, and not an error.
+    // The buffer holds at least one node, so that a page from a store without nodes is empty, and not an error.
     let room = usize::try_from(all).unwrap_or(usize::MAX).max(1).min(most);
     let mut nodes = Vec::with_capacity(room);
     let mut count = 0;
     let code = call(nodes.as_mut_ptr(), room, &mut count);
     check(code, count)?;
-    // SAFETY: the library has written `count` nodes, and no more than there is room for.
+    // SAFETY: the library has written `count` nodes, or as many as fit.
     unsafe { nodes.set_len(room.min(count as usize)) };
     Ok(nodes)
 }
 
-/// An attribute that a call reads, whose bytes it puts into `bytes`.
+/// Returns an attribute that a call reads, and puts its bytes into `bytes`.
 fn attribute(
     bytes: &mut [u8; 255],
     call: impl FnOnce(&mut bes_attribute, *mut u8, usize) -> u32,
@@ -186,7 +186,7 @@ impl RawPass {
         }
     }
 
-    /// The number of the store, which no other store of this process has.
+    /// Returns the number of the store, which no other store of this process has.
     pub(crate) fn store(&self) -> u64 {
         self.store
     }
@@ -205,7 +205,7 @@ impl RawPass {
         check(code, 0).map(|()| other)
     }
 
-    /// A number that is written by a call that takes only the pass.
+    /// Returns a number from a call that takes only the pass.
     fn number_by(&self, call: unsafe extern "C" fn(*mut bes_pass, *mut u64) -> u32) -> Answer<u64> {
         let mut number = 0;
         // SAFETY: as the module says, and `number` outlives the call.
@@ -255,7 +255,7 @@ impl RawPass {
         check(unsafe { sys::bes_unpin(self.handle.get()?) }, 0)
     }
 
-    /// Writes the list, if a length is expected only on a journal of that length. Returns the commit number.
+    /// Writes the list. If a length is expected, writes only if the journal has that length. Returns the commit number.
     pub(crate) fn apply(&self, expected: Option<u64>, list: &List, made: &mut [u64]) -> Answer<u64> {
         let mut number = 0;
         // SAFETY: as the module says.
@@ -263,7 +263,7 @@ impl RawPass {
         check(code, number).map(|()| number)
     }
 
-    /// Begins a change on the snapshot to which the pass is pinned. Returns its draft, and the number that the first new node gets.
+    /// Begins a change on the snapshot that the pass has pinned. Returns its draft, and the number that the first new node gets.
     pub(crate) fn begin_change(&self) -> Answer<(RawDraft, u64)> {
         let draft = RawDraft(Handle::new());
         let (mut number, mut next) = (0, 0);
@@ -275,12 +275,12 @@ impl RawPass {
     /// Writes the draft, and closes it, even after an error.
     pub(crate) fn end_change(&self, draft: &RawDraft) -> Answer<u64> {
         let mut number = 0;
-        // SAFETY: as the module says; the draft is one of this pass, since a change has both.
+        // SAFETY: as the module says; the draft belongs to this pass, since a change has both.
         let code = unsafe { sys::bes_end_change(self.handle.get()?, draft.0.get()?, &mut number) };
         check(code, number).map(|()| number)
     }
 
-    /// An attribute as the draft's operations leave it, whose bytes are put into `bytes`.
+    /// Returns an attribute as the draft's operations leave it, and puts its bytes into `bytes`.
     pub(crate) fn change_get(
         &self,
         draft: &RawDraft,
@@ -290,7 +290,7 @@ impl RawPass {
     ) -> Answer<bes_attribute> {
         let (pass, draft) = (self.handle.get()?, draft.0.get()?);
         attribute(bytes, |attribute, bytes, room| {
-            // SAFETY: as the module says; the draft is one of this pass, since a change has both.
+            // SAFETY: as the module says; the draft belongs to this pass, since a change has both.
             unsafe { sys::bes_change_get(pass, draft, node, name.as_ptr(), name.len(), attribute, bytes, room) }
         })
     }
@@ -318,10 +318,10 @@ impl RawPass {
         })
     }
 
-    /// How many nodes the query finds.
+    /// Returns how many nodes the query finds.
     pub(crate) fn count(&self, text: &str) -> Answer<u64> {
         let (pass, mut count) = (self.handle.get()?, 0);
-        // SAFETY: as the module says; there is no room, so only the count is written.
+        // SAFETY: as the module says; the capacity is 0, so only the count is written.
         let code = unsafe {
             sys::bes_query(
                 pass,
@@ -337,12 +337,12 @@ impl RawPass {
 
     pub(crate) fn count_prepared(&self, prepared: &RawPrepared) -> Answer<u64> {
         let (pass, prepared, mut count) = (self.handle.get()?, prepared.0.get()?, 0);
-        // SAFETY: as the module says; there is no room, so only the count is written.
+        // SAFETY: as the module says; the capacity is 0, so only the count is written.
         let code = unsafe { sys::bes_query_prepared(pass, prepared, NonNull::dangling().as_ptr(), 0, &mut count) };
         check(code, count).map(|()| count)
     }
 
-    /// The next page in an order, and whether there is more. Moves the cursor to its end.
+    /// Returns the next page in an order, and whether there are more nodes. Moves the cursor to the end of the page.
     pub(crate) fn ordered(
         &self,
         prepared: &RawPrepared,
@@ -360,7 +360,7 @@ impl RawPass {
         Ok((nodes, more != 0))
     }
 
-    /// The first nodes of a query from a number on.
+    /// Returns the first nodes that a query finds, starting at a number.
     pub(crate) fn first(&self, prepared: &RawPrepared, from: u64, most: usize) -> Answer<Vec<u64>> {
         let (pass, prepared) = (self.handle.get()?, prepared.0.get()?);
         some(self.next()?, most, |nodes, room, count| {
@@ -369,7 +369,7 @@ impl RawPass {
         })
     }
 
-    /// Any nodes of a query.
+    /// Returns any nodes that a query finds.
     pub(crate) fn any(&self, prepared: &RawPrepared, most: usize) -> Answer<Vec<u64>> {
         let (pass, prepared) = (self.handle.get()?, prepared.0.get()?);
         some(self.next()?, most, |nodes, room, count| {
@@ -398,7 +398,7 @@ impl RawPass {
         let rooms = (updates.created as usize, updates.removed as usize);
         let mut created = Vec::with_capacity(rooms.0);
         let mut removed = Vec::with_capacity(rooms.1);
-        // SAFETY: as the module says; there is room for as many nodes as the refresh counted, and all are written.
+        // SAFETY: as the module says; the buffers hold as many nodes as the refresh counted, and all are written.
         unsafe {
             let code = sys::bes_changes(prepared, created.as_mut_ptr(), rooms.0, removed.as_mut_ptr(), rooms.1);
             check(code, 0)?;
@@ -416,11 +416,11 @@ impl RawPass {
         })
     }
 
-    /// Up to `room` nodes from a number on.
+    /// Returns up to `room` nodes, starting at a number.
     pub(crate) fn nodes(&self, from: u64, room: usize) -> Answer<Vec<u64>> {
         let mut nodes = Vec::with_capacity(room);
         let mut count = 0;
-        // SAFETY: as the module says; the count is at most the room.
+        // SAFETY: as the module says; the count is at most the capacity.
         unsafe {
             let code = sys::bes_nodes(self.handle.get()?, from, nodes.as_mut_ptr(), room, &mut count);
             check(code, count)?;
@@ -429,7 +429,7 @@ impl RawPass {
         Ok(nodes)
     }
 
-    /// An attribute, whose bytes are put into `bytes`.
+    /// Returns an attribute, and puts its bytes into `bytes`.
     pub(crate) fn get(&self, node: u64, name: &str, bytes: &mut [u8; 255]) -> Answer<bes_attribute> {
         let pass = self.handle.get()?;
         attribute(bytes, |attribute, bytes, room| {
@@ -438,7 +438,7 @@ impl RawPass {
         })
     }
 
-    /// The cells of all nodes at all names, node by node, and the bytes that they are parts of.
+    /// Returns the cells of all nodes for all names, node by node, and the bytes to which the cells refer.
     pub(crate) fn columns(&self, nodes: &[u64], names: &[sys::bes_name]) -> Answer<(Vec<sys::bes_cell>, Vec<u8>)> {
         let pass = self.handle.get()?;
         let mut cells = vec![sys::bes_cell::default(); nodes.len().saturating_mul(names.len())];
@@ -480,7 +480,7 @@ impl RawPass {
         })
     }
 
-    /// The next list of the operations that rebuild the snapshot.
+    /// Returns the next list of operations that rebuild the snapshot.
     pub(crate) fn state(&self, place: &RawPlace) -> Answer<List> {
         let (pass, place) = (self.handle.get()?, place.0.get()?);
         listed((OPERATIONS, BYTES), |counts, operations, room, bytes, bytes_room| {
@@ -498,7 +498,7 @@ impl RawPass {
         })
     }
 
-    /// Closes the store, and then the handle is closed. Otherwise both are as they were.
+    /// Closes the store and the handle. After an error both are unchanged.
     pub(crate) fn finish(&self) -> Answer<Vec<u8>> {
         let pass = self.handle.get()?;
         whole(1 << 16, |bytes, room, count| {
@@ -507,7 +507,7 @@ impl RawPass {
         })
     }
 
-    /// The entry with this index, and the pass that wrote it. It has no operations if the journal is shorter.
+    /// Returns the entry with this index, and the pass that wrote it. The entry has no operations if the journal is shorter.
     pub(crate) fn entry(&self, from: u64) -> Answer<(u64, List)> {
         let pass = self.handle.get()?;
         let (mut by, mut number) = (0, 0);
@@ -594,14 +594,14 @@ pub(crate) struct Parts<'a> {
 }
 
 impl RawDraft {
-    /// From now on, takes values of any kind.
+    /// Accepts values of any kind from now on.
     pub(crate) fn any_kind(&self) -> Answer<()> {
         // SAFETY: as the module says.
         check(unsafe { sys::bes_change_any_kind(self.0.get()?) }, 0)
     }
 
-    /// Adds an operation. Returns the node that it makes, or 0. What goes with an error is the type code of the index that doesn't take
-    /// the value.
+    /// Adds an operation. Returns the node that it makes, or 0. If an index doesn't take the value, the error comes with the type code of
+    /// that index.
     pub(crate) fn add(&self, parts: &Parts<'_>) -> Answer<u64> {
         let (mut short, long);
         let (name, value) = (parts.name.as_bytes(), parts.value);
@@ -632,7 +632,7 @@ impl RawDraft {
     }
 }
 
-/// A length in the form that the library takes, which refuses anything longer.
+/// Returns a length in the form that the library takes. The library refuses anything longer.
 fn length_of(bytes: &[u8]) -> u32 {
     u32::try_from(bytes.len()).unwrap_or(u32::MAX)
 }
@@ -644,7 +644,7 @@ pub(crate) struct RawWitness {
     store: u64,
 }
 
-/// A place in the operations that rebuild a snapshot.
+/// A position in the operations that rebuild a snapshot.
 #[derive(Debug)]
 pub(crate) struct RawPlace(Handle<bes_place>);
 
@@ -654,7 +654,7 @@ impl RawPlace {
     }
 }
 
-/// The cursor in the form that the library takes.
+/// Converts the cursor to the form that the library takes.
 pub(crate) fn cursor_of(cursor: &Cursor) -> bes_cursor {
     let mut raw = bes_cursor::BEGINNING;
     if let Some((kind, key)) = cursor.key() {
@@ -665,13 +665,13 @@ pub(crate) fn cursor_of(cursor: &Cursor) -> bes_cursor {
     raw
 }
 
-/// The cursor that the library has written.
+/// Converts the cursor that the library has written.
 pub(crate) fn of_cursor(order: &Order, check: u32, raw: &bes_cursor) -> Cursor {
     let key = raw.key.get(..raw.length as usize).unwrap_or_default();
     Cursor::of_key(order.clone(), check, Kind::from_code(raw.kind), key)
 }
 
-/// The version of the library that runs, as `BES_VERSION_NUMBER` of its header.
+/// Returns the version of the running library, like `BES_VERSION_NUMBER` in its header.
 pub(crate) fn version() -> u32 {
     // SAFETY: the call takes nothing.
     unsafe { sys::bes_version() }

@@ -7,9 +7,9 @@ use bestore_sys as sys;
 use bestore_types::raw::{List, RawOperation};
 use std::collections::BTreeMap;
 
-/// A pinned snapshot: the store after the first [`number`](Self::number) entries of its journal, whatever is written meanwhile.
+/// A pinned snapshot: the store after the first [`number`](Self::number) entries of its journal, whatever is written afterwards.
 ///
-/// It is unpinned when it is dropped. Until then the pages of the snapshot can't be used again, so drop it soon.
+/// Dropping the snapshot unpins it. Until then its pages can't be reused, so drop it soon.
 #[derive(Debug)]
 pub struct Snapshot<'a> {
     pass: &'a mut Pass,
@@ -23,7 +23,7 @@ impl<'a> Snapshot<'a> {
         }
         pass.follow()?;
         let number = match pass.raw().pin() {
-            // The last snapshot was leaked by `mem::forget`, since nobody else can have the pass.
+            // The last snapshot was leaked by `mem::forget`, since nothing else can have borrowed the pass.
             Err(refused) if refused.code == sys::BES_PINNED => {
                 pass.raw().unpin()?;
                 pass.raw().pin()?
@@ -34,19 +34,19 @@ impl<'a> Snapshot<'a> {
         Ok(Self { pass, number })
     }
 
-    /// How many entries of the journal the snapshot contains.
+    /// Returns how many journal entries the snapshot contains.
     #[must_use]
     pub fn number(&self) -> u64 {
         self.number
     }
 
-    /// The pass, for writing while the snapshot is read.
+    /// Returns the pass, so that you can write while you read the snapshot.
     #[must_use]
     pub fn pass(&self) -> &Pass {
         self.pass
     }
 
-    /// The nodes that the query finds, ascending.
+    /// Returns the nodes that the query finds, in ascending order.
     ///
     /// ```
     /// # use bestore::{escape, Kind, Limits, Store};
@@ -67,58 +67,58 @@ impl<'a> Snapshot<'a> {
         answer.map_err(|refused| self.query_error(refused, || text.into()))
     }
 
-    /// The nodes that the prepared query finds, ascending. Nothing is parsed.
+    /// Returns the nodes that the prepared query finds, in ascending order. Nothing is parsed.
     ///
     /// # Errors
-    /// Those of [`query`](Self::query).
+    /// The same as [`query`](Self::query).
     pub fn query_prepared(&self, prepared: &Prepared) -> Result<Vec<u64>> {
         let answer = self.pass.raw().query_prepared(prepared.raw());
         answer.map_err(|refused| self.query_error(refused, || prepared.text_or_empty()))
     }
 
-    /// How many nodes the query finds. Costs what the query costs, except for the list.
+    /// Returns how many nodes the query finds. It costs as much as the query, except for the list.
     ///
     /// # Errors
-    /// Those of [`query`](Self::query).
+    /// The same as [`query`](Self::query).
     pub fn count(&self, text: &str) -> Result<u64> {
         let answer = self.pass.raw().count(text);
         answer.map_err(|refused| self.query_error(refused, || text.into()))
     }
 
-    /// How many nodes the prepared query finds.
+    /// Returns how many nodes the prepared query finds.
     ///
     /// # Errors
-    /// Those of [`query`](Self::query).
+    /// The same as [`query`](Self::query).
     pub fn count_prepared(&self, prepared: &Prepared) -> Result<u64> {
         let answer = self.pass.raw().count_prepared(prepared.raw());
         answer.map_err(|refused| self.query_error(refused, || prepared.text_or_empty()))
     }
 
-    /// How many pairs of a value and a node the index of this name has. Takes the time to read the whole index.
+    /// Returns how many pairs of a value and a node the index of this name has. It takes the time to read the whole index.
     ///
     /// # Errors
-    /// [`Error::NoIndex`]; otherwise as [`query`](Self::query).
+    /// [`Error::NoIndex`]; otherwise the same as [`query`](Self::query).
     pub fn pairs(&self, name: &str) -> Result<u64> {
         self.count_prepared(&attribute(name).any(self.index(name)?).prepare()?)
     }
 
-    /// The kind of the index of this name.
+    /// Returns the kind of the index of this name.
     pub(crate) fn index(&self, name: &str) -> Result<Kind> {
         let mut indices = self.indices()?.into_iter();
         let found = indices.find(|(index, _)| index == name);
         found.map(|(_, kind)| kind).ok_or(Error::NoIndex)
     }
 
-    /// The comparisons of a query that are never true in a store with these indices, such as `size>1.5`.
+    /// Returns the comparisons in a query that are never true in a store with these indices, such as `size>1.5`.
     ///
     /// # Errors
-    /// Those of [`hints`](crate::hints()); [`Error::Forked`].
+    /// The same as [`hints`](crate::hints()); [`Error::Forked`].
     pub fn hints(&self, text: &str) -> Result<Vec<Hint>> {
         let indices: BTreeMap<_, _> = self.indices()?.into_iter().collect();
         hints(text, |name| indices.get(name).copied())
     }
 
-    /// The nodes that have an attribute of this name and kind, but aren't in the name's index.
+    /// Returns the nodes that have an attribute of this name and kind but aren't in the index of this name.
     pub(crate) fn not_indexed(&self, name: &str, kind: Kind) -> Result<Vec<u64>> {
         let held = self.query_prepared(&attribute(name).any(kind).prepare()?)?;
         let mut lacking = Vec::new();
@@ -131,7 +131,7 @@ impl<'a> Snapshot<'a> {
         Ok(lacking)
     }
 
-    /// The error of a query, with the first index that is missing.
+    /// Returns the error for a query, with the first missing index.
     pub(crate) fn query_error(&self, refused: Refused, text: impl FnOnce() -> String) -> Error {
         let error = of_query(refused, text);
         if refused.code != sys::BES_NOT_COVERED {
@@ -143,22 +143,22 @@ impl<'a> Snapshot<'a> {
         }
     }
 
-    /// The chosen indices of the query, as comparisons joined by ` || `, and the cost, such as `"size"<"0" score 3`.
+    /// Returns the indices chosen for the query, as comparisons joined by ` || `, and the cost, such as `"size"<"0" score 3`.
     ///
     /// # Errors
-    /// Those of [`query`](Self::query).
+    /// The same as [`query`](Self::query).
     pub fn explain(&self, text: &str) -> Result<String> {
         let answer = self.pass.raw().explain(text);
         let bytes = answer.map_err(|refused| self.query_error(refused, || text.into()))?;
         Ok(String::from_utf8_lossy(&bytes).into_owned())
     }
 
-    /// All nodes, ascending, whatever attributes they have.
+    /// Returns all nodes in ascending order, whatever attributes they have.
     pub fn nodes(&self) -> Nodes<'_> {
         self.nodes_from(0)
     }
 
-    /// The nodes from this number on, ascending.
+    /// Returns the nodes from this number on, in ascending order.
     pub fn nodes_from(&self, from: u64) -> Nodes<'_> {
         Nodes {
             snapshot: self,
@@ -167,7 +167,7 @@ impl<'a> Snapshot<'a> {
         }
     }
 
-    /// Whether the node exists.
+    /// Returns whether the node exists.
     ///
     /// # Errors
     /// [`Error::OutOfMemory`], [`Error::Forked`].
@@ -175,7 +175,7 @@ impl<'a> Snapshot<'a> {
         Ok(self.pass.raw().nodes(node, 1)?.first() == Some(&node))
     }
 
-    /// The number that the next node will have, if it is made on this snapshot.
+    /// Returns the number that the next node will have, if it is made on this snapshot.
     ///
     /// # Errors
     /// [`Error::Forked`].
@@ -183,7 +183,7 @@ impl<'a> Snapshot<'a> {
         Ok(self.pass.raw().next()?)
     }
 
-    /// An attribute, or `None` if the node or the attribute doesn't exist.
+    /// Returns an attribute, or `None` if the node or the attribute doesn't exist.
     ///
     /// # Errors
     /// [`Error::NameLength`], [`Error::HasNul`], [`Error::Forked`].
@@ -193,16 +193,16 @@ impl<'a> Snapshot<'a> {
         value_read(answer, &bytes)
     }
 
-    /// One attribute of many nodes: each node's value, or `None` if it has none.
+    /// Reads one attribute of many nodes: returns each node's value, or `None` if the node has no such attribute.
     ///
     /// # Errors
-    /// Those of [`Snapshot::columns`].
+    /// The same as [`Snapshot::columns`].
     pub fn column(&self, nodes: &[u64], name: &str) -> Result<Vec<Option<Value>>> {
         Ok(self.columns(nodes, &[name])?.pop().unwrap_or_default())
     }
 
-    /// Several attributes of many nodes: for each name a list with each node's value, or `None` if it has none. It
-    /// takes one search in a tree for each node, if its attributes of these names are next to each other, and less
+    /// Reads several attributes of many nodes. For each name it returns a list with each node's value, or `None` if the node has no such
+    /// attribute. If a node's attributes with these names are next to each other, it takes one search in a tree for that node, and less
     /// time than a [`Snapshot::get`] for each.
     ///
     /// # Errors
@@ -224,7 +224,7 @@ impl<'a> Snapshot<'a> {
         Ok(columns)
     }
 
-    /// The attributes of a node, by ascending names.
+    /// Returns the attributes of a node, sorted by name.
     ///
     /// # Errors
     /// [`Error::NoNode`], [`Error::OutOfMemory`], [`Error::Forked`].
@@ -233,7 +233,7 @@ impl<'a> Snapshot<'a> {
         Ok(named(&list, |operation| list.value(operation)))
     }
 
-    /// The indices with their kinds, by ascending names.
+    /// Returns the indices with their kinds, sorted by name.
     ///
     /// # Errors
     /// [`Error::OutOfMemory`], [`Error::Forked`].
@@ -244,8 +244,8 @@ impl<'a> Snapshot<'a> {
         }))
     }
 
-    /// The batches that rebuild the snapshot on an empty store: its next node number, its nodes with their attributes, and
-    /// its indices with what they hold.
+    /// Returns the batches that rebuild the snapshot on an empty store: its next node number, its nodes with their attributes, and its
+    /// indices with their contents.
     ///
     /// ```
     /// # use bestore::{Limits, Store};
@@ -274,7 +274,7 @@ impl Drop for Snapshot<'_> {
     }
 }
 
-/// The value of an attribute that was read, if there is one; its bytes are at the start of these.
+/// Returns the value of an attribute that was read, if there is one. Its bytes are at the start of `bytes`.
 pub(crate) fn value_read(answer: Answer<sys::bes_attribute>, bytes: &[u8; 255]) -> Result<Option<Value>> {
     match answer {
         Ok(attribute) => {
@@ -294,7 +294,7 @@ fn named<T>(list: &List, read: impl Fn(&RawOperation) -> T) -> Vec<(String, T)> 
         .collect()
 }
 
-/// The value of a cell, whose bytes are some of these.
+/// Returns the value in a cell. Its bytes are a part of `bytes`.
 fn value_of(cell: &sys::bes_cell, bytes: &[u8]) -> Option<Value> {
     if cell.error != sys::BES_OK {
         return None;
@@ -307,7 +307,7 @@ fn value_of(cell: &sys::bes_cell, bytes: &[u8]) -> Option<Value> {
 /// How many nodes are read at a time.
 const NODES: usize = 1024;
 
-/// The nodes of a snapshot, from [`Snapshot::nodes`]. An error ends the iteration.
+/// An iterator over the nodes in a snapshot, returned by [`Snapshot::nodes`]. An error ends the iteration.
 #[derive(Debug)]
 pub struct Nodes<'a> {
     snapshot: &'a Snapshot<'a>,
@@ -344,7 +344,7 @@ impl Iterator for Nodes<'_> {
 
 impl std::iter::FusedIterator for Nodes<'_> {}
 
-/// The batches that rebuild a snapshot, from [`Snapshot::state`]. An error ends the iteration.
+/// An iterator over the batches that rebuild a snapshot, returned by [`Snapshot::state`]. An error ends the iteration.
 #[derive(Debug)]
 pub struct State<'a> {
     snapshot: &'a Snapshot<'a>,
@@ -361,7 +361,7 @@ impl Iterator for State<'_> {
         }
         match self.snapshot.pass.raw().state(&self.place) {
             Ok(mut list) if !list.operations.is_empty() => {
-                // It has room for the longest batch, and many are kept at the same time.
+                // The list has the capacity for the longest batch, and many lists are kept at the same time.
                 list.operations.shrink_to_fit();
                 list.bytes.shrink_to_fit();
                 Some(Ok(list.into()))

@@ -2,12 +2,12 @@
 
 use crate::raw::Answer;
 use crate::succession::{self, Seat, Succession};
-use crate::{Error, Limits, Pass, Result};
+use crate::{copying, Error, Limits, Pass, Result, StateCopy};
 use bestore_types::MOST_PASSES;
 use std::ops::{Deref, DerefMut};
 use std::sync::{Arc, Mutex, MutexGuard, PoisonError};
 
-/// A store in memory. Clones are the same store; each thread can make its pass from one.
+/// A store in memory. Clones share the same store; each thread can make its pass from a clone.
 ///
 /// The memory of the store is freed with the last clone and the last pass.
 #[derive(Clone, Debug)]
@@ -18,12 +18,12 @@ pub struct Store(Arc<Shared>);
 pub(crate) struct Shared {
     own: Mutex<Pass>,
     succession: Arc<Succession>,
-    /// A task of the store itself has it.
+    /// Held by a task of the store itself.
     task: Mutex<()>,
 }
 
 impl Shared {
-    /// The pass of the store itself, from which the others are made. Only in the process that opened the store.
+    /// The pass of the store itself, from which the others are made. Used only in the process that opened the store.
     fn own(&self) -> MutexGuard<'_, Pass> {
         lock(&self.own)
     }
@@ -39,7 +39,7 @@ impl Shared {
     }
 }
 
-/// A pass for a task of the store itself: one of those for its users, or if all are taken its own.
+/// A pass for a task of the store itself: one of the passes meant for users, or the store's own pass if all of those are taken.
 pub(crate) struct Spare<'a> {
     taken: Taken<'a>,
     _task: MutexGuard<'a, ()>,
@@ -51,7 +51,7 @@ enum Taken<'a> {
 }
 
 impl<'a> Spare<'a> {
-    /// Changes it for the store's own pass.
+    /// Replaces this pass with the store's own pass.
     pub(crate) fn into_own(mut self, store: &'a Store) -> Result<Self> {
         if let Taken::Another(_) = self.taken {
             self.taken = Taken::Own(store.own()?);
@@ -101,15 +101,15 @@ impl Store {
         })))
     }
 
-    /// Takes a pass, which goes back to the store when it is dropped.
+    /// Takes a pass. The pass goes back to the store when it is dropped.
     ///
     /// # Errors
-    /// [`Error::NoPass`] if as many are open as [`Limits::passes`] allows; [`Error::OutOfMemory`]; [`Error::Forked`].
+    /// [`Error::NoPass`] if as many passes are open as [`Limits::passes`] allows; [`Error::OutOfMemory`]; [`Error::Forked`].
     pub fn pass(&self) -> Result<Pass> {
         self.check()?;
         match self.another() {
             Err(Error::NoPass) => {
-                // A task of the store may have had the last one. While the lock is held, no other task takes it.
+                // A task of the store may have had the last pass. While the lock is held, no other task takes it.
                 let _no_task = lock(&self.0.task);
                 self.another()
             }
@@ -122,13 +122,13 @@ impl Store {
         Ok(Pass::new(self.0.seat()?, self.0.clone(), place))
     }
 
-    /// Closes the store by its last clone, when no pass is open, and returns the whole journal as text, a line for each entry. Of each
-    /// pass it has just the writes that its calls have committed, at their commit numbers. If the store was [carried
+    /// Closes the store with its last clone, when no pass is open, and returns the whole journal as text, one line per entry. For each pass
+    /// the journal has exactly the writes that its calls have committed, at their commit numbers. If the store was [carried
     /// on](Self::carry_on), the text begins with the state.
     ///
     /// # Errors
-    /// [`Error::InUse`]: another clone or a pass is open. [`Error::OutOfMemory`], [`Error::Forked`]. The store is returned with the
-    /// error, as it was.
+    /// [`Error::InUse`]: another clone or a pass is open. [`Error::OutOfMemory`], [`Error::Forked`]. The store is returned unchanged with
+    /// the error.
     pub fn finish(self) -> std::result::Result<String, (Self, Error)> {
         let Shared { own, succession, task } = match Arc::try_unwrap(self.0) {
             Ok(shared) => shared,
@@ -144,12 +144,12 @@ impl Store {
         }
     }
 
-    /// Lets go of the journal so far, whose memory would grow for ever: makes another store of the library from the current snapshot,
-    /// adds what is written meanwhile, and goes on there. Writers wait at the end, for a moment. Snapshots that are pinned stay as they
-    /// are; commit numbers and node numbers go on, and [`Pass::journal_from`] has the entries since.
+    /// Frees the memory of the journal so far, which would otherwise grow forever. It makes another store of the library from the current
+    /// snapshot, adds the writes made meanwhile, and continues there. At the end, writers wait for a moment. Pinned snapshots don't change;
+    /// commit numbers and node numbers continue, and [`Pass::journal_from`] has the entries since then.
     ///
-    /// It takes the memory of all pages once more, and the time to write the state. The earlier memory is freed once each pass has called
-    /// [`Pass::pin`] or [`Pass::follow`].
+    /// It takes the memory of all pages once more, and the time to [copy](Self::copy_state) and write the state. The earlier memory is
+    /// freed once each pass has called [`Pass::pin`] or [`Pass::follow`].
     ///
     /// ```
     /// # use bestore::{Limits, Store};
@@ -166,32 +166,47 @@ impl Store {
     /// ```
     ///
     /// # Errors
-    /// The store goes on as before then. [`Error::InUse`]: a pass hasn't let go of what was carried on the last time.
+    /// After an error, the store continues as before. [`Error::InUse`]: a pass hasn't given up what was carried on the last time.
     /// [`Error::OutOfMemory`], [`Error::Full`], [`Error::Busy`], [`Error::Forked`].
     pub fn carry_on(&self) -> Result<()> {
         self.check()?;
         succession::carry_on(self)
     }
 
-    /// Whether the entries since [`carry_on`](Self::carry_on), or since the store was opened, take more than half the memory of its pages and
-    /// 1 MiB, so that it is time to carry it on. After a `carry_on` that failed it takes as many again.
+    /// Returns whether it is time to carry on the store: the entries since [`carry_on`](Self::carry_on), or since the store was opened,
+    /// take more than half the memory of its pages and 1 MiB. After a failed `carry_on`, the entries have to grow by as much again.
     #[must_use]
     pub fn is_due(&self) -> bool {
         self.0.succession.is_due()
     }
 
-    /// Makes it [due](Self::is_due) once the entries from now on take about so many bytes.
+    /// Makes the store [due](Self::is_due) once the entries from now on take about this many bytes.
     pub fn set_due_after(&self, bytes: u64) {
         self.0.succession.set_due_after(bytes);
     }
 
-    /// Whether a pass still has what was carried on the last time.
+    /// Returns how often the store has been [carried on](Self::carry_on).
+    #[must_use]
+    pub fn generation(&self) -> u64 {
+        self.0.succession.generation()
+    }
+
+    /// Copies the current snapshot for a slow reader, which then keeps no pages from writes. If a write finds no free page meanwhile, the
+    /// copy is started again a little later. After six such starts, writes wait until the copy is done.
+    ///
+    /// # Errors
+    /// [`Error::OutOfMemory`], [`Error::Forked`].
+    pub fn copy_state(&self) -> Result<StateCopy> {
+        copying::copy(self)
+    }
+
+    /// Returns whether a pass still holds what was carried on the last time.
     #[must_use]
     pub fn is_read_before(&self) -> bool {
         self.0.succession.is_read_before()
     }
 
-    /// [`Error::Forked`] in a forked child of the process that opened the store.
+    /// Returns [`Error::Forked`] in a forked child of the process that opened the store.
     pub(crate) fn check(&self) -> Result<()> {
         Ok(self.0.succession.check()?)
     }
@@ -200,13 +215,13 @@ impl Store {
         &self.0.succession
     }
 
-    /// The store's own pass, from which the others are made.
+    /// Returns the store's own pass, from which the others are made.
     pub(crate) fn own(&self) -> Result<MutexGuard<'_, Pass>> {
         self.check()?;
         Ok(self.0.own())
     }
 
-    /// A pass for a task of the store itself, which waits until another task is done.
+    /// Returns a pass for a task of the store itself. It waits until another task is done.
     pub(crate) fn spare(&self) -> Result<Spare<'_>> {
         self.check()?;
         let task = lock(&self.0.task);

@@ -1,47 +1,48 @@
-//! How a store is carried on in another one of the library, so that the memory of its journal is freed.
+//! How a store is carried on in another store of the library, which frees the memory of its journal.
 //!
-//! The library keeps a store's whole journal. So a second store of the library is made from a snapshot and the entries since, and takes
-//! the place of the first: a *generation* follows another. Each pass takes a seat in the new one when it next writes or pins. Whoever
-//! reads a snapshot keeps it, and the memory of the first is freed with the last seat in it. Commit numbers go on, as each generation
-//! knows what has to be added to those of its store of the library.
+//! The library keeps a store's whole journal. So a second store of the library is made from a snapshot and the entries since then, and
+//! replaces the first: one *generation* follows another. Each pass takes a seat in the new generation when it next writes or pins. A pass
+//! that reads a snapshot keeps it, and the memory of the first store is freed with the last seat in it. Commit numbers continue: each
+//! generation knows what to add to the numbers of its store of the library.
 
 use crate::raw::{Answer, Birthplace, RawPass, Refused};
-use crate::store::{Spare, Store};
-use crate::{Batch, Error, Limits, Pass, Result, Snapshot};
+use crate::store::Store;
+use crate::{Batch, Error, Limits, Pass, Result, StateCopy};
 use bestore_sys as sys;
 use std::sync::atomic::{AtomicU64, Ordering};
-use std::sync::{Arc, Mutex, MutexGuard, PoisonError, RwLock, RwLockReadGuard, Weak};
+use std::sync::{Arc, Mutex, MutexGuard, PoisonError, RwLock, RwLockReadGuard, RwLockWriteGuard, Weak};
 
-/// How many bytes the entries may take, unless something else is set: half as many as all pages, and this many in a small store.
+/// How many bytes the entries may take by default: half as many as all pages, and in a small store this many.
 const FOR_PAGE: u64 = 2048;
 const LEAST: u64 = 1 << 20;
 
-/// About how many bytes an entry of the journal takes beside those of its names and texts: by itself, and for each operation.
+/// About how many bytes a journal entry takes beside its names and texts: per entry, and per operation.
 const ENTRY: usize = 8;
 const OPERATION: usize = 8;
 
-/// After so many entries that came meanwhile the writers wait until the others are repeated, so that there is an end.
-const MEANWHILE: u64 = 1 << 20;
+/// If no more entries than this are left, they are repeated while writers wait, unless the writers are as fast as the repeating.
+const FEW: u64 = 256;
 
-/// One of the stores of the library that a store has been.
+/// One of the stores of the library that have held the store's contents.
 #[derive(Debug)]
 pub(crate) struct Generation {
     number: u64,
-    /// What has to be added to a commit number of the library's store. It may be negative.
+    /// What to add to a commit number of the library's store. It may be negative.
     shift: u64,
-    /// The commit number of the state with which it began. Its journal has the entries after that one.
+    /// The commit number of the state with which the generation began. Its journal has the entries after that number.
     state: u64,
-    /// The commit number from which on it has taken the place of the one before.
+    /// The commit number from which this generation has replaced the one before.
     begin: u64,
 }
 
 impl Generation {
-    /// The commit number with this number of the library's store.
+    /// Returns the commit number for this number of the library's store.
     fn outside(&self, number: u64) -> u64 {
         number.wrapping_add(self.shift)
     }
 
-    /// The number of the library's store with this commit number. If the library's store never had one, it is greater than each.
+    /// Returns the number of the library's store for this commit number. If the library's store never had such a number, the result is
+    /// greater than any that it has.
     fn within(&self, commit: u64) -> u64 {
         match commit >= self.state {
             true => commit.wrapping_sub(self.shift),
@@ -50,7 +51,7 @@ impl Generation {
     }
 }
 
-/// A pass of one of those stores.
+/// A pass of a generation's store.
 #[derive(Debug)]
 pub(crate) struct Seat {
     raw: RawPass,
@@ -58,7 +59,7 @@ pub(crate) struct Seat {
 }
 
 impl Seat {
-    /// The pass of the library that has opened a store.
+    /// Returns the library's pass that has opened a store.
     pub(crate) fn open(limits: Limits) -> Result<Self> {
         let generation = Generation {
             number: 0,
@@ -83,27 +84,32 @@ impl Seat {
         &self.raw
     }
 
-    /// The commit number with this number of the library's store.
+    /// Returns the commit number for this number of the library's store.
     pub(crate) fn outside(&self, number: u64) -> u64 {
         self.generation.outside(number)
     }
 
-    /// The number of the library's store with this commit number.
+    /// Returns the number of the library's store for this commit number.
     pub(crate) fn within(&self, commit: u64) -> u64 {
         self.generation.within(commit)
     }
 
-    /// The commit number from which on the journal has entries.
+    /// Returns the commit number from which the journal has entries.
     pub(crate) fn state(&self) -> u64 {
         self.generation.state
     }
 
-    /// The commit number up to which a pass has seen all entries that takes such a seat.
+    /// Returns the number of its generation.
+    pub(crate) fn generation(&self) -> u64 {
+        self.generation.number
+    }
+
+    /// Returns the commit number up to which a pass has seen all entries when it takes this seat.
     pub(crate) fn begin(&self) -> u64 {
         self.generation.begin
     }
 
-    /// A refusal with commit numbers.
+    /// Converts the numbers in a refusal to commit numbers.
     pub(crate) fn refused(&self, refused: Refused) -> Refused {
         match refused.code {
             sys::BES_CONFLICT | sys::BES_FULL => Refused {
@@ -115,27 +121,29 @@ impl Seat {
     }
 }
 
-/// What all passes of a store know of its generations.
+/// What all passes of a store know about its generations.
 #[derive(Debug)]
 pub(crate) struct Succession {
     pub(crate) limits: Limits,
     birthplace: Birthplace,
     /// The number of the newest generation.
     newest: AtomicU64,
-    /// Taken for reading by each write in memory, and for writing while a generation takes the place of another.
+    /// Locked for reading by each write in memory, and for writing while no write may be made.
     gate: RwLock<()>,
-    /// About how many bytes the journal of the newest generation takes, and from how many on it is time for the next one.
+    /// How many writes found no free page.
+    full_writes: AtomicU64,
+    /// About how many bytes the journal of the newest generation takes, and at how many bytes the next generation is due.
     journal_bytes: AtomicU64,
     due_bytes: AtomicU64,
-    /// After how many bytes of entries it is time.
+    /// After how many bytes of entries the next generation is due.
     due_after: AtomicU64,
-    /// The generation before the newest one. Who carries the store on has it.
+    /// The generation before the newest one. Whoever carries on the store holds it.
     before: Mutex<Weak<Generation>>,
     /// How many passes are open.
     passes: AtomicU64,
 }
 
-/// The place of a pass among those that a store may have.
+/// A pass's place among the passes that a store can have.
 #[derive(Debug)]
 pub(crate) struct Place(Arc<Succession>);
 
@@ -157,6 +165,7 @@ impl Succession {
             birthplace: Birthplace::here(),
             newest: AtomicU64::new(0),
             gate: RwLock::default(),
+            full_writes: AtomicU64::new(0),
             journal_bytes: AtomicU64::new(0),
             due_bytes: AtomicU64::new(due_after),
             due_after: AtomicU64::new(due_after),
@@ -175,61 +184,89 @@ impl Succession {
         }
     }
 
-    pub(crate) fn is_newest(&self, seat: &Seat) -> bool {
-        seat.generation.number == self.newest.load(Ordering::Acquire)
+    /// Returns the number of the newest generation.
+    pub(crate) fn generation(&self) -> u64 {
+        self.newest.load(Ordering::Acquire)
     }
 
-    /// Refuses a forked child of the process that opened the store.
+    pub(crate) fn is_newest(&self, seat: &Seat) -> bool {
+        seat.generation() == self.generation()
+    }
+
+    /// Refuses calls in a forked child of the process that opened the store.
     pub(crate) fn check(&self) -> Answer<()> {
         self.birthplace.check()
     }
 
-    /// Lets a write be made: while this is held, the newest generation stays so.
+    /// Lets a write be made: while the guard is held, the newest generation stays the newest.
     pub(crate) fn enter(&self) -> Answer<RwLockReadGuard<'_, ()>> {
         self.check()?;
         Ok(self.gate.read().unwrap_or_else(PoisonError::into_inner))
     }
 
-    /// A batch was written.
+    /// Waits for the writes in progress, and lets no other write begin while the guard is held.
+    pub(crate) fn close(&self) -> RwLockWriteGuard<'_, ()> {
+        self.gate.write().unwrap_or_else(PoisonError::into_inner)
+    }
+
+    /// Returns whether writes are prevented from beginning now.
+    #[cfg(test)]
+    pub(crate) fn is_closed(&self) -> bool {
+        self.gate.try_read().is_err()
+    }
+
+    /// Returns how many writes found no free page.
+    pub(crate) fn full_writes(&self) -> u64 {
+        self.full_writes.load(Ordering::Relaxed)
+    }
+
+    /// Records that a write was refused.
+    pub(crate) fn refused(&self, refused: &Refused) {
+        if refused.code == sys::BES_FULL {
+            self.full_writes.fetch_add(1, Ordering::Relaxed);
+        }
+    }
+
+    /// Records that a batch was written.
     pub(crate) fn written(&self, batch: &Batch) {
         let bytes = ENTRY + OPERATION * batch.len() + batch.raw().bytes.len();
         self.journal_bytes.fetch_add(bytes as u64, Ordering::Relaxed);
     }
 
-    /// Whether the entries since the newest generation began, or since one couldn't be made, take more bytes than they should.
+    /// Returns whether the entries since the newest generation began, or since a generation couldn't be made, take more bytes than they
+    /// should.
     pub(crate) fn is_due(&self) -> bool {
         self.journal_bytes.load(Ordering::Relaxed) > self.due_bytes.load(Ordering::Relaxed)
     }
 
-    /// Makes it time after so many bytes of entries.
+    /// Makes the next generation due after this many bytes of entries.
     pub(crate) fn set_due_after(&self, bytes: u64) {
         self.due_after.store(bytes, Ordering::Relaxed);
         self.set_journal_bytes(self.journal_bytes.load(Ordering::Relaxed));
     }
 
-    /// The journal takes so many bytes now.
+    /// Records that the journal takes this many bytes now.
     fn set_journal_bytes(&self, bytes: u64) {
         let due = bytes.saturating_add(self.due_after.load(Ordering::Relaxed));
         self.journal_bytes.store(bytes, Ordering::Relaxed);
         self.due_bytes.store(due, Ordering::Relaxed);
     }
 
-    /// Whether a pass still has a seat in an earlier generation.
+    /// Returns whether a pass still has a seat in an earlier generation.
     pub(crate) fn is_read_before(&self) -> bool {
         lock(&self.before).strong_count() > 0
     }
 }
 
-/// Makes the next generation of the store, and lets it take the place of the newest one.
+/// Makes the next generation of the store, and replaces the newest one with it.
 pub(crate) fn carry_on(store: &Store) -> Result<()> {
     let succession = store.succession();
     let mut before = lock(&succession.before);
     if before.strong_count() > 0 {
         return Err(Error::InUse);
     }
-    let mut pass = store.spare()?;
-    let carried = Next::make(&mut pass, succession.limits).and_then(|next| {
-        let earlier = next.take_place(store, pass)?;
+    let carried = Next::make(store).and_then(|next| {
+        let earlier = next.take_place(store)?;
         *before = Arc::downgrade(&earlier.generation);
         Ok(())
     });
@@ -242,32 +279,30 @@ pub(crate) fn carry_on(store: &Store) -> Result<()> {
 /// A generation that is being made.
 struct Next {
     pass: Pass,
-    /// The commit number of the state with which it begins, and how many batches made that.
+    /// The commit number of the state with which the generation begins, and how many batches made that state.
     state: u64,
     batches: u64,
-    /// The last entry that it has.
+    /// The commit number of the last entry that it has.
     commit: u64,
 }
 
 impl Next {
-    /// Makes one that has what the pass sees, and the entries that are written meanwhile.
-    fn make(pass: &mut Pass, limits: Limits) -> Result<Self> {
-        // The snapshot is given up before the slower part, since it keeps pages.
-        let (state, batches) = collect(&pass.pin()?)?;
-        let mut next = Self {
-            pass: Pass::open(limits)?,
-            state,
+    /// Makes a generation that has the current state of the store.
+    fn make(store: &Store) -> Result<Self> {
+        let StateCopy { number, batches, .. } = store.copy_state()?;
+        let next = Self {
+            pass: Pass::open(store.succession().limits)?,
+            state: number,
             batches: batches.len() as u64,
-            commit: state,
+            commit: number,
         };
         for batch in &batches {
             next.pass.apply(batch)?;
         }
-        next.repeat_entries(pass, MEANWHILE)?;
         Ok(next)
     }
 
-    /// Repeats the entries that it lacks, up to this many.
+    /// Repeats the entries that the generation lacks, up to this many.
     fn repeat_entries(&mut self, pass: &Pass, most: u64) -> Result<()> {
         for entry in pass.journal_from(self.commit).take(most as usize) {
             let entry = entry?;
@@ -279,11 +314,29 @@ impl Next {
         Ok(())
     }
 
-    /// Takes the place of the newest generation while no write is made. Returns the seat in that one of the store's own pass.
-    fn take_place(mut self, store: &Store, pass: Spare<'_>) -> Result<Seat> {
+    /// Repeats the entries that the generation lacks in rounds, until few are left, or until a round leaves no fewer than the one before.
+    /// `repeated` gets the number of entries in each round.
+    fn catch_up(&mut self, pass: &Pass, mut repeated: impl FnMut(u64)) -> Result<()> {
+        let mut before = u64::MAX;
+        loop {
+            let left = pass.status()?.entries.saturating_sub(self.commit);
+            if left <= FEW || left >= before {
+                return Ok(());
+            }
+            self.repeat_entries(pass, left)?;
+            repeated(left);
+            before = left;
+        }
+    }
+
+    /// Repeats the entries that the generation lacks, the last ones while no write is made, and replaces the newest generation. Returns the
+    /// seat of the store's own pass in that generation.
+    fn take_place(mut self, store: &Store) -> Result<Seat> {
         let succession = store.succession();
+        let pass = store.spare()?;
+        self.catch_up(&pass, |_| {})?;
         let mut own = pass.into_own(store)?;
-        let _closed = succession.gate.write().unwrap_or_else(PoisonError::into_inner);
+        let _closed = succession.close();
         self.repeat_entries(&own, u64::MAX)?;
         let number = succession.newest.load(Ordering::Relaxed) + 1;
         let generation = Generation {
@@ -304,15 +357,38 @@ impl Next {
     }
 }
 
-/// The number of the snapshot, and the batches that make it again.
-fn collect(snapshot: &Snapshot<'_>) -> Result<(u64, Vec<Batch>)> {
-    Ok((snapshot.number(), snapshot.state().collect::<Result<_>>()?))
-}
-
 #[cfg(test)]
 mod tests {
     use super::*;
     use std::thread;
+
+    /// Returns how many entries each round repeats, if there are `first` entries at the start and `more` come during a round.
+    fn rounds(first: u64, more: impl Fn(u64) -> u64) -> Vec<u64> {
+        let store = Store::open(Limits::default()).unwrap();
+        let pass = store.pass().unwrap();
+        pass.new_node().unwrap();
+        let mut next = Next::make(&store).unwrap();
+        let write = |count| (0..count).for_each(|_| pass.set(1, "size", 5_i64).unwrap());
+        write(first);
+        let mut rounds = Vec::new();
+        let caught_up = next.catch_up(&pass, |repeated| {
+            rounds.push(repeated);
+            write(more(repeated));
+        });
+        caught_up.unwrap();
+        rounds
+    }
+
+    #[test]
+    fn entries_are_repeated_until_few_are_left_or_no_fewer() {
+        assert!(rounds(FEW, |_| 0).is_empty());
+        assert_eq!(rounds(FEW + 1, |_| 0), [FEW + 1]);
+        assert_eq!(rounds(4 * FEW, |repeated| repeated / 2), [4 * FEW, 2 * FEW]);
+        assert_eq!(rounds(FEW + 3, |repeated| repeated - 1), [FEW + 3, FEW + 2, FEW + 1]);
+        // If writers are as fast as the repeating, or faster, it doesn't catch up.
+        assert_eq!(rounds(2 * FEW, |repeated| repeated), [2 * FEW]);
+        assert_eq!(rounds(2 * FEW, |repeated| 2 * repeated), [2 * FEW]);
+    }
 
     #[test]
     fn a_write_that_has_entered_is_waited_for_and_carried_on() {
@@ -321,8 +397,8 @@ mod tests {
         let entered = succession.enter().unwrap();
         thread::scope(|scope| {
             let carrying = scope.spawn(|| store.carry_on().unwrap());
-            // Nobody else can enter once the gate is to be closed.
-            while succession.gate.try_read().is_ok() {
+            // Nobody else can enter once the gate is about to be closed.
+            while !succession.is_closed() {
                 assert!(!carrying.is_finished());
                 thread::yield_now();
             }

@@ -1,8 +1,8 @@
-//! Patterns for texts in any case.
+//! Patterns that match a string in any case.
 
 use crate::raw;
 
-/// A pattern that matches the text in upper and lower case, by Unicode's simple case folding. Every other character matches itself.
+/// Returns a pattern that matches the text in upper and lower case, by Unicode's simple case folding. Every other character matches itself.
 ///
 /// ```
 /// assert_eq!(bestore::any_case("Ab*"), r"[aA][bB]\*");

@@ -2,8 +2,8 @@
 
 mod common;
 
-use bestore::{Batch, Error, Kind, Limits, Live, Pass, Store, Value};
-use common::{sized, store, ten};
+use bestore::{Batch, Error, Kind, Live, Pass, Retry, Store, Value};
+use common::{shared, sized, store, ten};
 use std::sync::atomic::{AtomicBool, Ordering};
 use std::thread;
 
@@ -78,8 +78,9 @@ fn a_pinned_snapshot_stays_and_its_pass_writes_ahead() {
         (snapshot.number(), snapshot.get(1, "size").unwrap()),
         (number, Some(5_i64.into()))
     );
+    assert_eq!((store.generation(), snapshot.pass().generation()), (1, 0));
     drop(snapshot);
-    // Who has only written still has the earlier one.
+    // A pass that has only written still has the earlier one.
     assert_eq!(pass.pin().unwrap().get(1, "size").unwrap(), Some(7_i64.into()));
     assert!(store.is_read_before());
     assert!(other.follow().unwrap());
@@ -184,14 +185,9 @@ fn live_queries_and_witnesses_go_on() {
 
 #[test]
 fn there_are_as_many_passes_as_before() {
-    let limits = Limits {
-        pages: 64,
-        passes: 2,
-        ..Limits::default()
-    };
-    let store = Store::open(limits).unwrap();
+    let store = shared(2);
     let mut passes = vec![store.pass().unwrap(), store.pass().unwrap()];
-    // No pass is left for the task, which takes the store's own.
+    // No pass is left for the task, so it uses the store's own.
     for _ in 0..3 {
         passes[0].new_node().unwrap();
         store.carry_on().unwrap();
@@ -208,15 +204,10 @@ fn there_are_as_many_passes_as_before() {
     assert_eq!(text.lines().count(), 2, "{text}");
 }
 
-/// The task takes the only pass now and then, and whoever wants one waits for it.
+/// Now and then the task has the only pass, and a caller that wants one waits for it.
 #[test]
 fn a_pass_is_there_while_the_store_is_carried_on() {
-    let limits = Limits {
-        pages: 64,
-        passes: 1,
-        ..Limits::default()
-    };
-    let store = Store::open(limits).unwrap();
+    let store = shared(1);
     thread::scope(|scope| {
         let taking = scope.spawn(|| {
             for _ in 0..500 {
@@ -272,7 +263,7 @@ fn writers_and_readers_go_on_while_it_is_carried_on() {
     let mut pass = store.pass().unwrap();
     pass.new_node().unwrap();
     let is_over = AtomicBool::new(false);
-    let carried = thread::scope(|scope| {
+    thread::scope(|scope| {
         let writers: Vec<_> = (0..WRITERS)
             .map(|_| {
                 scope.spawn(|| {
@@ -291,21 +282,73 @@ fn writers_and_readers_go_on_while_it_is_carried_on() {
             }
         });
         let carrier = scope.spawn(|| {
-            let mut carried = 0;
-            while !is_over.load(Ordering::Relaxed) {
+            // At least once, even if the writers have ended before this thread began.
+            while store.generation() == 0 || !is_over.load(Ordering::Relaxed) {
                 match store.carry_on() {
-                    Ok(()) => carried += 1,
+                    Ok(()) => {}
                     Err(Error::InUse) => thread::yield_now(),
                     Err(error) => panic!("{error}"),
                 }
             }
-            carried
         });
-        writers.into_iter().for_each(|writer| writer.join().unwrap());
+        let written: Vec<_> = writers.into_iter().map(|writer| writer.join()).collect();
+        // The others end too if a writer has failed.
         is_over.store(true, Ordering::Relaxed);
+        written.into_iter().for_each(Result::unwrap);
         reader.join().unwrap();
-        carrier.join().unwrap()
+        carrier.join().unwrap();
     });
-    assert!(carried > 0);
     assert_eq!(count(&mut pass), (WRITERS * WRITES, 1 + (WRITERS * WRITES) as u64));
+}
+
+/// Carries the store on as soon as nobody keeps what came before.
+fn carry_on(store: &Store) -> Result<(), Error> {
+    loop {
+        match store.carry_on() {
+            Err(Error::InUse) => thread::yield_now(),
+            outcome => return outcome,
+        }
+    }
+}
+
+/// The writers need a page all the time that a snapshot would keep, and none of their writes fails.
+#[test]
+fn a_store_without_room_for_a_snapshot_is_carried_on() {
+    let store = sized(96);
+    let mut pass = store.pass().unwrap();
+    for node in 1..=100 {
+        pass.new_node().unwrap();
+        pass.set(node, "text", "a".repeat(100)).unwrap();
+    }
+    let is_over = AtomicBool::new(false);
+    let write = || {
+        let (mut pass, mut writes) = (store.pass().unwrap(), 0);
+        pass.set_retry(Retry {
+            full: u32::MAX,
+            busy: u32::MAX,
+            ..Retry::default()
+        });
+        while !is_over.load(Ordering::Relaxed) {
+            writes += 1;
+            pass.set(writes % 100 + 1, "text", "b".repeat(100)).unwrap();
+            pass.follow().unwrap();
+        }
+        writes
+    };
+    let (carried, writes) = thread::scope(|scope| {
+        let writers = [scope.spawn(write), scope.spawn(write)];
+        let carried = carry_on(&store).and_then(|()| {
+            pass.follow()?;
+            carry_on(&store)
+        });
+        is_over.store(true, Ordering::Relaxed);
+        (
+            carried,
+            writers.map(|writer| writer.join().unwrap()).iter().sum::<u64>(),
+        )
+    });
+    carried.unwrap();
+    assert_eq!((store.generation(), pass.generation()), (2, 1));
+    assert_eq!(pass.pin().unwrap().number(), 200 + writes);
+    assert_eq!(pass.generation(), 2);
 }

@@ -51,7 +51,7 @@ fn name_of(error: &Error) -> &'static str {
     found.unwrap().0.strip_prefix("BES_").unwrap()
 }
 
-/// Writes an operation by a pass.
+/// Writes an operation through a pass.
 fn write(pass: &Pass, words: &[&str]) {
     match words {
         ["new", node] => assert_eq!(pass.new_node().unwrap(), number(node)),

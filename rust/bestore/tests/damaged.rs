@@ -1,4 +1,4 @@
-//! Kept files of which something was changed or is missing: they are refused, or have all that was acknowledged.
+//! Kept files in which something was changed or is missing: they are refused, or have everything that was acknowledged.
 #![cfg(feature = "saved")]
 
 use bestore::saved::{self, Error as SavedError, Options, Place, Saved};
@@ -14,7 +14,7 @@ const ENTRIES: u64 = 150;
 /// How many bytes are changed, one in each copy of the file. `BESTORE_CHANGES` has another number.
 const CHANGES: u64 = 300;
 
-/// A folder of a test, in memory if there may be one, which is removed at its end.
+/// A test's folder, in memory if possible, which is removed at its end.
 struct Folder(PathBuf);
 
 impl Folder {
@@ -38,7 +38,7 @@ impl Folder {
         self.0.join(format!("test.bestore{ending}"))
     }
 
-    /// The files with their bytes, by what their names end with.
+    /// The files with their bytes, by the ends of their names.
     fn image(&self) -> Image {
         let endings = ["", "-wal", "-last"].into_iter();
         let read = |ending: &'static str| Some((ending, fs::read(self.beside(ending)).ok()?));
@@ -103,7 +103,7 @@ fn write(saved: &Saved, count: u64) {
     }
 }
 
-/// A file with as many entries, as it is after `kill -9`.
+/// A file with this many entries, as `kill -9` leaves it.
 fn killed(name: &str, entries: u64) -> (Folder, Image) {
     let folder = Folder::new(name);
     let saved = folder.open().unwrap();
@@ -114,7 +114,7 @@ fn killed(name: &str, entries: u64) -> (Folder, Image) {
     (folder, image)
 }
 
-/// All that the store has.
+/// Everything that the store has.
 fn shown(saved: &Saved) -> Vec<u8> {
     let mut pass = saved.pass().unwrap();
     let snapshot = pass.pin().unwrap();
@@ -122,7 +122,7 @@ fn shown(saved: &Saved) -> Vec<u8> {
     batches.flatten().collect()
 }
 
-/// Reads a file without a state up to an entry. Returns how many entries the store has then.
+/// Reads a file without a state up to an entry. Returns how many entries the store then has.
 fn read_until(folder: &Folder, entry: u64) -> saved::Result<u64> {
     let shelf = options().until(0, entry).load(folder.file())?;
     let pass = shelf.pass()?;
@@ -136,7 +136,7 @@ fn next_random(state: &mut u64, below: u64) -> u64 {
     (*state >> 33) % below
 }
 
-/// Checks a file of which a byte was changed. Returns how it is refused, if it is.
+/// Checks a file with one changed byte. Returns how it is refused, if it is.
 fn check(folder: &Folder, whole: &[u8], what: &str) -> Option<&'static str> {
     let refused = match folder.open() {
         Ok(saved) => {
@@ -163,7 +163,7 @@ fn check(folder: &Folder, whole: &[u8], what: &str) -> Option<&'static str> {
     }
 }
 
-/// The files of a store that was closed, and those of the same one that was opened again and killed.
+/// The files of a store that was closed, and those of the same store, opened again and killed.
 fn images() -> (Folder, [Image; 2]) {
     let (folder, _) = killed("changed", ENTRIES);
     let closed = folder.image();
@@ -233,7 +233,7 @@ fn a_damaged_entry_is_named_and_the_part_before_it_can_be_read() {
         ),
         "{refused}"
     );
-    // Nothing of it was changed by that.
+    // That changed nothing in it.
     assert!(matches!(
         folder.refusal(),
         SavedError::Damaged {
@@ -275,49 +275,25 @@ fn each_part_of_a_row_is_checked() {
     }
 }
 
+/// Checks that the file can't be read up to this entry: which entries could be the last one, and how the error ends.
+fn check_not_within(folder: &Folder, entry: u64, possible: (u64, u64), said: &str) {
+    let refused = read_until(folder, entry).unwrap_err();
+    match &refused {
+        SavedError::NotWithin { until, first, last, .. } => assert_eq!((*until, (*first, *last)), (entry, possible)),
+        other => panic!("{other}"),
+    }
+    assert!(refused.to_string().ends_with(said), "{refused}");
+}
+
 #[test]
 fn only_entries_that_are_there_can_be_the_last_one() {
     let (folder, image) = killed("within", 9);
     image.put_into(&folder);
-    let refused = read_until(&folder, 10).unwrap_err();
-    assert!(
-        matches!(
-            refused,
-            SavedError::NotWithin {
-                until: 10,
-                first: 0,
-                last: 9,
-                ..
-            }
-        ),
-        "{refused}"
-    );
-    assert!(
-        refused
-            .to_string()
-            .ends_with("entry 10 can't be the last one: the file ends with entry 9"),
-        "{refused}"
-    );
+    let said = "entry 10 can't be the last one: the file ends with entry 9";
+    check_not_within(&folder, 10, (0, 9), said);
     drop(folder.open().unwrap());
-    let refused = read_until(&folder, 8).unwrap_err();
-    assert!(
-        matches!(
-            refused,
-            SavedError::NotWithin {
-                until: 8,
-                first: 9,
-                last: 9,
-                ..
-            }
-        ),
-        "{refused}"
-    );
-    assert!(
-        refused
-            .to_string()
-            .ends_with("entry 8 can't be the last one: the file has the state after entry 9, so 9 is the least"),
-        "{refused}"
-    );
+    let said = "entry 8 can't be the last one: the file has the state after entry 9, so 9 is the least";
+    check_not_within(&folder, 8, (9, 9), said);
     assert!(read_until(&folder, 9).is_ok());
     let refused = options().until(0, 9).until(1, 9).load(folder.file()).unwrap_err();
     assert!(
@@ -364,7 +340,7 @@ fn another_file_in_the_place_of_one_that_was_killed_is_opened() {
     assert_eq!(saved.number_in_file(saved.pass().unwrap().status().unwrap().entries), 3);
 }
 
-/// Makes the file one of the first format.
+/// Turns the file into one of the first format.
 fn remove_checksums(folder: &Folder) {
     for table in ["about", "state", "entry", "token"] {
         folder.sql(&format!("ALTER TABLE {table} DROP COLUMN checksum"));

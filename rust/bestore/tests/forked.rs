@@ -1,4 +1,4 @@
-//! In a forked child the handles of the parent are dead. One test runs at a time, since a fork copies one thread.
+//! In a forked child the parent's handles are dead. One test runs at a time, since a fork copies only one thread.
 
 mod common;
 

@@ -23,7 +23,7 @@ const QUERIES: [&str; 8] = [
     "u64>=0",
 ];
 
-/// Numbers that the seed gives.
+/// Numbers that the seed determines.
 struct Chance(u64);
 
 impl Chance {
@@ -49,7 +49,7 @@ impl Chance {
 fn shelf(volumes: u32) -> ShelfPass {
     let mut pass = Shelf::open(volumes, Limits::default()).unwrap().pass().unwrap();
     for volume in 0..volumes {
-        // Set before the index is made, so that it lacks it.
+        // It is set before the index is made, so the index lacks it.
         pass.change_in(volume, |change| {
             let node = change.new_node()?;
             change.set(node, "other", 1_i64).map(drop)
@@ -84,14 +84,14 @@ fn write(pass: &mut ShelfPass, chance: &mut Chance, volumes: u64, count: usize) 
         });
         match chance.below(12) {
             0 => pass.remove_node(node.unwrap()).unwrap(),
-            // Of another kind than the index, which then lacks the node.
+            // Its kind isn't the index's, so the index lacks the node.
             1 => pass.set(node.unwrap(), "text", 5_i64).unwrap(),
             _ => {}
         }
     }
 }
 
-/// A value in an order that Rust has for each kind.
+/// A value in the order that Rust has for its kind.
 fn rank(value: &Value) -> (i128, Vec<u8>) {
     match value {
         Value::Uint64(number) => ((*number).into(), Vec::new()),
@@ -167,9 +167,15 @@ fn check_cursor(page: &Page, after: Option<&Cursor>, all: &[(Value, u64)]) {
     }
 }
 
-fn alike(volumes: u32, seed: u64) {
+/// A shelf after this many writes, and the numbers that come next.
+fn written(volumes: u32, seed: u64, count: usize) -> (ShelfPass, Chance) {
     let (mut pass, mut chance) = (shelf(volumes), Chance(seed));
-    write(&mut pass, &mut chance, volumes.into(), 150);
+    write(&mut pass, &mut chance, volumes.into(), count);
+    (pass, chance)
+}
+
+fn alike(volumes: u32, seed: u64) {
+    let (mut pass, mut chance) = written(volumes, seed, 150);
     for query in QUERIES {
         for (name, kind) in KINDS {
             for order in [Order::by(name), Order::by(name).descending()] {
@@ -192,8 +198,7 @@ fn pages_of_a_shelf_are_those_of_the_whole_answer() {
 #[test]
 fn an_iterator_has_the_whole_answer_in_order() {
     for volumes in [1, 4] {
-        let (mut pass, mut chance) = (shelf(volumes), Chance(0xc0de));
-        write(&mut pass, &mut chance, volumes.into(), 600);
+        let (mut pass, _) = written(volumes, 0xc0de, 600);
         let snapshot = pass.pin().unwrap();
         let (query, order) = ("u64>=0", Order::by("text").descending());
         let all = plain(&snapshot, &Prepared::new(query).unwrap(), &order, Kind::Text);
@@ -210,8 +215,7 @@ fn an_iterator_has_the_whole_answer_in_order() {
 #[test]
 fn the_first_and_any_are_some_of_the_answer() {
     for volumes in [1, 3] {
-        let (mut pass, mut chance) = (shelf(volumes), Chance(0xbed));
-        write(&mut pass, &mut chance, volumes.into(), 200);
+        let (mut pass, mut chance) = written(volumes, 0xbed, 200);
         let snapshot = pass.pin().unwrap();
         for query in QUERIES {
             let (all, prepared) = (snapshot.query(query).unwrap(), Prepared::new(query).unwrap());
@@ -235,8 +239,7 @@ fn the_first_and_any_are_some_of_the_answer() {
 #[test]
 fn what_has_no_page_is_refused() {
     for volumes in [1, 2] {
-        let (mut pass, mut chance) = (shelf(volumes), Chance(0xbad));
-        write(&mut pass, &mut chance, volumes.into(), 30);
+        let (mut pass, _) = written(volumes, 0xbad, 30);
         let snapshot = pass.pin().unwrap();
         let query = Prepared::new("i64>=0 || i64<0").unwrap();
         let (order, other) = (Order::by("i64"), Order::by("text"));
@@ -272,8 +275,7 @@ fn what_has_no_page_is_refused() {
 #[test]
 fn a_cursor_of_another_kind_is_refused() {
     for volumes in [1, 2] {
-        let mut pass = shelf(volumes);
-        write(&mut pass, &mut Chance(0x1d), volumes.into(), 60);
+        let (mut pass, _) = written(volumes, 0x1d, 60);
         let (query, order) = (Prepared::new("i64>=0 || i64<0").unwrap(), Order::by("u32"));
         let cursor = pass.pin().unwrap().page(&query, &order, None, 1).unwrap().cursor;
         pass.remove_index("u32").unwrap();
@@ -340,7 +342,7 @@ fn a_refresh_by_what_changed_returns_the_same() {
             changed.refresh_changed(&snapshot).unwrap()
         );
     }
-    // In a snapshot of another store all nodes go.
+    // In a snapshot of another store all nodes leave.
     let mut other = Store::open(Limits::default()).unwrap().pass().unwrap();
     other.make_index("i64", Kind::Int64).unwrap();
     let snapshot = other.pin().unwrap();
@@ -350,7 +352,7 @@ fn a_refresh_by_what_changed_returns_the_same() {
     );
 }
 
-/// The answer has 96 nodes and more, so the entries of the journal are read while the other thread writes them.
+/// The answer has at least 96 nodes, so the entries of the journal are read while the other thread writes them.
 #[test]
 fn a_refresh_by_what_changed_returns_the_same_while_another_thread_writes() {
     let store = Store::open(Limits::default()).unwrap();
@@ -382,9 +384,8 @@ fn a_refresh_by_what_changed_returns_the_same_while_another_thread_writes() {
 
 #[test]
 fn a_refresh_of_a_shelf_by_what_changed_returns_the_same() {
-    let (mut pass, mut chance) = (shelf(3), Chance(0x11fe));
+    let (mut pass, mut chance) = written(3, 0x11fe, 400);
     let (mut live, mut changed) = (ShelfLive::new("u64>=1").unwrap(), ShelfLive::new("u64>=1").unwrap());
-    write(&mut pass, &mut chance, 3, 400);
     for _ in 0..20 {
         write(&mut pass, &mut chance, 3, 3);
         let snapshot = pass.pin().unwrap();

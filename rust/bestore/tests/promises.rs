@@ -4,7 +4,7 @@
 //! - a pinned pass reads one prefix of the journal;
 //! - what any pass has written is in the journal that `finish` returns, at its commit number.
 //!
-//! `BESTORE_ROUNDS` is how many stores are opened, and closed with all these looked at.
+//! `BESTORE_ROUNDS` is how many stores are opened and closed, with all three checked each time.
 
 use bestore::{Batch, Error, Kind, Limits, Pass, Store, Written};
 use std::thread;

@@ -123,7 +123,7 @@ fn the_user_alone_may_read_a_file() {
     assert!(found.contains_key("test.bestore-wal"), "{found:?}");
     assert!(found.values().all(|mode| *mode == 0o600), "{found:?}");
     saved.close().unwrap();
-    // What somebody has chosen for a file stays.
+    // The mode that somebody has chosen for a file stays.
     std::fs::set_permissions(folder.file(), Permissions::from_mode(0o640)).unwrap();
     let saved = saved::open(folder.file()).unwrap();
     saved.pass().unwrap().new_node().unwrap();
@@ -167,7 +167,7 @@ fn next_random(state: &mut u64, below: u64) -> u64 {
     *state % below
 }
 
-/// Any of the six operations, of which the store refuses some.
+/// Any of the six operations, some of which the store refuses.
 fn random_batch(random: &mut u64) -> Batch {
     let mut batch = Batch::new();
     for _ in 0..=next_random(random, 3) {
@@ -186,7 +186,7 @@ fn random_batch(random: &mut u64) -> Batch {
     batch
 }
 
-/// All that a snapshot has, with what its indices hold.
+/// Everything that a snapshot has, with what its indices hold.
 fn shown(pass: &mut Pass) -> String {
     let snapshot = pass.pin().unwrap();
     let mut all = format!("next {}", snapshot.next_node().unwrap());
@@ -384,14 +384,14 @@ fn a_file_is_opened_once() {
     saved::open(folder.file()).unwrap();
 }
 
-/// Makes the file one of the first format, so that what differs isn't found by its checksum.
+/// Turns the file into one of the first format, so that changes aren't found by a checksum.
 fn remove_checksums(path: &Path) {
     let remove = |table: &str| sql(path, &format!("ALTER TABLE {table} DROP COLUMN checksum"));
     ["about", "state", "entry", "token"].into_iter().for_each(remove);
     sql(path, "PRAGMA user_version = 1");
 }
 
-/// The place at which a file of the first format is refused after this change.
+/// The place where a file of the first format is refused after this change.
 fn place_after(name: &str, change: &str) -> Place {
     let folder = Folder::new(name);
     three(&folder.file());
@@ -583,7 +583,7 @@ fn each_writer_learns_of_a_commit_that_failed() {
     assert!(saved.number_in_file(commit) > acknowledged);
 }
 
-/// Opens the file while the disk is full, and when there is room again.
+/// Opens the file while the disk is full, and once there is room again.
 fn opens_on_a_full_disk(mounted: &Mounted, node: u64, acknowledged: u64) {
     let path = mounted.0.file();
     let count = |saved: &Saved| {
@@ -603,7 +603,7 @@ fn opens_on_a_full_disk(mounted: &Mounted, node: u64, acknowledged: u64) {
     reopened.pass().unwrap().new_node().unwrap();
 }
 
-/// What a child process does, which is the program of these tests again.
+/// What a child process does, which is this test program again.
 const CHILD: &str = "BESTORE_TEST_CHILD";
 
 fn child(path: &Path, task: &str, round: u64) -> Child {
@@ -621,7 +621,7 @@ fn say(line: &str) {
     out.flush().unwrap();
 }
 
-/// Does nothing in the program of the tests.
+/// It does nothing in the test program itself.
 #[test]
 fn in_a_child() {
     let task = match std::env::var(CHILD) {
@@ -638,7 +638,7 @@ fn in_a_child() {
     }
 }
 
-/// Writes on three passes, says each write that has returned, and rewrites the state now and then.
+/// Writes on three passes, prints each write that has returned, and rewrites the state now and then.
 fn write_for_ever(saved: &Saved, round: u64) {
     say("");
     thread::scope(|scope| {

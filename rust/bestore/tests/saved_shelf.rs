@@ -1,8 +1,11 @@
 //! Shelves that are kept: opened again, with more volumes, and refused.
 #![cfg(feature = "saved")]
 
+mod common;
+
 use bestore::saved::{Error, Options, SavedShelf};
-use bestore::{Kind, Limits, ShelfPass};
+use bestore::{Kind, Limits};
+use common::make_sized;
 use std::fs;
 use std::path::{Path, PathBuf};
 use std::thread;
@@ -37,16 +40,6 @@ impl Drop for Folder {
     }
 }
 
-/// Makes a node of this size in this volume.
-fn sized(pass: &mut ShelfPass, volume: u32, size: i64) -> u64 {
-    let made = pass.change_in(volume, |change| {
-        let node = change.new_node()?;
-        change.set(node, "size", size)?;
-        Ok(node)
-    });
-    made.unwrap()
-}
-
 fn found(saved: &SavedShelf, query: &str) -> Vec<u64> {
     saved.pass().unwrap().pin().unwrap().query(query).unwrap()
 }
@@ -57,7 +50,7 @@ fn three(name: &str) -> (Folder, Vec<u64>) {
     let saved = folder.open(Some(3)).unwrap();
     let mut pass = saved.pass().unwrap();
     pass.make_index("size", Kind::Int64).unwrap();
-    let nodes = (0..3).map(|volume| sized(&mut pass, volume, 5)).collect();
+    let nodes = (0..3).map(|volume| make_sized(&mut pass, volume, 5)).collect();
     saved.close().unwrap();
     (folder, nodes)
 }
@@ -93,7 +86,7 @@ fn more_volumes_get_the_indices_of_the_others() {
         pass.pin().unwrap().indices().unwrap(),
         [("size".to_owned(), Kind::Int64)]
     );
-    nodes.push(sized(&mut pass, 4, 5));
+    nodes.push(make_sized(&mut pass, 4, 5));
     drop((pass, saved));
     let saved = folder.open(None).unwrap();
     assert_eq!((saved.volumes().len(), found(&saved, "size>=0")), (5, nodes));
@@ -165,7 +158,7 @@ fn a_file_that_is_missing_held_or_broken_is_named() {
     assert!(matches!(refused, Error::Folder { .. }), "{refused}");
 }
 
-/// Lets each commit of this file fail.
+/// Makes each commit of this file fail.
 fn break_file(path: &Path) {
     let connection = rusqlite::Connection::open(path).unwrap();
     let trigger = "CREATE TRIGGER broken BEFORE INSERT ON entry BEGIN SELECT RAISE(ABORT, 'broken'); END";
@@ -187,7 +180,7 @@ fn a_volume_that_cant_be_saved_stops_alone() {
     assert!(matches!(stopped.without_volume(), bestore::Error::Stopped(_)));
     // The others go on, and reads see what is in memory.
     pass.set(nodes[0], "size", 6_i64).unwrap();
-    let third = sized(&mut pass, 2, 6);
+    let third = make_sized(&mut pass, 2, 6);
     assert_eq!(
         pass.pin().unwrap().query("size==6").unwrap(),
         [nodes[0], nodes[1], third]
@@ -212,11 +205,11 @@ fn the_file_of_one_store_becomes_a_volume() {
     fs::create_dir_all(&folder.0).unwrap();
     fs::rename(&alone, folder.0.join("0.bestore")).unwrap();
     let saved = folder.open(Some(2)).unwrap();
-    let second = sized(&mut saved.pass().unwrap(), 1, 6);
+    let second = make_sized(&mut saved.pass().unwrap(), 1, 6);
     assert_eq!(found(&saved, "size>=5"), [node, second]);
 }
 
-/// All passes are taken, so both tasks use the store's own.
+/// All passes are taken, so both tasks use the store's own pass.
 #[test]
 fn writers_go_on_while_the_store_is_compacted_and_carried_on() {
     const WRITES: u64 = 500;
@@ -236,7 +229,7 @@ fn writers_go_on_while_the_store_is_compacted_and_carried_on() {
             scope.spawn(move || {
                 for number in 0..WRITES {
                     pass.new_node().unwrap();
-                    // Most of the writes after a task find out by themselves that the store was carried on.
+                    // Most writes after a task find out by themselves that the store was carried on.
                     if number % 8 == 0 {
                         pass.follow().unwrap();
                     }

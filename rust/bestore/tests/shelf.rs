@@ -1,6 +1,9 @@
-//! Shelves: what a query of several stores returns, beside a plain model.
+//! Shelves: what a query of several stores returns, compared with a plain model.
+
+mod common;
 
 use bestore::{Batch, Error, Kind, Limits, Node, Retry, Shelf, ShelfLive, ShelfPass, ShelfSnapshot, Value};
+use common::make_sized;
 use std::collections::{BTreeMap, BTreeSet};
 use std::thread;
 use std::time::Duration;
@@ -24,17 +27,7 @@ fn node(volume: u32, number: u64) -> u64 {
     Node { volume, number }.into()
 }
 
-/// Makes a node of this size in this volume.
-fn sized(pass: &mut ShelfPass, volume: u32, size: i64) -> u64 {
-    let made = pass.change_in(volume, |change| {
-        let node = change.new_node()?;
-        change.set(node, "size", size)?;
-        Ok(node)
-    });
-    made.unwrap()
-}
-
-/// Numbers of a fixed row.
+/// Numbers of a fixed sequence.
 struct Random(u64);
 
 impl Random {
@@ -92,7 +85,7 @@ impl Model {
         let volumes = pass.volumes().len() as u64;
         let made = match random.below(3) {
             0 => pass.new_node().unwrap(),
-            1 => sized(pass, random.below(volumes) as u32, 3),
+            1 => make_sized(pass, random.below(volumes) as u32, 3),
             _ => {
                 let volume = random.below(volumes) as u32;
                 pass.apply_in(volume, Batch::new().new_node()).unwrap().nodes[0]
@@ -117,7 +110,7 @@ impl Model {
         self.found(|attributes| size(attributes).map_or(false, |size| size >= 10))
     }
 
-    /// Compares all that can be read.
+    /// Compares everything that can be read.
     fn check(&self, snapshot: &ShelfSnapshot<'_>) {
         assert_eq!(snapshot.query("size>=10").unwrap(), self.large());
         let prepared = "size>=10".parse().unwrap();
@@ -181,7 +174,7 @@ fn new_nodes_go_where_most_pages_are_free() {
 #[test]
 fn what_isnt_there_is_no_node() {
     let mut pass = indexed(2);
-    let made = sized(&mut pass, 1, 5);
+    let made = make_sized(&mut pass, 1, 5);
     for other in [node(0, 1), node(1, 2), node(2, 1), node(63, 1), u64::MAX] {
         let snapshot = pass.pin().unwrap();
         assert_eq!(snapshot.get(other, "size").unwrap(), None);
@@ -225,7 +218,7 @@ fn a_query_is_refused_if_a_volume_doesnt_cover_it() {
     }
     let snapshot = pass.pin().unwrap();
     assert_eq!(snapshot.explain("name==a").unwrap_err().volume(), Some(1));
-    // What is wrong with the text is of no volume.
+    // An error in the text isn't any volume's.
     assert_eq!(snapshot.query("size<").unwrap_err().volume(), None);
     assert_eq!(snapshot.indices().unwrap(), [("size".to_owned(), Kind::Int64)]);
     assert_eq!(
@@ -243,7 +236,7 @@ fn an_index_is_made_where_it_is_missing() {
     assert_eq!(indices(&mut pass), 2);
     let again = pass.make_index("name", Kind::Text).unwrap_err();
     assert!(matches!(again, Error::IndexExists));
-    // With another kind in one volume nothing is made in the others.
+    // If one volume has another kind, nothing is made in the others.
     pass.volume(2).unwrap().make_index("when", Kind::Int32).unwrap();
     let other = pass.make_index("when", Kind::Int64).unwrap_err();
     assert_eq!((other.volume(), other.code()), (Some(2), Error::IndexExists.code()));
@@ -276,7 +269,7 @@ fn an_index_that_one_volume_refuses_is_made_by_the_next_call() {
 #[test]
 fn a_batch_and_a_change_are_in_one_volume() {
     let mut pass = indexed(2);
-    let (first, second) = (sized(&mut pass, 0, 1), sized(&mut pass, 1, 2));
+    let (first, second) = (make_sized(&mut pass, 0, 1), make_sized(&mut pass, 1, 2));
     let mut both = Batch::new();
     both.set(second, "size", 3_i64).set(first, "size", 3_i64);
     let refused = pass.apply(&both).unwrap_err();
@@ -307,7 +300,7 @@ fn a_change_conflicts_with_writes_to_its_volume_alone() {
     let shelf = shelf(2);
     let (mut pass, other) = (shelf.pass().unwrap(), shelf.pass().unwrap());
     pass.make_index("size", Kind::Int64).unwrap();
-    let (first, second) = (sized(&mut pass, 0, 1), sized(&mut pass, 1, 1));
+    let (first, second) = (make_sized(&mut pass, 0, 1), make_sized(&mut pass, 1, 1));
     pass.set_retry(Retry::NEVER);
     let write = |pass: &mut ShelfPass, between: u64| {
         pass.change(|change| {
@@ -332,13 +325,13 @@ fn a_change_conflicts_with_writes_to_its_volume_alone() {
 fn a_live_query_keeps_what_it_found_before_an_error() {
     let mut pass = indexed(2);
     let mut live = ShelfLive::new("size>=1").unwrap();
-    let first = sized(&mut pass, 0, 1);
+    let first = make_sized(&mut pass, 0, 1);
     pass.volume(1).unwrap().remove_index("size").unwrap();
     assert_eq!(live.refresh(&pass.pin().unwrap()).unwrap_err().volume(), Some(1));
-    let second = sized(&mut pass, 0, 2);
+    let second = make_sized(&mut pass, 0, 2);
     pass.remove_node(first).unwrap();
     pass.volume(1).unwrap().make_index("size", Kind::Int64).unwrap();
-    let third = sized(&mut pass, 1, 3);
+    let third = make_sized(&mut pass, 1, 3);
     let updates = live.refresh(&pass.pin().unwrap()).unwrap();
     assert_eq!((updates.created, updates.removed), (vec![second, third], vec![]));
 }
@@ -346,7 +339,7 @@ fn a_live_query_keeps_what_it_found_before_an_error() {
 #[test]
 fn a_snapshot_stays_and_a_held_one_is_pinned_again() {
     let mut pass = indexed(2);
-    let made = sized(&mut pass, 1, 1);
+    let made = make_sized(&mut pass, 1, 1);
     let numbers = pass.hold().unwrap();
     pass.set(made, "size", 2_i64).unwrap();
     let snapshot = pass.pin().unwrap();
@@ -363,7 +356,7 @@ fn a_snapshot_stays_and_a_held_one_is_pinned_again() {
     ));
 }
 
-/// Each thread counts in a node of its own volume and in one of another, by changes. No count is lost, and readers never see a
+/// Each thread counts in a node of its own volume and in one of another, with changes. No count is lost, and readers never see a
 /// volume go back.
 #[test]
 fn threads_write_and_read() {
@@ -372,7 +365,7 @@ fn threads_write_and_read() {
     let shelf = shelf(THREADS);
     let mut pass = shelf.pass().unwrap();
     pass.make_index("size", Kind::Int64).unwrap();
-    let nodes: Vec<u64> = (0..THREADS).map(|volume| sized(&mut pass, volume, 0)).collect();
+    let nodes: Vec<u64> = (0..THREADS).map(|volume| make_sized(&mut pass, volume, 0)).collect();
     thread::scope(|scope| {
         for thread in 0..THREADS as usize {
             let (shelf, nodes) = (&shelf, &nodes);
@@ -414,10 +407,10 @@ fn count(pass: &mut ShelfPass, nodes: [u64; 2], writes: i64) {
 #[test]
 fn volumes_are_counted_and_indexed_together() {
     let mut pass = shelf(2).pass().unwrap();
-    sized(&mut pass, 0, 1);
-    sized(&mut pass, 1, 2);
+    make_sized(&mut pass, 0, 1);
+    make_sized(&mut pass, 1, 2);
     pass.make_index("size", Kind::Int64).unwrap();
-    sized(&mut pass, 1, 3);
+    make_sized(&mut pass, 1, 3);
     assert_eq!(pass.pin().unwrap().pairs("size").unwrap(), 1);
     assert_eq!(pass.reindex("size").unwrap(), 2);
     let snapshot = pass.pin().unwrap();

@@ -7,7 +7,7 @@ use rusqlite::Connection;
 use std::path::{Path, PathBuf};
 use std::time::Duration;
 
-/// A file of a test, which is removed with its folder at the end.
+/// A test's file, which is removed with its folder at the end.
 struct File(PathBuf);
 
 impl File {
@@ -42,7 +42,7 @@ impl Drop for File {
     }
 }
 
-/// Makes a node by a batch with this token. Returns its commit number.
+/// Makes a node with a batch that has this token. Returns its commit number.
 fn make(saved: &Saved, token: &str) -> Token {
     let mut batch = Batch::new();
     batch.new_node().new_node().set_token(token);

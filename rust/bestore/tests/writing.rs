@@ -2,10 +2,10 @@
 
 mod common;
 
-use bestore::{Batch, Error, Kind, Limits, Pass, Retry, Store, Value};
+use bestore::{Batch, Error, Keeper, Kind, Limits, Oldest, Pass, Retry, Status, Store, Value, Written};
 use common::{sized, store, ten};
 use std::sync::atomic::{AtomicBool, Ordering};
-use std::sync::mpsc;
+use std::sync::{mpsc, Arc, Mutex};
 use std::thread;
 use std::time::Duration;
 
@@ -116,7 +116,7 @@ fn a_change_looks_at_kinds() {
     assert_eq!(pass.pin().unwrap().query("length==5").unwrap(), [1]);
 }
 
-/// The calls of a change that return no error leave it to the end.
+/// Calls of a change that don't return an error leave it to the end.
 #[test]
 fn an_operation_that_is_not_collected_ends_the_change() {
     let mut pass = ten();
@@ -145,7 +145,7 @@ fn a_change_at_full_begins_again() {
     let node = pass.new_node().unwrap();
     reader.hold().unwrap();
     fill(&pass, node);
-    let (mut runs, reader) = (0, std::sync::Mutex::new(reader));
+    let (mut runs, reader) = (0, Mutex::new(reader));
     pass.change(|change| {
         runs += 1;
         if runs == 3 {
@@ -261,7 +261,7 @@ fn a_full_store_says_what_keeps_its_pages() {
     assert_eq!(writer.status().unwrap().oldest, None);
 }
 
-/// The other thread has the writers' lock nearly all the time, as it reads a long journal, until the change runs for the second time.
+/// The other thread, which reads a long journal, has the writers' lock nearly all the time, until the change runs for the second time.
 #[test]
 fn a_change_on_a_snapshot_that_is_held_runs_again_while_another_pass_has_the_lock() {
     let store = store();
@@ -323,6 +323,70 @@ fn a_write_waits_for_another_pass_to_unpin() {
     let started = std::time::Instant::now();
     assert!(matches!(fill(own.pass(), node), Error::Full { .. }));
     assert!(started.elapsed() < Duration::from_millis(400));
+}
+
+/// Lets another pass release its snapshot as soon as a write has found no page.
+#[derive(Debug)]
+struct Releases(Mutex<Pass>);
+
+impl Keeper for Releases {
+    fn keep(
+        &self,
+        _: u64,
+        _: &Batch,
+        write: &mut dyn FnMut() -> bestore::Result<Written>,
+    ) -> bestore::Result<(Written, u64)> {
+        let written = write();
+        if matches!(written, Err(Error::Full { .. })) {
+            self.0.lock().unwrap().release();
+        }
+        written.map(|written| (written, 0))
+    }
+
+    fn wait(&self, _: u64) -> bestore::Result<()> {
+        Ok(())
+    }
+}
+
+/// When the store is asked who keeps pages, nobody does any more.
+#[test]
+fn a_write_finds_pages_that_were_given_back_just_after_it_failed() {
+    let store = sized(16);
+    let mut other = store.pass().unwrap();
+    let node = other.new_node().unwrap();
+    other.hold().unwrap();
+    let keeper = Arc::new(Releases(Mutex::new(other)));
+    let mut pass = store.pass().unwrap().kept_by(keeper.clone());
+    let is_held = || keeper.0.lock().unwrap().held().is_some();
+    while is_held() {
+        pass.set(node, "count", 5_i64).unwrap();
+    }
+    keeper.0.lock().unwrap().hold().unwrap();
+    while is_held() {
+        pass.change(|change| change.set(node, "count", 6_i64).map(drop))
+            .unwrap();
+    }
+}
+
+#[test]
+fn a_status_says_whether_a_write_may_find_pages() {
+    let status = |oldest| Status {
+        pages: 64,
+        free: 1,
+        retired: 9,
+        entries: 10,
+        commits: 100,
+        oldest,
+    };
+    let other = Some(Oldest { snapshot: 8, pass: 2 });
+    // Another pass keeps pages, or did; or only the pass itself does.
+    assert!(status(other).may_free_pages(1, 8));
+    assert!(status(None).may_free_pages(1, 8));
+    assert!(!status(other).may_free_pages(2, 8));
+    // No pages were kept when the write failed.
+    assert!(!status(None).may_free_pages(1, 10));
+    assert!(!status(other).may_free_pages(1, 10));
+    assert!(status(None).may_free_pages(1, 9));
 }
 
 #[test]

@@ -1,12 +1,12 @@
 #!/usr/bin/env python3
-"""Backups of a server that eight processes write to: is each the state of one commit, and what do the writers notice?
+"""Backups of a server while eight processes write to it: is each one the state of one commit, and what do the writers notice?
 
 usage: backups.py FOLDER [BACKUPS]    the folder with bestored and be, such as rust/target/release; 50 backups by default
 
 It makes a store of 60,000 nodes in five volumes, in a new folder, measures how long writes take, and measures again while `be backup`
-runs so often. Then each backup is opened: in each volume the counters, of which each write moves one, have to give the commit number, and
-none may be lower than what was replied to before the backup began. PYTHONPATH names the folder of the package bestore. It exits with 1 if a backup is wrong, or
-if the 99th percentile of the writes grows to more than three times what it was.
+runs that often. Then each backup is opened. In each volume the counters, one of which moves with each write, have to add up to the
+commit number, and none may be lower than what had been acknowledged before the backup began. PYTHONPATH names the folder of the package
+bestore. It exits with 1 if a backup is wrong, or if the 99th percentile of the writes grows to more than three times what it was.
 """
 from __future__ import annotations
 
@@ -52,7 +52,7 @@ class Shared(NamedTuple):
 
 
 def write(socket: str, shared: Shared, writer: int) -> None:
-    """Counts in the writer's node, one more with each write, and says how long each took."""
+    """Counts in the writer's node, by one with each write, and reports how long each took."""
     answered, node = shared.answered[writer], counted_by(writer)
     times: List[float] = []
     with bestore.connect(socket) as store:
@@ -93,7 +93,7 @@ class Writing:
 
 
 def check(path: Path, about: Any, begin: List[int], before: List[int]) -> None:
-    """Fails unless the backup is the state of its commit, in each volume, and has what was replied to before."""
+    """Fails unless the backup is the state of its commit, in each volume, and has what was acknowledged before."""
     with saved.open_shelf(path, pages=PAGES) as store, store.pin() as version:
         found = version.column(map(counted_by, range(WRITERS)), "count")
         counts = [int(value) for value in found if isinstance(value, int)]
@@ -116,7 +116,7 @@ def back_up(programs: Path, socket: str, path: Path) -> Any:
 
 
 def measure(programs: Path, folder: Path, socket: str, backups: int) -> float:
-    """Prints the figures, and returns how much the writes' 99th percentile grows."""
+    """Prints the figures, and returns how much longer the writes' 99th percentile gets."""
     begin = fill(socket)
     answered = [counter() for _ in range(WRITERS)]
     with Writing(socket, answered) as alone:

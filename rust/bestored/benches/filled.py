@@ -1,4 +1,4 @@
-"""A store of 60,000 nodes in five volumes, as the programs beside this one measure it."""
+"""A store of 60,000 nodes in five volumes, which the programs beside this one measure."""
 from __future__ import annotations
 
 from typing import List

@@ -1,18 +1,20 @@
 #!/usr/bin/env python3
-"""A server that is written to for long: how long does its file get, how much memory does it take, and how long does the next start take?
+"""A server that is written to for a long time: how large does its file get, how much memory does it need, and how much does the next
+start read?
 
 usage: growth.py FOLDER [WRITES]    the folder with bestored, such as rust/target/release; 10,000,000 writes by default
 
-It makes a store of 60,000 nodes in five volumes, in a new folder. One client sends small writes, many at a time, and another one write
-after another, whose longest reply shows what the server does when it writes its states anew. After 10,000 writes and after all of them
-the server is killed and started again. PYTHONPATH names the folder of the package bestore. It exits with 1 if the files were longer than
-twice the state, or the memory was more than twice that of the pages, with 20 MB more for each volume, which its WAL and the entries take
-that are waited for; or if the last start takes more than twice as long as the first one and a second.
+It makes a store of 60,000 nodes in five volumes, in a new folder. One client sends small writes, many at a time, and another one sends
+one write after another. Its longest reply shows what the server does when it writes its states anew. After 10,000 writes and after all
+of them the server is killed and started again. PYTHONPATH names the folder of the package bestore. It exits with 1 if the files were
+more than twice as long as the state, or the memory more than twice that of the pages, each with 20 MB more per volume for its WAL and
+for entries that wait; or if the last start takes over a fifth more of a processor's time than the first one.
 """
 from __future__ import annotations
 
 import json
 import multiprocessing
+import os
 import socket
 import subprocess
 import sys
@@ -33,14 +35,26 @@ AT_ONCE = 500
 """How many writes are sent before their replies are read."""
 LEAST = 20 << 20
 MOST_GROWTH = 2.0
-MOST_SECONDS = 1.0
+MOST_SLOWER = 1.2
+TICK = os.sysconf("SC_CLK_TCK")
 
 
 class Size(NamedTuple):
-    """How many bytes the files and the memory have, at one time or at most."""
+    """How many bytes the files and the memory take, at one time or at most."""
 
     files: int
     memory: int
+
+
+class Start(NamedTuple):
+    """What a start took, also of a processor's time, and how many batches of the states and entries it made."""
+
+    seconds: float
+    busy: float
+    batches: int
+
+    def __str__(self) -> str:
+        return f"{self.seconds:.2f} s ({self.busy:.2f} s of a processor) and {self.batches} batches"
 
 
 class Watched(NamedTuple):
@@ -51,7 +65,7 @@ class Watched(NamedTuple):
 
 
 class Server:
-    """A server that keeps its store in the folder. It is killed at the end of a `with`."""
+    """A server that keeps its store in the folder, and is killed at the end of a `with`."""
 
     def __init__(self, program: Path, folder: Path) -> None:
         self.path, self.folder = str(folder / "socket"), folder / "kept"
@@ -60,8 +74,8 @@ class Server:
             [program, "--socket", self.path, "--keep", self.folder, "--every", "100", "--pages", str(PAGES), "--volumes", str(VOLUMES)],
             stderr=subprocess.DEVNULL)
         self._wait()
-        self.seconds = time.perf_counter() - started
-        """How long the start took."""
+        seconds = time.perf_counter() - started
+        self.start = Start(seconds, self._busy, Lines(self.path).ask({"status": {}})["entries"])
 
     def _wait(self) -> None:
         while self._process.poll() is None:
@@ -79,8 +93,14 @@ class Server:
         self._process.kill()
         self._process.wait()
 
+    @property
+    def _busy(self) -> float:
+        """How many seconds of a processor's time it has taken."""
+        fields = Path(f"/proc/{self._process.pid}/stat").read_text().rsplit(")", 1)[1].split()
+        return (int(fields[11]) + int(fields[12])) / TICK
+
     def end(self) -> int:
-        """Ends the server. Returns how many bytes its files have then."""
+        """Ends the server. Returns how many bytes its files then have."""
         self._process.terminate()
         self._process.wait()
         return sum(path.stat().st_size for path in self.folder.iterdir())
@@ -112,7 +132,7 @@ class Lines:
 
 
 def watch(path: str, watched: Watched) -> None:
-    """Makes one write after another, and says which took longest."""
+    """Makes one write after another, and reports the one that took longest."""
     with bestore.connect(path) as store:
         while not watched.is_over.value:
             begin = time.perf_counter()
@@ -122,7 +142,7 @@ def watch(path: str, watched: Watched) -> None:
 
 
 def write(server: Server, count: int) -> Size:
-    """Makes so many small writes. Returns how long the files were and how much memory there was, each at most."""
+    """Makes this many small writes. Returns the most that the files and the memory took."""
     lines = Lines(server.path)
     sizes: List[Size] = []
     for first in range(0, count, AT_ONCE):
@@ -135,7 +155,7 @@ def write(server: Server, count: int) -> Size:
 
 
 def write_for_long(server: Server, count: int) -> Size:
-    """Makes the writes beside a second client. Prints the figures, and returns the most of each."""
+    """Makes the writes while a second client writes too. Prints the figures, and returns the highest of each."""
     number: Any = multiprocessing.Value
     watched = Watched(cast("Synchronized[int]", number("b", 0)), cast("Synchronized[float]", number("d", 0)))
     watching = multiprocessing.Process(target=watch, args=(server.path, watched))
@@ -163,16 +183,18 @@ def main() -> None:
             Lines(server.path).ask({"compact": {}})
             least = server.end()
         with Server(program, folder) as server:
+            of_state = server.start
             write(server, FIRST)
         with Server(program, folder) as server:
-            first = server.seconds
+            first = server.start
             most = write_for_long(server, count)
         with Server(program, folder) as server:
-            last = server.seconds
+            last = server.start
     print(f"files: {least >> 20} MB with the state, {most.files >> 20} MB at most")
-    print(f"a start: {first:.2f} s after {FIRST} writes, {last:.2f} s after {count} more")
+    print(f"a start: {of_state} with the state, {first} after {FIRST} writes, {last} after {count} more")
     bounds = Size(int(MOST_GROWTH * least) + LEAST * VOLUMES, int(MOST_GROWTH * (VOLUMES * PAGES << 12)) + LEAST * VOLUMES)
-    if most.files > bounds.files or most.memory > bounds.memory or last > MOST_GROWTH * first + MOST_SECONDS:
+    is_slower = last.busy > MOST_SLOWER * first.busy
+    if most.files > bounds.files or most.memory > bounds.memory or is_slower:
         raise SystemExit(1)
 
 

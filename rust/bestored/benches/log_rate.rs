@@ -1,5 +1,5 @@
-//! How many writes a second a leader takes whose log is in a PostgreSQL on this machine, how much later followers have them, and
-//! how long it takes until another server leads.
+//! How many writes a second a leader takes if its log is in a PostgreSQL on this machine, how much later followers have them,
+//! and how long it takes until another server leads.
 //!
 //! `cargo bench -p bestored --features log --bench log_rate`. The database writes to the disk of the folder for temporary files
 //! (`TMPDIR`). Each client is a thread that sends a write and waits for the reply. The best round of each case is shown.
@@ -22,7 +22,7 @@ const TIME: Duration = Duration::from_secs(2);
 const CLIENTS: [usize; 3] = [1, 8, 32];
 const VALUE: &str = "Ada Lovelace <ada@example.org>";
 
-/// How many writes the lag is of, and how many leaders are killed.
+/// How many writes the lag is measured on, and how many leaders are killed.
 const WRITES: usize = 500;
 const KILLS: usize = 10;
 
@@ -53,14 +53,14 @@ impl Member {
     }
 }
 
-/// Half of the times, and 99 of 100, take up to so many microseconds.
+/// Half of the times, and 99 of 100, are at most this many microseconds.
 fn half_and_most(mut times: Vec<Duration>) -> (f64, f64) {
     times.sort_unstable();
     let at = |part: usize| times[times.len() * part / 100].as_secs_f64() * 1e6;
     (at(50), at(99))
 }
 
-/// The times of the writes that these clients make, each one after the other.
+/// The times of the writes that these clients make. Each client makes one after the other.
 fn write(socket: &Path, clients: usize) -> Vec<Duration> {
     let write = |node: u64| {
         let mut client = Client::connect(socket).expect("the server listens");

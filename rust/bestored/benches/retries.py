@@ -5,7 +5,7 @@ usage: retries.py FOLDER [BATCHES]    the folder with bestored, such as rust/tar
 
 32 processes write to a server with a file. Each batch makes a node, removes the one that the process made before, and counts. The
 server is killed by signal 9 at random moments and started again. In the end each process has had a reply to each of its batches, and
-the store has made as many nodes as there were batches. PYTHONPATH names the folder of the package bestore. It exits with 1 if a batch is
+the store has made exactly one node per batch. PYTHONPATH names the folder of the package bestore. It exits with 1 if a batch is
 missing, or was written twice.
 """
 from __future__ import annotations
@@ -32,7 +32,7 @@ LIFE = 1.5
 
 
 def connect(socket: str) -> bestore.connected.ConnectedPass:
-    """Connects to a server that may be killed just now."""
+    """Connects to a server that may be killed at that moment."""
     until = time.monotonic() + PATIENCE
     while True:
         try:
@@ -76,7 +76,7 @@ class Server:
 
 
 def kill_until(server: Server, writing: List[AsyncResult[int]]) -> int:
-    """Kills the server until all have written. Returns how often."""
+    """Kills the server again and again until all have written. Returns how often."""
     kills = 0
     while not all(one.ready() for one in writing):
         time.sleep(random.uniform(0.01, LIFE))

@@ -1,4 +1,4 @@
-//! How many requests a second bestored answers through its socket, beside redis-server through its own, if that is installed.
+//! How many requests a second bestored answers through its socket, compared with redis-server through its own, if that is installed.
 //!
 //! `cargo build --release && cargo run --release --example rate`. Each client is a thread that sends a request and waits for the
 //! reply. Cases of both servers run in turn, several rounds; the best round of each is shown.
@@ -47,7 +47,7 @@ impl Server {
     }
 }
 
-/// What is asked: how many ends of lines a reply has, and a request by a number.
+/// What is asked: how many line ends a reply has, and the request with a number.
 struct Case {
     name: &'static str,
     lines: usize,
@@ -56,7 +56,7 @@ struct Case {
 
 fn put(to: &mut Vec<u8>, text: std::fmt::Arguments<'_>) {
     to.clear();
-    to.write_fmt(text).expect("memory takes what is written");
+    to.write_fmt(text).expect("memory can hold what is written");
 }
 
 /// A command of redis with a key and perhaps a value.
@@ -120,7 +120,7 @@ const REDIS: [Case; 2] = [
     },
 ];
 
-/// A connection, with the room for requests and replies.
+/// A connection, with buffers for requests and replies.
 struct Client {
     stream: UnixStream,
     request: Vec<u8>,
@@ -150,7 +150,7 @@ impl Client {
     }
 }
 
-/// The times of all requests that these clients make one after the other.
+/// The times of all requests of these clients. Each client sends one after the other.
 fn run(socket: &Path, case: &Case, clients: usize) -> Vec<u32> {
     thread::scope(|scope| {
         let running: Vec<_> = (0..clients)
@@ -179,7 +179,7 @@ fn run(socket: &Path, case: &Case, clients: usize) -> Vec<u32> {
     })
 }
 
-/// Requests a second, and the times that half and 99 of 100 of them take at most, in microseconds.
+/// Requests a second, and the times within which half and 99 of 100 of them are done, in microseconds.
 #[derive(Clone, Copy, Default)]
 struct Figures {
     rate: f64,
@@ -247,7 +247,7 @@ fn start(folder: &Path) -> (Server, Option<Server>) {
     (ours, redis)
 }
 
-/// Measures one case with so many clients, and prints a row of the table.
+/// Measures one case with this many clients, and prints a row of the table.
 fn measure(case: &Case, clients: usize, ours: &Server, peer: Option<(&Server, &Case)>) {
     let (mut own, mut other) = (Figures::default(), Figures::default());
     for _ in 0..ROUNDS {
@@ -275,6 +275,6 @@ fn main() {
         }
     }
     drop((ours, redis));
-    // What is left goes with the folder for temporary files.
+    // Whatever is left disappears with the folder for temporary files.
     let _ = fs::remove_dir_all(&folder);
 }

@@ -1,9 +1,9 @@
 """Looks whether a history is strictly serializable, in the order of the batches' numbers.
 
-Four things make it so. The trail has each acknowledged batch once, where its reply says, and none that was refused. The numbers of a run
-differ from its commit numbers by the same amount everywhere. Each snapshot is what the trail, replayed up to its number, gives, and each
-batch in the trail comes directly after the snapshot that it was written on. And the order respects real time: what has ended before
-something else begins isn't after it.
+Four things have to hold. The trail has each acknowledged batch once, at the place that its reply gives, and none that was refused.
+Throughout a run, its numbers differ from its commit numbers by the same amount. Each snapshot is what the trail, replayed up to its
+number, gives, and each batch in the trail comes directly after the snapshot that it was written on. And the order respects real time:
+what ended before something else began doesn't come after it.
 """
 from __future__ import annotations
 
@@ -14,11 +14,11 @@ from record import NO_VALUES, History, Outcome, Read, Snapshot, Values, Write
 
 Event = Tuple[float, int, int]
 BEGIN, END = 1, 0
-"""Of two events at one time the end is first: they may have been in this order."""
+"""If two events have the same time, an end counts as first: they may have happened in this order."""
 
 
 def violations(history: History) -> Iterator[str]:
-    """Each thing that no correct store does."""
+    """Everything that a correct store wouldn't do."""
     yield from _wrong_trail(history)
     yield from _wrong_outcomes(history)
     yield from _wrong_commits(history)
@@ -27,7 +27,7 @@ def violations(history: History) -> Iterator[str]:
 
 
 def _wrong_trail(history: History) -> Iterator[str]:
-    """Batches in the trail that nobody sent, and those that are there twice."""
+    """Batches in the trail that nobody sent, or that are there twice."""
     sent = {write.value for write in history.writes}
     places: Dict[int, int] = {}
     for number, value in enumerate(history.trail, 1):
@@ -39,7 +39,7 @@ def _wrong_trail(history: History) -> Iterator[str]:
 
 
 def _wrong_outcomes(history: History) -> Iterator[str]:
-    """Batches that are lost or at another place than acknowledged, and those that are there although they were refused."""
+    """Batches that are lost, that aren't at the acknowledged place, or that are there although they were refused."""
     places = _places(history)
     for write in history.writes:
         place = places.get(write.value)
@@ -59,7 +59,7 @@ def _places(history: History) -> Dict[int, int]:
 
 
 def _wrong_commits(history: History) -> Iterator[str]:
-    """Numbers that differ from the commit numbers of their run, or the log's entries, by another amount than the first of them."""
+    """Numbers that don't differ from their run's commit numbers, or from the log's entries, by the same amount as the first one."""
     shifts: Dict[str, int] = {}
 
     def wrong(what: str, run: str, commit: int, number: int) -> Iterator[str]:
@@ -79,7 +79,7 @@ def _wrong_commits(history: History) -> Iterator[str]:
 
 
 def _wrong_states(history: History) -> Iterator[str]:
-    """Snapshots that aren't what the trail gives."""
+    """Snapshots that don't agree with the trail."""
     written = {write.value: write for write in history.writes}
     waiting: Dict[int, List[Tuple[str, Snapshot]]] = {}
     for read in history.reads:
@@ -107,7 +107,7 @@ def _states(history: History, written: Dict[int, Write]) -> Iterator[Values]:
 
 
 def _wrong_times(history: History) -> Iterator[str]:
-    """Batches, and reads of the latest snapshot, that come before something that had ended before they began."""
+    """Batches, and reads of the latest snapshot, that are ordered before something that had ended before they began."""
     timed: List[Union[Read, Write]] = [*_timed_writes(history), *history.reads]
     events: List[Event] = []
     for place, it in enumerate(timed):

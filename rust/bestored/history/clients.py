@@ -13,23 +13,23 @@ from lines import Connection, Gone, Late, Refused, Reply
 from record import REGISTERS, Outcome, Read, Snapshot, Write
 
 PART_READS = 0.3
-"""How many of the snapshots are only read."""
+"""The share of snapshots that are only read."""
 REST = 0.02
 """How many seconds a client waits before it tries to connect again."""
 REPEATING = 60.0
-"""For how many seconds a client that repeats its batches does so."""
+"""For how many seconds a client repeats a batch."""
 LATE_MOST = 4
-"""How many connections a client keeps on which a reply is late."""
+"""How many connections with a late reply a client keeps."""
 NOT_WRITTEN = {"Conflict", "NotLeader", "Stopped", "Busy", "Full"}
-"""Errors after which a batch that is sent for the first time isn't written."""
+"""After these errors, a batch that was sent for the first time isn't written."""
 NOT_WRITTEN_BEFORE = {"Conflict"}
-"""Errors after which no earlier sending of a batch has written it either."""
+"""After these errors, no earlier attempt has written the batch either."""
 
 
 @dataclass
 class Setting:
-    """What the clients of a round share. `base` is the node before the first one of the trail. With `is_latest` each read that is confirmed by
-    `flush` has to show all that was acknowledged before."""
+    """What the clients of a round share. `base` is the node before the trail's first one. With `is_latest`, each read that `flush`
+    confirms has to show everything that was acknowledged before."""
 
     places: Sequence[str]
     base: int
@@ -48,7 +48,7 @@ def snapshot_of(connection: Connection) -> Snapshot:
 
 
 class Client(threading.Thread):
-    """A client that connects again after each error. Each one has its own places, in the order in which it tries them."""
+    """A client that connects again after each error. Each client has its own places, in the order in which it tries them."""
 
     def __init__(self, setting: Setting, number: int, places: Sequence[str], patience: float) -> None:
         super().__init__()
@@ -84,7 +84,7 @@ class Client(threading.Thread):
         return snapshot
 
     def connect(self) -> Connection:
-        """The connection, or a new one to the first place that takes it."""
+        """The connection, or a new one to the first place that accepts it."""
         while self._connection is None and not self.setting.over.is_set():
             try:
                 self._connection = Connection(self._places[0], self.patience)
@@ -108,7 +108,8 @@ class Client(threading.Thread):
 
 
 class Writer(Client):
-    """A client that writes batches on what it has read. Every other one repeats a batch by its token until it knows what came of it."""
+    """A client that writes batches based on what it has read. Every other one repeats a batch with its token until it knows
+    what became of it."""
 
     def __init__(self, setting: Setting, number: int, places: Sequence[str], patience: float) -> None:
         super().__init__(setting, number, places, patience)
@@ -138,7 +139,7 @@ class Writer(Client):
         return Write(value, registers, on, time.monotonic())
 
     def _send(self, connection: Connection, write: Write, not_written: "set[str]") -> None:
-        """Sends a batch, and records what is known of it then."""
+        """Sends a batch, and records what is then known about it."""
         on, node = write.on, self.setting.base + write.on.number + 1
         operations = [["new"], ["set", node, "value", write.value], ["set", 1, "number", on.number + 1]]
         operations += [["set", register, "value", write.value] for register in write.registers]

@@ -1,4 +1,4 @@
-"""What is done to servers while clients write. Each fault returns the moment from which on writes have to go on soon."""
+"""What is done to servers while clients write. Each fault returns the moment after which writes have to continue soon."""
 from __future__ import annotations
 
 import random
@@ -10,9 +10,9 @@ from typing import Callable, List
 from servers import FileServers, LogServers, Server
 
 SOON = 10.0
-"""In how many seconds writes have to go on."""
+"""Within how many seconds writes have to continue."""
 LEASE = 10.0
-"""For how many seconds a leader says nothing before a follower takes over."""
+"""For how many seconds a leader is silent before a follower takes over."""
 HANGS = 15.0
 """For how many seconds a database hangs."""
 PAUSED = 30.0
@@ -21,7 +21,7 @@ PAUSED = 30.0
 
 @dataclass(frozen=True)
 class Fault:
-    """A fault, and in how many seconds writes have to go on after it."""
+    """A fault, and within how many seconds writes have to continue after it."""
 
     name: str
     bound: float
@@ -40,7 +40,7 @@ def _kill(servers: FileServers, dice: random.Random) -> float:
 
 
 def _kill_starting(servers: FileServers, dice: random.Random) -> float:
-    """Kills the server, and the next one while it starts."""
+    """Kills the server, and then the next one while it starts."""
     server = servers.members[0]
     starts = server.starts
     server.send(signal.SIGKILL)
@@ -111,7 +111,7 @@ def _hang_database(servers: LogServers, dice: random.Random) -> float:
 
 
 def _lose_standby(servers: LogServers, dice: random.Random) -> float:
-    """PostgreSQL waits at each commit for a standby that isn't there."""
+    """At each commit PostgreSQL waits for a standby that isn't there."""
     _set(servers, "SET synchronous_standby_names = 'away'")
     time.sleep(HANGS)
     _set(servers, "RESET synchronous_standby_names")

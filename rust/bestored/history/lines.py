@@ -1,4 +1,4 @@
-"""A client of the server's lines. It shares no code with the server and its packages, so that it can't repeat a fault of theirs."""
+"""A client that speaks the server's protocol. It shares no code with the server and its packages, so it can't repeat their mistakes."""
 from __future__ import annotations
 
 import json
@@ -10,11 +10,11 @@ Reply = Dict[str, Any]
 
 
 class Gone(Exception):
-    """The connection has ended, or the server takes none."""
+    """The connection has ended, or the server accepts none."""
 
 
 class Late(Exception):
-    """No reply has come in time. It may still come."""
+    """No reply came in time. It may still come."""
 
 
 class Refused(Exception):
@@ -26,7 +26,7 @@ class Refused(Exception):
 
 
 class Connection:
-    """A connection, whose replies are waited for this many seconds. `run` is the run of the server."""
+    """A connection that waits this many seconds for a reply. `run` is the run of the server."""
 
     def __init__(self, place: str, patience: float) -> None:
         self._socket = socket.socket(socket.AF_UNIX)
@@ -66,7 +66,7 @@ class Connection:
         return [reply["ok"] for reply in replies]
 
     def wait(self, seconds: float) -> None:
-        """From now on replies are waited for so long."""
+        """Sets how long the connection waits for a reply from now on."""
         self._socket.settimeout(seconds)
 
     def receive(self) -> Reply:

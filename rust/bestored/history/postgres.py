@@ -1,4 +1,4 @@
-"""A PostgreSQL of its own, which can be ended, and stopped so that it hangs."""
+"""A private PostgreSQL, which can be ended, and stopped so that it hangs."""
 from __future__ import annotations
 
 import os
@@ -24,7 +24,7 @@ def programs() -> Optional[Path]:
 
 
 def _user() -> Optional[str]:
-    """Whom PostgreSQL runs as if this is root, as whom it doesn't run."""
+    """The user that PostgreSQL runs as if this is root, since it refuses to run as root."""
     if os.geteuid() != 0:
         return None
     names = {user.pw_name for user in pwd.getpwall()}
@@ -39,7 +39,7 @@ def _free_port() -> int:
 
 
 class Postgres:
-    """A database server. It is started, and its folder is removed at the end of the `with`."""
+    """A database server. It is started, and at the end of the `with` its folder is removed."""
 
     def __init__(self) -> None:
         found = programs()
@@ -78,14 +78,14 @@ class Postgres:
             time.sleep(0.02)
 
     def end(self, how: signal.Signals) -> None:
-        """Ends the server: by SIGINT its sessions roll back, and SIGQUIT is as a crash."""
+        """Ends the server: with SIGINT its sessions roll back, and SIGQUIT is like a crash."""
         if self._process is not None:
             self._process.send_signal(how)
             self._process.wait(PATIENCE)
             self._process = None
 
     def signal_all(self, how: signal.Signals) -> None:
-        """Sends a signal to the server and each process of it."""
+        """Sends a signal to the server and each of its processes."""
         if self._process is not None:
             for number in [self._process.pid, *_children(self._process.pid)]:
                 _send(number, how)

@@ -1,7 +1,7 @@
-"""What is recorded of a history: what each client asked and got, and when, by one clock.
+"""The record of a history: what each client asked and got, and when, on one clock.
 
-A store has registers, which are the nodes 1 to REGISTERS, and a batch sets some of them to the batch's own value, which no other has. It
-also makes a node with this value, so that the store lists its batches in their order: this list is the trail. A batch's number is its
+A store has registers, which are the nodes 1 to REGISTERS, and a batch sets some of them to the batch's own value, which no other has.
+It also makes a node with this value, so the store lists its batches in order: this list is the trail. A batch's number is its
 place there, from 1 on, and a snapshot's number is that of the last batch in it.
 """
 from __future__ import annotations
@@ -28,7 +28,8 @@ class Snapshot:
 
 @dataclass
 class Read:
-    """A snapshot that a client read from `begin` to `end`, in seconds. If it is the latest, it has to show what was acknowledged before."""
+    """A snapshot that a client read from `begin` to `end`, in seconds. If it is the latest, it has to show everything that was
+    acknowledged before."""
 
     snapshot: Snapshot
     begin: float
@@ -37,7 +38,7 @@ class Read:
 
 
 class Outcome(enum.Enum):
-    """What a client knows of a batch."""
+    """What a client knows about a batch."""
 
     ACKNOWLEDGED = "acknowledged"
     REFUSED = "refused"
@@ -61,12 +62,12 @@ class Write:
     entry: Optional[int] = None
     is_repeated: bool = False
     errors: List[str] = field(default_factory=list)
-    """What each sending of it came to but for an acknowledgement, in this order."""
+    """The outcome of each attempt to send it, except for an acknowledgement, in order."""
 
 
 @dataclass
 class History:
-    """What all clients did, and the trail that was there in the end."""
+    """What all clients did, and the trail at the end."""
 
     writes: List[Write] = field(default_factory=list)
     reads: List[Read] = field(default_factory=list)

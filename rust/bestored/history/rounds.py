@@ -17,22 +17,22 @@ from servers import LogServers, Servers
 
 WRITERS = 8
 PATIENCES = (2.0, 12.0)
-"""For how many seconds writers wait for a reply, in turn, where they have another server to go to."""
+"""For how many seconds the writers wait for a reply, in turn, if there is another server to go to."""
 PATIENT = 120.0
-"""And where they have none."""
+"""The same if there is none."""
 AT_ONCE = 1_000
 """How many nodes of the trail are read by one request."""
 OPERATIONS = 64
 LATE = 5.0
-"""How many seconds are waited for replies that are late, at the end."""
+"""How many seconds to wait for late replies at the end."""
 LOOK = 0.02
 Made = List[Tuple[Fault, float]]
-"""Faults, and the moments from which on writes have to go on soon."""
+"""Faults, and the moments after which writes have to continue soon."""
 
 
 @dataclass
 class Report:
-    """What came of a round. `waits` has the seconds until the next write for each fault."""
+    """The outcome of a round. `waits` has the seconds until the next write, for each fault."""
 
     history: History
     violations: List[str]
@@ -43,7 +43,7 @@ class Report:
         return sum(write.outcome is outcome for write in self.history.writes)
 
     def slow(self, times: float = 1.0) -> List[str]:
-        """Faults after which writes went on later than within this many times the fault's bound."""
+        """Faults after which writes took more than this many times the fault's bound to continue."""
         return [f"{fault.name}: writes went on after {'more than the rest of the round' if wait is None else f'{wait:.1f} s'}"
                 for fault, wait in self.waits if wait is None or wait > times * fault.bound]
 
@@ -57,7 +57,7 @@ class Plan:
         self._faults, self._pauses = faults, pauses
 
     def run(self, servers: Servers, written: Callable[[], int]) -> Made:
-        """Lets faults come, and returns when each of them was. `written` says how many batches are acknowledged."""
+        """Causes faults, and returns when each of them happened. `written` says how many batches are acknowledged."""
         made: Made = []
         while time.monotonic() < self._until:
             time.sleep(self.dice.uniform(*self._pauses))
@@ -87,7 +87,7 @@ class Given(Plan):
 
 
 def run_round(servers: Servers, plan: Plan, seed: str, pause: float) -> Report:
-    """Runs clients, which rest up to `pause` seconds after each write, while the plan does its faults. Checks what they have seen."""
+    """Runs clients, which rest up to `pause` seconds after each write, while the plan causes its faults. Checks what they have seen."""
     is_shared = isinstance(servers, LogServers)
     setting = Setting(servers.places, servers.ask_leader(_begin), seed, not is_shared, pause)
     writers = [Writer(setting, number + 1, _from(servers.places, number), PATIENCES[number % 2] if is_shared else PATIENT)
@@ -113,7 +113,7 @@ def run_round(servers: Servers, plan: Plan, seed: str, pause: float) -> Report:
 
 
 def _from(places: List[str], number: int) -> List[str]:
-    """The places, beginning with another one for each client."""
+    """The places, beginning with a different one for each client."""
     first = number % len(places)
     return places[first:] + places[:first]
 
@@ -151,7 +151,7 @@ def _trail(connection: Connection, base: int) -> List[int]:
 
 
 def _other_trails(servers: Servers, base: int, trail: List[int]) -> Iterator[str]:
-    """Servers of a log that have another trail than the leader, once they have all of its entries."""
+    """Servers of a log whose trail differs from the leader's, once they have all of its entries."""
     if not isinstance(servers, LogServers):
         return
     entry = servers.ask_leader(lambda connection: connection.ask("log", {}))["entry"]
@@ -166,7 +166,7 @@ def _other_trails(servers: Servers, base: int, trail: List[int]) -> Iterator[str
 
 
 def _wait_for_writes(writers: List[Writer], made: Made) -> None:
-    """Waits until batches go on after the last fault."""
+    """Waits until batches are written again after the last fault."""
     since = max((since for _, since in made), default=time.monotonic())
     until = since + PATIENT
     while time.monotonic() < until:
@@ -181,7 +181,7 @@ def _has_written(writer: Writer, since: float) -> bool:
 
 
 def _wait_after(history: History, since: float) -> Optional[float]:
-    """How many seconds after a fault the first batch was acknowledged that was sent after it."""
+    """How many seconds after a fault a batch that was sent after it was first acknowledged."""
     ends = [write.end - since for write in history.writes
             if write.outcome is Outcome.ACKNOWLEDGED and write.begin >= since and write.end is not None]
     return min(ends, default=None)

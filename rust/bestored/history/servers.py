@@ -1,4 +1,5 @@
-"""The servers of a history: one with a file, or three with a log. One that ends is started again, as a service manager does it."""
+"""The servers of a history: one with a file, or three with a log. A server that ends is started again, as a service manager
+would do."""
 from __future__ import annotations
 
 import os
@@ -21,7 +22,7 @@ JOURNAL = 256
 PATIENCE = 120.0
 """How many seconds a server may take to start and to answer."""
 LOOK = 0.02
-"""How often in seconds it is looked whether a server runs."""
+"""How many seconds pass between two looks at whether a server runs."""
 
 
 class Server:
@@ -48,7 +49,7 @@ class Server:
                 self._start()
 
     def change_command(self, command: List[str]) -> None:
-        """From the next start on this command is run."""
+        """Sets the command that is run from the next start on."""
         self._command = command
 
     def send(self, how: signal.Signals) -> None:
@@ -57,7 +58,7 @@ class Server:
                 self._process.send_signal(how)
 
     def memory(self) -> int:
-        """The memory that it has, in MiB."""
+        """The memory that it uses, in MiB."""
         try:
             status = Path(f"/proc/{self._process.pid}/status").read_text()
         except OSError:
@@ -102,15 +103,15 @@ class Servers:
         raise SystemExit(f"no server has taken writes for {PATIENCE:.0f} seconds\n{self.said()}")
 
     def ask_leader(self, ask: Callable[[Connection], T]) -> T:
-        """What comes of this with a connection to the server that takes writes, again if that one ends meanwhile."""
+        """Runs this on a connection to the server that takes writes, and again if that server ends meanwhile."""
         return _ask_again(self.connect, ask)
 
     def ask_at(self, place: str, ask: Callable[[Connection], T]) -> T:
-        """The same with a connection to this server."""
+        """The same on a connection to this server."""
         return _ask_again(lambda: self.connect_to(place), ask)
 
     def connect_to(self, place: str) -> Connection:
-        """A connection to this server, once it takes one."""
+        """A connection to this server, once it accepts one."""
         until = time.monotonic() + PATIENCE
         while time.monotonic() < until:
             try:
@@ -124,7 +125,7 @@ class Servers:
         return "\n".join(Path(f"{place}.said").read_text()[-2000:] for place in self.places)
 
     def memory(self) -> int:
-        """The memory that the servers have, in MiB."""
+        """The memory that the servers use, in MiB."""
         return sum(member.memory() for member in self.members)
 
     def __enter__(self) -> Servers:
@@ -178,7 +179,7 @@ class LogServers(Servers):
 
 
 def _ask_again(connect: Callable[[], Connection], ask: Callable[[Connection], T]) -> T:
-    """What comes of this with a connection, again while the server ends or can't answer."""
+    """Runs this on a connection, and again while the server ends or can't answer."""
     until = time.monotonic() + PATIENCE
     while True:
         connection = connect()
@@ -193,7 +194,7 @@ def _ask_again(connect: Callable[[], Connection], ask: Callable[[Connection], T]
 
 
 def _log_of(place: str) -> Reply:
-    """What a server says of its log, or nothing if it doesn't answer."""
+    """What a server says about its log, or nothing if it doesn't answer."""
     try:
         connection = Connection(place, 0.5)
     except (Gone, Late, Refused):
@@ -207,5 +208,5 @@ def _log_of(place: str) -> Reply:
 
 
 def _memory() -> Optional[str]:
-    """A folder in memory, if there is one. What is in it outlives a process that is killed."""
+    """A folder in memory, if possible. What is in it outlives a killed process."""
     return "/dev/shm" if os.access("/dev/shm", os.W_OK) else None

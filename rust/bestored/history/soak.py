@@ -1,13 +1,14 @@
 #!/usr/bin/env python3
-"""Faults at random while clients write and read: is each history strictly serializable, and do writes go on soon?
+"""Random faults while clients write and read: is each history strictly serializable, and do writes continue soon?
 
 usage: soak.py FOLDER [--minutes M] [--seed N] [--only file|log] [--pause SECONDS] [--round SECONDS]
 
-FOLDER has bestored, such as rust/target/release. Half of the time, 60 minutes in all, is for a server with a file, which is killed, ended
-and paused. The other half is for three servers with a log in PostgreSQL, of which the leader is killed, ended and paused, and whose
-database is ended, hangs, or waits for a standby; without PostgreSQL this half is left out. Eight clients write batches with `expected` on
-what they have read, three more read from the servers of a log, and each round is checked by itself. The same seed has the same faults
-in the same order. Prints tables in Markdown, and exits with 1 if a history isn't strictly serializable or if writes went on too late.
+FOLDER has bestored, such as rust/target/release. Half of the time, 60 minutes in all, is for a server with a file, which is killed,
+ended and paused. The other half is for three servers with a log in PostgreSQL: their leader is killed, ended and paused, and their
+database is ended, hangs, or waits for a standby. Without PostgreSQL this half is left out. Eight clients write batches with
+`expected`, based on what they have read; three more read from the servers of a log; and each round is checked by itself. The same seed
+gives the same faults in the same order. Prints tables in Markdown, and exits with 1 if a history isn't strictly serializable or if
+writes continued too late.
 """
 from __future__ import annotations
 
@@ -33,9 +34,9 @@ def options() -> argparse.Namespace:
     parser = argparse.ArgumentParser(description=__doc__, formatter_class=argparse.RawDescriptionHelpFormatter)
     parser.add_argument("folder", type=Path, help="the folder with bestored")
     parser.add_argument("--minutes", type=float, default=60.0, help="how long it takes in all (60)")
-    parser.add_argument("--seed", type=int, default=random.randrange(10**6), help="of the faults and of what the clients do")
+    parser.add_argument("--seed", type=int, default=random.randrange(10**6), help="the seed of the faults and of what the clients do")
     parser.add_argument("--only", choices=["file", "log"], help="only a server with a file, or only those with a log")
-    parser.add_argument("--pause", type=float, default=0.02, help="how many seconds a client rests at most after each thing it does (0.02)")
+    parser.add_argument("--pause", type=float, default=0.02, help="the most seconds that a client rests after each step (0.02)")
     parser.add_argument("--round", type=float, default=60.0, help="how many seconds a round takes (60)")
     return parser.parse_args()
 
@@ -58,7 +59,7 @@ def soak(servers: Servers, form: str, seconds: float, chosen: argparse.Namespace
 
 
 def fault_lines(reports: List[Report]) -> List[str]:
-    """A line for each fault: how often it was, and how soon writes went on."""
+    """A line for each fault: how often it happened, and how soon writes continued."""
     waits: Dict[Fault, List[float]] = {}
     for report in reports:
         for fault, wait in report.waits:

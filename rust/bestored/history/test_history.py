@@ -1,4 +1,4 @@
-"""Tests of the checker, by histories in which one thing is wrong, and short rounds with a real server. BESTORED names the program
+"""Tests of the checker, with histories in which one thing is wrong, and short rounds with a real server. BESTORED names the program
 bestored; without it the rounds are skipped."""
 from __future__ import annotations
 
@@ -56,7 +56,7 @@ class Checker(unittest.TestCase):
         self.check(History())
 
     def test_stale_read(self) -> None:
-        """A read shows an old snapshot, as it was."""
+        """A read shows an old snapshot as it was."""
         history = sound()
         history.reads[3] = replace(history.reads[3], snapshot=history.reads[1].snapshot)
         self.check(history, "a read that saw batch 2 as the last one began when batch 4 was acknowledged or read before")
@@ -64,7 +64,7 @@ class Checker(unittest.TestCase):
         self.check(history)
 
     def test_later_read_is_older(self) -> None:
-        """Batch 4 isn't acknowledged, and is read and then not."""
+        """Batch 4 isn't acknowledged; one read shows it, and a later one doesn't."""
         history = sound()
         history.writes[3] = replace(history.writes[3], outcome=Outcome.UNKNOWN, end=None)
         self.check(history)
@@ -110,7 +110,7 @@ class Checker(unittest.TestCase):
         history.reads.clear()
         history.writes[3] = replace(history.writes[3], begin=0.1, end=0.2)
         self.check(history, "batch 1, value 10, was sent when batch 4 was acknowledged or read before")
-        # One that isn't acknowledged may have been written later.
+        # A batch that isn't acknowledged may have been written later.
         history.writes[3] = replace(history.writes[3], outcome=Outcome.UNKNOWN)
         self.check(history)
 
@@ -167,7 +167,7 @@ class Rounds(unittest.TestCase):
             self.check(self.run_round(servers, [KILL_LEADER, RESTART_DATABASE, KILL_LEADER]))
 
     def test_server_that_loses_writes(self) -> None:
-        """One that replies before its file has the writes."""
+        """A server that replies before its file has the writes."""
         with FileServers(self.folder, "--every", "3600000") as servers, mock.patch("clients.PART_READS", 0.0):
             report = self.run_round(servers, [KILL])
             self.assertTrue(any("is lost" in it or "and is batch" in it for it in report.violations), report.violations)

@@ -41,7 +41,7 @@ pub enum View<'v, 'p> {
         /// How far `state` has been read.
         state: Option<Reading<'v>>,
     },
-    /// Nothing, as the snapshot was taken back.
+    /// Nothing, since the snapshot was taken back.
     Expired(&'v mut ShelfPass),
 }
 
@@ -54,7 +54,7 @@ impl<'v, 'p> View<'v, 'p> {
         }
     }
 
-    /// Since when a snapshot is kept, if one is.
+    /// Returns since when a snapshot is kept, if one is.
     pub fn since(&self) -> Option<Instant> {
         match self {
             View::Kept { since, .. } => Some(*since),
@@ -62,25 +62,16 @@ impl<'v, 'p> View<'v, 'p> {
         }
     }
 
-    /// Lets go of the earlier memory of volumes that were carried on, unless a snapshot is kept. Returns the numbers of the passes then
-    /// if they are others than before.
-    pub fn follow(&mut self) -> Result<Option<Vec<u64>>, Error> {
+    /// Gives up the earlier memory of volumes that were carried on, unless a snapshot is kept. Returns the passes if they have changed.
+    pub fn follow(&mut self) -> Result<Option<&ShelfPass>, Error> {
         let pass = match self {
             View::Current(pass) | View::Expired(pass) => pass,
             View::Kept { .. } => return Ok(None),
         };
-        match pass.follow()? {
-            true => pass
-                .volumes()
-                .iter()
-                .map(Pass::number)
-                .collect::<Result<_, _>>()
-                .map(Some),
-            false => Ok(None),
-        }
+        Ok(pass.follow()?.then_some(&**pass))
     }
 
-    /// How many volumes there are.
+    /// Returns how many volumes there are.
     pub fn volumes(&self) -> usize {
         match self {
             View::Current(pass) => pass.volumes().len(),
@@ -89,7 +80,7 @@ impl<'v, 'p> View<'v, 'p> {
         }
     }
 
-    /// The pass of a volume.
+    /// Returns the pass of a volume.
     pub fn pass(&self, volume: u32) -> Result<&Pass, Error> {
         match self {
             View::Current(pass) => pass.volume(volume),
@@ -98,7 +89,7 @@ impl<'v, 'p> View<'v, 'p> {
         }
     }
 
-    /// The volume with the most free pages.
+    /// Returns the volume with the most free pages.
     pub fn roomiest(&self) -> Result<u32, Error> {
         match self {
             View::Current(pass) => pass.roomiest(),
@@ -107,7 +98,7 @@ impl<'v, 'p> View<'v, 'p> {
         }
     }
 
-    /// How full each volume is.
+    /// Returns how full each volume is.
     pub fn status(&self) -> Result<Vec<Status>, Error> {
         match self {
             View::Current(pass) => pass.status(),
@@ -124,7 +115,7 @@ impl<'v, 'p> View<'v, 'p> {
         }
     }
 
-    /// Reads in the snapshot that is kept, otherwise in the current one.
+    /// Reads in the kept snapshot, otherwise in the current one.
     pub fn read<T>(&mut self, read: impl FnOnce(&ShelfSnapshot<'_>) -> Result<T, Failure>) -> Result<T, Failure> {
         match self {
             View::Current(pass) => read(&pass.pin()?),
@@ -364,7 +355,7 @@ impl<'a> Desk<'a> {
         Ok(next)
     }
 
-    /// A page of the batches that rebuild the kept snapshot, or the copy.
+    /// Returns a page of the batches that rebuild the kept snapshot, or the copy.
     fn state(&self, view: &mut View<'_, '_>, from: &wire::From) -> Result<wire::State, Failure> {
         match (view, &self.copy) {
             (View::Kept { snapshot, state, .. }, _) => page::state(snapshot, state, from),
@@ -374,7 +365,7 @@ impl<'a> Desk<'a> {
         }
     }
 
-    /// Asks a live query for the first time.
+    /// Runs a live query for the first time.
     fn watch(&mut self, watch: wire::Watch<'_>, view: &mut View<'_, '_>) -> Result<(wire::Watched, Watch), Failure> {
         if self.watches.as_ref().map_or(0, |watches| watches.count()) >= WATCHES {
             let message =
@@ -402,7 +393,7 @@ impl<'a> Desk<'a> {
         Ok((reply, Watch::new(number, live, numbers, found)))
     }
 
-    /// Asks a live query in what reads see. The watch is taken off the list until the reply is sent.
+    /// Runs a live query in the snapshot that reads see. The watch is taken off the list until the reply is sent.
     fn refresh(&mut self, watching: &wire::Watching, view: &mut View<'_, '_>) -> Result<(wire::Push, Watch), Failure> {
         let watches = self.watches.as_ref().ok_or_else(Failure::no_watch)?;
         let mut watch = watches.take(watching.watch).ok_or_else(Failure::no_watch)?;

@@ -9,17 +9,17 @@ use std::process::ExitCode;
 /// Which of the two processes this is.
 #[derive(Debug)]
 pub enum Side {
-    /// The one that was started. It ends with this status.
+    /// The process that was started. It ends with this status.
     Starter(ExitCode),
     /// The server.
     Server(Starter),
 }
 
-/// The process that was started, from the server's side. It waits to hear where the server listens.
+/// The process that was started, seen from the server. It waits to hear where the server listens.
 #[derive(Debug)]
 pub struct Starter(UnixStream);
 
-/// Makes a process for the server, in a session of its own. To be called while there is only one thread.
+/// Makes a process for the server, in its own session. It has to be called while there is only one thread.
 pub fn begin() -> io::Result<Side> {
     let (starter, server) = UnixStream::pair()?;
     match os::fork()? {
@@ -57,7 +57,7 @@ fn wait(mut starter: UnixStream, process: &Process) -> io::Result<ExitCode> {
 impl Starter {
     /// Says where the server listens.
     pub fn listens_at(mut self, path: &Path) -> io::Result<()> {
-        // Whoever started the server may be gone; the server stays.
+        // The process that started the server may be gone; the server stays.
         let _ = write!(self.0, "{}", path.display());
         os::leave_errors()
     }

@@ -1,5 +1,5 @@
-//! Carries the volumes on whose journals have grown, so that their memory is freed. A thread does it, and sees to it that nobody keeps what
-//! was carried on.
+//! Carries on the volumes whose journals have grown, so that their memory is freed. A thread does this, and makes sure that nobody keeps
+//! what was carried on.
 
 use crate::kept::Kept;
 use crate::server::Shared;
@@ -7,7 +7,7 @@ use bestore::Error;
 use std::sync::{Condvar, Mutex, MutexGuard, PoisonError, TryLockError};
 use std::time::Duration;
 
-/// How often the thread looks who still has what was carried on.
+/// How often the thread checks who still has what was carried on.
 const LOOK: Duration = Duration::from_millis(100);
 
 #[derive(Debug, Default)]
@@ -28,7 +28,7 @@ impl Carrying {
         self.state.lock().unwrap_or_else(PoisonError::into_inner)
     }
 
-    /// Something was written.
+    /// Signals that something was written.
     pub fn written(&self, kept: &Kept) {
         if kept.shelf().is_due() {
             self.lock().is_due = true;
@@ -55,7 +55,7 @@ impl Carrying {
         }
     }
 
-    /// Waits until there may be something to do, also for others if they have the earlier memory. Returns `false` at the end.
+    /// Waits until there may be something to do, here or for others that still use the earlier memory. Returns `false` at the end.
     fn wait(&self, is_read_before: bool) -> bool {
         let mut state = self.lock();
         if is_read_before && !state.is_ending {
@@ -70,7 +70,7 @@ impl Carrying {
     }
 }
 
-/// Lets the passes of the server itself go on from the earlier memory. Those of clients do so between requests.
+/// Moves the server's own passes away from the earlier memory. Clients' passes move between requests.
 fn release(shared: &Shared) {
     shared.watcher.wake();
     let visits = match shared.visits.try_lock() {
@@ -79,7 +79,7 @@ fn release(shared: &Shared) {
         Err(TryLockError::WouldBlock) => None,
     };
     if let Some(mut pass) = visits {
-        // What fails is tried again.
+        // If it fails, it is tried again.
         let _ = pass.follow();
     }
 }

@@ -1,5 +1,6 @@
 //! The clients that are connected, and what each of them is doing.
 
+use bestore::{Pass, ShelfSnapshot};
 use bestore_client::socket::peer_process;
 use bestore_client::wire;
 use std::collections::BTreeMap;
@@ -10,7 +11,7 @@ use std::sync::atomic::{AtomicU64, Ordering};
 use std::sync::{Arc, Condvar, Mutex, MutexGuard, PoisonError};
 use std::time::{Duration, Instant};
 
-/// How long clients have, when the server ends, to read their last replies.
+/// How long clients have to read their last replies when the server ends.
 const LAST: Duration = Duration::from_secs(5);
 
 fn lock<T>(mutex: &Mutex<T>) -> MutexGuard<'_, T> {
@@ -37,42 +38,97 @@ pub struct Client {
 /// What a client is doing now.
 #[derive(Debug, Default)]
 struct Doing {
-    /// The number of its pass in each volume.
-    passes: Vec<u64>,
-    /// The snapshot that it has pinned, and since when.
-    pinned: Option<(u64, Instant)>,
+    /// Its pass in each volume.
+    seats: Vec<Seat>,
+    pinned: Option<Pinned>,
     command: Option<&'static str>,
 }
 
+/// How a volume identifies a pass. The numbers of passes start again when the volume is carried on.
+#[derive(Clone, Copy, Debug, PartialEq, Eq)]
+pub struct Seat {
+    pub pass: u64,
+    pub generation: u64,
+}
+
+impl Seat {
+    fn of(pass: &Pass) -> bestore::Result<Self> {
+        Ok(Self {
+            generation: pass.generation(),
+            pass: pass.number()?,
+        })
+    }
+}
+
+/// The snapshot that a client has pinned, and since when.
+#[derive(Debug)]
+struct Pinned {
+    commit: u64,
+    /// Its number in each volume.
+    commits: Vec<u64>,
+    since: Instant,
+}
+
 impl Client {
-    /// It has a pass with these numbers in the volumes.
-    pub fn takes(&self, passes: Vec<u64>) {
-        lock(&self.doing).passes = passes;
+    /// Records that the client has these passes of the volumes.
+    pub fn takes<'a>(&self, passes: impl Iterator<Item = &'a Pass>) {
+        // If a client's passes can't be named, it only isn't found.
+        let seats = passes.map(Seat::of).collect::<bestore::Result<_>>();
+        lock(&self.doing).seats = seats.unwrap_or_default();
     }
 
-    /// It has pinned this snapshot, or none.
-    pub fn pins(&self, commit: Option<u64>) {
-        lock(&self.doing).pinned = commit.map(|commit| (commit, Instant::now()));
+    /// Records that the client has pinned this snapshot.
+    pub fn pins(&self, snapshot: &ShelfSnapshot<'_>) {
+        self.takes(snapshot.volumes().iter().map(bestore::Snapshot::pass));
+        lock(&self.doing).pinned = Some(Pinned {
+            commit: snapshot.number(),
+            commits: snapshot.numbers().collect(),
+            since: Instant::now(),
+        });
     }
 
-    /// It has sent this command.
+    /// Records that the client has unpinned its snapshot.
+    pub fn unpins(&self) {
+        lock(&self.doing).pinned = None;
+    }
+
+    /// Records that the client has sent this command.
     pub fn begins(&self, command: &'static str) {
         self.requests.fetch_add(1, Ordering::Relaxed);
         lock(&self.doing).command = Some(command);
     }
 
-    /// The command has been carried out.
+    /// Records that the command has been carried out.
     pub fn ends(&self) {
         lock(&self.doing).command = None;
     }
 
-    /// How long it has had a snapshot pinned.
-    pub fn pinned_for(&self) -> Option<Duration> {
-        lock(&self.doing).pinned.map(|(_, since)| since.elapsed())
+    /// Returns how long the client has had a snapshot pinned.
+    fn pinned_for(&self) -> Option<Duration> {
+        lock(&self.doing).pinned.as_ref().map(|pinned| pinned.since.elapsed())
     }
 
-    fn has_pass(&self, volume: usize, pass: u64) -> bool {
-        lock(&self.doing).passes.get(volume) == Some(&pass)
+    fn has_seat(&self, volume: usize, seat: Seat) -> bool {
+        lock(&self.doing).seats.get(volume) == Some(&seat)
+    }
+
+    /// Returns the snapshot that the client has pinned in a volume, if the volume has been carried on since and has this generation now.
+    fn reads_before(&self, volume: usize, generation: u64) -> Option<u64> {
+        let doing = lock(&self.doing);
+        let seat = doing.seats.get(volume)?;
+        let pinned = doing.pinned.as_ref()?;
+        (seat.generation < generation).then(|| pinned.commits.get(volume).copied())?
+    }
+
+    /// Describes the client as the reader of this snapshot of a volume.
+    fn reading(&self, commit: u64) -> wire::OldestReader {
+        wire::OldestReader {
+            commit,
+            client: Some(self.number),
+            process: Some(self.process),
+            milliseconds: self.pinned_for().map(milliseconds),
+            ..wire::OldestReader::default()
+        }
     }
 
     fn shown(&self, own: u64) -> wire::ClientInfo {
@@ -83,9 +139,9 @@ impl Client {
             seconds: self.since.elapsed().as_secs(),
             requests: self.requests.load(Ordering::Relaxed),
             command: doing.command.map(String::from),
-            pinned: doing.pinned.map(|(commit, since)| wire::PinnedBy {
-                commit,
-                milliseconds: milliseconds(since.elapsed()),
+            pinned: doing.pinned.as_ref().map(|pinned| wire::PinnedBy {
+                commit: pinned.commit,
+                milliseconds: milliseconds(pinned.since.elapsed()),
             }),
             own: self.number == own,
         }
@@ -103,7 +159,7 @@ pub struct Clients {
 struct Connected {
     last: u64,
     clients: BTreeMap<u64, Arc<Client>>,
-    /// How many requests were sent by clients that have gone.
+    /// How many requests were sent by clients that have left.
     requests: u64,
 }
 
@@ -134,21 +190,41 @@ impl Clients {
         self.left.notify_all();
     }
 
-    /// How many requests were sent since the server started.
+    /// Returns how many requests were sent since the server started.
     pub fn requests(&self) -> u64 {
         let connected = lock(&self.connected);
         let sent = connected.clients.values();
         connected.requests + sent.map(|client| client.requests.load(Ordering::Relaxed)).sum::<u64>()
     }
 
-    /// The client whose pass has this number in a volume.
-    pub fn with_pass(&self, volume: usize, pass: u64) -> Option<Arc<Client>> {
+    /// Returns who reads this snapshot of a volume: the client with that pass, otherwise the server itself.
+    pub fn reader(&self, volume: usize, commit: u64, seat: Seat) -> wire::OldestReader {
         let connected = lock(&self.connected);
         let mut clients = connected.clients.values();
-        clients.find(|client| client.has_pass(volume, pass)).cloned()
+        let client = clients.find(|client| client.has_seat(volume, seat));
+        client.map_or_else(
+            || wire::OldestReader {
+                commit,
+                ..wire::OldestReader::default()
+            },
+            |client| client.reading(commit),
+        )
     }
 
-    /// All of them, as shown to the client with the number `own`.
+    /// The client that has had a snapshot for longest of a volume before it got this generation.
+    pub fn reader_before(&self, volume: usize, generation: u64) -> Option<wire::OldestReader> {
+        let connected = lock(&self.connected);
+        let readers = connected.clients.values().filter_map(|client| {
+            let commit = client.reads_before(volume, generation)?;
+            Some(wire::OldestReader {
+                earlier: true,
+                ..client.reading(commit)
+            })
+        });
+        readers.max_by_key(|reader| reader.milliseconds)
+    }
+
+    /// Returns all clients, as shown to the client with the number `own`.
     pub fn shown(&self, own: u64) -> wire::Clients {
         let connected = lock(&self.connected);
         wire::Clients {
@@ -156,7 +232,7 @@ impl Clients {
         }
     }
 
-    /// Ends the connection of a client. `None`: there is no such client.
+    /// Ends the connection of a client. Returns `None` if there is no such client.
     pub fn kick(&self, number: u64) -> Option<io::Result<Arc<Client>>> {
         let client = lock(&self.connected).clients.get(&number).cloned()?;
         match client.stream.shutdown(Shutdown::Both) {
@@ -169,7 +245,7 @@ impl Clients {
     pub fn end(&self) {
         for how in [Shutdown::Read, Shutdown::Both] {
             for client in lock(&self.connected).clients.values() {
-                // A client that has gone needs no ending.
+                // A client that has left needs no ending.
                 let _ = client.stream.shutdown(how);
             }
             let until = Instant::now() + LAST;

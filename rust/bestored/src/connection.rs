@@ -21,10 +21,10 @@ const VISIT: Duration = Duration::from_secs(2);
 /// How long a visitor may take from a reply to its next request.
 const IDLE: Duration = Duration::from_millis(250);
 
-/// How often a connection that rests looks whether its pass keeps memory that was carried on.
+/// How often an idle connection checks whether its pass keeps memory that was carried on.
 const RESTS: Duration = Duration::from_secs(1);
 
-/// Why reads see another state from now on.
+/// Why reads see a different state from now on.
 #[derive(Clone, Copy, Debug, PartialEq, Eq)]
 enum Turn {
     Pin { id: u64 },
@@ -56,8 +56,7 @@ impl<'a> Connection<'a> {
 
     /// Answers the client's requests until it closes the connection.
     pub fn run(&mut self, pass: &mut ShelfPass) -> io::Result<()> {
-        let passes = pass.volumes().iter().map(bestore::Pass::number);
-        self.client.takes(passes.collect::<Result<_, _>>().unwrap_or_default());
+        self.client.takes(pass.volumes().iter());
         self.lines.rest_at_most(RESTS)?;
         let mut is_expired = false;
         loop {
@@ -81,17 +80,17 @@ impl<'a> Connection<'a> {
         }
     }
 
-    /// Keeps a snapshot, and answers requests until the client unpins it or has to. `None`: none is kept, and the client has
-    /// been given the reason.
+    /// Keeps a snapshot, and answers requests until the client unpins it or has to. Returns `None` if no snapshot is kept and the client
+    /// has been sent the reason.
     fn keep(&mut self, id: u64, pass: &mut ShelfPass) -> io::Result<Option<Turn>> {
         let pinned = pass.pin().map_err(Failure::from);
         let pinned = pinned.and_then(|snapshot| Ok((volumes::next(&snapshot)?, snapshot)));
         match pinned {
             Ok((next, snapshot)) => {
                 self.desk.reply(id, &next);
-                self.client.pins(Some(snapshot.number()));
+                self.client.pins(&snapshot);
                 let turn = self.serve(&mut View::kept(&snapshot));
-                self.client.pins(None);
+                self.client.unpins();
                 turn.map(Some)
             }
             Err(failure) => {
@@ -110,9 +109,9 @@ impl<'a> Connection<'a> {
             {
                 return Ok(Turn::Expire);
             }
-            // What fails is tried again, and is the error of the next read.
-            if let Ok(Some(passes)) = view.follow() {
-                self.client.takes(passes);
+            // If it fails, it is tried again, and the next read returns the error.
+            if let Ok(Some(pass)) = view.follow() {
+                self.client.takes(pass.volumes().iter());
             }
             let line = match self.lines.take() {
                 Some(line) => line,
@@ -143,7 +142,7 @@ impl<'a> Connection<'a> {
         }
     }
 
-    /// Sends the replies, and waits for more requests, or only a moment if a snapshot has been kept for some time.
+    /// Sends the replies, and waits for more requests. If a snapshot has been kept for some time, it waits only for a moment.
     fn receive(&mut self, since: Option<Instant>) -> io::Result<Option<Turn>> {
         self.desk.send(since)?;
         let looks = since.map(|_| Instant::now() + pressure::LOOK);
@@ -165,7 +164,7 @@ impl<'a> Connection<'a> {
     }
 }
 
-/// Answers a command, and says so if that takes long.
+/// Answers a command, and reports it if it takes long.
 fn answer(
     desk: &mut Desk<'_>,
     client: &Client,
@@ -188,7 +187,7 @@ fn answer(
     Ok(())
 }
 
-/// Whether the command can take long, so that visitors may not send it.
+/// Returns whether the command can take long, so that visitors may not send it.
 fn waits(command: &Command<'_>) -> bool {
     match command {
         Command::Watch(_) | Command::Reach(_) => true,

@@ -4,16 +4,12 @@ use crate::answer::View;
 use crate::failure::Failure;
 use crate::page::{self, Room};
 use crate::server::Shared;
-use bestore::{Batch, ShelfSnapshot};
+use bestore::{Batch, Node, ShelfSnapshot, StateCopy};
 use bestore_client::wire::{self, ErrorName, ShownOperations};
 use std::sync::atomic::{AtomicUsize, Ordering};
-use std::time::Instant;
 
-/// How many copies all clients together may have at the same time. Each takes up to as much memory as the pages of the store.
+/// How many copies all clients together can have at the same time. Each copy takes at most as much memory as the pages of the store.
 const MOST: usize = 2;
-
-/// How often a volume is copied again after its snapshot was taken back.
-const TRIES: u32 = 5;
 
 /// Counts the existing copies.
 #[derive(Debug, Default)]
@@ -56,30 +52,35 @@ impl Copies {
     }
 }
 
-/// Copies what reads see. If nothing is pinned, each volume is copied from a snapshot of its own, which is kept for a shorter time, and
-/// copied again if that is taken back.
-pub fn collect<'a>(shared: &'a Shared, view: &mut View<'_, '_>) -> Result<(Copy<'a>, wire::Next), Failure> {
+/// Copies what reads see. If nothing is pinned, each volume is copied from its own snapshot.
+pub fn collect<'a>(shared: &'a Shared, view: &View<'_, '_>) -> Result<(Copy<'a>, wire::Next), Failure> {
     let mut copy = shared.copies.begin()?;
-    for volume in 0..view.volumes() as u32 {
-        let mut left = TRIES;
-        loop {
-            let pinned = view.since();
-            let since = pinned.unwrap_or_else(Instant::now);
-            let is_over = || shared.pressure.is_over(since);
-            match view.read(|snapshot| copy.add(snapshot, volume, is_over)) {
-                Err(failure) if failure.is_expired() && pinned.is_none() && left > 0 => left -= 1,
-                Err(failure) => return Err(failure),
-                Ok(()) => break,
+    for (volume, store) in (0_u32..).zip(shared.kept.shelf().volumes()) {
+        copy.volumes.push(match view {
+            View::Current(_) => Volume::of_copy(volume, store.copy_state()?)?,
+            View::Kept { snapshot, since, .. } => {
+                Volume::of_snapshot(volume, snapshot, || shared.pressure.is_over(*since))?
             }
-        }
+            View::Expired(_) => return Err(Failure::expired()),
+        });
     }
     let next = copy.next(view.roomiest()?);
     Ok((copy, next))
 }
 
-impl Copy<'_> {
-    /// Copies a volume, unless its snapshot `is_over` before that is done.
-    fn add(&mut self, snapshot: &ShelfSnapshot<'_>, volume: u32, is_over: impl Fn() -> bool) -> Result<(), Failure> {
+impl Volume {
+    fn of_copy(volume: u32, copy: StateCopy) -> Result<Self, Failure> {
+        let number = copy.next;
+        let batches = copy.batches.into_iter().map(|batch| batch.to_bytes());
+        Ok(Self {
+            commit: copy.number,
+            next: Node { volume, number }.into(),
+            batches: batches.collect::<bestore::Result<_>>()?,
+        })
+    }
+
+    /// Copies the volume, unless its snapshot `is_over` before the copy is done.
+    fn of_snapshot(volume: u32, snapshot: &ShelfSnapshot<'_>, is_over: impl Fn() -> bool) -> Result<Self, Failure> {
         let of_volume = snapshot.volume(volume)?;
         let mut batches = Vec::new();
         for batch in of_volume.state() {
@@ -88,15 +89,16 @@ impl Copy<'_> {
             }
             batches.push(batch?.to_bytes()?);
         }
-        self.volumes.push(Volume {
+        Ok(Self {
             commit: of_volume.number(),
             next: snapshot.next_node(volume)?,
             batches,
-        });
-        Ok(())
+        })
     }
+}
 
-    /// The numbers of the copy. New nodes are made in the volume with the most free pages.
+impl Copy<'_> {
+    /// Returns the numbers of the copy. New nodes are made in the volume with the most free pages.
     fn next(&self, roomiest: u32) -> wire::Next {
         let commits: Vec<u64> = self.volumes.iter().map(|volume| volume.commit).collect();
         let nexts: Vec<u64> = self.volumes.iter().map(|volume| volume.next).collect();
@@ -108,7 +110,7 @@ impl Copy<'_> {
         }
     }
 
-    /// A page of the batches of a volume.
+    /// Returns a page of a volume's batches.
     pub fn page(&self, from: &wire::From) -> Result<wire::State, Failure> {
         let asked = page::volume(from.volume, self.volumes.len())?;
         let volumes = self.volumes.len() as u32;

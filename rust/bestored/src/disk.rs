@@ -1,5 +1,5 @@
-//! The disk of the files. If there is little room, a write is refused before it is made, since a write in memory that isn't in
-//! the file can't be undone.
+//! The disk that has the files. If there is little space, a write is refused before it is made, since a write in memory that isn't in the
+//! file can't be undone.
 
 use crate::os;
 use std::ffi::CString;
@@ -11,12 +11,12 @@ use std::path::Path;
 #[derive(Debug)]
 pub struct Disk {
     folder: CString,
-    /// How many bytes of it stay free.
+    /// How many bytes on the disk stay free.
     spare: u64,
 }
 
 impl Disk {
-    /// The disk of this existing file or folder.
+    /// Returns the disk that has this existing file or folder.
     pub fn of(path: &Path, spare: u64) -> io::Result<Self> {
         let path = path.canonicalize()?;
         let folder = match path.is_dir() {
@@ -29,13 +29,14 @@ impl Disk {
         })
     }
 
-    /// Whether this many bytes can be written without using those that have to stay free.
+    /// Returns whether this many bytes can be written without using the bytes that have to stay free.
     pub fn has_room(&self, bytes: u64) -> bool {
         let free = os::free_space(&self.folder).ok().flatten();
         free.map_or(true, |free| free >= self.spare.saturating_add(bytes))
     }
 
-    /// Why nothing is written for now, if there is too little room. A disk that doesn't report its room is taken to have enough.
+    /// Returns why nothing is written for now, if there is too little space. If a disk doesn't report its free space, there is assumed to
+    /// be enough.
     pub fn trouble(&self) -> Option<String> {
         let free = os::free_space(&self.folder).ok().flatten()?;
         (free < self.spare).then(|| {

@@ -1,4 +1,4 @@
-//! Errors in the form of the protocol.
+//! Errors as the protocol writes them.
 
 #[cfg(feature = "log")]
 use crate::log::Refused;
@@ -11,18 +11,18 @@ use serde_json::Value;
 pub struct Failure(pub Refusal);
 
 impl Failure {
-    /// An error with a message of its own.
+    /// Makes an error with its own message.
     pub fn new(name: ErrorName, message: impl Into<String>) -> Self {
         Self(Refusal::new(name, message))
     }
 
-    /// An error with the message of its name.
+    /// Makes an error with the message of its name.
     pub fn named(name: ErrorName) -> Self {
         let message = name.text();
         Self::new(name, message)
     }
 
-    /// A different class from that of the name.
+    /// A class that differs from the name's.
     pub fn of_class(mut self, class: Class) -> Self {
         self.0.class = Some(class);
         self
@@ -65,11 +65,6 @@ impl Failure {
     /// Whether a batch was for another snapshot.
     pub fn is_conflict(&self) -> bool {
         self.0.name == ErrorName::Conflict
-    }
-
-    /// Whether a snapshot was taken back.
-    pub fn is_expired(&self) -> bool {
-        self.0.name == ErrorName::Expired
     }
 
     /// The server doesn't have an entry yet.

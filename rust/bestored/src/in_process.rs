@@ -1,4 +1,4 @@
-//! Parts of a server within the calling program, without a socket file or a database: for the fuzz targets.
+//! Parts of a server in the calling program, without a socket file or a database, for the fuzz targets.
 
 use crate::connection::Connection;
 use crate::kept::Kept;
@@ -39,7 +39,7 @@ fn options(volumes: u32) -> Options {
     }
 }
 
-/// What a server with this many empty volumes replies to a client that sends these lines and leaves.
+/// Returns the replies of a server with this many empty volumes to a client that sends these lines and leaves.
 ///
 /// # Errors
 /// There is no memory, thread or socket.
@@ -62,7 +62,7 @@ pub fn replies_to(lines: &[u8], volumes: u32) -> Result<Vec<u8>, Box<dyn Error>>
     })?)
 }
 
-/// Sends the lines, for which the socket has room, and reads the replies.
+/// Sends the lines, which fit into the socket, and reads the replies.
 fn talk(mut client: UnixStream, lines: &[u8]) -> io::Result<Vec<u8>> {
     client.write_all(lines)?;
     client.shutdown(Shutdown::Write)?;
@@ -71,7 +71,7 @@ fn talk(mut client: UnixStream, lines: &[u8]) -> io::Result<Vec<u8>> {
     Ok(replies)
 }
 
-/// The entries that a leader's writes add to the log, each with its number and its batch as bytes. The leader's store is empty, and
+/// Returns the entries that a leader's writes add to the log, each with its number and its batch as bytes. The leader's store is empty, and
 /// the log already has this many entries.
 ///
 /// # Errors
@@ -86,7 +86,7 @@ pub fn entries_of(batches: &[Batch], entries: u64) -> bestore::Result<Vec<(u64, 
     });
     let pass = store.pass()?.kept_by(log.clone());
     for batch in batches {
-        // What the store refuses isn't in the log.
+        // Writes that the store refuses aren't in the log.
         let _ = pass.apply(batch);
     }
     drop(pass);
@@ -94,7 +94,7 @@ pub fn entries_of(batches: &[Batch], entries: u64) -> bestore::Result<Vec<(u64, 
     Ok(entries.clone())
 }
 
-/// A log that takes each entry at once.
+/// A log that takes each entry immediately.
 #[cfg(feature = "log")]
 #[derive(Debug)]
 struct Log {

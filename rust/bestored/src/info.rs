@@ -1,11 +1,11 @@
-//! What the server is doing, for those who look after it.
+//! What the server is doing, for the people who look after it.
 
 use crate::answer::View;
-use crate::clients::{milliseconds, Client};
+use crate::clients::{Client, Seat};
 use crate::failure::Failure;
 use crate::server::Shared;
 use crate::volumes;
-use bestore::Status;
+use bestore::{Oldest, Status, Store};
 use bestore_client::wire::{self, ErrorName};
 
 pub fn info(shared: &Shared, view: &View<'_, '_>) -> Result<wire::Info, Failure> {
@@ -34,21 +34,32 @@ pub fn info(shared: &Shared, view: &View<'_, '_>) -> Result<wire::Info, Failure>
     })
 }
 
-/// Who keeps a volume's oldest snapshot. With several volumes, it is the one that was pinned first.
+/// Returns who keeps a volume's oldest snapshot. With several volumes, it is the snapshot that was pinned first.
 fn oldest(shared: &Shared, all: &[Status]) -> Option<wire::OldestReader> {
-    let read = (0_u32..).zip(all).filter_map(|(volume, status)| {
-        let oldest = status.oldest?;
-        let client = shared.clients.with_pass(volume as usize, oldest.pass);
-        let pinned_for = client.as_ref().and_then(|client| client.pinned_for());
-        Some(wire::OldestReader {
-            commit: oldest.snapshot,
-            volume: (all.len() > 1).then_some(volume),
-            client: client.as_ref().map(|client| client.number),
-            process: client.map(|client| client.process),
-            milliseconds: pinned_for.map(milliseconds),
-        })
-    });
-    read.max_by_key(|reader| reader.milliseconds)
+    let stores = shared.kept.shelf().volumes();
+    let readers = stores
+        .iter()
+        .zip(all)
+        .enumerate()
+        .filter_map(|(volume, (store, status))| {
+            let reader = oldest_of(shared, volume, store, status)?;
+            Some(wire::OldestReader {
+                volume: (all.len() > 1).then_some(volume as u32),
+                ..reader
+            })
+        });
+    readers.max_by_key(|reader| reader.milliseconds)
+}
+
+/// Returns who keeps the oldest snapshot of a volume. A snapshot from before the volume was carried on is older than any that the status
+/// knows.
+fn oldest_of(shared: &Shared, volume: usize, store: &Store, status: &Status) -> Option<wire::OldestReader> {
+    let generation = store.generation();
+    let before = shared.clients.reader_before(volume, generation);
+    before.or_else(|| {
+        let Oldest { snapshot, pass } = status.oldest?;
+        Some(shared.clients.reader(volume, snapshot, Seat { pass, generation }))
+    })
 }
 
 /// Ends the connection of another client.

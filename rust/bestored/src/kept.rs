@@ -30,6 +30,19 @@ pub enum Kept {
     Log(Box<Log>),
 }
 
+/// What a server needs to open its volumes.
+#[derive(Clone, Copy, Debug)]
+#[cfg_attr(not(feature = "log"), allow(dead_code))]
+pub struct Opening<'a> {
+    pub options: &'a Options,
+    /// The server's run.
+    pub run: &'a str,
+    pub tokens: &'a Arc<Tokens>,
+    pub notifier: &'a Notifier,
+    /// Readable once a signal has come.
+    pub signals: &'a File,
+}
+
 /// Volumes that are kept in files.
 #[derive(Debug)]
 pub struct InFiles {
@@ -57,7 +70,7 @@ impl InFiles {
         })
     }
 
-    /// How long the files of all volumes are now.
+    /// Returns how long the files of all volumes are now.
     fn sizes(&self) -> wire::Files {
         let mut files = wire::Files::default();
         let length = |path: PathBuf| path.metadata().map_or(0, |found| found.len());
@@ -70,7 +83,7 @@ impl InFiles {
         files
     }
 
-    /// The error of the first commit that failed.
+    /// Returns the error from the first commit that failed.
     fn failure(&self) -> Option<Arc<saved::Error>> {
         self.saved.volumes().iter().find_map(Saved::failure)
     }
@@ -81,7 +94,8 @@ impl InFiles {
         }
     }
 
-    /// Has a thread rewrite the states that are due, unless one is doing so or the disk has no room for them beside the files.
+    /// Has a thread rewrite the states that are due, unless a thread is already doing so or the disk has no space for them beside the
+    /// files.
     fn compact_if_due(&self) {
         if !self.saved.is_due() || !self.disk.has_room(self.sizes().bytes) {
             return;
@@ -119,7 +133,7 @@ impl InFiles {
     }
 }
 
-/// Starts what the store does by itself.
+/// Starts the store's own thread, if it has one.
 #[cfg(feature = "log")]
 pub fn start(shared: &Arc<Shared>) -> io::Result<()> {
     match &shared.kept {
@@ -134,17 +148,11 @@ pub fn start(_: &Arc<Shared>) -> io::Result<()> {
 }
 
 impl Kept {
-    /// Opens the volumes of a server whose run has this text. `None`: a signal came while the database of a log couldn't be
-    /// reached.
-    pub fn open(
-        options: &Options,
-        run: &str,
-        tokens: &Arc<Tokens>,
-        notifier: &Notifier,
-        signals: &File,
-    ) -> Result<Option<Self>, Box<dyn Error>> {
+    /// Opens the volumes. Returns `None` if a signal came while the database of a log couldn't be reached.
+    pub fn open(opening: Opening<'_>) -> Result<Option<Self>, Box<dyn Error>> {
+        let Opening { options, tokens, .. } = opening;
         if options.log.is_some() {
-            return Self::open_log(options, run, tokens, notifier, signals);
+            return Self::open_log(opening);
         }
         let path = match &options.keep {
             None => {
@@ -157,23 +165,17 @@ impl Kept {
     }
 
     #[cfg(feature = "log")]
-    fn open_log(
-        options: &Options,
-        run: &str,
-        tokens: &Arc<Tokens>,
-        notifier: &Notifier,
-        signals: &File,
-    ) -> Result<Option<Self>, Box<dyn Error>> {
-        let log = Log::open(options, run, tokens, notifier, signals)?;
+    fn open_log(opening: Opening<'_>) -> Result<Option<Self>, Box<dyn Error>> {
+        let log = Log::open(opening)?;
         Ok(log.map(|log| Kept::Log(Box::new(log))))
     }
 
     #[cfg(not(feature = "log"))]
-    fn open_log(_: &Options, _: &str, _: &Arc<Tokens>, _: &Notifier, _: &File) -> Result<Option<Self>, Box<dyn Error>> {
+    fn open_log(_: Opening<'_>) -> Result<Option<Self>, Box<dyn Error>> {
         Err("this program is built without the feature log".into())
     }
 
-    /// The volumes in memory. Only what passes of [`pass`](Self::pass) write is kept.
+    /// Returns the volumes in memory. Only writes by passes from [`pass`](Self::pass) are kept.
     pub fn shelf(&self) -> &Shelf {
         match self {
             Kept::Memory(shelf) => shelf,
@@ -192,7 +194,7 @@ impl Kept {
         }
     }
 
-    /// When writes are in the file or the log, in the words of `hello`.
+    /// Returns when writes are in the file or the log, in the words of `hello`.
     pub fn when(&self) -> &'static str {
         match self {
             Kept::Memory(_) => "no",
@@ -212,7 +214,7 @@ impl Kept {
         }
     }
 
-    /// Refuses a write if there is no room for it, or if another server has to make it.
+    /// Refuses a write if there is no space for it, or if another server has to make it.
     pub fn check_write(&self) -> Result<(), Failure> {
         let trouble = match self {
             Kept::File(files) => files.disk.trouble(),
@@ -238,7 +240,7 @@ impl Kept {
         }
     }
 
-    /// How long the files are, if there are any.
+    /// Returns how long the files are, if there are any.
     pub fn files(&self) -> Option<wire::Files> {
         match self {
             Kept::File(files) => Some(files.sizes()),
@@ -246,7 +248,7 @@ impl Kept {
         }
     }
 
-    /// What the server is doing in the log, if there is one.
+    /// Returns what the server is doing in the log, if there is a log.
     pub fn role(&self) -> Option<wire::Role> {
         match self {
             #[cfg(feature = "log")]
@@ -255,7 +257,7 @@ impl Kept {
         }
     }
 
-    /// Why writes can't be kept for now, if they can't.
+    /// Returns why writes can't be kept for now, if that is so.
     pub fn trouble(&self) -> Option<String> {
         match self {
             Kept::Memory(_) => None,
@@ -275,7 +277,7 @@ impl Kept {
         }
     }
 
-    /// Has the files made smaller, if it is time.
+    /// Has the files compacted, if compacting is due.
     pub fn compact_if_due(&self) {
         if let Kept::File(files) = self {
             files.compact_if_due();
@@ -309,7 +311,7 @@ impl Kept {
         }
     }
 
-    /// The number in the log of the entry with this commit number, if there is a log.
+    /// Returns the number in the log for the entry with this commit number, if there is a log.
     pub fn entry(&self, commit: u64) -> Option<u64> {
         match self {
             #[cfg(feature = "log")]
@@ -321,7 +323,7 @@ impl Kept {
         }
     }
 
-    /// What the server is doing in the log, once it has the wanted entry.
+    /// Returns what the server is doing in the log, once it has the requested entry.
     pub fn log_status(&self, wanted: &wire::OfLog) -> Result<wire::LogStatus, Failure> {
         match self {
             #[cfg(feature = "log")]

@@ -36,7 +36,7 @@ mod watcher;
 mod writes;
 
 use background::{Side, Starter};
-use kept::Kept;
+use kept::{Kept, Opening};
 use meter::Meter;
 use notify::Notifier;
 use options::Options;
@@ -69,7 +69,7 @@ fn start(options: Options) -> Result<ExitCode, Box<dyn Error>> {
     Ok(ExitCode::SUCCESS)
 }
 
-/// Where the server is going to listen.
+/// Returns where the server is going to listen.
 fn place(options: &Options) -> Result<Place, Box<dyn Error>> {
     match os::passed_socket()? {
         None => Ok(Place::find(&options.socket())?),
@@ -85,7 +85,14 @@ fn serve(options: Options, place: Place, starter: Option<Starter>) -> Result<(),
     let run = server::run_text()?;
     let notifier = Notifier::of_environment();
     let tokens = Arc::new(Tokens::new(options.volumes.unwrap_or(1) as usize));
-    let kept = match Kept::open(&options, &run, &tokens, &notifier, &signals)? {
+    let opening = Opening {
+        options: &options,
+        run: &run,
+        tokens: &tokens,
+        notifier: &notifier,
+        signals: &signals,
+    };
+    let kept = match Kept::open(opening)? {
         Some(kept) => kept,
         None => return Ok(()),
     };
@@ -98,7 +105,7 @@ fn serve(options: Options, place: Place, starter: Option<Starter>) -> Result<(),
     server::run(place, starter, notifier, &signals, shared, own)
 }
 
-/// What the connections of a server with this store share.
+/// Returns what the connections to a server with this store share.
 fn share(kept: Kept, tokens: Arc<Tokens>, run: String, options: Options) -> bestore::Result<Shared> {
     let mut visits = kept.pass()?;
     visits.set_retry(pressure::retry());

@@ -12,7 +12,7 @@ use std::time::{Duration, Instant};
 /// How long half a line may wait for the rest.
 const PATIENCE: Duration = Duration::from_secs(30);
 
-/// How many bytes there is room for at first.
+/// The initial capacity in bytes.
 const ROOM: usize = 1 << 14;
 
 /// The outcome of reading.
@@ -35,7 +35,7 @@ pub enum Received {
 pub struct Lines {
     stream: Arc<UnixStream>,
     bytes: Vec<u8>,
-    /// How many of the bytes were received. The others are room.
+    /// How many of the bytes were received. The others are free space.
     filled: usize,
     taken: usize,
     /// How many bytes were searched for the end of a line.
@@ -58,12 +58,12 @@ impl Lines {
         }
     }
 
-    /// Lets [`read`](Self::read) without a time wait for no longer than this.
+    /// Makes [`read`](Self::read) without a time wait at most this long.
     pub fn rest_at_most(&self, time: Duration) -> io::Result<()> {
         self.stream.set_read_timeout(Some(time))
     }
 
-    /// Takes the next line, if it has been received: where it is in [`bytes`](Self::bytes).
+    /// Takes the next line, if it has been received. Returns its position in [`bytes`](Self::bytes).
     pub fn take(&mut self) -> Option<Range<usize>> {
         let length = self.bytes[self.searched..self.filled]
             .iter()
@@ -87,7 +87,7 @@ impl Lines {
         &self.bytes[line]
     }
 
-    /// Receives more, until the given time if there is one. To be called when no line can be taken.
+    /// Receives more, until the given time if there is one. It has to be called when no line can be taken.
     pub fn read(&mut self, until: Option<Instant>) -> io::Result<Received> {
         self.drop_taken();
         if self.filled >= LINE {

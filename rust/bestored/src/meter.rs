@@ -1,4 +1,4 @@
-//! How many writes there are, and how long they take.
+//! Counts writes, and measures how long they take.
 
 use bestore_client::wire::Latency;
 use std::sync::atomic::{AtomicU64, Ordering};
@@ -45,7 +45,7 @@ pub struct Rate {
     pub latency: Option<Latency>,
 }
 
-/// A write that is being made.
+/// A write in progress.
 #[derive(Debug)]
 pub struct Measured<'a> {
     meter: &'a Meter,
@@ -59,14 +59,14 @@ impl Drop for Measured<'_> {
 }
 
 impl Measured<'_> {
-    /// The write has been made and kept.
+    /// Records that the write has been made and kept.
     pub fn finish(self) {
         let meter = self.meter;
         meter.count(meter.now(), self.begin.elapsed());
     }
 }
 
-/// The range of a time of this many µs.
+/// Returns the range for a time of this many µs.
 fn size_of(time: u64) -> usize {
     if time < 4 {
         return time as usize;
@@ -76,7 +76,7 @@ fn size_of(time: u64) -> usize {
     size.min(SIZES - 1)
 }
 
-/// The longest time in this range.
+/// Returns the longest time in this range.
 fn longest_of(size: usize) -> u64 {
     match size {
         0..=3 => size as u64,
@@ -84,7 +84,7 @@ fn longest_of(size: usize) -> u64 {
     }
 }
 
-/// The longest time that this share of the writes took. There must be some.
+/// Returns the time within which this share of the writes was made. There must be at least one write.
 fn percentile(sizes: &[u64; SIZES], hundredths: u64) -> u64 {
     let wanted = (sizes.iter().sum::<u64>() * hundredths + 99) / 100;
     let mut seen = 0;
@@ -105,7 +105,7 @@ impl Meter {
         }
     }
 
-    /// How many seconds the server has been running.
+    /// Returns how many seconds the server has been running.
     pub fn now(&self) -> u64 {
         self.begin.elapsed().as_secs()
     }
@@ -119,12 +119,12 @@ impl Meter {
         }
     }
 
-    /// How many writes have been made.
+    /// Returns how many writes have been made.
     pub fn writes(&self) -> u64 {
         self.writes.load(Ordering::Relaxed)
     }
 
-    /// How many are being made now.
+    /// Returns how many writes are in progress.
     pub fn writing(&self) -> u64 {
         self.writing.load(Ordering::Relaxed)
     }
@@ -141,7 +141,7 @@ impl Meter {
         second.most = second.most.max(took);
     }
 
-    /// The last 10 seconds, including the current one.
+    /// Returns the last 10 seconds, including the current one.
     pub fn rate(&self) -> Rate {
         self.rate_at(self.now())
     }

@@ -8,16 +8,16 @@ use std::time::{Duration, Instant};
 /// How much more time each message asks for, while the server waits for a database.
 const EXTENSION: Duration = Duration::from_secs(30);
 
-/// Whom the server notifies, if anybody.
+/// The address that the server notifies, if there is one.
 #[derive(Debug)]
 pub struct Notifier {
     socket: Option<OsString>,
-    /// How often to tell the watchdog that the server is alive.
+    /// How often to notify the watchdog that the server is alive.
     every: Option<Duration>,
     last: Instant,
 }
 
-/// How often a watchdog that waits this many µs gets a message. `process` is the process that it watches, if it names one.
+/// Returns how often to send a message to a watchdog that waits this many µs. `process` is the process that it watches, if it names one.
 fn interval(wait: Option<&str>, process: Option<&str>, own: u32) -> Option<Duration> {
     let wait: u64 = wait?.parse().ok()?;
     let is_own = process.map_or(true, |process| process.parse() == Ok(own));
@@ -25,7 +25,7 @@ fn interval(wait: Option<&str>, process: Option<&str>, own: u32) -> Option<Durat
 }
 
 impl Notifier {
-    /// As the environment of the process says.
+    /// Reads the settings from the environment of the process.
     pub fn of_environment() -> Self {
         let text = |name| env::var(name).ok();
         let (wait, process) = (text("WATCHDOG_USEC"), text("WATCHDOG_PID"));
@@ -47,12 +47,12 @@ impl Notifier {
         }
     }
 
-    /// The server listens.
+    /// Reports that the server listens.
     pub fn ready(&self) {
         self.send("READY=1\nSTATUS=listens");
     }
 
-    /// The server waits for something before it can listen.
+    /// Reports that the server waits for something before it can listen.
     #[cfg_attr(not(feature = "log"), allow(dead_code))]
     pub fn waits(&self, why: &str) {
         let more = EXTENSION.as_micros();
@@ -60,7 +60,7 @@ impl Notifier {
         self.send(&format!("EXTEND_TIMEOUT_USEC={more}\nSTATUS={why}"));
     }
 
-    /// The server is alive. Returns when to report this again.
+    /// Reports that the server is alive. Returns when to report this again.
     pub fn lives(&mut self) -> Option<Duration> {
         let every = self.every?;
         if self.last.elapsed() >= every {
@@ -70,7 +70,7 @@ impl Notifier {
         Some(every.saturating_sub(self.last.elapsed()))
     }
 
-    /// The server is stopping.
+    /// Reports that the server is stopping.
     pub fn ends(&self) {
         self.send("STOPPING=1");
     }

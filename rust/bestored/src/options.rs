@@ -12,13 +12,13 @@ const MOST_PASSES: u64 = 63;
 /// Passes of the store for the server's own use: for live queries, and for clients that come when all places are taken.
 const OWN_PASSES: u64 = 2;
 
-/// Passes of the store that a log of machines takes.
+/// Passes of the store that a shared log needs.
 const LOG_PASSES: u64 = 2;
 
-/// How many bytes of a kept file's disk stay free by default.
+/// How many bytes stay free by default on the disk of a kept file.
 const SPARE: u64 = 1 << 20;
 
-/// The log that machines share, and whether this one begins as its leader.
+/// The log that machines share, and whether this server begins as its leader.
 #[derive(Clone, Debug)]
 #[cfg_attr(not(feature = "log"), allow(dead_code))]
 pub struct InLog {
@@ -37,7 +37,7 @@ pub struct Options {
     pub background: bool,
     pub keep: Option<PathBuf>,
     pub every: Option<Duration>,
-    /// How many bytes of the disk of `keep` stay free.
+    /// How many bytes stay free on the disk of `keep`.
     pub spare: u64,
     /// The log, if machines share one.
     pub log: Option<InLog>,
@@ -45,7 +45,7 @@ pub struct Options {
     pub pages: u64,
     pub passes: u64,
     pub commits: u64,
-    /// After how many bytes of entries a volume's journal in memory is let go of, if that was given.
+    /// After how many bytes of entries a volume's journal in memory is freed, if that was given.
     pub journal: Option<u64>,
     pub hold: Duration,
     /// Requests that take longer are reported.
@@ -127,7 +127,7 @@ fn command() -> Command {
                 .long("slow")
                 .value_name("MS")
                 .value_parser(value_parser!(u64).range(1..=3_600_000))
-                .help("Reports on standard error which requests take longer than this"),
+                .help("Reports requests that take longer than this on standard error"),
         )
         .arg(number("hold", "SECONDS", 1..=86_400, "60").help("How long a client may keep a snapshot"))
 }
@@ -161,7 +161,7 @@ impl Options {
         }
     }
 
-    /// The limits of each volume.
+    /// Returns the limits of each volume.
     pub fn limits(&self) -> Limits {
         Limits {
             pages: self.pages,
@@ -170,7 +170,7 @@ impl Options {
         }
     }
 
-    /// The socket at which the server listens.
+    /// Returns the socket at which the server listens.
     pub fn socket(&self) -> SocketPath {
         SocketPath::find(self.socket.clone())
     }
@@ -185,9 +185,17 @@ mod tests {
         command().debug_assert();
     }
 
+    /// Checks that each of these command lines is refused.
+    fn assert_refused(lines: &[[&str; 2]]) {
+        for arguments in lines {
+            let read = command().try_get_matches_from([&["bestored"][..], &arguments[..]].concat());
+            assert!(read.is_err(), "{arguments:?}");
+        }
+    }
+
     #[test]
     fn numbers_out_of_range_are_refused() {
-        for arguments in [
+        assert_refused(&[
             ["--pages", "7"],
             ["--passes", "62"],
             ["--every", "5"],
@@ -199,23 +207,17 @@ mod tests {
             ["--slow", "3600001"],
             ["--volumes", "0"],
             ["--volumes", "65"],
-        ] {
-            let read = command().try_get_matches_from([&["bestored"][..], &arguments[..]].concat());
-            assert!(read.is_err(), "{arguments:?}");
-        }
+        ]);
     }
 
     #[test]
     fn writes_are_kept_in_one_place() {
-        for arguments in [
+        assert_refused(&[
             ["--log=a", "--keep=b"],
             ["--follow=a", "--keep=b"],
             ["--log=a", "--follow=b"],
             ["--log=a", "--volumes=2"],
             ["--follow=a", "--volumes=1"],
-        ] {
-            let read = command().try_get_matches_from([&["bestored"][..], &arguments[..]].concat());
-            assert!(read.is_err(), "{arguments:?}");
-        }
+        ]);
     }
 }

@@ -1,4 +1,4 @@
-//! Calls of the system that the standard library doesn't have. All unsafe code of the program is here.
+//! System calls that the standard library doesn't have. All unsafe code of the program is here.
 #![allow(unsafe_code)]
 #![deny(unsafe_op_in_unsafe_fn)]
 
@@ -31,7 +31,7 @@ pub fn send_now(stream: &UnixStream, bytes: &[u8]) -> io::Result<usize> {
     usize::try_from(sent).map_err(|_| io::Error::last_os_error())
 }
 
-/// Copies what has been received without consuming it. Returns how many bytes that is.
+/// Copies what has been received without consuming it. Returns how many bytes were copied.
 pub fn look_ahead(stream: &UnixStream, bytes: &mut [u8]) -> io::Result<usize> {
     let flags = libc::MSG_DONTWAIT | libc::MSG_PEEK;
     // SAFETY: the pointer and the length are those of the slice.
@@ -49,7 +49,7 @@ pub fn wait_writable(stream: &UnixStream, time: Duration) -> io::Result<()> {
     wait([stream.as_raw_fd()], libc::POLLOUT, Some(time)).map(drop)
 }
 
-/// Waits for one of these events on the descriptors, and returns which ones have one.
+/// Waits for one of these events on the descriptors, and returns which descriptors have one.
 fn wait<const N: usize>(
     descriptors: [RawFd; N],
     events: libc::c_short,
@@ -68,8 +68,7 @@ fn wait<const N: usize>(
     }
 }
 
-/// A descriptor that becomes readable when a signal that ends the program comes. Threads that are made later don't get these
-/// signals.
+/// Returns a descriptor that becomes readable when a signal comes that ends the program. Threads made later don't get these signals.
 pub fn ending_signals() -> io::Result<File> {
     let mut signals = MaybeUninit::uninit();
     // SAFETY: `sigemptyset` initialises the set, which the others change or read.
@@ -84,7 +83,7 @@ pub fn ending_signals() -> io::Result<File> {
     }
 }
 
-/// How many bytes this user may still use on the disk with this file. `None`: the file system doesn't say.
+/// Returns how many bytes this user may still use on the disk that has this file, or `None` if the file system doesn't say.
 pub fn free_space(path: &CStr) -> io::Result<Option<u64>> {
     let mut found = MaybeUninit::<libc::statvfs>::uninit();
     // SAFETY: the path ends with a zero byte, and the call fills `found` if it succeeds.
@@ -99,13 +98,14 @@ pub fn free_space(path: &CStr) -> io::Result<Option<u64>> {
     Ok((found.f_blocks > 0).then(|| blocks.saturating_mul(found.f_frsize)))
 }
 
-/// Ends the program as a signal does.
+/// Ends the program the way a signal does.
 pub fn end_program() {
     // SAFETY: the call takes only numbers.
     unsafe { libc::kill(libc::getpid(), libc::SIGTERM) };
 }
 
-/// Runs `make` so that the files that it makes have none of the rights in this mask. Nor do files that other threads make meanwhile.
+/// Runs `make` with this umask: the files that it makes have none of these permissions, and nor do files that other threads make
+/// meanwhile.
 pub fn with_mask<T>(mask: libc::mode_t, make: impl FnOnce() -> T) -> T {
     // SAFETY: the call always succeeds.
     let before = unsafe { libc::umask(mask) };
@@ -115,7 +115,7 @@ pub fn with_mask<T>(mask: libc::mode_t, make: impl FnOnce() -> T) -> T {
     made
 }
 
-/// A process that this one has made.
+/// A process that this process has made.
 #[derive(Debug)]
 pub struct Process(libc::pid_t);
 
@@ -131,7 +131,7 @@ impl Process {
         self.0
     }
 
-    /// Waits for its end, and returns its status. `None`: a signal ended it.
+    /// Waits until the process ends, and returns its status, or `None` if a signal ended it.
     pub fn wait(&self) -> io::Result<Option<u8>> {
         let mut status = 0;
         loop {
@@ -146,7 +146,7 @@ impl Process {
     }
 }
 
-/// Begins a session of its own, which doesn't end with a terminal, and closes standard input and output.
+/// Begins a new session, which doesn't end with a terminal, and closes standard input and output.
 pub fn leave_terminal() -> io::Result<()> {
     // SAFETY: the call takes nothing.
     check(unsafe { libc::setsid() })?;
@@ -174,7 +174,7 @@ fn replace_by_nothing(descriptor: RawFd) -> io::Result<()> {
     check(unsafe { libc::dup2(nothing.as_raw_fd(), descriptor) }).map(drop)
 }
 
-/// Takes the lock of a file or folder, if nobody has it. It is released when the file is closed.
+/// Takes the lock of a file or folder, if nobody holds it. The lock is released when the file is closed.
 pub fn try_lock(file: &File) -> io::Result<()> {
     // SAFETY: the descriptor is open.
     check(unsafe { libc::flock(file.as_raw_fd(), libc::LOCK_EX | libc::LOCK_NB) }).map(drop)
@@ -219,7 +219,7 @@ pub fn send_datagram(socket: &OsStr, bytes: &[u8]) -> io::Result<()> {
     }
 }
 
-/// The socket that systemd has passed to the process with this number, according to its variables. To be called once.
+/// Returns the socket that systemd has passed to the process with this number, according to its variables. Call it only once.
 pub fn passed_socket() -> io::Result<Option<UnixListener>> {
     let number = |name| std::env::var(name).ok().and_then(|text| text.parse::<u32>().ok());
     if number("LISTEN_PID") != Some(std::process::id()) {
@@ -263,7 +263,7 @@ fn option(fd: RawFd, option: libc::c_int) -> io::Result<libc::c_int> {
 mod tests {
     use super::*;
 
-    /// A socket with an abstract name, which the system chooses.
+    /// Makes a socket with an abstract name, which the system chooses.
     fn abstract_socket() -> (UnixDatagram, Vec<u8>) {
         let socket = UnixDatagram::unbound().unwrap();
         // SAFETY: all of its fields may be zero.

@@ -7,22 +7,22 @@ use std::os::unix::net::UnixStream;
 use std::sync::{Arc, Mutex, MutexGuard, PoisonError, TryLockError};
 use std::time::{Duration, Instant};
 
-/// How long a client may leave unread what is sent to it.
+/// How long a client may leave what is sent to it unread.
 const PATIENCE: Duration = Duration::from_secs(30);
 
 /// How often a thread that waits for a client checks whether it has something else to do.
 const LOOK: Duration = Duration::from_millis(50);
 
-/// The bytes that the socket hasn't taken yet. They are sent before all others.
+/// The bytes that the socket hasn't taken yet. They are sent before any others.
 #[derive(Debug, Default)]
 struct Unsent {
     bytes: Vec<u8>,
-    /// When the socket last took something, or when the bytes came.
+    /// When the socket last took something, or when the bytes were added.
     since: Option<Instant>,
 }
 
 impl Unsent {
-    /// Adds lines. If nothing is waiting before them, what the socket takes at once isn't copied.
+    /// Adds lines. If nothing is waiting before them, what the socket takes immediately isn't copied.
     fn add(&mut self, stream: &UnixStream, lines: &[u8]) -> io::Result<()> {
         let sent = match self.bytes.is_empty() {
             true => send_some(stream, lines)?,
@@ -33,7 +33,7 @@ impl Unsent {
         Ok(())
     }
 
-    /// Sends what the socket takes at once. Returns whether nothing is left.
+    /// Sends what the socket takes immediately. Returns whether nothing is left.
     fn send(&mut self, stream: &UnixStream) -> io::Result<bool> {
         while !self.bytes.is_empty() {
             match send_some(stream, &self.bytes)? {
@@ -48,13 +48,13 @@ impl Unsent {
         Ok(true)
     }
 
-    /// Whether the client has read nothing for this time.
+    /// Returns whether the client has read nothing for this time.
     fn waits_for(&self, time: Duration) -> bool {
         self.since.map_or(false, |since| since.elapsed() > time)
     }
 }
 
-/// Sends as many of the bytes as the socket takes at once, which may be none.
+/// Sends as many of the bytes as the socket takes immediately, which may be none.
 fn send_some(stream: &UnixStream, bytes: &[u8]) -> io::Result<usize> {
     match os::send_now(stream, bytes) {
         Err(error) if matches!(error.kind(), ErrorKind::WouldBlock | ErrorKind::Interrupted) => Ok(0),
@@ -62,7 +62,7 @@ fn send_some(stream: &UnixStream, bytes: &[u8]) -> io::Result<usize> {
     }
 }
 
-/// The way out to one client. Lines are never mixed.
+/// The queue of bytes to one client. Lines are never mixed.
 #[derive(Debug)]
 pub struct Outbox {
     stream: Arc<UnixStream>,
@@ -112,7 +112,7 @@ impl Outbox {
     }
 }
 
-/// Pushes lines to a client, and waits for nothing.
+/// Pushes lines to a client without waiting.
 #[derive(Debug)]
 pub struct Pusher<'a> {
     stream: &'a UnixStream,
@@ -121,7 +121,7 @@ pub struct Pusher<'a> {
 }
 
 impl Pusher<'_> {
-    /// Takes the line. Returns whether another one may follow.
+    /// Takes the line. Returns whether another line may follow.
     pub fn push(&mut self, line: Vec<u8>) -> bool {
         *self.unsent = Unsent {
             bytes: line,
@@ -130,7 +130,7 @@ impl Pusher<'_> {
         self.send_rest()
     }
 
-    /// Whether nothing is left. If the client has read nothing for too long, its connection is closed.
+    /// Returns whether nothing is left. If the client has read nothing for too long, its connection is closed.
     fn send_rest(&mut self) -> bool {
         match self.unsent.send(self.stream) {
             Ok(true) => return true,
@@ -172,19 +172,24 @@ mod tests {
         lines
     }
 
+    /// Reads what comes until the end, in a thread of its own.
+    fn read_all(mut client: UnixStream) -> thread::JoinHandle<Vec<u8>> {
+        thread::spawn(move || {
+            let mut read = Vec::new();
+            client.read_to_end(&mut read).unwrap();
+            read
+        })
+    }
+
     #[test]
     fn lines_are_whole_for_a_slow_reader() {
-        let (mut client, outbox) = pair();
+        let (client, outbox) = pair();
         let lines = fill(&outbox);
         assert!(outbox.pusher().is_none());
-        let reading = thread::spawn(move || {
-            let mut text = String::new();
-            client.read_to_string(&mut text).unwrap();
-            text
-        });
+        let reading = read_all(client);
         assert!(outbox.send(b"b\n", || false).unwrap());
         drop(outbox);
-        let text = reading.join().unwrap();
+        let text = String::from_utf8(reading.join().unwrap()).unwrap();
         assert_eq!(text.lines().count(), lines + 1);
         assert!(text.lines().take(lines).all(|line| line.len() == 9_999));
         assert!(text.ends_with("a\nb\n"));
@@ -212,16 +217,12 @@ mod tests {
 
     #[test]
     fn what_is_left_goes_before_all_else() {
-        let (mut client, outbox) = pair();
+        let (client, outbox) = pair();
         let lines = b"a\n".repeat(1 << 19);
         assert!(!outbox.send(&lines, || true).unwrap());
         assert!(!outbox.send(b"b\n", || true).unwrap());
         assert!(outbox.pusher().is_none());
-        let reading = thread::spawn(move || {
-            let mut read = Vec::new();
-            client.read_to_end(&mut read).unwrap();
-            read
-        });
+        let reading = read_all(client);
         assert!(outbox.send(b"c\n", || false).unwrap());
         drop(outbox);
         assert!(reading.join().unwrap() == [&lines[..], b"b\nc\n"].concat());

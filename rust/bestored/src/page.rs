@@ -6,10 +6,10 @@ use crate::watcher;
 use bestore::{ShelfSnapshot, State};
 use bestore_client::wire::{self, Json, ShownOperations};
 
-/// How many bytes of JSON a page has; its last item may go beyond that.
+/// How many bytes of JSON a page has; its last item may exceed that.
 const BYTES: usize = 1 << 20;
 
-/// What a page has room for.
+/// The space left on a page.
 #[derive(Debug)]
 pub struct Room {
     pub nodes: usize,
@@ -25,14 +25,14 @@ impl Room {
         }
     }
 
-    /// Takes room for an item. Returns whether there is room for another one.
+    /// Uses space for an item. Returns whether there is space for another one.
     pub fn take(&mut self, bytes: usize) -> bool {
         self.bytes = self.bytes.saturating_sub(bytes);
         self.bytes > 0
     }
 }
 
-/// The values of the columns for each node, for as many nodes as there is room for.
+/// Returns the values in the columns for each node, for as many nodes as fit.
 pub fn rows_of(
     snapshot: &ShelfSnapshot<'_>,
     nodes: &[u64],
@@ -57,7 +57,7 @@ pub fn rows_of(
     Ok(rows)
 }
 
-/// The numbers of the volumes' snapshots, if there are several.
+/// Returns the numbers of the volumes' snapshots, if there are several.
 pub fn commits(snapshot: &ShelfSnapshot<'_>) -> Vec<u64> {
     match snapshot.volumes() {
         [_] => Vec::new(),
@@ -65,7 +65,7 @@ pub fn commits(snapshot: &ShelfSnapshot<'_>) -> Vec<u64> {
     }
 }
 
-/// The volume that a request names, which it has to do if there are several.
+/// Returns the volume that a request names. If there are several volumes, the request has to name one.
 pub fn volume(asked: Option<u32>, volumes: usize) -> Result<u32, Failure> {
     match asked {
         None if volumes > 1 => Err(Failure::volume_missing(volumes)),
@@ -73,7 +73,7 @@ pub fn volume(asked: Option<u32>, volumes: usize) -> Result<u32, Failure> {
     }
 }
 
-/// A page of the nodes.
+/// Returns a page of the nodes.
 pub fn nodes(snapshot: &ShelfSnapshot<'_>, from: &wire::NodesFrom) -> Result<wire::Nodes, Failure> {
     let room = Room::new(from.limit);
     let mut listed = snapshot.nodes_from(from.from);
@@ -86,7 +86,7 @@ pub fn nodes(snapshot: &ShelfSnapshot<'_>, from: &wire::NodesFrom) -> Result<wir
     })
 }
 
-/// A page of the journal of a volume.
+/// Returns a page of a volume's journal.
 pub fn journal(view: &View<'_, '_>, from: &wire::JournalFrom) -> Result<wire::Journal, Failure> {
     let volume = volume(from.volume, view.volumes())?;
     let pass = view.pass(volume)?;
@@ -116,7 +116,7 @@ pub fn journal(view: &View<'_, '_>, from: &wire::JournalFrom) -> Result<wire::Jo
     Ok(page)
 }
 
-/// How far the batches of a volume have been read: the index of the next one.
+/// How far a volume's batches have been read: the index of the next one.
 #[derive(Debug)]
 pub struct Reading<'s> {
     volume: u32,
@@ -124,7 +124,7 @@ pub struct Reading<'s> {
     batches: State<'s>,
 }
 
-/// A page of the batches that rebuild the snapshot of a volume. `read` is how far they have been read.
+/// Returns a page of the batches that rebuild the snapshot of a volume. `read` says how far they have been read.
 pub fn state<'s>(
     snapshot: &'s ShelfSnapshot<'_>,
     read: &mut Option<Reading<'s>>,

@@ -8,11 +8,12 @@ use std::time::{Duration, Instant};
 /// How often a connection with a snapshot checks whether it has to unpin it.
 pub const LOOK: Duration = Duration::from_millis(50);
 
-/// How long a snapshot is kept although its memory is waited for.
+/// How long a snapshot is kept while something waits for its memory.
 const AT_LEAST: Duration = Duration::from_secs(1);
 
-/// How long a write waits for pages, and how often it tries.
+/// How long a write waits for pages, and how long before it tries again, at first and later.
 const WAIT: Duration = Duration::from_secs(3);
+const FIRST_TRY: Duration = Duration::from_millis(1);
 const TRY: Duration = Duration::from_millis(10);
 
 /// Whether writes wait for memory that snapshots keep.
@@ -20,8 +21,10 @@ const TRY: Duration = Duration::from_millis(10);
 pub struct Pressure {
     /// How long a snapshot is kept if no write is waiting.
     hold: Duration,
+    /// How long a write waits for pages.
+    wait: Duration,
     begin: Instant,
-    /// When a write last waited, in milliseconds since the start. 0 if none did.
+    /// When a write last waited, in milliseconds since the start, or 0 if none did.
     last: AtomicU64,
 }
 
@@ -29,6 +32,7 @@ impl Pressure {
     pub fn new(hold: Duration) -> Self {
         Self {
             hold,
+            wait: WAIT,
             begin: Instant::now(),
             last: AtomicU64::new(0),
         }
@@ -40,25 +44,25 @@ impl Pressure {
             .max(1)
     }
 
-    /// Whether a snapshot that was pinned at this time has to be unpinned.
+    /// Returns whether a snapshot that was pinned at this time has to be unpinned.
     pub fn is_over(&self, since: Instant) -> bool {
         let age = since.elapsed();
         age >= self.hold || age >= AT_LEAST && self.is_on()
     }
 
-    /// Something waits for memory that a snapshot keeps.
+    /// Records that something waits for memory that a snapshot keeps.
     pub fn waits(&self) {
         self.last.store(self.now(), Ordering::Relaxed);
     }
 
-    /// Whether a write waits, or did a moment ago.
+    /// Returns whether a write waits, or did a moment ago.
     pub fn is_on(&self) -> bool {
         let last = self.last.load(Ordering::Relaxed);
         last != 0 && self.now().saturating_sub(last) <= 2 * LOOK.as_millis() as u64
     }
 
-    /// Writes the batch. While other clients' snapshots keep the pages that it needs, it waits for them. `made` gets what was written
-    /// once it is in memory.
+    /// Writes the batch. While other clients' snapshots keep the pages that it needs, it waits for them for a limited time. Calls `made`
+    /// with what was written once it is in memory.
     pub fn write(
         &self,
         pass: &Pass,
@@ -66,19 +70,21 @@ impl Pressure {
         batch: &Batch,
         mut made: impl FnMut(&Written),
     ) -> Result<Written> {
-        let (mut until, mut is_kept) = (None, true);
+        let (mut until, mut is_last, mut pause) = (None, false, FIRST_TRY);
         loop {
             match pass.apply_with(expected, batch, &mut made) {
                 Err(Error::Full { oldest }) => {
-                    let until = *until.get_or_insert_with(|| Instant::now() + WAIT);
-                    if !is_kept || Instant::now() > until {
+                    let until = *until.get_or_insert_with(|| Instant::now() + self.wait);
+                    let status = pass.status()?;
+                    if is_last || !status.may_free_pages(pass.number()?, oldest) {
                         return Err(Error::Full { oldest });
                     }
-                    // A snapshot may have been unpinned since the write failed, so it is tried once more in any case.
-                    is_kept = is_kept_by_another(pass)?;
-                    if is_kept {
+                    is_last = Instant::now() > until;
+                    // Otherwise the snapshot has been unpinned since the write failed.
+                    if status.oldest.is_some() {
                         self.waits();
-                        thread::sleep(TRY);
+                        thread::sleep(pause);
+                        pause = TRY.min(2 * pause);
                     }
                 }
                 written => return written,
@@ -87,7 +93,7 @@ impl Pressure {
     }
 }
 
-/// How often the library tries calls of a connection's pass again: only at busy.
+/// How often the library retries calls of a connection's pass: only if another pass is busy.
 pub fn retry() -> Retry {
     Retry {
         full: 0,
@@ -95,7 +101,105 @@ pub fn retry() -> Retry {
     }
 }
 
-fn is_kept_by_another(pass: &Pass) -> Result<bool> {
-    let own = pass.number()?;
-    Ok(pass.status()?.oldest.map_or(false, |oldest| oldest.pass != own))
+#[cfg(test)]
+mod tests {
+    use super::*;
+    use bestore::{Keeper, Limits, Store};
+    use std::sync::{Arc, Mutex};
+
+    /// Keeps no writes. Before some of them another pass pins a snapshot, and writes until no page is free. It unpins the snapshot as
+    /// soon as the write has found none.
+    #[derive(Debug)]
+    struct Busy {
+        other: Mutex<Pass>,
+        /// Before how many writes it still does so, and how many there were.
+        left: AtomicU64,
+        writes: AtomicU64,
+    }
+
+    /// Writes until no page is free.
+    fn fill(pass: &Pass) {
+        let error = loop {
+            if let Err(error) = pass.set(1, "size", 5_i64) {
+                break error;
+            }
+        };
+        assert!(matches!(error, Error::Full { .. }), "{error}");
+    }
+
+    impl Keeper for Busy {
+        fn keep(&self, _: u64, _: &Batch, write: &mut dyn FnMut() -> Result<Written>) -> Result<(Written, u64)> {
+            self.writes.fetch_add(1, Ordering::Relaxed);
+            let mut other = self.other.lock().unwrap();
+            if self.left.load(Ordering::Relaxed) > 0 {
+                self.left.fetch_sub(1, Ordering::Relaxed);
+                other.hold()?;
+                fill(&other);
+            }
+            let written = write();
+            other.release();
+            written.map(|written| (written, 0))
+        }
+
+        fn wait(&self, _: u64) -> Result<()> {
+            Ok(())
+        }
+    }
+
+    /// Returns the outcome of a write, and how often it was tried, if another pass is busy for this many tries.
+    fn write_beside(store: &Store, busy: u64, batch: &Batch) -> (Result<Written>, u64) {
+        let mut other = store.pass().unwrap();
+        other.set_retry(Retry::NEVER);
+        let busy = Arc::new(Busy {
+            other: Mutex::new(other),
+            left: AtomicU64::new(busy),
+            writes: AtomicU64::new(0),
+        });
+        let mut pass = store.pass().unwrap().kept_by(busy.clone());
+        pass.set_retry(retry());
+        let pressure = Pressure {
+            wait: Duration::from_secs(3600),
+            ..Pressure::new(Duration::from_secs(60))
+        };
+        let mut made = 0;
+        let written = pressure.write(&pass, None, batch, |_| made += 1);
+        assert_eq!(made, u64::from(written.is_ok()));
+        (written, busy.writes.load(Ordering::Relaxed))
+    }
+
+    fn store() -> Store {
+        let limits = Limits {
+            pages: 32,
+            passes: 2,
+            ..Limits::default()
+        };
+        let store = Store::open(limits).unwrap();
+        store.pass().unwrap().new_node().unwrap();
+        store
+    }
+
+    #[test]
+    fn a_write_outlasts_one_snapshot_after_another() {
+        let mut batch = Batch::new();
+        batch.set(1, "size", 6_i64);
+        for busy in [0, 1, 2, 5] {
+            let (written, tries) = write_beside(&store(), busy, &batch);
+            written.unwrap();
+            assert_eq!(tries, busy + 1);
+        }
+    }
+
+    #[test]
+    fn a_write_without_room_is_refused_at_once() {
+        let store = store();
+        let mut pass = store.pass().unwrap();
+        pass.set_retry(Retry::NEVER);
+        let mut batch = Batch::new();
+        batch.new_node();
+        while pass.apply(&batch).is_ok() {}
+        drop(pass);
+        let (written, tries) = write_beside(&store, 0, &batch);
+        assert!(matches!(written, Err(Error::Full { .. })), "{written:?}");
+        assert_eq!(tries, 1);
+    }
 }

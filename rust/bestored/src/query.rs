@@ -7,10 +7,10 @@ use bestore_client::wire::{self, NODES};
 use serde::Serialize;
 use std::collections::VecDeque;
 
-/// How many queries of a connection stay parsed.
+/// How many parsed queries a connection keeps.
 const KEPT: usize = 4;
 
-/// The last queries of a connection, the latest first.
+/// The last queries on a connection, the latest first.
 #[derive(Debug, Default)]
 pub struct Queries(VecDeque<Parsed>);
 
@@ -39,7 +39,7 @@ pub enum Answer {
     Page(wire::Page),
 }
 
-/// What a request asks for.
+/// The form of answer that a request asks for.
 enum Form<'q> {
     Count,
     ByNumber,
@@ -69,7 +69,7 @@ impl Queries {
         }
     }
 
-    /// The query with this text.
+    /// Returns the query with this text.
     fn parsed(&mut self, text: &str) -> Result<&mut Parsed, Failure> {
         let kept = self.0.iter().position(|parsed| parsed.text == text);
         let parsed = match kept.and_then(|place| self.0.remove(place)) {
@@ -86,7 +86,7 @@ impl Queries {
     }
 }
 
-/// An error if the given parameters don't go together. It says what would be right.
+/// Returns an error if the given parameters don't go together. The error says what would be right.
 fn check_together(query: &wire::Query<'_>) -> Result<(), Failure> {
     let by_number = query.from != 0 || query.uncounted;
     let wrong = match (&query.by, query.any) {
@@ -127,7 +127,7 @@ fn form_of<'q>(query: &'q wire::Query<'_>) -> Result<Form<'q>, Failure> {
     Ok(form)
 }
 
-/// A number of nodes that a page can have.
+/// Returns a number of nodes that a page can have.
 fn most_of(name: &str, nodes: u64) -> Result<usize, Failure> {
     match usize::try_from(nodes) {
         Ok(nodes @ 1..=NODES) => Ok(nodes),
@@ -138,7 +138,7 @@ fn most_of(name: &str, nodes: u64) -> Result<usize, Failure> {
 }
 
 impl Parsed {
-    /// Asks the query. An error is about the query's text, and says where in the text it is.
+    /// Runs the query. If the query's text has an error, the error says where in the text it is.
     fn ask<T>(
         &self,
         snapshot: &ShelfSnapshot<'_>,
@@ -156,7 +156,7 @@ impl Parsed {
         })
     }
 
-    /// How many nodes the query finds from this number on.
+    /// Returns how many nodes the query finds from this number on.
     fn count_from(&self, snapshot: &ShelfSnapshot<'_>, from: u64) -> Result<u64, Failure> {
         if from == 0 {
             return self.ask(snapshot, |prepared| snapshot.count_prepared(prepared));
@@ -190,7 +190,7 @@ impl Parsed {
         Ok(hits)
     }
 
-    /// The first this many nodes from this number on, or all of them.
+    /// Returns up to this many of the first nodes from this number on, or all of them.
     fn first(&self, snapshot: &ShelfSnapshot<'_>, from: u64, most: Option<usize>) -> Result<Vec<u64>, Failure> {
         if let Some(most) = most {
             return self.ask(snapshot, |prepared| snapshot.first_prepared(prepared, from, most));
@@ -200,8 +200,8 @@ impl Parsed {
         Ok(found)
     }
 
-    /// How many nodes the query finds from a number on, given that a page has this many of them and the next one begins at `more`.
-    /// It may be known from the whole answer.
+    /// Returns how many nodes the query finds from a number on, given that a page has this many of them and the next page begins at `more`.
+    /// The count may be known from the whole answer.
     fn count_of_page(
         &mut self,
         snapshot: &ShelfSnapshot<'_>,

@@ -11,11 +11,11 @@ use std::time::{Duration, Instant};
 const WITHIN: Duration = Duration::from_secs(5);
 const MOST: Duration = Duration::from_secs(60);
 
-/// How often to look at the journals.
+/// How often to check the journals.
 const LOOK: Duration = Duration::from_millis(2);
 
-/// Waits until each volume has the entry with its number. Later reads of the current snapshot include them. If a snapshot is kept,
-/// the wait ends when it has to be unpinned.
+/// Waits until each volume has the entry with its number. Later reads of the current snapshot include these entries. If a snapshot is kept,
+/// the wait ends when the snapshot has to be unpinned.
 pub fn reach(view: &View<'_, '_>, pressure: &Pressure, reach: &wire::Reach) -> Result<wire::Commit, Failure> {
     let wanted = numbers(&reach.commit, view.volumes())?;
     let within = reach.within.map_or(WITHIN, Duration::from_millis).min(MOST);
@@ -36,7 +36,7 @@ pub fn reach(view: &View<'_, '_>, pressure: &Pressure, reach: &wire::Reach) -> R
     }
 }
 
-/// The number of each volume.
+/// Returns the number of each volume.
 fn numbers(commit: &Numbers, volumes: usize) -> Result<Vec<u64>, Failure> {
     match commit {
         Numbers::One(number) if volumes == 1 => Ok(vec![*number]),

@@ -27,7 +27,7 @@ use std::sync::{Arc, Mutex, MutexGuard, PoisonError, TryLockError};
 use std::thread;
 use std::time::{Duration, Instant, SystemTime};
 
-/// How many connections there may be beyond those that have a pass: these wait a moment for one.
+/// How many connections there may be beyond those that have a pass: these wait for a moment to get a pass.
 const WAITING: usize = 16;
 
 /// How long a connection waits for a pass, since a client that is just leaving may free one.
@@ -36,13 +36,13 @@ const FOR_PASS: Duration = Duration::from_millis(200);
 /// How long a connection waits for the visitors' pass when all others are taken.
 const FOR_VISIT: Duration = Duration::from_secs(10);
 
-/// How often to try again for a pass that isn't free.
+/// How often to retry taking a pass that isn't free.
 const AGAIN: Duration = Duration::from_millis(5);
 
 /// The maximum number of bytes in a first request that asks for that place.
 const GREETING: usize = 256;
 
-/// How often to report, at most, that there is no place.
+/// How often, at most, to report that all places are taken.
 const SAID: Duration = Duration::from_secs(10);
 
 /// What all connections share.
@@ -57,11 +57,11 @@ pub struct Shared {
     pub meter: Meter,
     pub copies: Copies,
     pub carrying: Carrying,
-    /// When was said last that there is no place.
+    /// When the server last reported that all places are taken.
     pub is_full: Mutex<Option<Instant>>,
-    /// The pass for clients that find no other: each has it for a moment.
+    /// The pass for clients that get no other pass: each has it for a moment.
     pub visits: Mutex<ShelfPass>,
-    /// A different text for each run.
+    /// A different string for each run.
     pub run: String,
 }
 
@@ -176,7 +176,7 @@ fn welcome(shared: &Arc<Shared>, stream: Arc<UnixStream>) {
     }
 }
 
-/// Refuses a client for which there is no place, and reports that now and then.
+/// Refuses a client for which there is no place, and reports that from time to time.
 fn refuse_for_now(shared: &Shared, stream: &UnixStream) {
     let failure = no_pass(shared);
     let mut said = shared.is_full.lock().unwrap_or_else(PoisonError::into_inner);
@@ -189,7 +189,7 @@ fn refuse_for_now(shared: &Shared, stream: &UnixStream) {
     refuse(stream, &failure);
 }
 
-/// The end of a connection, even by a panic.
+/// Marks the end of a connection, even if it panics.
 struct Leaving<'a> {
     shared: &'a Shared,
     client: Arc<Client>,
@@ -218,7 +218,7 @@ fn talk(shared: &Shared, client: &Client, stream: Arc<UnixStream>, pass: &mut Sh
     let _ = Connection::new(shared, client, stream, is_visit).run(pass);
 }
 
-/// Whether the client's first request says that it will ask a few things and leave.
+/// Returns whether the client's first request says that it will send a few requests and leave.
 fn is_visit(stream: &UnixStream) -> bool {
     let mut bytes = [0; GREETING];
     let length = os::look_ahead(stream, &mut bytes).unwrap_or(0);
@@ -244,7 +244,7 @@ fn take_pass(shared: &Shared) -> bestore::Result<ShelfPass> {
     }
 }
 
-/// Takes the visitors' pass, once nobody else has it.
+/// Takes the visitors' pass, once nobody else holds it.
 fn take_visit(shared: &Shared) -> Option<MutexGuard<'_, ShelfPass>> {
     let until = Instant::now() + FOR_VISIT;
     loop {
@@ -264,15 +264,15 @@ pub fn no_pass(shared: &Shared) -> Failure {
     Failure::new(ErrorName::NoPass, message).with("clients", clients)
 }
 
-/// Sends the client the reason why there is no connection, if it takes that at once.
+/// Sends the client the reason why there is no connection, if the client takes it immediately.
 fn refuse(stream: &UnixStream, failure: &Failure) {
     if let Ok(body) = serde_json::to_string(&failure.0) {
-        // A client that doesn't read it isn't waited for.
+        // The server doesn't wait for a client that doesn't read the reason.
         let _ = os::send_now(stream, format!("{{\"id\":null,\"error\":{body}}}\n").as_bytes());
     }
 }
 
-/// A text that no other run has.
+/// Returns a string that no other run has.
 pub fn run_text() -> io::Result<String> {
     let time = SystemTime::now().duration_since(SystemTime::UNIX_EPOCH);
     let time = time.map_err(|_| io::Error::new(ErrorKind::Other, "the clock is wrong"))?;

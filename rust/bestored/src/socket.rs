@@ -11,7 +11,7 @@ use std::path::{Path, PathBuf};
 use std::thread;
 use std::time::Duration;
 
-/// How often to try again for a lock that another starting server has, every 0.1 seconds.
+/// How often to retry taking a lock that another starting server holds, every 0.1 seconds.
 const TRIES: u32 = 50;
 
 /// A listening socket, which is removed at the end if this program made it.
@@ -39,7 +39,7 @@ fn identity(file: &Metadata) -> (u64, u64) {
 }
 
 impl Place {
-    /// Checks whether a server can listen at this path. Makes the folder, but not yet the socket.
+    /// Checks whether a server can listen at this path. Creates the folder, but not yet the socket.
     pub fn find(socket: &SocketPath) -> io::Result<Self> {
         let path = socket.path();
         let folder = folder_of(path);
@@ -63,7 +63,7 @@ impl Place {
         }
     }
 
-    /// The path at which the server is going to listen, unless systemd has passed the socket.
+    /// Returns the path at which the server is going to listen, unless systemd has passed the socket.
     pub fn path(&self) -> Option<&Path> {
         match self {
             Self::Passed(_) => None,
@@ -108,7 +108,7 @@ fn folder_of(path: &Path) -> &Path {
     }
 }
 
-/// Opens the folder, or makes it. Others must not be able to replace files in it.
+/// Opens the folder, or creates it. Others must not be able to replace files in it.
 fn open_folder(folder: &Path) -> io::Result<File> {
     let opened = open_or_make(folder, 0)?;
     let found = opened.metadata()?;
@@ -132,7 +132,7 @@ fn open_folder(folder: &Path) -> io::Result<File> {
     Ok(opened)
 }
 
-/// Opens the folder of a default path, or makes it. Since anybody may have made it before, it has to be the user's own: others may
+/// Opens the folder of a default path, or creates it. Since anybody may have created it before, it has to belong to the user: others may
 /// not write in it, and it must not be a link to another folder.
 fn open_own_folder(folder: &Path) -> io::Result<File> {
     let opened = open_or_make(folder, libc::O_NOFOLLOW)?;

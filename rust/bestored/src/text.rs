@@ -1,10 +1,10 @@
-//! The answer to `text`: what a query's text compares. No store is read.
+//! The answer to `text`: the comparisons in a query's text. No store is read.
 
 use crate::failure::Failure;
 use bestore::{compared, Compared, Form};
 use bestore_client::wire::{self, Comparison, Comparisons};
 
-/// The comparisons of a query.
+/// Returns the comparisons in a query.
 pub fn comparisons(query: &str) -> Result<Comparisons, Failure> {
     let found = compared(query)?;
     Ok(Comparisons {

@@ -22,7 +22,7 @@ struct Table {
     most: usize,
 }
 
-/// The tokens of the last writes that had one, 65,536 of each volume.
+/// The tokens of the last writes that had one: 65,536 per volume.
 #[derive(Debug)]
 pub struct Tokens {
     table: Mutex<Table>,
@@ -32,13 +32,13 @@ pub struct Tokens {
 /// How a write with a token begins.
 #[derive(Debug)]
 pub enum Begun<'a> {
-    /// It has to be made.
+    /// The write has to be made.
     First(Writing<'a>),
-    /// It was made before.
+    /// The write was made before.
     Repeated(Written),
 }
 
-/// A write that is being made. If it is dropped before it is made, the token can be used as if new.
+/// A write in progress. If it is dropped before the write is made, the token can be used as if it were new.
 #[derive(Debug)]
 pub struct Writing<'a> {
     tokens: &'a Tokens,
@@ -80,7 +80,7 @@ impl Tokens {
         Begun::First(Writing { tokens: self, token })
     }
 
-    /// What was written with this token, if it was made.
+    /// Returns what was written with this token, if it was written.
     pub fn made(&self, token: &str) -> Option<Written> {
         match self.lock().known.get(token) {
             Some(Known::Made(written)) => Some(written.clone()),
@@ -105,7 +105,7 @@ impl Tokens {
 }
 
 impl Writing<'_> {
-    /// It is in memory.
+    /// Records that the write is in memory.
     pub fn made(&self, written: Written) {
         self.tokens.add(self.token.clone(), written);
     }

@@ -11,13 +11,13 @@ fn is_of_indices(operation: &Operation<'_>) -> bool {
     matches!(operation, Operation::MakeIndex { .. } | Operation::RemoveIndex { .. })
 }
 
-/// Whether the operations are made in each volume: they only make and remove indices, and no volume is given.
+/// Returns whether the operations are done in each volume: they only make and remove indices, and no volume is given.
 pub fn is_for_all(write: &wire::Write, volumes: usize) -> bool {
     let mut operations = write.operations.batch.operations();
     volumes > 1 && write.volume.is_none() && operations.len() > 0 && operations.all(|one| is_of_indices(&one))
 }
 
-/// Writes the batch in one volume. `made` gets what was written once it is in memory.
+/// Writes the batch in one volume. Calls `made` with what was written once it is in memory.
 pub fn write(
     pressure: &Pressure,
     view: &View<'_, '_>,
@@ -59,7 +59,7 @@ pub fn shown(volume: Option<u32>, written: &Written) -> wire::Written {
     }
 }
 
-/// The volume of the batch, and the batch with the volume's own node numbers.
+/// Returns the volume of the batch, and the batch with the volume's own node numbers.
 fn place(view: &View<'_, '_>, write: &wire::Write) -> Result<(u32, Batch), Failure> {
     if let Some(asked) = write.volume {
         view.pass(asked)?;
@@ -72,7 +72,7 @@ fn place(view: &View<'_, '_>, write: &wire::Write) -> Result<(u32, Batch), Failu
     }
 }
 
-/// The number that the volume's journal has to have.
+/// Returns the number that the volume's journal has to have.
 fn expected(write: &wire::Write, volume: u32, volumes: usize) -> Result<Option<u64>, Failure> {
     match &write.expected {
         None => Ok(None),
@@ -100,7 +100,7 @@ pub fn write_indices(snapshot: &ShelfSnapshot<'_>, batch: &Batch) -> Result<wire
     })
 }
 
-/// The numbers of the next nodes.
+/// Returns the numbers of the next nodes.
 pub fn next(snapshot: &ShelfSnapshot<'_>) -> Result<wire::Next, Failure> {
     let nexts = (0..)
         .zip(snapshot.volumes())
@@ -114,7 +114,7 @@ pub fn next(snapshot: &ShelfSnapshot<'_>) -> Result<wire::Next, Failure> {
     })
 }
 
-/// The indices, and those that some volumes lack.
+/// Returns the indices, and the indices that some volumes lack.
 pub fn indices(snapshot: &ShelfSnapshot<'_>) -> Result<wire::Indices, Failure> {
     let indices = snapshot.indices()?.into_iter();
     Ok(wire::Indices {
@@ -130,7 +130,7 @@ pub fn indices(snapshot: &ShelfSnapshot<'_>) -> Result<wire::Indices, Failure> {
     })
 }
 
-/// How full the volumes are, together and one by one.
+/// Returns how full the volumes are, together and individually.
 pub fn status(all: &[Status]) -> wire::Status {
     let sum = |number: fn(&Status) -> u64| all.iter().map(number).sum();
     let mut held = (0..)

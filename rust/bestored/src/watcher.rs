@@ -1,8 +1,8 @@
-//! Live queries: one thread asks them after writes, and pushes what changed.
+//! Live queries: one thread runs them after writes, and pushes what changed.
 //!
-//! They are refreshed by what was written since the last round. That is little, so an answer of 96 nodes or more takes less time
-//! than asking the whole query; for a smaller answer the library asks the whole query. Writers that find the lock taken meanwhile
-//! try again.
+//! They are refreshed from what was written since the last round. That is little, so refreshing an answer of 96 nodes or more takes less
+//! time than running the whole query. For a smaller answer the library runs the whole query. Writers that find the lock taken meanwhile try
+//! again.
 
 use crate::failure::Failure;
 use crate::kept::Kept;
@@ -18,7 +18,7 @@ use std::time::{Duration, Instant};
 /// The maximum number of nodes on a line.
 pub const NODES: usize = wire::NODES;
 
-/// How often to try lines again that a client doesn't take.
+/// How often to retry sending lines that a client doesn't take.
 const AGAIN: Duration = Duration::from_millis(20);
 
 /// How long the thread rests after a round: as long as the round took, within these bounds.
@@ -28,7 +28,7 @@ fn lock<T>(mutex: &Mutex<T>) -> MutexGuard<'_, T> {
     mutex.lock().unwrap_or_else(PoisonError::into_inner)
 }
 
-/// A client's watch. It asks again once everything that it found has been pushed.
+/// A client's watch. It runs its query again once everything that it found has been pushed.
 #[derive(Debug)]
 pub struct Watch {
     pub number: u64,
@@ -45,7 +45,7 @@ pub struct Watch {
 }
 
 impl Watch {
-    /// A watch whose answer in the snapshot with these numbers has been returned, except for the rest.
+    /// Makes a watch whose answer in the snapshot with these numbers has been returned, except for the rest.
     pub fn new(number: u64, live: Option<ShelfLive>, numbers: Vec<u64>, rest: Updates) -> Self {
         Self {
             number,
@@ -58,8 +58,8 @@ impl Watch {
         }
     }
 
-    /// Whether the snapshot has everything that was found, and more. A snapshot that has less of a volume was pinned before
-    /// the watch, whose first answer has already begun another round.
+    /// Returns whether the snapshot has everything that was found, and more. If the snapshot has less of a volume, it was pinned before the
+    /// watch began, and the watch's first answer has already begun another round.
     fn is_behind(&self, snapshot: &ShelfSnapshot<'_>) -> bool {
         let mut both = self.numbers.iter().copied().zip(snapshot.numbers());
         both.all(|(own, now)| own <= now) && snapshot.number() > self.commit()
@@ -80,20 +80,20 @@ impl Watch {
                 self.is_pushed = updates == Updates::default();
                 self.rest = updates;
             }
-            // It may work next time.
+            // This may succeed next time.
             Some(Err(Error::OutOfMemory)) => return,
             Some(Err(error)) => self.failed = Some(Failure::from(error).0),
         }
         self.numbers = snapshot.numbers().collect();
     }
 
-    /// Whether something has to be pushed.
+    /// Returns whether something has to be pushed.
     fn has_news(&self) -> bool {
         !self.is_pushed || self.failed.is_some()
     }
 
-    /// Asks the query in this snapshot, even if it is an older one, and returns what changed. What was found earlier and
-    /// hasn't been pushed comes first, and then there is `more`. An error leaves the watch as it was.
+    /// Runs the query in this snapshot, even if it is an older one, and returns what changed. Changes that were found earlier and haven't
+    /// been pushed come first, and then there is `more`. An error leaves the watch unchanged.
     pub fn refresh(&mut self, snapshot: &ShelfSnapshot<'_>) -> Result<Push, Failure> {
         let is_left = !self.is_pushed;
         if !is_left {
@@ -114,7 +114,7 @@ impl Watch {
         Ok(push)
     }
 
-    /// The next line to push.
+    /// Returns the next line to push.
     fn next_push(&mut self) -> Option<Push> {
         let error = self.failed.take();
         if self.is_pushed && error.is_none() {
@@ -162,15 +162,15 @@ impl Watches {
         lock(&self.list).len()
     }
 
-    /// Takes a watch off the list, so that none of it is pushed until it is added again.
+    /// Takes a watch off the list, so that none of its lines is pushed until it is added again.
     pub fn take(&self, number: u64) -> Option<Watch> {
         let mut list = lock(&self.list);
         let at = list.iter().position(|watch| watch.number == number)?;
         Some(list.swap_remove(at))
     }
 
-    /// Asks the queries in the current snapshot, and in a newer one whenever a write is waiting for pages. Returns whether
-    /// something has to be pushed.
+    /// Runs the queries in the current snapshot, and in a newer one whenever a write is waiting for pages. Returns whether something has to
+    /// be pushed.
     fn ask(&self, pass: &mut ShelfPass, pressure: &Pressure) -> bestore::Result<bool> {
         let mut list = lock(&self.list);
         let mut left = list.iter_mut().peekable();
@@ -230,7 +230,7 @@ pub struct Watcher {
 }
 
 impl Watcher {
-    /// Something was written.
+    /// Signals that something was written.
     pub fn written(&self) {
         // Either the count here includes the client, or the round that its watch begins sees the write.
         fence(Ordering::SeqCst);
@@ -239,13 +239,13 @@ impl Watcher {
         }
     }
 
-    /// Begins a round, also if there are no clients.
+    /// Begins a round, even if there are no clients.
     pub fn wake(&self) {
         lock(&self.state).is_due = true;
         self.wake.notify_one();
     }
 
-    /// Adds a watch to those of the client, and the client if it is new.
+    /// Adds a watch to the client's, and the client if it is new.
     pub fn add(&self, watches: &Arc<Watches>, watch: Watch) {
         lock(&watches.list).push(watch);
         let mut state = lock(&self.state);
@@ -273,7 +273,7 @@ impl Watcher {
         self.clients.store(state.clients.len(), Ordering::Relaxed);
     }
 
-    /// How many watches there are.
+    /// Returns how many watches there are.
     pub fn count(&self) -> usize {
         let clients = lock(&self.state).clients.clone();
         clients.iter().map(|client| client.count()).sum()
@@ -284,7 +284,7 @@ impl Watcher {
         let mut is_left = false;
         while let Some(clients) = self.wait(is_left) {
             let started = Instant::now();
-            // What fails is tried again in the next round.
+            // If it fails, it is tried again in the next round.
             let _ = pass.follow();
             is_left = round(&clients, &mut pass, pressure, kept);
             thread::sleep(started.elapsed().clamp(REST.0, REST.1));
@@ -297,7 +297,7 @@ impl Watcher {
         self.wake.notify_one();
     }
 
-    /// Waits until there is something to do, and returns the clients. `None` at the end.
+    /// Waits until there is something to do, and returns the clients, or `None` at the end.
     fn wait(&self, is_left: bool) -> Option<Vec<Arc<Watches>>> {
         let mut state = lock(&self.state);
         while !state.is_due && !state.is_ending {
@@ -318,7 +318,7 @@ fn round(clients: &[Arc<Watches>], pass: &mut ShelfPass, pressure: &Pressure, ke
     let mut is_left = false;
     for client in clients {
         match client.ask(pass, pressure) {
-            // What isn't in the file or the log isn't pushed. Once a log can be written again, its thread says so.
+            // Changes that aren't in the file or the log aren't pushed. Once a log can be written to again, its thread reports that.
             Ok(true) if kept.flush_if_each().is_err() => return false,
             Ok(_) => is_left |= client.push(),
             Err(error) => {

@@ -38,7 +38,7 @@ fn write_once(
     match shared.tokens.begin(token.as_str()) {
         Begun::First(first) => match write_now(shared, write, view, |made| first.made(made)) {
             Err(failure) if failure.is_conflict() => {
-                // A client takes this as proof that the batch wasn't written, not even by another server that it was sent to before.
+                // A client takes this as proof that the batch wasn't written, not even by another server to which it was sent before.
                 shared.kept.confirm()?;
                 let made = shared.tokens.made(token.as_str());
                 made.map_or(Err(failure), |written| repeat(shared, written))
@@ -49,9 +49,9 @@ fn write_once(
     }
 }
 
-/// The reply to a batch that was written before.
+/// Returns the reply to a batch that was written before.
 fn repeat(shared: &Shared, written: wire::Written) -> Result<wire::Written, Failure> {
-    // It may be only in memory.
+    // The write may be only in memory.
     shared.kept.flush_if_each()?;
     Ok(wire::Written {
         repeated: true,
@@ -59,7 +59,7 @@ fn repeat(shared: &Shared, written: wire::Written) -> Result<wire::Written, Fail
     })
 }
 
-/// Writes a batch. `made` gets what was written once it is in memory, unless it is written in each volume.
+/// Writes a batch. Calls `made` with what was written once it is in memory, unless the batch is written in each volume.
 fn write_now(
     shared: &Shared,
     write: &wire::Write,
@@ -73,7 +73,7 @@ fn write_now(
         true => view.read(|snapshot| volumes::write_indices(snapshot, &write.operations.batch)),
         false => volumes::write(&shared.pressure, view, write, made),
     };
-    // Some volumes may have been written before another one refused.
+    // Some volumes may have been written to before another one refused.
     shared.watcher.written();
     match &written {
         Ok(_) => {

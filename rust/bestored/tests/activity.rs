@@ -7,7 +7,7 @@ use std::fs::{self, File};
 use std::path::PathBuf;
 use std::process;
 
-/// A server that says what it says into a file.
+/// A server whose output goes into a file.
 struct Saying {
     _folder: Folder,
     server: Server,
@@ -45,8 +45,7 @@ fn make(client: &mut Client, count: u64) {
 #[test]
 fn what_is_written_is_counted() {
     let folder = Folder::new();
-    let keep = folder.join("kept");
-    let server = Server::start(&folder, &["--keep", keep.to_str().unwrap()]);
+    let server = Server::start_kept(&folder, &[]);
     let mut client = server.client();
     let before = client.info().unwrap();
     assert_eq!(

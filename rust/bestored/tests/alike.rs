@@ -1,5 +1,6 @@
-//! Random pages in an order beside the plain way: the whole answer, its values, sorted and cut. Another client writes between pages, and
-//! cursors are kept over restarts. A failed test shows the number to begin with: `SEED=NUMBER cargo test` runs the same again.
+//! Random pages in an order, compared with the plain way: the whole answer, its values, sorted and cut. Another client writes between
+//! pages, and cursors are kept across restarts. A failed test shows its seed: `SEED=NUMBER cargo test` runs the same
+//! again.
 
 use crate::common::{Folder, Server};
 use bestore::{attribute, Batch, Cursor, Kind, Node, Order, Page, Value};
@@ -14,7 +15,7 @@ const NAMES: [(&str, Kind); 5] = [
     ("uint64", Kind::Uint64),
 ];
 
-/// An index that is made after nodes have got the attribute, so that it lacks some.
+/// An index that is made after nodes have got the attribute, so it lacks some of them.
 const LATE: &str = "late";
 
 const QUERIES: [&str; 9] = [
@@ -33,7 +34,7 @@ const QUERIES: [&str; 9] = [
 struct Random(u64);
 
 impl Random {
-    /// Begins with SEED, if it is set.
+    /// Begins with SEED if that is set.
     fn begin() -> Self {
         let now = || SystemTime::UNIX_EPOCH.elapsed().unwrap().as_nanos() as u64;
         let seed = std::env::var("SEED").map_or_else(|_| now(), |seed| seed.parse().unwrap());
@@ -71,7 +72,7 @@ impl Random {
     }
 }
 
-/// A value and a node, in an order that is that of the index.
+/// A value and a node, ordered as in the index.
 fn place(value: &Value, node: u64) -> (i128, Vec<u8>, u64) {
     match value {
         Value::Text(text) => (0, text.as_bytes().to_vec(), node),
@@ -83,7 +84,7 @@ fn place(value: &Value, node: u64) -> (i128, Vec<u8>, u64) {
     }
 }
 
-/// The nodes of a page, and whether there are more, by the whole answer. The client is pinned.
+/// The nodes of a page, and whether there are more, taken from the whole answer. The client is pinned.
 fn plain(
     client: &mut Client,
     text: &str,
@@ -180,7 +181,7 @@ impl Shop {
             1..=4 if known > 9 => {
                 let node = *random.one_of(&self.nodes);
                 set_some(&mut batch, node, random);
-                // A node that has no such attribute is left as it is.
+                // A node without the attribute stays as it is.
                 drop(client.apply(&batch));
             }
             _ => {
@@ -195,7 +196,7 @@ impl Shop {
     }
 }
 
-/// Sets some attributes of a node, now and then to a value of another kind than the index takes.
+/// Sets some attributes of a node, now and then to a value of a kind that the index doesn't take.
 fn set_some(batch: &mut Batch, node: u64, random: &mut Random) {
     batch.set(node, LATE, random.value(Kind::Int64));
     for (name, kind) in NAMES {
@@ -209,7 +210,7 @@ fn set_some(batch: &mut Batch, node: u64, random: &mut Random) {
     }
 }
 
-/// Reads all pages of a query in an order, each beside the plain way, and lets another client write between them.
+/// Reads all pages of a query in an order, compares each with the plain way, and lets another client write in between.
 fn compare(shop: &mut Shop, random: &mut Random) {
     let (name, kind) = *random.one_of(&[&NAMES[..], &[(LATE, Kind::Int64)]].concat());
     let order = match random.below(2) {
@@ -282,7 +283,7 @@ fn pages_of_several_volumes_are_too() {
     (0..60).for_each(|_| compare(&mut shop, &mut random));
 }
 
-/// A cursor's text after some change: cut, longer, or with other characters.
+/// A cursor's text with a change: cut, longer, or with other characters.
 fn changed(text: &str, random: &mut Random) -> String {
     const DIGITS: &[char] = &[
         'A', 'Z', 'a', 'z', '0', '9', '-', '_', '=', '+', '/', ' ', '\n', '\0', 'é', '"',
@@ -321,7 +322,7 @@ fn a_changed_cursor_is_refused() {
     }
 }
 
-/// The page after a text that may be no cursor.
+/// The page after a text that may not be a cursor.
 fn ask_after(client: &mut Client, name: &str, after: &str) -> Result<bestore_client::wire::Page, Error> {
     use bestore_client::wire::{Command, Query};
     client.call(Command::Query(Query {

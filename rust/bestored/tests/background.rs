@@ -13,7 +13,7 @@ use std::process::{Command, Output};
 struct Background(String);
 
 impl Background {
-    /// Starts the server by this command, which has to end once that listens.
+    /// Starts the server with this command, which has to end once the server listens.
     fn start(mut command: Command, socket: &Path) -> Self {
         let output = command.output().unwrap();
         let said = String::from_utf8(output.stdout).unwrap();
@@ -96,7 +96,7 @@ fn a_server_without_its_store_does_not_listen() {
     }
 }
 
-/// What a server says that is refused its default folder.
+/// What a server says if its default folder is refused.
 fn refused(folder: &Folder) -> String {
     let mut command = Command::new(env!("CARGO_BIN_EXE_bestored"));
     command.env_remove("BESTORE_SOCKET");

@@ -1,4 +1,4 @@
-//! The journal in memory of a server that is written to for long: it is let go of while clients go on.
+//! The journal in memory of a server that is written to for a long time: it is freed while clients continue.
 
 use crate::common::writers::{state_of, Writers};
 use crate::common::{wait_until, Folder, Random, Server, PATIENCE};
@@ -8,22 +8,18 @@ use crate::repeats::make;
 use bestore::{Batch, Kind};
 use bestore_client::wire::{self, Command, Numbers, Write, Written};
 use bestore_client::{Client, Error, ErrorName};
+use std::process;
 
 /// A small server, whose store is carried on after 128 KiB of entries.
 const SMALL: [&str; 6] = ["--pages", "64", "--passes", "16", "--journal", "128"];
 
-/// One in which a snapshot can be kept for a while.
+/// A server in which a snapshot can be kept for a while.
 const LARGER: [&str; 6] = ["--pages", "256", "--passes", "4", "--journal", "512"];
 
 /// How often a server is killed.
 const KILLS: u64 = 12;
 
-fn start_kept(folder: &Folder, size: &[&str]) -> Server {
-    let keep = folder.join("file");
-    Server::start(folder, &[size, &["--keep", keep.to_str().unwrap()]].concat())
-}
-
-/// After how many entries the journal begins.
+/// The number of entries before the journal's first one.
 fn begin(client: &mut Client) -> u64 {
     let first = Command::Journal(wire::JournalFrom {
         limit: Some(1),
@@ -69,7 +65,7 @@ fn write_expecting(client: &mut Client, run: &str, expected: u64, batch: &Batch)
     }))
 }
 
-/// Lets a client pin a snapshot, and another one write, until the store is carried on meanwhile. A snapshot that is kept for longer
+/// One client pins a snapshot, and another one writes until the store has been carried on. A snapshot that is kept for longer
 /// would keep too many pages. Returns what was pinned, and the number of the last write.
 fn pin_and_write_on(reading: &mut Client, writing: &mut Client) -> ((u64, Vec<Batch>), u64, u64) {
     let before = begin(writing);
@@ -94,7 +90,7 @@ fn snapshots_stay_and_numbers_go_on() {
     for keep in [false, true] {
         let server = match keep {
             false => Server::start(&folder, &LARGER),
-            true => start_kept(&folder, &LARGER),
+            true => Server::start_kept(&folder, &LARGER),
         };
         let (mut reading, mut writing) = (server.client(), server.client());
         let mut batch = Batch::new();
@@ -125,7 +121,7 @@ fn snapshots_stay_and_numbers_go_on() {
     }
 }
 
-/// The journal goes on from its beginning to this entry.
+/// The journal is complete from its beginning to this entry.
 fn check_journal(client: &mut Client, last: u64) {
     let begin = begin(client);
     let page = client.journal_from(begin).unwrap();
@@ -150,6 +146,36 @@ fn a_snapshot_is_taken_back_when_its_memory_is_needed() {
 }
 
 #[test]
+fn who_keeps_earlier_memory_is_named_and_can_be_ended() {
+    let folder = Folder::new();
+    let server = Server::start(&folder, &[&LARGER[..], &["--hold", "86400"]].concat());
+    let (mut reading, mut writing) = (server.client(), server.client());
+    writing.apply(Batch::new().new_node()).unwrap();
+    let (_, pinned, _) = pin_and_write_on(&mut reading, &mut writing);
+    let clients = writing.clients().unwrap();
+    let reader = clients.iter().find(|client| client.pinned.is_some()).unwrap().client;
+    // The other one's snapshot is newer.
+    let mut other = server.client();
+    let newer = other.pin().unwrap().commit;
+    let oldest = writing.info().unwrap().oldest.unwrap();
+    assert_eq!((oldest.commit, oldest.earlier), (pinned, true));
+    assert_eq!((oldest.client, oldest.process), (Some(reader), Some(process::id())));
+    assert!(oldest.milliseconds.is_some());
+
+    writing.kick(reader).unwrap();
+    assert!(matches!(reading.unpin(), Err(Error::Closed)));
+    let mut left = None;
+    wait_until("the earlier memory is given back", || {
+        left = writing.info().unwrap().oldest;
+        left.as_ref().map_or(true, |oldest| oldest.client != Some(reader))
+    });
+    let left = left.unwrap();
+    assert_eq!((left.commit, left.earlier), (newer, false));
+    other.unpin().unwrap();
+    write_on(&mut writing);
+}
+
+#[test]
 fn who_rests_keeps_no_memory() {
     let folder = Folder::new();
     let server = Server::start(&folder, &SMALL);
@@ -159,7 +185,7 @@ fn who_rests_keeps_no_memory() {
     resting.iter_mut().for_each(|client| drop(client.next_node().unwrap()));
     let mut watching = server.client();
     watching.watch(None).unwrap();
-    // The next time comes only once nobody has the memory of the time before, not the server's own threads either.
+    // It happens again only once nobody uses the memory of the time before, not even the server's own threads.
     for _ in 0..4 {
         write_on(&mut writing);
     }
@@ -206,7 +232,7 @@ fn live_queries_go_on() {
 #[test]
 fn tokens_and_runs_stay_right() {
     let folder = Folder::in_memory();
-    let server = start_kept(&folder, &SMALL);
+    let server = Server::start_kept(&folder, &SMALL);
     let mut client = server.client();
     let first = make(&mut client, "a").unwrap();
     let run = client.hello().unwrap().run;
@@ -228,20 +254,20 @@ fn tokens_and_runs_stay_right() {
     assert!(refused.is(ErrorName::Conflict), "{refused}");
     server.kill();
 
-    let server = start_kept(&folder, &SMALL);
+    let server = Server::start_kept(&folder, &SMALL);
     let again = make(&mut server.client(), "a").unwrap();
     assert_eq!((again.nodes, again.repeated), (first.nodes, true));
 }
 
-/// The writers add an entry of some 100 bytes each time, so a server that lives for long carries its store on.
+/// The writers add an entry of about 100 bytes each time, so a server that lives long enough carries its store on.
 #[test]
 fn servers_that_are_killed_meanwhile_lose_nothing() {
     let folder = Folder::in_memory();
     let writers = Writers::default();
-    writers.begin(&mut start_kept(&folder, &SMALL).client(), 100);
+    writers.begin(&mut Server::start_kept(&folder, &SMALL).client(), 100);
     let (mut random, mut carried) = (Random::new(7), 0);
     for _ in 0..KILLS {
-        let server = start_kept(&folder, &SMALL);
+        let server = Server::start_kept(&folder, &SMALL);
         let mut client = server.patient_client();
         writers.go_on(&mut client);
         writers.write(server.socket(), || {
@@ -253,16 +279,13 @@ fn servers_that_are_killed_meanwhile_lose_nothing() {
         });
     }
     assert_eq!(carried, KILLS);
-    writers.go_on(&mut start_kept(&folder, &SMALL).client());
+    writers.go_on(&mut Server::start_kept(&folder, &SMALL).client());
 }
 
 #[cfg(feature = "log")]
 #[test]
 fn a_follower_of_a_log_does_it_too() {
-    let database = match database() {
-        Some(database) => database,
-        None => return,
-    };
+    let database = present!(database());
     let leader = Member::start_with(&database, "--log", &SMALL);
     let mut client = leader.client();
     client.apply(Batch::new().new_node()).unwrap();

@@ -1,4 +1,4 @@
-//! Many clients at once, of which half do what they shouldn't.
+//! Many clients at the same time, half of which do what they shouldn't.
 
 use crate::common::{Folder, Server, Talk};
 use bestore::{Batch, Kind};
@@ -8,21 +8,21 @@ use std::sync::atomic::{AtomicBool, AtomicU64, Ordering::Relaxed};
 use std::thread;
 use std::time::{Duration, Instant};
 
-/// Clients that do all right.
+/// Clients that do everything right.
 const GOOD: u64 = 16;
 
-/// Clients that don't, beside one that does nothing and one that takes what passes there are.
+/// Clients that don't, besides one that does nothing and one that takes all available passes.
 const BAD: u64 = 14;
 
-/// Passes of the server. There are more connections than these now and then.
+/// Passes of the server. Now and then there are more connections than these.
 const PASSES: usize = 36;
 
 const TIME: Duration = Duration::from_secs(5);
 
-/// The most memory that the server may have had, in KiB. The store alone has 16 MiB.
+/// The most memory that the server may have used, in KiB. The store alone has 16 MiB.
 const MEMORY: u64 = 200 << 10;
 
-/// A client that does all right, and checks each answer. Returns how many requests it made.
+/// A client that does everything right, and checks each answer. Returns how many requests it made.
 fn good(server: &Server, number: u64, until: Instant) -> u64 {
     let mut client = server.patient_client();
     let name = format!("client{number}");
@@ -75,15 +75,15 @@ fn misbehave(stream: &mut UnixStream, number: u64, is_over: &AtomicBool) -> io::
         2 => return (0..100).try_for_each(|_| stream.write_all(&[b'a'; 1 << 20])),
         // Sends binary.
         3 => return (0..1000_u32).try_for_each(|at| stream.write_all(&at.wrapping_mul(0x9e37_79b9).to_le_bytes())),
-        // Sends JSON that is no request, and reads no reply.
+        // Sends JSON that isn't a request, and reads no reply.
         4 => return send(stream, 20_000, |at| format!("{{\"id\":{at},\"set\":[]}}\n")),
-        // Sends 10,000 requests, of which each has a long reply, and reads none.
+        // Sends 10,000 requests with long replies, and reads none of these.
         5 => send(stream, 10_000, |at| format!("{{\"id\":{at},\"journal\":{{}}}}\n"))?,
         // Sends 10,000 writes, and reads no reply.
         6 => send(stream, 10_000, |at| {
             format!("{{\"id\":{at},\"batch\":{{\"operations\":[[\"set\",1,\"a\",{at}]]}}}}\n")
         })?,
-        // Begins as many live queries as there may be, and one more, and reads nothing.
+        // Begins as many live queries as it may, and one more, and reads nothing.
         7 => send(stream, 33, |at| {
             format!("{{\"id\":{at},\"watch\":{{\"query\":\"client{}>=0\"}}}}\n", at % GOOD)
         })?,
@@ -107,15 +107,15 @@ fn rest(time: Duration, is_over: &AtomicBool) {
     }
 }
 
-/// A client that does nothing all the time, and is answered at the end.
+/// A client that does nothing until the end, and is then answered.
 fn idle(server: &Server, is_over: &AtomicBool) {
     let mut client = server.patient_client();
     rest(TIME * 100, is_over);
     client.hello().unwrap();
 }
 
-/// Takes all passes that are left, and more, again and again. Each connection gets its answer, or `NoPass`. Returns how many got
-/// that.
+/// Takes all remaining passes, and more, again and again. Each connection gets its answer, or `NoPass`. Returns how many got
+/// `NoPass`.
 fn surplus(server: &Server, is_over: &AtomicBool) -> u64 {
     let mut refused = 0;
     while !is_over.load(Relaxed) {

@@ -1,4 +1,4 @@
-//! The disk gets full at any moment, while clients write to a store that is kept.
+//! The disk fills up at any moment, while clients write to a kept store.
 
 use crate::common::disk::Disk;
 use crate::common::writers::{check_history, Writers};
@@ -10,7 +10,7 @@ use std::process::Stdio;
 use std::sync::atomic::{AtomicU64, AtomicUsize, Ordering::Relaxed};
 use std::thread;
 
-/// How many KiB are left on the disk when the writers begin, in each run.
+/// How many KiB are free on the disk when the writers begin, in each run.
 const LEFT: [u64; 20] = [
     0, 4, 8, 12, 16, 24, 32, 40, 48, 64, 80, 96, 128, 160, 192, 256, 320, 384, 512, 768,
 ];
@@ -78,7 +78,7 @@ impl<'a> Kept<'a> {
         let server = match (self.start(), self.disk) {
             (Some(server), _) => server,
             (None, Disk::Mounted { .. }) => panic!("run {number}: the file can't be opened on a full disk"),
-            // What isn't a full disk is an error.
+            // Anything but a full disk is an error.
             (None, Disk::Limited { .. }) => return,
         };
         let mut client = server.client();
@@ -138,7 +138,7 @@ fn compact(client: &mut Client) -> u64 {
     }
 }
 
-/// A run: the disk gets full, and again after a start that may have had room for the state.
+/// A run: the disk fills up, and again after a start that may have had room for the state.
 fn run(disk: &Disk, number: usize, tally: &Tally) {
     let kept = Kept::new(disk, tally);
     disk.resize(disk.used() + LEFT[number]);
@@ -182,7 +182,7 @@ fn answered_writes_outlive_a_file_that_may_not_grow() {
     run_all("a file that may not grow", disks);
 }
 
-/// A disk of a test that needs one, or a line that says that there is none.
+/// A disk for a test that needs one, or a line that says that there is none.
 fn disk_of(what: &str) -> Option<Disk> {
     let disk = Disk::mounted();
     if disk.is_none() {
@@ -201,10 +201,7 @@ fn set_count(client: &mut Client, count: u64) -> Result<(), Error> {
 
 #[test]
 fn a_server_waits_for_room_on_its_disk() {
-    let disk = match disk_of("a disk with little room") {
-        Some(disk) => disk,
-        None => return,
-    };
+    let disk = present!(disk_of("a disk with little room"));
     let folder = Folder::new();
     let server = start(&disk, &folder, &[]).unwrap();
     let mut client = server.client();
@@ -218,7 +215,7 @@ fn a_server_waits_for_room_on_its_disk() {
         assert!(refused.to_string().contains("nothing was written"), "{refused}");
         let trouble = client.status().unwrap().trouble.unwrap();
         assert!(trouble.contains("900 KiB free"), "{trouble}");
-        // Nobody reads what was refused, and the next write is kept once there is room.
+        // Nobody can read what was refused, and the next write is kept once there is room.
         assert_eq!(count_of(&mut server.client()), Some(count - 1));
         disk.resize(LARGE);
         set_count(&mut client, count).unwrap();
@@ -232,17 +229,14 @@ fn a_server_waits_for_room_on_its_disk() {
 
 #[test]
 fn status_says_that_a_commit_has_failed_that_nobody_waited_for() {
-    let disk = match disk_of("a disk without room for what is written later") {
-        Some(disk) => disk,
-        None => return,
-    };
+    let disk = present!(disk_of("a disk without room for what is written later"));
     let folder = Folder::new();
     let server = start(&disk, &folder, &["--spare", "0", "--every", "5"]).unwrap();
     let mut client = server.client();
     client.apply(Batch::new().new_node().set(1, "count", 1_u64)).unwrap();
     client.call::<Nothing>(Command::Flush(Nothing {})).unwrap();
     disk.resize(disk.used());
-    // The commit of this write needs room in the file with -wal, and there is none.
+    // The commit of this write needs room in the -wal file, and there is none.
     set_count(&mut client, 2).unwrap();
     wait_until("status has the failed commit", || {
         let trouble = server.client().status().unwrap().trouble;
@@ -255,10 +249,7 @@ fn status_says_that_a_commit_has_failed_that_nobody_waited_for() {
 
 #[test]
 fn a_write_that_could_not_be_kept_is_read_by_nobody() {
-    let disk = match disk_of("a disk without room") {
-        Some(disk) => disk,
-        None => return,
-    };
+    let disk = present!(disk_of("a disk without room"));
     let folder = Folder::new();
     let server = start(&disk, &folder, &["--spare", "0"]).unwrap();
     let (mut client, mut reading) = (server.client(), server.client());

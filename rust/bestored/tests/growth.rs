@@ -1,4 +1,4 @@
-//! The file and the memory of a server that writes for long: the state is written anew by itself, and the journal let go of.
+//! The file and the memory of a server that writes for a long time: it rewrites the state and frees the journal by itself.
 
 use crate::common::{wait_until, Folder, Server};
 use bestore::Batch;
@@ -12,11 +12,11 @@ const NODES: u64 = 64;
 /// How many times each of them is set: 32 MB in all.
 const ROUNDS: u64 = 2_000;
 
-/// How long the file may be: a state of some KiB, and the entries that it waits for, up to 1 MiB, beside what comes meanwhile.
+/// How long the file may be: a state of a few KiB, the entries after which it is written, up to 512 KiB, and what comes meanwhile.
 const MOST_BYTES: u64 = 6 << 20;
 
-/// How many KiB of memory the server may take more than at first: two stores of 1 MiB, with as much of entries, and what the writes
-/// that wait for the file take, up to 16 MiB.
+/// How many KiB of memory the server may take in addition to what it has at first: two stores of 1 MiB, the same again for entries,
+/// and up to 16 MiB for writes that wait for the file.
 const MOST_MEMORY: u64 = 24 << 10;
 
 fn start(folder: &Folder) -> Server {

@@ -86,7 +86,7 @@ fn a_watch_in_a_snapshot_goes_on_from_it() {
     assert!(watching.query("size>=5").unwrap().is_empty());
 }
 
-/// Takes a line of the watch into what was found.
+/// Applies a line of the watch to what was found.
 fn take_in(found: &mut BTreeSet<u64>, push: &Push) {
     for node in &push.removed {
         assert!(found.remove(node), "{push:?}");
@@ -108,7 +108,7 @@ fn ask(talk: &mut Talk, request: &str, found: &mut BTreeSet<u64>) -> serde_json:
     }
 }
 
-/// What was pushed before, and the refresh, lead to the snapshot, even if newer changes were pushed already.
+/// What was pushed before, together with the refresh, leads to the snapshot, even if newer changes were pushed already.
 #[test]
 fn a_refresh_leads_to_the_snapshot() {
     let (_folder, server) = start();
@@ -132,7 +132,7 @@ fn a_refresh_leads_to_the_snapshot() {
         std::thread::sleep(Duration::from_micros(200 * (round % 20)));
         let answer = ask(&mut talk, r#""query":{"query":"size>=5"}"#, &mut found);
         let mut refreshed = ask(&mut talk, r#""refresh":{"watch":1}"#, &mut found);
-        // What a round has found, and couldn't push while a reply was sent, comes first.
+        // What a round found but couldn't push, because a reply was being sent, comes first.
         while refreshed.get("more").is_some() {
             take_in(&mut found, &serde_json::from_value(refreshed).unwrap());
             refreshed = ask(&mut talk, r#""refresh":{"watch":1}"#, &mut found);
@@ -143,17 +143,17 @@ fn a_refresh_leads_to_the_snapshot() {
         assert_eq!(found, answer);
         ask(&mut talk, r#""unpin":{}"#, &mut found);
     }
-    // The watch goes on, up to what was written last.
+    // The watch continues, up to what was written last.
     wait_until("all is pushed", || {
         ask(&mut talk, r#""status":{}"#, &mut found);
         found.len() == 100
     });
 }
 
-/// How many nodes there are at first. Queries find most of them, so they are refreshed by what was written.
+/// How many nodes there are at first. Queries find most of them, so they are refreshed from what was written.
 const MANY: u64 = 300;
 
-/// Writes to nodes of a large answer: they come into it and leave it, are made and removed.
+/// Writes to nodes of a large answer: they join and leave it, and are made and removed.
 fn write_at_random(mut client: Client, seed: u64) {
     let mut random = Random::new(seed);
     for _ in 0..200 {
@@ -174,7 +174,7 @@ fn write_at_random(mut client: Client, seed: u64) {
     }
 }
 
-/// What is pushed of a large answer and what refreshes return lead to what the query finds, while other clients write.
+/// For a large answer, pushes and refreshes lead to what the query finds, while other clients write.
 #[test]
 fn a_large_answer_is_followed_while_clients_write() {
     let (_folder, server) = start();
@@ -261,7 +261,7 @@ fn a_connection_has_32_watches() {
     });
 }
 
-/// Adds up what is pushed, and compares it with the answer at the end. The client writes by itself meanwhile.
+/// Adds up what is pushed, and compares it with the answer at the end. Meanwhile the client itself writes.
 #[test]
 fn changes_add_up_to_the_answer_while_clients_write() {
     let (_folder, server) = start();
@@ -319,7 +319,7 @@ fn read_until_unwatched(talk: &mut Talk) -> (usize, usize) {
     }
 }
 
-/// A client that reads nothing gets fewer and larger pushes, and the others theirs in time.
+/// A client that reads nothing gets fewer and larger pushes, and the others get theirs in time.
 #[test]
 fn a_slow_reader_gets_changes_together() {
     let (_folder, server) = start();
@@ -361,10 +361,8 @@ fn a_slow_reader_gets_changes_together() {
 #[test]
 fn what_is_pushed_is_in_the_file() {
     let folder = Folder::in_memory();
-    let keep = folder.join("file");
-    let options = ["--keep", keep.to_str().unwrap()];
     for _ in 0..10 {
-        let server = Server::start(&folder, &options);
+        let server = Server::start_kept(&folder, &[]);
         let (mut watching, mut writing) = (server.client(), server.client());
         let nodes = writing.pin().unwrap().next - 1;
         let before = watching.watch(None).unwrap().commit;
@@ -379,7 +377,7 @@ fn what_is_pushed_is_in_the_file() {
         }
         let pushed = next(&mut watching).commit - before;
         server.kill();
-        let server = Server::start(&folder, &options);
+        let server = Server::start_kept(&folder, &[]);
         let found = server.client().pin().unwrap().next - 1;
         assert!(
             found >= nodes + pushed && found <= nodes + 20,
@@ -392,10 +390,10 @@ fn what_is_pushed_is_in_the_file() {
 const WATCHING: usize = 8;
 const WATCHES: usize = 32;
 
-/// How long a write may wait beside these: for one query, on a loaded machine.
+/// How long a write may wait because of these: for one query, on a busy machine.
 const SOON: Duration = Duration::from_millis(500);
 
-/// A query that looks at each name 32 times, and finds none.
+/// A query that looks at each name 32 times, and finds nothing.
 fn long_query() -> String {
     let patterns = (0..32).map(|at| format!("name==\"*{at}z*\""));
     patterns.collect::<Vec<_>>().join(" || ")
@@ -415,7 +413,7 @@ fn name_nodes(client: &mut Client) {
     }
 }
 
-/// A round of all live queries takes seconds, and a snapshot that it kept would have the pages that writes need.
+/// A round of all live queries takes seconds, and a snapshot kept for so long would hold the pages that writes need.
 #[test]
 fn no_write_waits_for_a_round_of_live_queries() {
     let folder = Folder::new();
@@ -433,7 +431,7 @@ fn no_write_waits_for_a_round_of_live_queries() {
         let waited = begin.elapsed();
         assert!(waited < SOON, "write {count} waited for {waited:?}");
     }
-    // All are asked meanwhile: what changes is pushed.
+    // All of them are still asked: what changes is pushed.
     client.apply(Batch::new().set(1, "name", "7z")).unwrap();
     for client in &mut watching {
         let mut found = BTreeSet::new();

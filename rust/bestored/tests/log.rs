@@ -19,20 +19,20 @@ use std::time::{Duration, Instant};
 /// How often a leader is killed. `BESTORED_LOG_KILLS` has another number.
 const KILLS: u64 = 50;
 
-/// After how long at most no further leader is killed.
+/// The time after which no further leader is killed.
 const TIME: Duration = Duration::from_secs(40);
 
 /// How many µs a leader lives at most after the first write.
 const LIFE: u64 = 60_000;
 
-/// How soon a leader writes again once its database replies.
+/// How soon a leader writes again after its database replies.
 pub const SOON: Duration = Duration::from_secs(15);
 
 /// The session of the leader in the database.
 pub const OF_LEADER: &str = "FROM pg_locks JOIN pg_database ON database = pg_database.oid \
                          WHERE locktype = 'advisory' AND datname = current_database()";
 
-/// A database, or a line that says that there is none.
+/// A database, or a line saying that there is none.
 fn database_of(server: Option<Arc<Postgres>>) -> Option<Database> {
     if server.is_none() {
         println!("a log in PostgreSQL: skipped, it isn't installed");
@@ -44,7 +44,7 @@ pub fn database() -> Option<Database> {
     database_of(Postgres::shared())
 }
 
-/// A server of the log, in a folder of its own.
+/// A server with the log, in a folder of its own.
 pub struct Member {
     folder: Folder,
     pub server: Server,
@@ -155,10 +155,7 @@ fn set_count(count: u64) -> Batch {
 
 #[test]
 fn leaders_are_killed_and_no_answered_write_is_lost() {
-    let database = match database() {
-        Some(database) => database,
-        None => return,
-    };
+    let database = present!(database());
     let kills = std::env::var("BESTORED_LOG_KILLS")
         .ok()
         .and_then(|text| text.parse().ok());
@@ -187,7 +184,7 @@ fn leaders_are_killed_and_no_answered_write_is_lost() {
     writers.go_on(&mut members[leader].client());
     check_all_alike(&members, leader);
     check_history(&mut members[leader].client());
-    // Each entry is there once, and those of a term come before those of the next one.
+    // Each entry is there once, and a term's entries come before those of the next term.
     let found = database.sql(
         "SELECT count(*) = last, min(number) = 1, max(number) = last FROM bestore_entry, bestore_log GROUP BY last;",
     );
@@ -203,10 +200,7 @@ fn leaders_are_killed_and_no_answered_write_is_lost() {
 
 #[test]
 fn followers_refuse_writes_and_wait_for_entries() {
-    let database = match database() {
-        Some(database) => database,
-        None => return,
-    };
+    let database = present!(database());
     let members = [Member::start(&database, "--log"), {
         wait_until("there is a log", || {
             database.sql("SELECT to_regclass('bestore_log') IS NOT NULL") == "t"
@@ -236,7 +230,7 @@ fn followers_refuse_writes_and_wait_for_entries() {
         .call::<Nothing>(Command::Compact(Nothing {}))
         .unwrap_err()
         .is(ErrorName::NotLeader));
-    // What is waited for is seen.
+    // What a client waits for is visible.
     for count in 1..=50 {
         let written = leader.apply(&set_count(count)).unwrap();
         let status = follower.wait_for_entry(count + 1, Duration::from_secs(60)).unwrap();
@@ -244,7 +238,7 @@ fn followers_refuse_writes_and_wait_for_entries() {
         let found = follower.get(1, "count").unwrap().and_then(|value| value.as_u64());
         assert!(found >= Some(count));
     }
-    // What doesn't come is waited for so long, and not while a snapshot is kept.
+    // Waiting for what doesn't come takes this long, and keeps no snapshot meanwhile.
     let late = follower.wait_for_entry(99, Duration::from_millis(20)).unwrap_err();
     let details = &late.refusal().unwrap().details;
     assert!(
@@ -266,7 +260,7 @@ fn followers_refuse_writes_and_wait_for_entries() {
     follower.watch(None).unwrap();
     leader.apply(&set_count(51)).unwrap();
     assert!(follower.next_push(Duration::from_secs(60)).unwrap().is_some());
-    // The leader's regular end gives the lead on.
+    // When the leader ends regularly, it hands over the lead.
     assert!(members[0].server.end_by("TERM").success(), "{}", members[0].said());
     wait_until("the follower leads", || members[1].leads());
     follower.apply(&set_count(52)).unwrap();
@@ -275,10 +269,7 @@ fn followers_refuse_writes_and_wait_for_entries() {
 
 #[test]
 fn a_follower_lives_on_beside_a_client_that_reads_nothing() {
-    let database = match database() {
-        Some(database) => database,
-        None => return,
-    };
+    let database = present!(database());
     let leader = Member::start(&database, "--log");
     let mut client = leader.client();
     slow::begin(&leader.server);
@@ -288,7 +279,7 @@ fn a_follower_lives_on_beside_a_client_that_reads_nothing() {
     let mut talk = slow::pinned(&follower.server);
     let mut batch = Batch::new();
     batch.set(1, "text0", 0_u64);
-    // The follower's pages are all used before the last of these.
+    // All pages of the follower are used before the last of these.
     for _ in 0..300 {
         client.apply(&batch).unwrap();
     }
@@ -298,16 +289,13 @@ fn a_follower_lives_on_beside_a_client_that_reads_nothing() {
 
 #[test]
 fn a_wrong_outcome_is_named_with_its_entry() {
-    let database = match database() {
-        Some(database) => database,
-        None => return,
-    };
+    let database = present!(database());
     let leader = Member::start(&database, "--log");
     let mut client = leader.client();
     for _ in 0..8 {
         client.apply(Batch::new().new_node()).unwrap();
     }
-    // One that follows already, and is stopped meanwhile, and ones that start.
+    // One that already follows, and is stopped meanwhile, and ones that start.
     let follower = Member::start(&database, "--follow");
     follower.client().wait_for_entry(8, Duration::from_secs(60)).unwrap();
     follower.server.stop();
@@ -321,7 +309,7 @@ fn a_wrong_outcome_is_named_with_its_entry() {
     assert!(said.contains(why), "{said}");
     let said = Member::start(&database, "--follow").end();
     assert!(said.contains(why), "{said}");
-    // Bytes that are no batch, an entry that the store refuses, and one that is missing.
+    // Bytes that aren't a batch, an entry that the store refuses, and one that is missing.
     for (change, why) in [
         (
             "UPDATE bestore_entry SET batch = 'BEC' WHERE number = 5",
@@ -355,7 +343,7 @@ fn a_leader_that_was_away_adds_nothing() {
     }
 }
 
-/// Stops a leader while a client waits for a write, until another server has led, and perhaps was killed.
+/// Stops a leader while a client waits for a write, until another server has led and has perhaps been killed.
 fn leave_leader(database: &Database, is_next_one_killed: bool) {
     let old = Member::start(database, "--log");
     old.client()
@@ -397,7 +385,7 @@ fn leave_leader(database: &Database, is_next_one_killed: bool) {
     let found = new.client().get(1, "count").unwrap().and_then(|value| value.as_u64());
     assert_eq!(found, Some(2));
     if !is_next_one_killed {
-        // Who wants to lead a log that is led is refused.
+        // A server that wants to lead a log that is already led is refused.
         let said = Member::start_in(old.folder, database, "--log").end();
         assert!(said.contains("the log is led by "), "{said}");
     }
@@ -405,14 +393,11 @@ fn leave_leader(database: &Database, is_next_one_killed: bool) {
 
 #[test]
 fn a_leader_without_its_term_adds_nothing() {
-    let database = match database() {
-        Some(database) => database,
-        None => return,
-    };
+    let database = present!(database());
     let leader = Member::start(&database, "--log");
     let mut client = leader.client();
     client.apply(Batch::new().new_node().set(1, "count", 0_u64)).unwrap();
-    // Its session goes on, and has the lock.
+    // Its session continues, and has the lock.
     database.sql("UPDATE bestore_log SET term = term + 1, leader = 'another', run = 'another'");
     client.apply(&set_count(1)).unwrap_err();
     let said = leader.end();
@@ -423,10 +408,7 @@ fn a_leader_without_its_term_adds_nothing() {
 
 #[test]
 fn a_request_or_a_reply_of_the_database_is_lost() {
-    let database = match database() {
-        Some(database) => database,
-        None => return,
-    };
+    let database = present!(database());
     let proxy = Proxy::start(database.postgres.port);
     let leader = Member::start_at(Folder::in_memory(), &database.url_at(proxy.port), "--log");
     let mut client = leader.client();
@@ -447,10 +429,7 @@ fn a_request_or_a_reply_of_the_database_is_lost() {
 
 #[test]
 fn live_queries_get_what_was_written_while_the_log_could_not_be() {
-    let database = match database() {
-        Some(database) => database,
-        None => return,
-    };
+    let database = present!(database());
     let proxy = Proxy::start(database.postgres.port);
     let leader = Member::start_at(Folder::in_memory(), &database.url_at(proxy.port), "--log");
     let (mut client, mut watching) = (leader.client(), leader.client());
@@ -462,7 +441,7 @@ fn live_queries_get_what_was_written_while_the_log_could_not_be() {
         let writing = thread::spawn(move || {
             let refused = client.apply(Batch::new().new_node()).unwrap_err();
             assert!(refused.is(ErrorName::NotSaved), "{refused}");
-            // The live queries are asked, and wait for the log no longer.
+            // The live queries are asked, and no longer wait for the log.
             thread::sleep(Duration::from_millis(300));
             client
         });
@@ -488,10 +467,7 @@ fn live_queries_get_what_was_written_while_the_log_could_not_be() {
 
 #[test]
 fn the_database_is_started_again_while_clients_write() {
-    let database = match database_of(Postgres::start()) {
-        Some(database) => database,
-        None => return,
-    };
+    let database = present!(database_of(Postgres::start()));
     let mut members = vec![Member::start(&database, "--log")];
     let writers = Writers::default();
     writers.begin(&mut members[0].client(), 0);
@@ -505,11 +481,11 @@ fn the_database_is_started_again_while_clients_write() {
             thread::sleep(Duration::from_millis(300));
             let mut client = members[0].client();
             wait_until("the trouble is known", || client.log().unwrap().trouble.is_some());
-            // Reads go on, of leaders and followers.
+            // Reads from leaders and followers continue.
             client.get(1, "count").unwrap().unwrap();
             members[1].client().get(1, "count").unwrap().unwrap();
             database.postgres.begin();
-            // The writes that waited are answered, and others.
+            // The waiting writes are answered, and so are others.
             writers.wait_for(32);
             members[0].server.kill();
         });
@@ -555,10 +531,7 @@ fn lead_through_a_hang(database: &Database, hang: impl FnOnce(), go_on: impl FnO
 
 #[test]
 fn a_leader_whose_session_hangs_leads_on() {
-    let database = match database() {
-        Some(database) => database,
-        None => return,
-    };
+    let database = present!(database());
     let session = RefCell::default();
     let hang = || {
         wait_until("the session is stopped between two statements", || {
@@ -577,10 +550,7 @@ fn a_leader_whose_session_hangs_leads_on() {
 
 #[test]
 fn a_leader_whose_standby_was_away_leads_on() {
-    let database = match database_of(Postgres::start()) {
-        Some(database) => database,
-        None => return,
-    };
+    let database = present!(database_of(Postgres::start()));
     let set = |setting: &str| {
         database.sql(&format!("ALTER SYSTEM {setting}"));
         database.sql("SELECT pg_reload_conf()");
@@ -589,15 +559,18 @@ fn a_leader_whose_standby_was_away_leads_on() {
     lead_through_a_hang(&database, hang, || set("RESET synchronous_standby_names"));
 }
 
+/// A leader with the nodes of writers, and this many others.
+fn leader_with_writers(database: &Database, others: u64) -> (Member, Writers) {
+    let leader = Member::start(database, "--log");
+    let writers = Writers::default();
+    writers.begin(&mut leader.client(), others);
+    (leader, writers)
+}
+
 #[test]
 fn a_full_disk_of_the_database_stops_writes_until_there_is_room() {
-    let database = match database() {
-        Some(database) => database,
-        None => return,
-    };
-    let leader = Member::start(&database, "--log");
-    let writers = Writers::default();
-    writers.begin(&mut leader.client(), 0);
+    let database = present!(database());
+    let (leader, writers) = leader_with_writers(&database, 0);
     let follower = Member::start(&database, "--follow");
     follower.client();
     let fail = "CREATE FUNCTION fail() RETURNS trigger LANGUAGE plpgsql AS $$ BEGIN \
@@ -621,7 +594,7 @@ fn a_full_disk_of_the_database_stops_writes_until_there_is_room() {
     assert!(client.apply(&set_count(0)).unwrap_err().is(ErrorName::Stopped));
     client.get(1, "count").unwrap().unwrap();
     database.sql("DROP TRIGGER fail ON bestore_entry");
-    // What was written in memory gets into the log, and the leader goes on.
+    // What was written in memory gets into the log, and the leader continues.
     wait_until("the log is written", || client.log().unwrap().trouble.is_none());
     writers.go_on(&mut client);
     client.apply(Batch::new().new_node()).unwrap();
@@ -630,13 +603,8 @@ fn a_full_disk_of_the_database_stops_writes_until_there_is_room() {
 
 #[test]
 fn the_state_is_written_and_read() {
-    let database = match database() {
-        Some(database) => database,
-        None => return,
-    };
-    let leader = Member::start(&database, "--log");
-    let writers = Writers::default();
-    writers.begin(&mut leader.client(), 700);
+    let database = present!(database());
+    let (leader, writers) = leader_with_writers(&database, 700);
     let is_done = AtomicBool::new(false);
     writers.write(leader.server.socket(), || {
         writers.wait_for(8);
@@ -657,7 +625,7 @@ fn the_state_is_written_and_read() {
     let mut client = members[0].client();
     writers.go_on(&mut client);
     check_history(&mut client);
-    // A state that is wrong is named.
+    // A wrong state is named.
     database.sql("UPDATE bestore_state SET batch = 'BEC' WHERE place = 3");
     let said = Member::start(&database, "--follow").end();
     assert!(
@@ -674,10 +642,7 @@ fn the_state_is_written_and_read() {
 
 #[test]
 fn a_server_waits_for_its_database() {
-    let database = match database_of(Postgres::start()) {
-        Some(database) => database,
-        None => return,
-    };
+    let database = present!(database_of(Postgres::start()));
     database.postgres.end("INT");
     let [waiting, ended] = [(); 2].map(|()| {
         let member = Member::start(&database, "--log");
@@ -695,7 +660,7 @@ fn a_server_waits_for_its_database() {
         "{}",
         waiting.said()
     );
-    // What doesn't pass by itself is an error.
+    // A fault that doesn't go away by itself is an error.
     let url = database.url().replace("///test", "///none");
     let said = Member::start_at(Folder::in_memory(), &url, "--log").end();
     assert!(said.contains("does not exist (3D000)"), "{said}");
@@ -703,10 +668,7 @@ fn a_server_waits_for_its_database() {
 
 #[test]
 fn what_is_no_log_is_refused() {
-    let database = match database() {
-        Some(database) => database,
-        None => return,
-    };
+    let database = present!(database());
     let said = |how: &str| Member::start(&database, how).end();
     assert!(said("--follow").contains("the database has no log; --log makes one"));
     let member = Member::start(&database, "--log");
@@ -728,7 +690,7 @@ fn what_is_no_log_is_refused() {
         assert!(text.contains(why), "{text}");
     }
     database.sql("DROP TABLE bestore_log, bestore_state, bestore_entry");
-    // A follower whose log is replaced or goes back ends.
+    // A follower ends if its log is replaced or goes back.
     for (change, why) in [
         (
             "UPDATE bestore_log SET log = 'another'",

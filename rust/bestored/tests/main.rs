@@ -1,5 +1,15 @@
 //! The tests of the server. They are one program, so that it is linked once, and so that tests that wait run beside others.
 
+/// Takes what a test needs, or leaves the test: a line has already said what is missing.
+macro_rules! present {
+    ($needed:expr) => {
+        match $needed {
+            Some(needed) => needed,
+            None => return,
+        }
+    };
+}
+
 mod activity;
 mod alike;
 mod background;

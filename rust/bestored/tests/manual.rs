@@ -1,10 +1,11 @@
 //! The manual page has what the command line has.
 
-use std::path::PathBuf;
+use std::path::{Path, PathBuf};
 use std::process::Command;
 
-fn page() -> PathBuf {
-    PathBuf::from(concat!(env!("CARGO_MANIFEST_DIR"), "/../../docs/bestored.1"))
+/// The manual page of a program.
+fn page(program: &str) -> PathBuf {
+    Path::new(concat!(env!("CARGO_MANIFEST_DIR"), "/../../docs")).join(format!("{program}.1"))
 }
 
 #[test]
@@ -14,7 +15,7 @@ fn the_page_has_each_option() {
         .output()
         .unwrap();
     let help = String::from_utf8(output.stdout).unwrap();
-    let page = std::fs::read_to_string(page()).unwrap();
+    let page = std::fs::read_to_string(page("bestored")).unwrap();
     let lines = help.lines().filter_map(|line| line.trim_start().split_once("--"));
     let names: Vec<&str> = lines
         .filter(|(before, _)| before.is_empty() || before.starts_with('-'))
@@ -27,11 +28,13 @@ fn the_page_has_each_option() {
 }
 
 #[test]
-fn the_page_has_no_fault() {
-    let mut command = Command::new("mandoc");
-    command.args(["-T", "lint", "-W", "warning"]).arg(page());
-    match command.output() {
-        Ok(output) => assert!(output.status.success(), "{}", String::from_utf8_lossy(&output.stdout)),
-        Err(_) => println!("the page of bestored: skipped, there is no mandoc"),
+fn the_pages_of_the_server_and_its_tools_have_no_fault() {
+    for program in ["bestored", "be"] {
+        let mut command = Command::new("mandoc");
+        command.args(["-T", "lint", "-W", "warning"]).arg(page(program));
+        match command.output() {
+            Ok(output) => assert!(output.status.success(), "{}", String::from_utf8_lossy(&output.stdout)),
+            Err(_) => println!("the page of {program}: skipped, there is no mandoc"),
+        }
     }
 }

@@ -1,4 +1,4 @@
-//! The server under memcheck of valgrind: it reads and writes no memory that isn't its own, and loses none.
+//! The server under valgrind's memcheck: it reads and writes only its own memory, and leaks none.
 
 use crate::common::{command, Folder, Server};
 use std::path::Path;
@@ -13,7 +13,7 @@ const VALGRIND: [&str; 6] = [
     "--error-exitcode=9",
 ];
 
-/// Each command, and what its reply has.
+/// Each command, and what its reply contains.
 const REQUESTS: [(&str, &str); 20] = [
     (r#""hello":{"protocol":1}"#, r#""kept":"each""#),
     (
@@ -64,7 +64,7 @@ fn talk_of_all(server: &Server) {
     talk.check(set, r#""ok":{"commit":2,"nodes":[]}"#);
     assert_eq!(watching.line(), r#"{"watch":1,"commit":2,"created":[2],"removed":[]}"#);
     watching.check(r#""unwatch":{"watch":1}"#, r#""ok":{}"#);
-    // The connection ends with a live query, a snapshot, and half a line.
+    // The connection ends while it has a live query, a snapshot, and half a line.
     watching.check(r#""watch":{}"#, r#""ok":{"watch":2,"commit":2}"#);
     watching.check(r#""pin":{}"#, r#""ok":{"commit":2,"next":3}"#);
     watching.send(b"{\"id\":1,\"ge");

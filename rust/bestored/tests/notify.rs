@@ -1,4 +1,4 @@
-//! What a service manager gets to know, by a socket of the test in its place.
+//! What a service manager receives, with a socket of the test in its place.
 
 use crate::common::{command, Folder, Server, PATIENCE};
 use bestore_client::Client;

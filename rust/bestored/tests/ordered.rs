@@ -1,18 +1,14 @@
 //! Pages in the order of an index, any nodes, and pages that aren't counted.
 
-use crate::common::{Folder, Server, Talk};
+use crate::common::{start, Folder, Server, Talk};
 use bestore::{Batch, Kind, Value};
 use bestore_client::wire::{self, Command};
 use bestore_client::{Client, Query};
 
-fn start(options: &[&str]) -> (Folder, Server) {
-    let folder = Folder::new();
-    let server = Server::start(&folder, options);
-    (folder, server)
-}
-
 /// Indices `size` and `name`, and nodes 1 to 4 of the sizes 2, 1, 2 and none. The first two have names.
-fn four(talk: &mut Talk) {
+fn four() -> (Folder, Server, Talk) {
+    let (folder, server) = start(&[]);
+    let mut talk = server.talk();
     talk.check(
         concat!(
             r#""batch":{"operations":[["index","size","int64"],["index","name","text"],["new"],["set",1,"size",2],"#,
@@ -21,9 +17,10 @@ fn four(talk: &mut Talk) {
         ),
         r#""ok":{"commit":1,"nodes":[1,2,3,4]}"#,
     );
+    (folder, server, talk)
 }
 
-/// What the reply to a request has as its cursor.
+/// The cursor in the reply to a request.
 fn cursor_of(talk: &mut Talk, request: &str) -> String {
     let line = talk.ask(&format!("{{\"id\":1,{request}}}"));
     let reply: serde_json::Value = serde_json::from_str(&line).unwrap();
@@ -32,9 +29,7 @@ fn cursor_of(talk: &mut Talk, request: &str) -> String {
 
 #[test]
 fn pages_in_an_order() {
-    let (_folder, server) = start(&[]);
-    let mut talk = server.talk();
-    four(&mut talk);
+    let (_folder, _server, mut talk) = four();
     let one = cursor_of(&mut talk, r#""query":{"query":"size>0","by":"size","limit":1}"#);
     let all = cursor_of(&mut talk, r#""query":{"query":"size>0","by":"size"}"#);
     let down = cursor_of(
@@ -77,9 +72,7 @@ fn pages_in_an_order() {
 
 #[test]
 fn nodes_without_a_value_are_not_in_the_order() {
-    let (_folder, server) = start(&[]);
-    let mut talk = server.talk();
-    four(&mut talk);
+    let (_folder, server, mut talk) = four();
     assert_eq!(server.client().any("size>0", 2).unwrap().len(), 2);
     let by_size = server
         .client()
@@ -104,9 +97,7 @@ fn check_errors(talk: &mut Talk, errors: &[(&str, String)]) {
 
 #[test]
 fn what_a_page_can_not_be() {
-    let (_folder, server) = start(&[]);
-    let mut talk = server.talk();
-    four(&mut talk);
+    let (_folder, _server, mut talk) = four();
     let bad = |why: &str| format!(r#""name":"BadRequest","message":"{why}","class":"mine""#);
     let count = |name: &str, nodes: &str| bad(&format!("`{name}` is {nodes}, and a page has 1 to 50000 nodes"));
     let errors = [
@@ -137,9 +128,7 @@ fn what_a_page_can_not_be() {
 
 #[test]
 fn a_cursor_of_another_page_is_refused() {
-    let (_folder, server) = start(&[]);
-    let mut talk = server.talk();
-    four(&mut talk);
+    let (_folder, _server, mut talk) = four();
     let cursor = cursor_of(&mut talk, r#""query":{"query":"size>0","by":"size","limit":1}"#);
     let fault = |why: &str| format!(r#""name":"BadCursor","number":78,"message":"{why}","class":"mine""#);
     let other_order = |order: &str| {
@@ -168,28 +157,20 @@ fn a_cursor_of_another_page_is_refused() {
     talk.check(&other, &format!(r#""error":{{{}}}"#, fault(why)));
 }
 
-/// The same query may be written in another way.
+/// The same query may be written differently.
 #[test]
 fn a_cursor_of_an_index_that_was_made_anew() {
-    let (_folder, server) = start(&[]);
-    let mut talk = server.talk();
-    four(&mut talk);
+    let (_folder, server, mut talk) = four();
     let cursor = cursor_of(&mut talk, r#""query":{"query":"name==*","by":"size","limit":1}"#);
     let again = format!(r#""query":{{"query":"( name==\"*\" )","by":"size","after":"{cursor}","limit":1}}"#);
-    assert!(talk.ask(&format!("{{\"id\":1,{again}}}")).contains(r#""nodes":[1]"#));
+    talk.check_parts(&again, &[r#""nodes":[1]"#]);
     let mut client = server.client();
     client.apply(Batch::new().remove_index("size")).unwrap();
-    assert!(talk
-        .ask(&format!("{{\"id\":1,{again}}}"))
-        .contains(r#""missing":"size""#));
+    talk.check_parts(&again, &[r#""missing":"size""#]);
     client
         .apply(Batch::new().make_index("size", Kind::Uint32).set(3, "size", 7_u32))
         .unwrap();
-    let refused = talk.ask(&format!("{{\"id\":1,{again}}}"));
-    assert!(
-        refused.contains("BadCursor") && refused.contains("begin without a cursor"),
-        "{refused}"
-    );
+    talk.check_parts(&again, &["BadCursor", "begin without a cursor"]);
 }
 
 #[test]
@@ -202,12 +183,10 @@ fn the_server_says_that_it_orders() {
     assert!(has_all(&client) && !client.has("none"));
 }
 
-/// Pages of a snapshot that was taken back have an error, as other reads have it, and pages of a pinned one stay in it.
+/// Reading a page from a snapshot that was taken back is an error, as with other reads; pages from a pinned one stay in it.
 #[test]
 fn pages_are_of_the_pinned_snapshot() {
-    let (_folder, server) = start(&[]);
-    let mut talk = server.talk();
-    four(&mut talk);
+    let (_folder, server, _talk) = four();
     let (mut client, mut other) = (server.client(), server.client());
     let order = bestore::Order::by("size");
     client.pin().unwrap();
@@ -266,7 +245,7 @@ fn long_rows_end_a_page() {
     assert_eq!((any.more, any.nodes.len()), (true, any.rows.unwrap().len()));
 }
 
-/// The count of a page is that of the answer from its first node on, whatever the connection has asked before.
+/// A page's count is that of the answer from its first node on, whatever the connection has asked before.
 #[test]
 fn counts_of_pages() {
     let (_folder, server) = start(&[]);

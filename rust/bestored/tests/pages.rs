@@ -6,7 +6,7 @@ use bestore_client::wire::{Columns, ColumnsOf, Command, From, Journal, JournalFr
 use bestore_client::{Client, ErrorName, Query};
 use std::borrow::Cow;
 
-/// More than the nodes of one line.
+/// More nodes than fit on one line.
 const NODES: u64 = 60_000;
 
 fn start() -> (Folder, Server) {
@@ -122,7 +122,7 @@ fn long_rows_come_in_pages() {
     assert!((3..10).contains(&pages), "{pages} pages");
 }
 
-/// Carries the pinned snapshot to an empty store. Returns the index of the first batch of the last page.
+/// Copies the pinned snapshot to an empty store. Returns the index of the first batch of the last page.
 fn carry_state(from: &mut Client, to: &mut Client) -> u64 {
     let mut index = 0;
     loop {
@@ -142,7 +142,7 @@ fn carry_state(from: &mut Client, to: &mut Client) -> u64 {
     }
 }
 
-/// Makes each entry of the journal again in an empty store, and compares what comes of it.
+/// Repeats each entry of the journal in an empty store, and compares the result.
 fn carry_journal(from: &mut Client, to: &mut Client) {
     let mut index = 0;
     loop {

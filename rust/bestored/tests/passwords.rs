@@ -17,7 +17,7 @@ fn refusal(mut command: Command) -> String {
     String::from_utf8(output.stderr).unwrap()
 }
 
-/// A server of a log, which finds no password in its environment.
+/// A server with a log, which finds no password in its environment.
 fn server(folder: &Folder, url: &str, passfile: Option<&Path>) -> Command {
     let mut command = command(
         &folder.join("socket"),
@@ -42,10 +42,7 @@ fn write(folder: &Folder, text: &str, mode: u32) -> PathBuf {
 
 #[test]
 fn the_password_is_in_a_file() {
-    let database = match database() {
-        Some(database) => database,
-        None => return,
-    };
+    let database = present!(database());
     database.sql(&format!(
         "CREATE ROLE {ROLE} LOGIN PASSWORD 'a:b'; GRANT ALL ON SCHEMA public TO {ROLE}"
     ));

@@ -1,16 +1,12 @@
-//! Each command, and each way to ask for what can't be.
+//! Each command, and each way to ask for something impossible.
 
-use crate::common::{wait_until, Folder, Server, Talk};
+use crate::common::{start, wait_until, Folder, Server, Talk};
 use std::time::{Duration, Instant};
 
-fn start(options: &[&str]) -> (Folder, Server) {
-    let folder = Folder::new();
-    let server = Server::start(&folder, options);
-    (folder, server)
-}
-
 /// An index `size`, and nodes 1 to 3 of the sizes 1 to 3.
-fn three(talk: &mut Talk) {
+fn three(options: &[&str]) -> (Folder, Server, Talk) {
+    let (folder, server) = start(options);
+    let mut talk = server.talk();
     talk.check(
         concat!(
             r#""batch":{"operations":[["index","size","int64"],["new"],["set",1,"size",1],"#,
@@ -18,6 +14,7 @@ fn three(talk: &mut Talk) {
         ),
         r#""ok":{"commit":1,"nodes":[1,2,3]}"#,
     );
+    (folder, server, talk)
 }
 
 #[test]
@@ -114,12 +111,10 @@ const READS: &[(&str, &str)] = &[
     ),
 ];
 
-/// A query's text is read without the store, even when the client's snapshot can't be read any more.
+/// A query's text is parsed without the store, even when the client's snapshot can't be read any more.
 #[test]
 fn a_text_is_read_without_a_snapshot() {
-    let (_folder, server) = start(&["--hold", "1"]);
-    let mut talk = server.talk();
-    three(&mut talk);
+    let (_folder, _server, mut talk) = three(&["--hold", "1"]);
     talk.ask(r#"{"id":1,"pin":{}}"#);
     wait_until("the snapshot was taken back", || {
         talk.ask(r#"{"id":1,"next":{}}"#).contains("Expired")
@@ -132,9 +127,7 @@ fn a_text_is_read_without_a_snapshot() {
 
 #[test]
 fn reads() {
-    let (_folder, server) = start(&[]);
-    let mut talk = server.talk();
-    three(&mut talk);
+    let (_folder, _server, mut talk) = three(&[]);
     for (request, reply) in READS {
         talk.check(request, reply);
     }
@@ -220,9 +213,7 @@ const ERRORS: &[(&str, &str)] = &[
 
 #[test]
 fn errors_of_the_store() {
-    let (_folder, server) = start(&[]);
-    let mut talk = server.talk();
-    three(&mut talk);
+    let (_folder, _server, mut talk) = three(&[]);
     for (request, error) in ERRORS {
         let said = talk.ask(&format!("{{\"id\":1,{request}}}"));
         assert!(
@@ -234,9 +225,7 @@ fn errors_of_the_store() {
 
 #[test]
 fn conflicts_and_limits() {
-    let (_folder, server) = start(&["--commits", "3"]);
-    let mut talk = server.talk();
-    three(&mut talk);
+    let (_folder, _server, mut talk) = three(&["--commits", "3"]);
     talk.check(
         r#""batch":{"operations":[["new"]],"expected":7}"#,
         concat!(
@@ -294,7 +283,7 @@ fn what_is_no_request() {
     talk.check(r#""next":{}"#, r#""ok":{"commit":0,"next":1}"#);
 }
 
-/// Parameters that say something else than they seem to: what isn't right in them, and what would be.
+/// Parameters that don't mean what they seem to: what is wrong with them, and what would be right.
 #[test]
 fn no_parameter_is_read_loosely() {
     let (_folder, server) = start(&[]);
@@ -341,7 +330,7 @@ fn no_parameter_is_read_loosely() {
             "{line}: {said}"
         );
         assert!(error["message"].as_str().unwrap().contains(right), "{line}: {said}");
-        // Of a list the byte before it is named.
+        // For a list, the error names the byte before it.
         let begin = line.find(wrong).unwrap() as u64 - 1;
         let offset = error["offset"].as_u64().unwrap();
         assert!(
@@ -385,9 +374,8 @@ fn replies_come_in_the_order_of_requests() {
 
 #[test]
 fn a_snapshot_stays_as_it_is() {
-    let (_folder, server) = start(&[]);
-    let (mut talk, mut other) = (server.talk(), server.talk());
-    three(&mut talk);
+    let (_folder, server, mut talk) = three(&[]);
+    let mut other = server.talk();
     talk.check(r#""pin":{}"#, r#""ok":{"commit":1,"next":4}"#);
     other.check(
         r#""batch":{"operations":[["remove",3]]}"#,
@@ -413,9 +401,7 @@ fn a_snapshot_stays_as_it_is() {
 
 #[test]
 fn a_snapshot_that_is_kept_too_long_is_taken_back() {
-    let (_folder, server) = start(&["--hold", "1"]);
-    let mut talk = server.talk();
-    three(&mut talk);
+    let (_folder, server, mut talk) = three(&["--hold", "1"]);
     talk.check(r#""pin":{}"#, r#""ok":{"commit":1,"next":4}"#);
     wait_until("the snapshot is taken back", || {
         let status = server.talk().ask(r#"{"id":1,"status":{}}"#);
@@ -435,9 +421,7 @@ fn a_snapshot_that_is_kept_too_long_is_taken_back() {
 
 #[test]
 fn a_snapshot_is_taken_back_while_its_client_waits_for_a_commit() {
-    let (_folder, server) = start(&["--hold", "1"]);
-    let mut talk = server.talk();
-    three(&mut talk);
+    let (_folder, _server, mut talk) = three(&["--hold", "1"]);
     talk.check(r#""pin":{}"#, r#""ok":{"commit":1,"next":4}"#);
     let begin = Instant::now();
     talk.check(
@@ -447,7 +431,7 @@ fn a_snapshot_is_taken_back_while_its_client_waits_for_a_commit() {
     assert!(begin.elapsed() < Duration::from_secs(50), "{:?}", begin.elapsed());
     let said = talk.ask(r#"{"id":1,"nodes":{}}"#);
     assert!(said.starts_with(r#"{"id":1,"error":{"name":"Expired","#), "{said}");
-    // Without a snapshot all of the time is waited.
+    // Without a snapshot it waits for the whole time.
     let begin = Instant::now();
     let said = talk.ask(r#"{"id":1,"reach":{"commit":2,"within":1500}}"#);
     assert!(said.contains("NotReached"), "{said}");
@@ -456,9 +440,7 @@ fn a_snapshot_is_taken_back_while_its_client_waits_for_a_commit() {
 
 #[test]
 fn a_client_that_waits_for_a_commit_gives_pages_back_to_writes() {
-    let (_folder, server) = start(&["--pages", "64"]);
-    let mut talk = server.talk();
-    three(&mut talk);
+    let (_folder, server, mut talk) = three(&["--pages", "64"]);
     talk.check(r#""pin":{}"#, r#""ok":{"commit":1,"next":4}"#);
     talk.send(b"{\"id\":2,\"reach\":{\"commit\":99999999,\"within\":60000}}\n");
     let mut other = server.talk();
@@ -487,9 +469,7 @@ fn earlier_replies_come_while_a_commit_is_waited_for() {
 
 #[test]
 fn the_journal_and_the_state() {
-    let (_folder, server) = start(&[]);
-    let mut talk = server.talk();
-    three(&mut talk);
+    let (_folder, _server, mut talk) = three(&[]);
     talk.check(
         r#""batch":{"operations":[["remove",3],["new"],["unset",2,"size"]]}"#,
         r#""ok":{"commit":2,"nodes":[4]}"#,
@@ -522,9 +502,7 @@ fn the_journal_and_the_state() {
 
 #[test]
 fn a_copy_is_read_without_a_pin_and_keeps_no_pages() {
-    let (_folder, server) = start(&[]);
-    let mut talk = server.talk();
-    three(&mut talk);
+    let (_folder, server, mut talk) = three(&[]);
     talk.check(
         r#""state":{}"#,
         r#""error":{"name":"NotPinned","number":66,"message":"no snapshot is pinned; pin one before you read","class":"mine"}"#,
@@ -548,7 +526,7 @@ fn a_copy_is_read_without_a_pin_and_keeps_no_pages() {
         r#""state":{"from":99,"volume":1}"#,
         r#""error":{"name":"NoVolume","message":"there is no volume 1; there are 1, counted from 0","class":"mine","volume":1,"volumes":1}"#,
     );
-    // What is pinned goes before what was copied.
+    // A pinned snapshot comes before a copied one.
     talk.check(r#""pin":{}"#, r#""ok":{"commit":2,"next":4}"#);
     assert!(talk.ask(r#"{"id":1,"state":{}}"#).contains(r#""commit":2"#));
     talk.check(r#""unpin":{}"#, r#""ok":{}"#);
@@ -567,7 +545,7 @@ fn two_clients_read_copies_at_the_same_time() {
             r#"at the same time","class":"retry","most":2}"#
         ),
     );
-    // A client's second copy is in the place of its first one.
+    // A client's second copy replaces its first one.
     for (talk, reply) in [(0, copied), (1, copied), (1, copied), (2, refused)] {
         talks[talk].check(r#""collect":{}"#, reply);
     }

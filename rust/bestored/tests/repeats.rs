@@ -1,4 +1,4 @@
-//! Batches that clients send again by their tokens: each is written once, even if the server is killed.
+//! Batches that clients send again with their tokens: each is written once, even if the server is killed.
 
 use crate::common::{wait_until, Folder, Random, Server};
 use bestore::Batch;
@@ -10,7 +10,7 @@ use std::sync::atomic::{AtomicU64, Ordering::Relaxed};
 use std::thread;
 use std::time::Duration;
 
-/// How long a client sends a write again. The server is away for less.
+/// How long a client keeps sending a write again. The server is away for less time than that.
 const PATIENCE: Duration = Duration::from_secs(120);
 
 /// Clients, the batches of each, and how often their server is killed meanwhile.
@@ -56,11 +56,7 @@ fn a_batch_with_its_token_is_written_once() {
         .check(batch, r#""ok":{"commit":1,"nodes":[1],"repeated":true}"#);
     talk.check(r#""next":{}"#, r#""ok":{"commit":2,"next":4}"#);
     let long = format!(r#""batch":{{"operations":[["new"]],"token":"{}"}}"#, "a".repeat(65));
-    let said = talk.ask(&format!("{{\"id\":1,{long}}}"));
-    assert!(
-        said.contains("BadRequest") && said.contains("a token has 1 to 64 bytes; this one has 65"),
-        "{said}"
-    );
+    talk.check_parts(&long, &["BadRequest", "a token has 1 to 64 bytes; this one has 65"]);
 }
 
 #[test]
@@ -78,7 +74,7 @@ fn a_batch_that_was_refused_is_written_when_it_comes_again() {
     );
     let again = r#""batch":{"operations":[["set",1,"a",1]],"token":"a","expected":1}"#;
     talk.check(again, r#""ok":{"commit":2,"nodes":[]}"#);
-    // It is not the number of the journal any more, but it was.
+    // It isn't the journal's number any more, but it was.
     talk.check(again, r#""ok":{"commit":2,"nodes":[],"repeated":true}"#);
 }
 
@@ -100,10 +96,9 @@ fn numbers_of_another_run_are_refused() {
 #[test]
 fn tokens_are_of_the_whole_server_and_outlive_it() {
     let folder = Folder::new();
-    let keep = folder.join("kept");
-    let options = ["--volumes", "2", "--keep", keep.to_str().unwrap()];
+    let options = ["--volumes", "2"];
     let first = {
-        let server = Server::start(&folder, &options);
+        let server = Server::start_kept(&folder, &options);
         let mut client = server.client();
         let first = make(&mut client, "a").unwrap();
         let again = make(&mut client, "a").unwrap();
@@ -124,9 +119,9 @@ fn tokens_are_of_the_whole_server_and_outlive_it() {
         );
         first
     };
-    // The second time the file's entry is part of its state.
+    // The second time, the file's entry is part of its state.
     for _ in 0..2 {
-        let server = Server::start(&folder, &options);
+        let server = Server::start_kept(&folder, &options);
         let mut client = server.client();
         let again = make(&mut client, "a").unwrap();
         assert_eq!(
@@ -165,9 +160,8 @@ fn write(socket: &Path, writer: u64, written: &AtomicU64) {
 #[test]
 fn each_batch_is_written_once_although_the_server_is_killed() {
     let folder = Folder::in_memory();
-    let keep = folder.join("kept");
-    let options = ["--pages", "512", "--keep", keep.to_str().unwrap()];
-    let mut server = Server::start(&folder, &options);
+    let options = ["--pages", "512"];
+    let mut server = Server::start_kept(&folder, &options);
     server
         .client()
         .apply(Batch::new().make_index("made", bestore::Kind::Text))
@@ -187,7 +181,7 @@ fn each_batch_is_written_once_although_the_server_is_killed() {
             });
             thread::sleep(Duration::from_micros(random.below(LIFE)));
             server.kill();
-            server = Server::start(&folder, &options);
+            server = Server::start_kept(&folder, &options);
         }
         writers.into_iter().for_each(|writer| writer.join().unwrap());
     });
@@ -203,16 +197,14 @@ fn each_batch_is_written_once_although_the_server_is_killed() {
 #[test]
 fn a_client_that_would_lose_something_does_not_connect_again() {
     let folder = Folder::new();
-    let keep = folder.join("kept");
-    let options = ["--keep", keep.to_str().unwrap()];
-    let server = Server::start(&folder, &options);
+    let server = Server::start_kept(&folder, &[]);
     let mut repeating = Options::new();
     repeating.repeat(PATIENCE);
     let mut clients: Vec<_> = (0..3).map(|_| repeating.connect(server.socket()).unwrap()).collect();
     clients[0].pin().unwrap();
     clients[1].watch(None).unwrap();
     server.kill();
-    let _server = Server::start(&folder, &options);
+    let _server = Server::start_kept(&folder, &[]);
     let mut written = clients.iter_mut().map(|client| client.apply(Batch::new().new_node()));
     assert!(matches!(written.next(), Some(Err(Error::Closed))));
     assert!(matches!(written.next(), Some(Err(Error::Closed))));

@@ -1,6 +1,6 @@
 //! Clients that pin a snapshot, and then don't read their replies, or read them slowly.
 
-use crate::common::{wait_until, Folder, Server, Talk};
+use crate::common::{start, wait_until, Folder, Server, Talk};
 use bestore::Batch;
 use bestore_client::wire::Journal;
 use std::io::Read;
@@ -11,10 +11,10 @@ use std::time::{Duration, Instant};
 /// Few pages, so that writes soon need those of the snapshot.
 const PAGES: &str = "128";
 
-/// How long a write may wait: a snapshot that is waited for is taken back after one second, and a loaded machine takes its time.
+/// How long a write may wait: a snapshot that blocks writes is taken back after one second, and a busy machine takes its time.
 const MOST: Duration = Duration::from_secs(2);
 
-/// Entries whose texts are six times as long in JSON. A line has some ten of them.
+/// Entries whose texts are six times as long in JSON. A line has about ten of them.
 const ENTRIES: u64 = 16;
 
 /// Makes a node and a journal that doesn't fit between the server and a client that reads nothing.
@@ -30,7 +30,7 @@ pub fn begin(server: &Server) {
     }
 }
 
-/// A client that has pinned a snapshot, and doesn't read the long reply that comes then.
+/// A client that has pinned a snapshot, and doesn't read the long reply that comes next.
 pub fn pinned(server: &Server) -> Talk {
     let mut talk = server.talk();
     talk.send(b"{\"id\":1,\"pin\":{}}\n{\"id\":2,\"journal\":{}}\n");
@@ -40,7 +40,15 @@ pub fn pinned(server: &Server) -> Talk {
     talk
 }
 
-/// Writes until all pages have been used some times. No write is refused, or waits for long.
+/// Starts a server with a journal, and pins a snapshot.
+fn start_pinned(options: &[&str]) -> (Folder, Server, Talk) {
+    let (folder, server) = start(&[&["--pages", PAGES], options].concat());
+    begin(&server);
+    let talk = pinned(&server);
+    (folder, server, talk)
+}
+
+/// Writes until all pages have been used several times. No write is refused, or waits for long.
 fn write(server: &Server) {
     let mut client = server.client();
     for count in 0..400_u64 {
@@ -51,7 +59,7 @@ fn write(server: &Server) {
     }
 }
 
-/// Reads the replies to `pinned`, and checks that the client learns what has become of its snapshot.
+/// Reads the replies to `pinned`, and checks that they say what has become of its snapshot.
 pub fn check_replies(talk: &mut Talk) {
     assert_eq!(talk.line(), r#"{"id":1,"ok":{"commit":17,"next":2}}"#);
     let line: serde_json::Value = serde_json::from_str(&talk.line()).unwrap();
@@ -64,20 +72,14 @@ pub fn check_replies(talk: &mut Talk) {
 
 #[test]
 fn who_reads_nothing_gives_its_snapshot_back() {
-    let folder = Folder::new();
-    let server = Server::start(&folder, &["--pages", PAGES]);
-    begin(&server);
-    let mut talk = pinned(&server);
+    let (_folder, server, mut talk) = start_pinned(&[]);
     write(&server);
     check_replies(&mut talk);
 }
 
 #[test]
 fn a_snapshot_is_taken_back_after_its_time_though_its_client_reads_nothing() {
-    let folder = Folder::new();
-    let server = Server::start(&folder, &["--pages", PAGES, "--hold", "1"]);
-    begin(&server);
-    let mut talk = pinned(&server);
+    let (_folder, server, mut talk) = start_pinned(&["--hold", "1"]);
     let begin = Instant::now();
     wait_until("the snapshot is given back", || {
         assert!(begin.elapsed() < MOST + MOST);
@@ -88,10 +90,7 @@ fn a_snapshot_is_taken_back_after_its_time_though_its_client_reads_nothing() {
 
 #[test]
 fn who_reads_slowly_gives_its_snapshot_back() {
-    let folder = Folder::new();
-    let server = Server::start(&folder, &["--pages", PAGES]);
-    begin(&server);
-    let mut talk = pinned(&server);
+    let (_folder, server, mut talk) = start_pinned(&[]);
     let (mut stream, is_over) = (talk.stream.try_clone().unwrap(), &AtomicBool::new(false));
     thread::scope(|scope| {
         let reading = scope.spawn(move || {

@@ -12,11 +12,11 @@ use std::process::{Command, Output, Stdio};
 use std::thread;
 use std::time::{Duration, Instant};
 
-/// For how long the server answers at its end, and how many requests have arrived by then.
+/// For how long an ending server still answers, and how many requests have arrived by then.
 const LAST: Duration = Duration::from_secs(5);
 const SENT: u64 = 200;
 
-/// Runs the server to its end, which has to come by itself.
+/// Runs the server until it ends, which it has to do by itself.
 fn said(mut command: Command) -> Output {
     let mut child = command.stdout(Stdio::piped()).stderr(Stdio::piped()).spawn().unwrap();
     wait_until("the server ends", || child.try_wait().unwrap().is_some());
@@ -187,7 +187,7 @@ fn another_user_cant_connect() {
         String::from_utf8(output.stdout).unwrap() + &String::from_utf8(output.stderr).unwrap()
     };
     assert!(as_nobody().contains("Permission denied"), "{}", as_nobody());
-    // If the rights of the files were lost, the server still refuses.
+    // Even if the files' permissions were lost, the server still refuses.
     fs::set_permissions(folder.path(), Permissions::from_mode(0o755)).unwrap();
     fs::set_permissions(folder.join("socket"), Permissions::from_mode(0o777)).unwrap();
     assert!(as_nobody().contains("NotAllowed"), "{}", as_nobody());
@@ -225,7 +225,7 @@ fn systemd_passes_the_socket() {
     assert!(socket.exists());
 }
 
-/// What is said to a client for whom there is no place.
+/// The reply to a client for which there is no place.
 const NO_PLACE: &str = r#"{"id":null,"error":{"name":"NoPass","number":68,"message":"every place for a client is taken (2); try again once one is free","class":"full","clients":2}}"#;
 
 /// A server whose two places are taken.
@@ -270,7 +270,7 @@ fn a_visitor_is_answered_for_a_moment() {
     }
     assert_eq!(visitor.line(), NO_PLACE);
     assert_eq!(visitor.line(), "");
-    // Neither a snapshot nor a request again and again keeps the place.
+    // Neither a snapshot nor repeated requests keep the place.
     let mut pinned = visiting();
     pinned.check(r#""pin":{}"#, r#""ok":{"commit":0,"next":1}"#);
     assert_eq!(pinned.line(), NO_PLACE);
@@ -303,9 +303,7 @@ fn idle_clients_keep_no_visitor_out() {
 #[test]
 fn what_was_sent_before_the_end_is_answered() {
     let folder = Folder::in_memory();
-    let keep = folder.join("file");
-    let options = ["--keep", keep.to_str().unwrap()];
-    let server = Server::start(&folder, &options);
+    let server = Server::start_kept(&folder, &[]);
     let mut talk = server.talk();
     for id in 0..SENT {
         talk.send(format!("{{\"id\":{id},\"batch\":{{\"operations\":[[\"new\"]]}}}}\n").as_bytes());
@@ -315,11 +313,11 @@ fn what_was_sent_before_the_end_is_answered() {
     let is_in_time = begin.elapsed() < LAST;
     let mut replies = Vec::new();
     talk.stream.set_read_timeout(Some(PATIENCE)).unwrap();
-    // It is an error if requests were left, and the replies before it are read.
+    // If requests were left this is an error, but the replies before it are read.
     let _ = talk.stream.read_to_end(&mut replies);
     let answered = replies.iter().filter(|byte| **byte == b'\n').count() as u64;
     assert!(answered == SENT || !is_in_time, "{answered}");
-    let server = Server::start(&folder, &options);
+    let server = Server::start_kept(&folder, &[]);
     let made = server.client().pin().unwrap().next - 1;
     assert!(answered <= made && made <= SENT, "{answered} {made}");
 }

@@ -1,5 +1,6 @@
-//! What goes from one leader of a log to the next, and how a leader that is paused is replaced.
+//! What is passed from one leader of a log to the next, and how a paused leader is replaced.
 
+use crate::common::postgres::Database;
 use crate::common::wait_until;
 use crate::log::{database, Member, OF_LEADER, SOON};
 use crate::repeats::make;
@@ -7,12 +8,18 @@ use bestore::Batch;
 use bestore_client::wire::{Command, Nothing, Numbers, Token, Write, Written};
 use bestore_client::ErrorName;
 
+/// A leader with an entry, and a follower that has it too.
+fn leader_and_follower(database: &Database) -> (Member, Written, Member) {
+    let leader = Member::start(database, "--log");
+    let first = make(&mut leader.client(), "a").unwrap();
+    let follower = Member::start(database, "--follow");
+    follower.client().wait_for_entry(first.entry.unwrap(), SOON).unwrap();
+    (leader, first, follower)
+}
+
 #[test]
 fn a_token_goes_from_one_leader_to_the_next() {
-    let database = match database() {
-        Some(database) => database,
-        None => return,
-    };
+    let database = present!(database());
     let first = Member::start(&database, "--log");
     let mut client = first.client();
     let written = make(&mut client, "a").unwrap();
@@ -41,14 +48,8 @@ fn a_token_goes_from_one_leader_to_the_next() {
 
 #[test]
 fn a_leader_that_is_paused_is_replaced() {
-    let database = match database() {
-        Some(database) => database,
-        None => return,
-    };
-    let paused = Member::start(&database, "--log");
-    let first = make(&mut paused.client(), "a").unwrap();
-    let following = Member::start(&database, "--follow");
-    following.client().wait_for_entry(first.entry.unwrap(), SOON).unwrap();
+    let database = present!(database());
+    let (paused, _, following) = leader_and_follower(&database);
     paused.server.signal("STOP");
     wait_until("the other one leads", || following.leads());
     assert!(following
@@ -66,7 +67,7 @@ fn run_of(member: &Member) -> String {
     member.client().hello().unwrap().run
 }
 
-/// A batch that makes a node on the snapshot with this number in a run, with a token.
+/// A batch with a token that makes a node, on the snapshot with this number in a run.
 fn conditional(run: &str, expected: u64) -> Command<'static> {
     let mut batch = Batch::new();
     batch.new_node();
@@ -81,10 +82,7 @@ fn conditional(run: &str, expected: u64) -> Command<'static> {
 
 #[test]
 fn a_follower_does_not_know_that_a_batch_conflicts() {
-    let database = match database() {
-        Some(database) => database,
-        None => return,
-    };
+    let database = present!(database());
     let leader = Member::start(&database, "--log");
     let sent_before = conditional(&run_of(&leader), 0);
     let following = Member::start(&database, "--follow");
@@ -103,14 +101,8 @@ fn a_follower_does_not_know_that_a_batch_conflicts() {
 
 #[test]
 fn a_leader_that_was_replaced_does_not_know_that_a_batch_conflicts() {
-    let database = match database() {
-        Some(database) => database,
-        None => return,
-    };
-    let old = Member::start(&database, "--log");
-    let first = make(&mut old.client(), "a").unwrap();
-    let new = Member::start(&database, "--follow");
-    new.client().wait_for_entry(first.entry.unwrap(), SOON).unwrap();
+    let database = present!(database());
+    let (old, first, new) = leader_and_follower(&database);
     let mut waiting = old.client();
     waiting.hello().unwrap();
     old.server.stop();

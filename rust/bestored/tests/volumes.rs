@@ -1,18 +1,12 @@
 //! Servers with several volumes.
 
-use crate::common::{command, wait_until, Folder, Server, PATIENCE};
+use crate::common::{command, start, wait_until, Folder, Server, PATIENCE};
 use bestore::{Batch, Kind, Node, Order};
 use bestore_client::wire::{self, Command, Push};
 use bestore_client::{Client, ErrorName, Query};
 use std::collections::BTreeSet;
 use std::thread;
 use std::time::Duration;
-
-fn start(options: &[&str]) -> (Folder, Server) {
-    let folder = Folder::new();
-    let server = Server::start(&folder, options);
-    (folder, server)
-}
 
 /// A server with this many volumes and an index of sizes.
 fn sizes(volumes: &str) -> (Folder, Server) {
@@ -299,7 +293,7 @@ fn a_volume_without_an_index_is_named() {
     assert!(client.query("name==a").unwrap_err().is(ErrorName::NotCovered));
 }
 
-/// What is pushed, added up, is the answer of all volumes while several clients write.
+/// The pushes add up to the answer of all volumes, while several clients write.
 #[test]
 fn live_updates_come_from_all_volumes() {
     const WRITERS: u32 = 4;
@@ -419,7 +413,7 @@ fn a_killed_server_keeps_each_volume() {
     assert!(answered.iter().all(|count| *count > 0), "{answered:?}");
 }
 
-/// Counts in each node by a client of its own, from what was answered, until the server is killed.
+/// Counts in each node with a client of its own, starting from what was answered, until the server is killed.
 fn write_until_killed(server: &Server, nodes: &[u64], mut answered: [u64; 3]) -> [u64; 3] {
     thread::scope(|scope| {
         for (node, answered) in nodes.iter().zip(&mut answered) {
@@ -525,7 +519,7 @@ fn sixty_thousand_nodes_are_in_four_volumes() {
     assert_eq!(client.attributes(named[0]).unwrap().len(), 5);
 }
 
-/// Makes this volume's share of the nodes, some in each batch.
+/// Makes this volume's share of the nodes, several in each batch.
 fn fill(client: &mut Client, volume: u32, share: i64, each: i64) {
     for first in (0..share).step_by(each as usize) {
         let mut batch = Batch::new();

@@ -178,7 +178,7 @@ module _ (w : ℕ → ℕ → ℕ) (c : Contents) (volume : State) (name : List 
 
   module _ (op : Cmp) (literal : Literal) (low : List ℕ) (high : Option (List ℕ)) where
     -- the text of a key passes if the comparison is true of the key's node
-    passes_if : (k : List ℕ) (h : IsKey volume name k) → passes op literal k ≡ sat volume (Leaf name op literal) h.node
+    pub passes_if : (k : List ℕ) (h : IsKey volume name k) → passes op literal k ≡ sat volume (Leaf name op literal) h.node
     passes_if k h = passed volume sound name k h is_of_texts op literal (text_in k) (passes op literal k) refl (λ _. refl)
 
     pub passing_has : IsRising (pairs w (get_or c.entries i d).root) → (k : List ℕ) (h : IsKey volume name k) → Within low high k → sat volume (Leaf name op literal) h.node ≡ true

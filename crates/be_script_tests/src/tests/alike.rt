@@ -41,7 +41,10 @@ begin
 commit
 abort
 explain {query}
-query {query}";
+query {query}
+page by k limit 2 {query}
+page by k descending after LONG 5 6 limit 3 {query}
+page by a after CSTR x.c 4 limit 1 {query}";
 
 /// Lines with a node, a name and a value in place of these words.
 const LONG_LINES: &str = "new
@@ -90,7 +93,7 @@ impl Dice {
 
 fn short_line(alloc: Global, dice: &mut Dice) -> Result<String, AllocError> {
     let query = dice.one_of(QUERIES, 8);
-    let line = dice.one_of(SHORT_LINES, 14);
+    let line = dice.one_of(SHORT_LINES, 17);
     line.replace(alloc, "{query}", query)
 }
 

@@ -9,14 +9,14 @@ use std::{io, str};
 
 /// A script with every command.
 const SCRIPT: &str =
-    "new\nset 1 k LONG 5\nmkindex k LONG\nset 1 k LONG 6\nquery k==6\nexplain k==6\nget 1 k\nattrs \
-     1\nindices\npin\nlive k>4\n\
+    "new\nset 1 k LONG 5\nmkindex k LONG\nset 1 k LONG 6\nquery k==6\npage by k limit 1 \
+     k==6\nexplain k==6\nget 1 k\nattrs 1\nindices\npin\nlive k>4\n\
     begin\nset 1 \"n\" CSTR \"x\"\nunset 1 \
      k\ncommit\nrefresh\nunpin\nrefresh\nbegin\nabort\nrmindex k\ndrop 1\nsett\n";
 
 /// What it is answered.
-const REPLIES: &str =
-    "node 1\nok\nok\nok\nnodes 1\n\"k\"==\"6\" score 1\nLONG 6\nattrs 1\n\"k\" LONG 6\nindices \
+const REPLIES: &str = "node 1\nok\nok\nok\nnodes 1\nnodes 1\nend after LONG 6 \
+     1\n\"k\"==\"6\" score 1\nLONG 6\nattrs 1\n\"k\" LONG 6\nindices \
      1\n\"k\" LONG\npin 4\nok\n\
     ok\nqueued\nqueued\ncommit 5\nok\nok\ncreated 1\nremoved\nok\ncreated\nremoved \
      1\nok\nok\nok\nok\nbad line\n";

@@ -153,6 +153,8 @@ fn long_queries(rt: HostRuntime) -> Result<(), Fail> {
         query k==1{4092*␠} => nodes
         query k==1{4093*␠} => refused 14 TooLong
         explain {4097*(} => refused 14 TooLong
+        page by k limit 1 k==1{4092*␠} => nodes / end
+        page by k limit 1 k==1{4093*␠} => refused 14 TooLong
         query {64*(}k==1{64*)} => nodes
         query {32*(}{33*!}a==1 => refused 15 TooDeep
         query {65*(} => refused 15 TooDeep

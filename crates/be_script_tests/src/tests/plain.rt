@@ -1,14 +1,21 @@
 //! A volume with its journal on one thread, as another server of scripts.
 ghost use Rattle.std.specs.Prelude.{◌≡◌, ◌≤◌, ◌<◌, ◌^◌, OnOk, IfErr, IsSome, true, length};
 ghost use Rattle.std.specs.Prelude.{unwrap_or};
+ghost use Rattle.be_value.specs.Refusal.{Answers};
 ghost use Rattle.be_value.specs.declared.refusals.Refusal.TheVariants.{OutOfMemory};
+ghost use Rattle.be_script_language.specs.Page.{page_found};
+ghost use Rattle.be_script_runner.specs.Pages.{last_pair, page_read};
+ghost use Rattle.be_script_runner.specs.Pages as spec;
+ghost use Rattle.be_order.specs.Ordered.{cursor_bytes};
 ghost use Rattle.be_script_runner.specs.Store.{start, viewed, MayWrite};
 
 use arrayvec::ArrayVec;
 use be_journal::Journal;
 use be_journal_text::volume_text;
+use be_order::{Order, ordered_into};
 use be_plan::{Cover, choose_from, volume_source};
 use be_query::Query;
+use be_script_language::{Page, Paging};
 use be_script_runner::Server;
 use be_value::{Kind, Name, Refusal, Value};
 use be_volume::{Done, Op, Volume};
@@ -105,6 +112,48 @@ fn keep(is_pinned: bool, kept: &mut Option<Volume>, volume: &Volume) -> Result<(
     Ok(())
 }
 
+/// The value of the last of some nodes, and its number.
+fn last_in(volume: &Volume, by: &Name, nodes: &[u64]) -> Option<(Value, u64)>
+    ensures { result ≡ last_pair volume.now by.now nodes.now }
+{
+    let node = *nodes.last()?;
+    let value = volume.get(node, by)?;
+    Some((value, node))
+}
+
+/// The page after a key: the whole answer is sorted.
+fn page_after(
+    alloc: Global,
+    volume: &Volume,
+    query: &Query,
+    paging: &Paging,
+    cursor: Option<ArrayVec<u8, 264>>,
+) -> Result<Page, Refusal>
+    ensures { Answers page_found result (spec.page_after volume.now paging.now
+        (cursor_bytes cursor) query.now) }
+{
+    let order = Order {
+        by: &paging.by,
+        descending: paging.descending,
+        most: paging.most as usize,
+    };
+    let mut source = volume_source(volume);
+    let mut cursor = cursor;
+    let mut nodes = Vec::new(alloc);
+    let more = ordered_into(alloc, query, &mut source, order, &mut cursor, &mut nodes)?;
+    let last = last_in(volume, &paging.by, nodes.as_slice());
+    Ok(Page { nodes, more, last })
+}
+
+/// The page that a line asks for.
+fn page_in(alloc: Global, volume: &Volume, query: &Query, paging: &Paging) -> Result<Page, Refusal>
+    ensures { Answers page_found result (page_read volume.now paging.now query.now) }
+{
+    let kind = volume.kind_of(&paging.by);
+    let cursor = paging.cursor(kind)?;
+    page_after(alloc, volume, query, paging, cursor)
+}
+
 impl Server for PlainStore {
     ghost Kept = { Unit {0} };
 
@@ -135,6 +184,10 @@ impl Server for PlainStore {
 
     fn query(&mut self, query: &Query) -> Result<Vec<u64>, Refusal> {
         self.viewed().query(query)
+    }
+
+    fn page(&mut self, query: Query, paging: &Paging) -> Result<Page, Refusal> {
+        page_in(self.alloc, self.viewed(), &query, paging)
     }
 
     fn explain(&mut self, query: &Query) -> Result<Cover, Refusal> {

@@ -67,7 +67,7 @@ const MOST: usize = 64;
 const VALUE: usize = 255;
 const NAME_LENGTH: usize = 63;
 
-/// How many bytes of a file are read to find its type.
+/// How many bytes to read from a file to find its type.
 const BEGIN: usize = 1 << 12;
 
 /// The attributes of a file, except for the folder that it is in.
@@ -82,12 +82,12 @@ pub struct Content {
 #[derive(Debug)]
 pub struct Reader {
     pub types: Types,
-    /// The kinds of the indices, by their names.
+    /// The kinds of the indices, by name.
     pub indices: BTreeMap<String, Kind>,
 }
 
 impl Reader {
-    /// The attributes of a file. Whatever can't be read is missing.
+    /// Reads the attributes of a file. Whatever can't be read is missing.
     pub fn content(&self, found: &Found) -> Content {
         let Found { path, stat } = found;
         let mut content = Content::default();
@@ -115,7 +115,7 @@ impl Reader {
         content
     }
 
-    /// The type of a file, and the attributes that it has if it is a mail.
+    /// Returns the type of a file, and the mail attributes if the file is a mail.
     fn mime(&self, path: &Path, stat: &Stat, name: &str) -> (String, Vec<(&'static str, Value)>) {
         if let Some(mime) = stat.form.mime() {
             return (mime.into(), Vec::new());
@@ -132,7 +132,7 @@ impl Reader {
         (mail::TYPE.into(), mail::attributes(&begin, side, name_in(path)))
     }
 
-    /// The type that the name gives. If it gives none or several, the content decides.
+    /// Returns the type that the name gives. If it gives none or several, the content decides.
     fn mime_of_file(&self, path: &Path, name: &str) -> &str {
         match self.types.of_name(name)[..] {
             [mime] => mime,
@@ -168,7 +168,7 @@ impl Reader {
         }
     }
 
-    /// An extended attribute as an attribute of the store, if it can be one.
+    /// Converts an extended attribute to an attribute of the store, if possible.
     fn extended(&self, path: &Path, full: &OsStr, name: &[u8]) -> Option<(String, Value)> {
         let name = std::str::from_utf8(name).ok()?;
         if OWN.contains(&name) || name.is_empty() || name.len() > NAME_LENGTH {
@@ -179,10 +179,13 @@ impl Reader {
         Some((name.into(), value))
     }
 
-    /// The bytes as a value: of the kind that the index of this name takes, otherwise a text, or raw if they aren't text.
+    /// Converts the bytes to a value: of the kind that the index of this name takes, otherwise a string, or raw if they aren't text.
     fn value_of(&self, name: &str, bytes: Vec<u8>) -> Option<Value> {
         let kind = self.indices.get(name).copied().unwrap_or(Kind::Text);
-        if let Some(value) = std::str::from_utf8(&bytes).ok().and_then(|text| number_of(kind, text)) {
+        if let Some(value) = std::str::from_utf8(&bytes)
+            .ok()
+            .and_then(|text| Value::integer(kind, text))
+        {
             return Some(value);
         }
         match String::from_utf8(bytes) {
@@ -194,18 +197,7 @@ impl Reader {
     }
 }
 
-/// The text as a number of this kind.
-fn number_of(kind: Kind, text: &str) -> Option<Value> {
-    match kind {
-        Kind::Int32 => text.parse::<i32>().ok().map(Value::from),
-        Kind::Int64 => text.parse::<i64>().ok().map(Value::from),
-        Kind::Uint32 => text.parse::<u32>().ok().map(Value::from),
-        Kind::Uint64 => text.parse::<u64>().ok().map(Value::from),
-        _ => None,
-    }
-}
-
-/// How many bytes of a list of names fit into a value, in whole names.
+/// Returns how many bytes from a list of names fit into a value, in whole names.
 pub fn whole_names(listed: &[u8]) -> usize {
     if listed.len() <= VALUE {
         return listed.len();
@@ -213,7 +205,7 @@ pub fn whole_names(listed: &[u8]) -> usize {
     listed[..=VALUE].iter().rposition(|byte| *byte == 0).unwrap_or(0)
 }
 
-/// The name of a file in its folder. That of the root of all files is `/`.
+/// Returns the name of a file in its folder. The name of the root of all files is `/`.
 pub fn name_in(path: &Path) -> &OsStr {
     path.file_name().unwrap_or(path.as_os_str())
 }
@@ -230,14 +222,14 @@ fn begin_of(path: &Path, most: usize) -> io::Result<Vec<u8>> {
     Ok(begin)
 }
 
-/// The bytes of an extended attribute with this value. Numbers become digits.
+/// Returns the bytes of an extended attribute with this value. Numbers become digits.
 pub fn bytes_of(value: &Value) -> Vec<u8> {
     value
         .as_bytes()
         .map_or_else(|| value.to_string().into_bytes(), <[u8]>::to_vec)
 }
 
-/// Whether the two are the same except for their kinds, which extended attributes don't have.
+/// Returns whether the two are the same except for their kinds, which extended attributes don't have.
 pub fn is_same(one: &Value, other: &Value) -> bool {
     one == other || bytes_of(one) == bytes_of(other)
 }

@@ -63,7 +63,7 @@ fn users(attributes: &BTreeMap<String, Value>) -> impl Iterator<Item = (&String,
     attributes.iter().filter(|(name, _)| !OWN.contains(&name.as_str()))
 }
 
-/// Writes the attributes that the file lacks, and returns how many, and what the file system then says about the file.
+/// Writes the attributes that the file lacks. Returns how many, and what the file system then says about the file.
 fn write_all(path: &Path, attributes: &BTreeMap<String, Value>) -> io::Result<(usize, Stat)> {
     let stat = Stat::from(&fs::symlink_metadata(path)?);
     if !matches!(stat.form, Form::File | Form::Folder) {

@@ -1,4 +1,4 @@
-//! `--follow`: writes what inotify(7) reports about the folder. If the server ends, waits for it.
+//! `--follow`: writes what inotify(7) reports about the folder. If the server ends, waits for it to come back.
 
 use super::known::Known;
 use super::summary::Summary;
@@ -16,22 +16,22 @@ use std::path::{Path, PathBuf};
 use std::thread;
 use std::time::{Duration, Instant};
 
-/// Changes that come in quick succession are written together, once this long has passed without another.
+/// Changes in quick succession are written together, once this much time has passed without another one.
 const QUIET: Duration = Duration::from_millis(60);
 
-/// But they wait no longer than this, so that files that are being written all the time are followed too.
+/// But they wait no longer than this, so files that are constantly being written are followed too.
 const LONGEST: Duration = Duration::from_millis(400);
 
 /// How long to wait, at most, for the second half of a move.
 const MOVE: Duration = Duration::from_millis(100);
 
-/// What the store has refused is tried again after the first of these pauses, which doubles up to the second one.
+/// What the store has refused is retried after the first of these pauses, which doubles up to the second one.
 const PAUSES: (Duration, Duration) = (Duration::from_secs(1), Duration::from_secs(300));
 
-/// If the server is gone, it is tried again after the first of these pauses, which doubles up to the second one.
+/// If the server is gone, connecting is retried after the first of these pauses, which doubles up to the second one.
 const AWAY: (Duration, Duration) = (Duration::from_millis(100), Duration::from_secs(5));
 
-/// How many bytes of events are read at a time.
+/// How many bytes of events to read at a time.
 const EVENTS: usize = 1 << 16;
 
 /// The folders that are watched.
@@ -50,9 +50,9 @@ struct Dirty {
     lost: bool,
     /// The folder itself is gone.
     gone: bool,
-    /// Moves of which only the first half has come.
+    /// Moves whose second half hasn't come yet.
     moves: Vec<u32>,
-    /// The server has sent something that nobody asked for, or has closed the connection.
+    /// The server has sent something unrequested, or has closed the connection.
     is_server_heard: bool,
 }
 
@@ -71,7 +71,7 @@ impl Again {
         }
     }
 
-    /// The whole folder was read.
+    /// Records that the whole folder was read.
     fn scanned(&mut self, is_refused: bool) {
         self.due = is_refused.then(|| Instant::now() + self.pause);
         self.pause = match is_refused {
@@ -80,14 +80,14 @@ impl Again {
         };
     }
 
-    /// Some files were read.
+    /// Records that some files were read.
     fn stepped(&mut self, is_refused: bool) {
         if is_refused && self.due.is_none() {
             self.due = Some(Instant::now() + self.pause);
         }
     }
 
-    /// How long it is until then, if something was refused.
+    /// Returns how long it is until the next try, if something was refused.
     fn left(&self) -> Option<Duration> {
         self.due.map(|due| due.saturating_duration_since(Instant::now()))
     }
@@ -107,7 +107,7 @@ struct Seen {
 }
 
 impl Seen {
-    /// Whether the path was read along with a folder above it. To be called for paths in order.
+    /// Returns whether the path was read along with a folder above it. It has to be called for paths in order.
     fn has(&self, path: &Path) -> bool {
         self.below.as_ref().map_or(false, |folder| path.starts_with(folder))
     }
@@ -123,7 +123,7 @@ impl Watches {
         })
     }
 
-    /// Watches a folder. One that is gone, or can't be read, isn't watched.
+    /// Watches a folder. A folder that is gone or can't be read isn't watched.
     pub fn add(&mut self, folder: &Path) -> Result<(), Failure> {
         let mask = WatchMask::CREATE
             | WatchMask::DELETE
@@ -183,7 +183,7 @@ impl Watches {
         count > 0 && polled[1].revents != 0
     }
 
-    /// Reads events. Returns whether there were some.
+    /// Reads events. Returns whether there were any.
     fn read(&mut self, room: &mut [u8], dirty: &mut Dirty) -> Result<bool, Failure> {
         let events = match self.inotify.read_events(room) {
             Ok(events) => events,
@@ -291,7 +291,7 @@ impl Import<'_> {
         Ok(summary)
     }
 
-    /// Scans the folder. If the server goes away meanwhile, waits for it and starts again.
+    /// Scans the folder. If the server ends meanwhile, waits for it and starts again.
     pub fn scan_until_done(
         &mut self,
         watches: &mut Watches,
@@ -305,7 +305,7 @@ impl Import<'_> {
         }
     }
 
-    /// Waits until the server is back, and reads what it has of the folder.
+    /// Waits until the server is back, and reads what it knows about the folder.
     fn connect_again(&mut self, failure: &Failure) -> Result<(), Failure> {
         complain(&format!("{failure}; waiting for the server"));
         let (mut pause, longest) = AWAY;
@@ -347,7 +347,7 @@ impl Import<'_> {
         }
     }
 
-    /// Looks at what is at a path now: a new folder is read as a whole.
+    /// Reads what is at a path now: a new folder is read as a whole.
     fn see(&mut self, path: PathBuf, is_named: bool, walk: &mut Walk<'_>, seen: &mut Seen) {
         let there = fs::symlink_metadata(&path);
         let is_folder = there.as_ref().map_or(false, fs::Metadata::is_dir);
@@ -365,14 +365,14 @@ impl Import<'_> {
         seen.below = Some(path);
     }
 
-    /// Whether the folder that is at this path is the one that was there.
+    /// Returns whether the folder at this path is the same folder as before.
     fn is_same_folder(&self, path: &Path, about: &fs::Metadata) -> bool {
         let known = self.tree.files.get(path).and_then(|known| known.identity());
         about.is_dir() && known == Some(super::stat::Stat::from(about).identity)
     }
 }
 
-/// Why no more folders can be watched, in words.
+/// Returns why no more folders can be watched, in words.
 pub fn shown(folder: &Path, error: &io::Error) -> String {
     let folder = crate::text::escaped(&folder.to_string_lossy());
     match error.raw_os_error() {

@@ -13,13 +13,13 @@ const HEAD: &[u8] = b"MIME-Magic\0\n";
 /// According to the specification, a file without control characters in its first bytes, this many, is text.
 const TEXT: usize = 128;
 
-/// The maximum number of steps from a type to one above it. More would be a ring.
+/// The maximum number of steps from a type to one above it. More would be a cycle.
 const STEPS: usize = 16;
 
 /// The type above all texts.
 const PLAIN: &str = "text/plain";
 
-/// A line of the file: bytes that the content has from one of these places on.
+/// A line of the file: bytes that the content has at one of these places.
 #[derive(Debug)]
 struct Line {
     /// A line with a greater indent is a further condition of the last line before it with a smaller one.
@@ -43,7 +43,7 @@ pub struct Magic {
     parents: HashMap<String, Vec<String>>,
 }
 
-/// How well a file's content fits a type: by the priority of the matching section, and then by how few steps it takes from the type to
+/// How well a file's content fits a type: first by the priority of the matching section, then by the number of steps from the type to
 /// the one with that section. `Other` means that no section says anything about it.
 #[derive(Clone, Copy, Debug, PartialEq, Eq, PartialOrd, Ord)]
 enum Fit {

@@ -137,7 +137,8 @@ impl<'a> Import<'a> {
         Ok(summary)
     }
 
-    /// Asks the store again what it has of the folder, and scans that: after a refusal it may have less than is known here, or more.
+    /// Asks the store again what it knows about the folder, and scans that: after a refusal it may have less than is known here, or
+    /// more.
     fn scan_again(&mut self, watches: &mut Watches) -> Result<Summary, Failure> {
         self.missing = std::mem::take(&mut self.unremoved);
         let missing = self.missing.iter().map(|(_, known)| known.node).collect();

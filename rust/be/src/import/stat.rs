@@ -5,7 +5,7 @@ use std::fs::Metadata;
 use std::os::unix::fs::{FileTypeExt, MetadataExt};
 use std::time::{SystemTime, UNIX_EPOCH};
 
-/// What a file is.
+/// The type of a file.
 #[derive(Clone, Copy, Debug, PartialEq, Eq)]
 pub enum Form {
     File,
@@ -31,7 +31,7 @@ impl Form {
         }
     }
 
-    /// The MIME type that the Shared MIME-info specification gives to anything but a regular file.
+    /// Returns the MIME type that the Shared MIME-info specification gives to anything but a regular file.
     pub fn mime(self) -> Option<&'static str> {
         match self {
             Form::File => None,
@@ -56,7 +56,7 @@ pub struct Identity {
 }
 
 impl Identity {
-    /// The identity, from the text that [`Stat::text`] made.
+    /// Reads the identity from the text that [`Stat::text`] made.
     pub fn read(text: &str) -> Option<Self> {
         let mut parts = text.split(':');
         let device = u64::from_str_radix(parts.next()?, 16).ok()?;
@@ -118,7 +118,7 @@ impl From<&Metadata> for Stat {
 }
 
 impl Stat {
-    /// The value of `FILE:stat`: the identity, and the time of the last change. The text differs if the file was changed.
+    /// Returns the value of `FILE:stat`: the identity, and the time of the last change. The text differs if the file was changed.
     pub fn text(&self) -> String {
         let (seconds, nanoseconds) = self.change;
         format!("{}:{seconds}.{nanoseconds:09}", self.identity)

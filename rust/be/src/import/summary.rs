@@ -1,4 +1,4 @@
-//! What an import has done, and what it couldn't do.
+//! What an import did, and what it couldn't do.
 
 use super::walk::Unread;
 use crate::command_line::Import as Line;
@@ -47,7 +47,7 @@ impl Fate {
     }
 }
 
-/// What an import has done.
+/// What an import did.
 #[derive(Debug, Default, Serialize)]
 pub struct Summary {
     /// How many files are in the store.
@@ -56,7 +56,7 @@ pub struct Summary {
     pub changed: usize,
     pub renamed: usize,
     pub removed: usize,
-    /// How many the store has no room for.
+    /// How many files the store has no space for.
     pub left: usize,
     /// How many extended attributes the store can't hold.
     pub xattrs_left: usize,
@@ -68,7 +68,7 @@ pub struct Summary {
     pub volumes: u64,
     #[serde(serialize_with = "count")]
     pub unread: Vec<Unread>,
-    /// Files for which the store refused something, or that refused an attribute, and why.
+    /// The files for which the store refused something, or that refused an attribute, and why.
     #[serde(serialize_with = "count")]
     pub refused: Vec<(PathBuf, String)>,
     /// Whether the store may later accept what it has refused.
@@ -93,7 +93,7 @@ impl Summary {
         self.fates.push((fate, path));
     }
 
-    /// The store has refused something about a file.
+    /// Records that the store has refused something about a file.
     pub fn refuse(&mut self, path: PathBuf, error: &Error) {
         self.is_passing |= error.refusal().map_or(false, |refusal| PASSING.contains(&refusal.name));
         self.refused.push((path, message(error)));
@@ -104,7 +104,7 @@ impl Summary {
         self.is_passing || self.left > 0
     }
 
-    /// What this import and the next one of the same folder have done together.
+    /// What this import and the next one of the same folder did together.
     pub fn and_then(self, next: Self) -> Self {
         Self {
             new: self.new + next.new,
@@ -117,7 +117,7 @@ impl Summary {
         }
     }
 
-    /// Whether each file is in the store, up to date.
+    /// Returns whether each file is in the store, up to date.
     pub fn is_whole(&self) -> bool {
         self.left == 0 && self.unread.is_empty() && self.refused.is_empty()
     }
@@ -178,7 +178,7 @@ impl Summary {
     }
 }
 
-/// What would hold all files, judging by those in the store.
+/// Returns the limits that would suffice for all files, judging by the files in the store.
 fn what_helps(files: usize, left: usize, pages: u64, used: u64, volumes: u64) -> String {
     let (files, left, volumes) = (files.max(1) as u64, left as u64, volumes.max(1));
     // A tenth more, since files differ.
@@ -214,22 +214,14 @@ mod tests {
 
     #[test]
     fn what_helps_has_room_for_all() {
-        assert_eq!(
-            what_helps(100, 100, 1024, 1000, 1),
-            "bestored --pages 4096 has room for all"
-        );
-        assert_eq!(
-            what_helps(100, 10, 1024, 1000, 1),
-            "bestored --pages 2048 has room for all"
-        );
-        assert_eq!(
-            what_helps(100, 100, 1024, 1000, 4),
-            "bestored --volumes 4 --pages 1024 has room for all"
-        );
-        assert_eq!(
-            what_helps(14_000, 46_000, 16_384, 16_000, 1),
-            "bestored --volumes 5 --pages 16384 has room for all"
-        );
-        assert_eq!(what_helps(0, 5, 8, 8, 1), "bestored --pages 64 has room for all");
+        let check = |files, left, pages, used, volumes, options: &str| {
+            let said = what_helps(files, left, pages, used, volumes);
+            assert_eq!(said, format!("bestored {options} has room for all"));
+        };
+        check(100, 100, 1024, 1000, 1, "--pages 4096");
+        check(100, 10, 1024, 1000, 1, "--pages 2048");
+        check(100, 100, 1024, 1000, 4, "--volumes 4 --pages 1024");
+        check(14_000, 46_000, 16_384, 16_000, 1, "--volumes 5 --pages 16384");
+        check(0, 5, 8, 8, 1, "--pages 64");
     }
 }

@@ -205,7 +205,7 @@ impl Import<'_> {
         Ok(())
     }
 
-    /// Remembers what the store now has of a file.
+    /// Remembers what the store now has for a file.
     fn keep(&mut self, found: &Found) {
         let parent = found.path.parent().and_then(|folder| self.node_at(folder));
         let is_root = self.is_root(&found.path);
@@ -217,8 +217,8 @@ impl Import<'_> {
         }
     }
 
-    /// Writes changes: those of several nodes as one batch, and one by one if that is refused. Returns the files for which something
-    /// was refused.
+    /// Writes changes: the changes to several nodes as one batch, or individually if the batch is refused. Returns the files for which
+    /// something was refused.
     pub fn write(&mut self, edits: &[Edits], summary: &mut Summary) -> Result<HashSet<PathBuf>, Failure> {
         let mut refused = HashSet::new();
         let mut at = 0;
@@ -270,7 +270,7 @@ impl Import<'_> {
         }
     }
 
-    /// Writes a batch of one volume, in parts if it has too many operations for one.
+    /// Writes a batch in one volume, in parts if it has too many operations for one batch.
     fn write_batch(&mut self, batch: Batch) -> Result<(), Error> {
         crate::server::apply(&mut self.client, &batch)
     }
@@ -359,7 +359,7 @@ fn read(reader: &Reader, files: &[&Found]) -> Vec<Content> {
     })
 }
 
-/// Makes nodes for these files in all volumes at the same time. What one has no room for goes to the others.
+/// Makes nodes for these files in all volumes at the same time. Files for which one volume has no space go to the others.
 fn make_in(volumes: &mut [Volume], files: Vec<New>, done: &(dyn Fn(u64) + Sync)) -> Result<Made, Failure> {
     let mut all = Made {
         left: files,
@@ -388,7 +388,7 @@ fn make_in(volumes: &mut [Volume], files: Vec<New>, done: &(dyn Fn(u64) + Sync))
     Ok(all)
 }
 
-/// Which files each volume takes: the next file goes to the volume with the most room.
+/// Decides which files each volume takes: the next file goes to the volume with the most free space.
 fn share(volumes: &[Volume], files: Vec<New>) -> Vec<Vec<New>> {
     let mut rooms: Vec<i64> = volumes
         .iter()

@@ -18,13 +18,13 @@ const OPERATIONS: usize = 64;
 /// The maximum number of connections, which the volumes share: a server has up to 62.
 const CONNECTIONS: u32 = 8;
 
-/// How many batches are written before the volume is asked again how full it is.
+/// How many batches to write before asking the volume again how full it is.
 const LOOK: u32 = 16;
 
-/// One page in this many stays free, so that a full volume can still be written.
+/// One in this many pages stays free, so that a full volume can still be written to.
 const RESERVE: u64 = 64;
 
-/// How often a write is tried again if another client is writing.
+/// How often to retry a write if another client is writing.
 const TRIES: u32 = 1_000;
 
 /// A file that has no node yet.
@@ -39,9 +39,9 @@ pub struct New {
 pub struct Made {
     /// The nodes that were made.
     pub nodes: Vec<(New, u64)>,
-    /// The volume had no room for these.
+    /// The files for which the volume had no space.
     pub left: Vec<New>,
-    /// These were refused, and why.
+    /// The files that were refused, and why.
     pub refused: Vec<(PathBuf, Error)>,
 }
 
@@ -50,7 +50,7 @@ pub struct Volume {
     client: Arc<Mutex<Client>>,
     /// Its number, if the server has several.
     number: Option<u32>,
-    /// Its commit number, and the number of its next node, as far as is known.
+    /// The commit number of the volume, and the number of its next node, as far as they are known.
     commit: u64,
     next: u64,
     pub pages: u64,
@@ -123,7 +123,7 @@ impl Volume {
         }
     }
 
-    /// Makes nodes for the files, as many at a time as a batch takes, and calls `done` with how many were made.
+    /// Makes nodes for the files, with as many in a batch as fit, and calls `done` with how many were made.
     pub fn make(&mut self, files: Vec<New>, done: &dyn Fn(u64)) -> Result<Made, Failure> {
         let mut made = Made::default();
         let mut files = files.into_iter().peekable();
@@ -146,7 +146,7 @@ impl Volume {
         Ok(made)
     }
 
-    /// Makes nodes for files that fit into a batch. If the batch is refused, they are made one by one.
+    /// Makes nodes for files that fit into a batch. If the batch is refused, the nodes are made individually.
     fn make_together(&mut self, files: Vec<New>, made: &mut Made) -> Result<(), Failure> {
         if self.batches % LOOK == 0 {
             self.look()?;

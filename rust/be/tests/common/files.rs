@@ -119,7 +119,7 @@ impl Server {
         said.out
     }
 
-    /// How many nodes each volume has, by the nodes that are printed.
+    /// How many nodes each volume has, judging by the nodes that are printed.
     pub fn spread(&self, volumes: usize) -> Vec<usize> {
         let mut spread = vec![0; volumes];
         for line in self.done(&["query", "name==*"]).lines() {

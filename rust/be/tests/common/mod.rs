@@ -16,7 +16,7 @@ use std::sync::Once;
 use std::time::{Duration, Instant};
 use std::{env, fs, thread};
 
-/// Takes the server, or leaves the test: a line has said why.
+/// Takes the server, or leaves the test: a line has already said why.
 macro_rules! server {
     ($server:expr) => {
         match $server {
@@ -95,7 +95,7 @@ impl Server {
         Some(server)
     }
 
-    /// Starts a server that has ended again.
+    /// Starts a server again that has ended.
     pub fn start_again(&mut self) {
         let program = server_program().expect("it has been there");
         self.child = spawn(&program, &self.folder, &self.options);
@@ -134,7 +134,7 @@ impl Server {
         self.command(words).output().unwrap().into()
     }
 
-    /// Runs the tool with these words, which has to succeed without an error, and returns what it printed.
+    /// Runs the tool with these words, and returns what it printed. It has to succeed without an error.
     pub fn done(&self, words: &[&str]) -> String {
         let said = self.be(words);
         assert_eq!((said.status, said.error.as_str()), (0, ""), "{words:?}");
@@ -149,12 +149,12 @@ impl Server {
             .stdout(Stdio::piped())
             .stderr(Stdio::piped());
         let mut child = command.spawn().unwrap();
-        // What the tool doesn't read is no error.
+        // It isn't an error if the tool doesn't read all of it.
         let _ = child.stdin.take().unwrap().write_all(input);
         child.wait_with_output().unwrap().into()
     }
 
-    /// Makes this many nodes with this attribute, by the client of the protocol.
+    /// Makes this many nodes with this attribute, with the client of the protocol.
     pub fn make(&self, count: u64, name: &str, value: &str) {
         let mut client = Client::connect(self.socket()).unwrap();
         for _ in 0..count {

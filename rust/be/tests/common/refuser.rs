@@ -1,4 +1,4 @@
-//! What lies between a client and its server, and refuses writes while a test says so.
+//! Stands between a client and its server, and refuses writes while a test says so.
 
 use super::Server;
 use std::fs;
@@ -8,7 +8,7 @@ use std::path::{Path, PathBuf};
 use std::sync::{Arc, Mutex, MutexGuard};
 use std::thread;
 
-/// What the writes have that are refused, and those that were.
+/// The operation of the writes to refuse, and those that were refused.
 #[derive(Debug, Default)]
 struct State {
     refuses: Option<&'static str>,
@@ -68,7 +68,7 @@ impl Drop for Refuser {
     }
 }
 
-/// Lets threads forward what comes from one to the other.
+/// Has threads forward what comes from either one to the other.
 fn forward(client: UnixStream, server: UnixStream, state: Arc<Mutex<State>>) {
     let (mut replies, mut to) = (server.try_clone().unwrap(), client.try_clone().unwrap());
     thread::spawn(move || io::copy(&mut replies, &mut to));

@@ -13,72 +13,66 @@ replies! {
         pub seconds: u64,
         /// How many clients are connected.
         pub clients: u64,
-        /// How many requests they have sent since the server started.
+        /// How many requests clients have sent since the server started.
         pub requests: u64,
-        /// How many live queries they have.
+        /// How many live queries the clients have.
         pub watches: u64,
         /// How many writes the server has made since it started.
         pub writes: u64,
-        /// How many of them per second in the last 10 seconds, rounded down.
+        /// How many writes per second it made in the last 10 seconds, rounded down.
         pub writes_per_second: u64,
-        /// How long these took, including being kept. Missing if there were none.
-        #[serde(default, skip_serializing_if = "Option::is_none")]
-        pub latency: Option<Latency>,
-        /// How many writes are being made now, or are waiting for others or for the disk.
+        /// How long these writes took, including the time to keep them. Missing if there were no writes.
+        pub latency?: Latency,
+        /// How many writes are in progress, or are waiting for other writes or for the disk.
         pub writing: u64,
-        /// All pages.
+        /// The number of pages.
         pub pages: u64,
-        /// Those that a write may take.
+        /// The pages that a write can use.
         pub free: u64,
-        /// Those of older snapshots.
+        /// The pages of older snapshots.
         pub retired: u64,
         /// The oldest snapshot that is read.
-        #[serde(default, skip_serializing_if = "Option::is_none")]
-        pub oldest: Option<OldestReader>,
+        pub oldest?: OldestReader,
         /// The files of a kept server.
-        #[serde(default, skip_serializing_if = "Option::is_none")]
-        pub files: Option<Files>,
+        pub files?: Files,
         /// What the server is doing in a log.
-        #[serde(default, skip_serializing_if = "Option::is_none")]
-        pub log: Option<Role>,
-        /// Why writes aren't kept now, if they aren't.
-        #[serde(default, skip_serializing_if = "Option::is_none")]
-        pub trouble: Option<String>,
+        pub log?: Role,
+        /// Why writes aren't being kept now, if they aren't.
+        pub trouble?: String,
     }
 
-    /// How long writes took, in µs: half of them, or 99 of 100, took at most that long, to within a fifth.
+    /// How long writes took, in µs. The first two say how long the faster half, or 99 of 100, took at most, to within a fifth.
     Latency {
-        /// Half of them.
+        /// The time that half of the writes took at most.
         pub p50: u64,
-        /// 99 of 100.
+        /// The time that 99 of 100 writes took at most.
         pub p99: u64,
-        /// The longest one.
+        /// The time of the longest write.
         pub most: u64,
     }
 
-    /// Who is reading the oldest snapshot.
+    /// The reader of the oldest snapshot.
     OldestReader {
-        /// The snapshot, in its volume.
+        /// The number of the snapshot in its volume.
         pub commit: u64,
         /// The volume, if there are several.
-        #[serde(default, skip_serializing_if = "Option::is_none")]
-        pub volume: Option<u32>,
-        /// The client, if it isn't the server itself.
-        #[serde(default, skip_serializing_if = "Option::is_none")]
-        pub client: Option<u64>,
+        pub volume?: u32,
+        /// The number of the client, if the reader isn't the server itself.
+        pub client?: u64,
         /// The number of the client's process.
-        #[serde(default, skip_serializing_if = "Option::is_none")]
-        pub process: Option<u32>,
-        /// For how many milliseconds it has been pinned.
-        #[serde(default, skip_serializing_if = "Option::is_none")]
-        pub milliseconds: Option<u64>,
+        pub process?: u32,
+        /// How many milliseconds ago the snapshot was pinned.
+        pub milliseconds?: u64,
+        /// Whether the reader keeps the memory that the volume had before the server freed its journal.
+        #[serde(default, skip_serializing_if = "std::ops::Not::not")]
+        pub earlier: bool,
     }
 
-    /// How many bytes the files of all volumes have.
+    /// The size in bytes of the files of all volumes.
     Files {
         /// The files.
         pub bytes: u64,
-        /// Those with `-wal`.
+        /// The files with `-wal`.
         pub wal_bytes: u64,
     }
 
@@ -87,8 +81,7 @@ replies! {
         /// `leader` or `follower`.
         pub role: String,
         /// Which leader the server is, counted from the first one, if it leads.
-        #[serde(default, skip_serializing_if = "Option::is_none")]
-        pub term: Option<u64>,
+        pub term?: u64,
         /// The last log entry that the server has.
         pub entry: u64,
         /// How many entries a follower still has to get, or a leader still has to add.
@@ -97,7 +90,7 @@ replies! {
 
     /// The reply to `clients`.
     Clients {
-        /// The clients, by ascending numbers.
+        /// The clients, sorted by number.
         pub clients: Vec<ClientInfo>,
     }
 
@@ -112,12 +105,10 @@ replies! {
         /// How many requests it has sent.
         pub requests: u64,
         /// The command that it is waiting for now.
-        #[serde(default, skip_serializing_if = "Option::is_none")]
-        pub command: Option<String>,
-        /// The snapshot that it has pinned.
-        #[serde(default, skip_serializing_if = "Option::is_none")]
-        pub pinned: Option<PinnedBy>,
-        /// Whether it is the client that is asking.
+        pub command?: String,
+        /// The snapshot that the client has pinned.
+        pub pinned?: PinnedBy,
+        /// Whether this is the client that sent the request.
         #[serde(default, skip_serializing_if = "std::ops::Not::not")]
         pub own: bool,
     }
@@ -126,7 +117,7 @@ replies! {
     PinnedBy {
         /// Its number.
         pub commit: u64,
-        /// For how many milliseconds.
+        /// How many milliseconds ago it was pinned.
         pub milliseconds: u64,
     }
 }

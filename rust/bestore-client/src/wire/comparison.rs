@@ -4,49 +4,49 @@ use super::value::{kind_name, kind_named};
 use bestore_types::Kind;
 use serde::{Deserialize, Serialize};
 
-/// What the value of a comparison is.
+/// The form of the value in a comparison.
 #[derive(Clone, Copy, Debug, PartialEq, Eq, Serialize, Deserialize)]
 #[serde(rename_all = "lowercase")]
 pub enum Form {
     /// A whole number from -2^63 to 2^64 - 1.
     Number,
-    /// Another text.
+    /// Any other string.
     Text,
-    /// A pattern, which matches more than one text.
+    /// A pattern, which matches more than one string.
     Pattern,
 }
 
-/// A comparison of a query.
+/// A comparison in a query.
 #[derive(Clone, Debug, PartialEq, Eq, Serialize, Deserialize)]
 pub struct Comparison {
     /// The name of the attribute.
     pub name: String,
     /// `==`, `!=`, `<`, `<=`, `>` or `>=`, as written in the text.
     pub operator: String,
-    /// What is compared with.
+    /// The value to compare with.
     pub value: String,
-    /// What that is.
+    /// The form of that value.
     pub form: Form,
-    /// The byte of the text at which the comparison begins, from 0.
+    /// The byte offset in the text at which the comparison begins.
     pub offset: u64,
-    /// How many bytes of the text it has.
+    /// The length of the comparison in bytes.
     pub length: u64,
-    /// Whether it is within an odd number of `!`, so that it is negated.
+    /// Whether the comparison is inside an odd number of `!`, and so is negated.
     #[serde(default, skip_serializing_if = "std::ops::Not::not")]
     pub negated: bool,
-    /// The names of the kinds of indices under which no node meets it.
+    /// The names of the kinds of indices for which the comparison is never true.
     #[serde(default, skip_serializing_if = "Vec::is_empty")]
     pub never: Vec<String>,
 }
 
 impl Comparison {
-    /// Whether no node meets it, if the index of its name has this kind.
+    /// Returns whether the comparison is never true, if the index of its name has this kind.
     #[must_use]
     pub fn is_never(&self, kind: Kind) -> bool {
         self.never.iter().any(|name| kind_named(name) == Some(kind))
     }
 
-    /// The names of these kinds, for [`never`](Self::never).
+    /// Returns the names of these kinds, for [`never`](Self::never).
     #[must_use]
     pub fn names_of(kinds: &[Kind]) -> Vec<String> {
         kinds.iter().map(|kind| kind_name(*kind).into()).collect()

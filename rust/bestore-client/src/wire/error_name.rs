@@ -29,7 +29,7 @@ macro_rules! names {
                 }
             }
 
-            /// The number in `bestore.h`, if it is an error of the library.
+            /// Returns the number in `bestore.h`, if the error comes from the library.
             #[must_use]
             pub const fn number(&self) -> Option<u32> {
                 match self {
@@ -38,7 +38,8 @@ macro_rules! names {
                 }
             }
 
-            /// What a program can do about the error. If it is unknown, nothing says that the same request may succeed later.
+            /// Returns what a program can do about the error. If the error is unknown, nothing says that the same request may succeed
+            /// later.
             #[must_use]
             pub const fn class(&self) -> Class {
                 match self {
@@ -47,7 +48,7 @@ macro_rules! names {
                 }
             }
 
-            /// What was wrong, and what would be right.
+            /// Returns what was wrong and what would be right.
             #[must_use]
             pub const fn text(&self) -> &'static str {
                 match self {
@@ -191,7 +192,7 @@ impl Default for ErrorName {
 }
 
 impl ErrorName {
-    /// The error of the library with this number in `bestore.h`.
+    /// Returns the library's error with this number in `bestore.h`.
     #[must_use]
     pub fn numbered(number: u32) -> Option<ErrorName> {
         ErrorName::ALL
@@ -226,7 +227,7 @@ impl<'de> Deserialize<'de> for ErrorName {
     }
 }
 
-/// A class by its name. One that this client doesn't know is dropped.
+/// Reads a class by its name. A class that this client doesn't know is dropped.
 pub(super) mod class {
     use bestore_types::Class;
     use serde::{Deserialize, Deserializer, Serializer};

@@ -1,12 +1,49 @@
 //! The protocol: requests, replies and values as JSON. `docs/SERVER.md` describes it.
 
-/// Declares the replies of commands.
+/// Defines replies, each as a struct. A field `name?: T` may be missing. `commit and commits` are a snapshot: its number, and the number of
+/// each volume if there are several.
 macro_rules! replies {
-    ($($(#[$meta:meta])* $name:ident { $($body:tt)* })*) => {$(
-        $(#[$meta])*
+    ($($(#$attribute:tt)* $name:ident { $($fields:tt)* })*) => {
+        $(reply! { [$(#$attribute)* $name] {} $($fields)* })*
+    };
+}
+
+/// Defines one reply. It takes one field at a time; the fields in braces are done.
+macro_rules! reply {
+    ([$(#$attribute:tt)* $name:ident] { $($fields:tt)* }) => {
+        $(#$attribute)*
         #[derive(Clone, Debug, Default, PartialEq, Eq, serde::Serialize, serde::Deserialize)]
-        pub struct $name { $($body)* }
-    )*};
+        pub struct $name { $($fields)* }
+    };
+    ($reply:tt { $($fields:tt)* } $(#$attribute:tt)* pub commit and commits, $($rest:tt)*) => {
+        reply! {
+            $reply
+            {
+                $($fields)*
+                $(#$attribute)*
+                pub commit: u64,
+                /// The snapshot of each volume, if there are several.
+                #[serde(default, skip_serializing_if = "Vec::is_empty")]
+                pub commits: Vec<u64>,
+            }
+            $($rest)*
+        }
+    };
+    ($reply:tt { $($fields:tt)* } $(#$attribute:tt)* pub $field:ident?: $type:ty, $($rest:tt)*) => {
+        reply! {
+            $reply
+            {
+                $($fields)*
+                $(#$attribute)*
+                #[serde(default, skip_serializing_if = "Option::is_none")]
+                pub $field: Option<$type>,
+            }
+            $($rest)*
+        }
+    };
+    ($reply:tt { $($fields:tt)* } $(#$attribute:tt)* pub $field:ident: $type:ty, $($rest:tt)*) => {
+        reply! { $reply { $($fields)* $(#$attribute)* pub $field: $type, } $($rest)* }
+    };
 }
 
 mod activity;
@@ -33,7 +70,7 @@ pub use request::{
 pub use token::Token;
 pub use value::{kind_name, kind_named, Json};
 
-/// The volumes' numbers in the form of replies: none if there is one volume.
+/// Returns the volumes' numbers as replies have them: none if there is one volume.
 #[must_use]
 pub fn several(numbers: &[u64]) -> Vec<u64> {
     match numbers {

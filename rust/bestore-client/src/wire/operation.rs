@@ -14,7 +14,7 @@ const KEPT: usize = 64;
 pub struct Operations {
     /// The operations.
     pub batch: Batch,
-    /// How many there were.
+    /// How many operations there were.
     pub count: usize,
 }
 
@@ -37,7 +37,7 @@ impl<'de> Deserialize<'de> for Operations {
     }
 }
 
-/// Operations of a request: the server gives new nodes their numbers.
+/// The operations in a request, in which the server numbers new nodes.
 pub(super) mod asked_operations {
     use super::{made, Deserializer, ListVisitor, Operations, Serialize, Serializer};
 
@@ -217,7 +217,7 @@ impl Serialize for ShownOperations<'_> {
 }
 
 impl ShownOperations<'_> {
-    /// How many bytes of JSON the operations take, or a few more.
+    /// Returns how many bytes of JSON the operations take, or slightly more.
     #[must_use]
     pub fn length(&self) -> usize {
         let lengths = self.0.operations().map(|operation| match operation {

@@ -33,7 +33,7 @@ fn given<'de, T: Deserialize<'de>, D: Deserializer<'de>>(from: D) -> Result<Opti
 }
 
 parameters! {
-    /// The parameters of a command that has none.
+    /// The parameters of a command that takes none.
     Nothing {}
 
     /// The parameters of `hello`.
@@ -41,7 +41,7 @@ parameters! {
         /// The version of the protocol that the client speaks.
         #[serde(default, deserialize_with = "given", skip_serializing_if = "Option::is_none")]
         pub protocol: Option<u64>,
-        /// Whether the client asks a few things and leaves, so that it gets a place even when all others are taken.
+        /// Whether the client sends a few requests and leaves, so that it is let in even when all places are taken.
         #[serde(default, skip_serializing_if = "std::ops::Not::not")]
         pub visit: bool,
     }
@@ -54,10 +54,10 @@ parameters! {
         /// How many entries the journal has to have.
         #[serde(default, deserialize_with = "given", skip_serializing_if = "Option::is_none")]
         pub expected: Option<Numbers>,
-        /// The volume that is written.
+        /// The volume to write to.
         #[serde(default, deserialize_with = "given", skip_serializing_if = "Option::is_none")]
         pub volume: Option<u32>,
-        /// Lets the batch be sent again: it is written only once.
+        /// Makes it safe to send the batch again: it is written only once.
         #[serde(default, deserialize_with = "given", skip_serializing_if = "Option::is_none")]
         pub token: Option<Token>,
         /// The run of the server that `expected` belongs to.
@@ -139,11 +139,11 @@ parameters! {
 /// The maximum length of a list of numbers.
 const NUMBERS: usize = 64;
 
-/// A commit number, or that of each volume.
+/// A commit number, or the commit number of each volume.
 #[derive(Clone, Debug, PartialEq, Eq, serde::Serialize)]
 #[serde(untagged)]
 pub enum Numbers {
-    /// The number, of a store or of one volume.
+    /// The number for a store or for one volume.
     One(u64),
     /// The number of each volume.
     Each(Vec<u64>),
@@ -192,7 +192,7 @@ parameters_with_texts! {
         /// The query.
         #[serde(borrow)]
         pub query: Cow<'a, str>,
-        /// The attributes that the reply has for each node.
+        /// The attributes that the reply contains for each node.
         #[serde(borrow, default, deserialize_with = "given", skip_serializing_if = "Option::is_none")]
         pub columns: Option<Columns<'a>>,
         /// The maximum number of nodes.
@@ -204,10 +204,10 @@ parameters_with_texts! {
         /// Whether only the number of nodes is wanted.
         #[serde(default)]
         pub count: bool,
-        /// Whether the reply has no `count`, which takes the whole answer.
+        /// Whether the reply omits `count`, for which the whole answer is needed.
         #[serde(default, skip_serializing_if = "std::ops::Not::not")]
         pub uncounted: bool,
-        /// The index in whose order the nodes come; those without a value there are left out.
+        /// The index in whose order the nodes come. Nodes without a value there are left out.
         #[serde(borrow, default, deserialize_with = "given", skip_serializing_if = "Option::is_none")]
         pub by: Option<Cow<'a, str>>,
         /// Whether the greatest values come first.
@@ -291,7 +291,7 @@ impl<'de: 'a, 'a> Deserialize<'de> for Columns<'a> {
     }
 }
 
-/// Parameters, which must be an object: otherwise a list of their values in order would be read too.
+/// The parameters, which must be an object: otherwise a list of their values in order would be accepted too.
 struct Object<T>(T);
 
 impl<'de, T: Deserialize<'de>> Deserialize<'de> for Object<T> {
@@ -349,15 +349,15 @@ macro_rules! commands {
 }
 
 commands! {
-    /// Versions and limits.
+    /// Returns versions and limits.
     Hello(Greeting) = "hello";
     /// Writes.
     Batch(Write) = "batch";
-    /// Keeps a snapshot.
+    /// Pins a snapshot.
     Pin(Nothing) = "pin";
-    /// Gives it back.
+    /// Unpins the snapshot.
     Unpin(Nothing) = "unpin";
-    /// Asks a query.
+    /// Runs a query.
     Query(Query<'a>) = "query";
     /// Reads an attribute.
     Get(Get<'a>) = "get";
@@ -369,23 +369,23 @@ commands! {
     Indices(Nothing) = "indices";
     /// Lists nodes.
     Nodes(NodesFrom) = "nodes";
-    /// The number of the next node.
+    /// Returns the number of the next node.
     Next(Nothing) = "next";
-    /// Which indices a query uses.
+    /// Returns which indices a query uses.
     Explain(QueryText<'a>) = "explain";
-    /// The comparisons of a query's text.
+    /// Returns the comparisons in a query's text.
     Text(QueryText<'a>) = "text";
     /// Begins a live query.
     Watch(Watch<'a>) = "watch";
-    /// Runs it now, and returns what changed.
+    /// Runs a live query now, and returns what changed.
     Refresh(Watching) = "refresh";
-    /// Ends it.
+    /// Ends a live query.
     Unwatch(Watching) = "unwatch";
-    /// How full the store is.
+    /// Returns how full the store is.
     Status(Nothing) = "status";
-    /// Entries of the journal.
+    /// Returns entries of the journal.
     Journal(JournalFrom) = "journal";
-    /// The batches that rebuild the snapshot.
+    /// Returns the batches that rebuild the snapshot.
     State(From) = "state";
     /// Copies the snapshot, so that `state` reads it without a pin.
     Collect(Nothing) = "collect";
@@ -395,11 +395,11 @@ commands! {
     Flush(Nothing) = "flush";
     /// Rewrites the state in the file.
     Compact(Nothing) = "compact";
-    /// What the server is doing in the log that machines share. Waits for an entry.
+    /// Returns what the server is doing in the log that machines share. Waits for an entry.
     Log(OfLog) = "log";
-    /// What the server is doing.
+    /// Returns what the server is doing.
     Info(Nothing) = "info";
-    /// Who is connected.
+    /// Returns the clients that are connected.
     Clients(Nothing) = "clients";
     /// Ends the connection of a client.
     Kick(Kick) = "kick";
@@ -408,9 +408,9 @@ commands! {
 /// A request.
 #[derive(Clone, Debug, PartialEq, Eq)]
 pub struct Request<'a> {
-    /// Its number, which the reply has too.
+    /// The number of the request, which its reply repeats.
     pub id: u64,
-    /// What is asked for.
+    /// The command.
     pub command: Command<'a>,
 }
 
@@ -463,7 +463,7 @@ impl<'de> Visitor<'de> for RequestVisitor {
     }
 }
 
-/// The `id` of a line that isn't a request, if it can be read.
+/// Returns the `id` in a line that isn't a request, if it can be read.
 #[must_use]
 pub fn id_of(line: &[u8]) -> Option<u64> {
     struct Id;

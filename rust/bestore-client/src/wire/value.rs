@@ -8,7 +8,7 @@ use std::borrow::Cow;
 use std::fmt;
 use std::str::FromStr;
 
-/// The name of a kind in the protocol.
+/// Returns the name of a kind in the protocol.
 #[must_use]
 pub const fn kind_name(kind: Kind) -> &'static str {
     match kind {
@@ -24,18 +24,18 @@ pub const fn kind_name(kind: Kind) -> &'static str {
     }
 }
 
-/// The error for another name.
+/// The error for an unknown name.
 // surface.toml: list of kinds
 pub(super) const NO_KIND: &str = "no kind has this name; they are text, int32, int64, mime, raw, uint32, uint64";
 // surface.toml: end
 
-/// The kind with this name.
+/// Returns the kind with this name.
 #[must_use]
 pub fn kind_named(name: &str) -> Option<Kind> {
     Kind::ALL.into_iter().find(|kind| kind_name(*kind) == name)
 }
 
-/// A value in the form of the protocol: a text and an int64 as themselves, any other with the name of its kind.
+/// A value as the protocol writes it: a string and an int64 as they are, any other value with the name of its kind.
 #[derive(Clone, Debug, PartialEq, Eq)]
 pub struct Json(pub Value);
 
@@ -62,13 +62,13 @@ fn with_kind<S: Serializer, T: Serialize>(to: S, kind: Kind, value: &T) -> Resul
 }
 
 impl Json {
-    /// How many bytes of JSON the value takes, or a few more.
+    /// Returns how many bytes of JSON the value takes, or slightly more.
     #[must_use]
     pub fn length(&self) -> usize {
         match &self.0 {
             Value::Text(text) | Value::Mime(text) => 12 + text.bytes().map(escaped_length).sum::<usize>(),
             Value::Raw(bytes) => 16 + bytes.len() * 4 / 3,
-            Value::Int32(_) | Value::Int64(_) | Value::Uint32(_) | Value::Uint64(_) => 36,
+            _ => 36,
         }
     }
 }
@@ -140,14 +140,14 @@ fn raw<E: de::Error>(text: Text<'_>) -> Result<Vec<u8>, E> {
     base64::decode(text.0.as_bytes()).map_err(|error| E::custom(format_args!("bytes are base64 with padding: {error}")))
 }
 
-/// A text, borrowed from the line if it has no escapes.
+/// A string, borrowed from the line if it has no escapes.
 #[derive(serde::Deserialize)]
 pub(super) struct Text<'a>(#[serde(borrow)] pub(super) Cow<'a, str>);
 
 /// The JSON form of an integer with a kind.
 const INTEGER: &str = "an integer of its kind, or the digits of one as a text, such as \"-5\"";
 
-/// An integer, or its digits as a text.
+/// An integer, or its digits as a string.
 struct Integer<T>(T);
 
 impl<'de, T> Deserialize<'de> for Integer<T>

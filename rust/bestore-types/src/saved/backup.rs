@@ -1,4 +1,4 @@
-//! Backups: a file, or a folder with one for each volume, that is filled with a state and appears once it is complete.
+//! Backups: a file, or a folder with one file for each volume, that is filled with a state and appears once it is complete.
 
 use super::file::File;
 use super::{path_of, About, Error, Result};
@@ -9,8 +9,7 @@ use std::os::unix::fs::DirBuilderExt;
 use std::path::{Path, PathBuf};
 use std::sync::atomic::{AtomicU32, Ordering};
 
-/// A backup that is being made. It is written beside its path, with mode 0600, and removed if it is dropped before
-/// [`finish`](Self::finish).
+/// A backup in progress. It is written beside its path, with mode 0600, and removed if it is dropped before [`finish`](Self::finish).
 ///
 /// ```
 /// use bestore_types::saved::{self, About, Backup};
@@ -69,7 +68,7 @@ impl Beside {
         }
     }
 
-    /// The file of a volume.
+    /// Returns the file of a volume.
     fn file(&self, volume: u32) -> PathBuf {
         match self.is_folder {
             true => path_of(&self.path, volume),
@@ -101,7 +100,7 @@ fn synchronise(path: &Path) -> Result<()> {
     synchronised.map_err(|error| Error::folder(path, error))
 }
 
-/// The folder of a path.
+/// Returns the folder of a path.
 fn parent(path: &Path) -> &Path {
     match path.parent() {
         Some(parent) if !parent.as_os_str().is_empty() => parent,
@@ -110,10 +109,10 @@ fn parent(path: &Path) -> &Path {
 }
 
 impl Backup {
-    /// Begins a backup of this many volumes: a file for one, otherwise a folder. Nothing may be at the path.
+    /// Begins a backup of this many volumes: a file for one volume, otherwise a folder. There must be nothing at the path.
     ///
     /// # Errors
-    /// [`Error::Exists`]; [`Error::Folder`]: it can't be made there; [`Error::DiskFull`], [`Error::Sqlite`].
+    /// [`Error::Exists`]; [`Error::Folder`]: the backup can't be created there; [`Error::DiskFull`], [`Error::Sqlite`].
     pub fn create(path: impl AsRef<Path>, volumes: u32) -> Result<Self> {
         let path = path.as_ref().to_owned();
         if exists(&path) {
@@ -135,7 +134,7 @@ impl Backup {
     /// Adds the next of the batches that rebuild a volume's snapshot, with that volume's own node numbers.
     ///
     /// # Errors
-    /// [`Error::DiskFull`], [`Error::Sqlite`]; [`Error::Store`]: there is no such volume, or the batch is bad.
+    /// [`Error::DiskFull`], [`Error::Sqlite`]; [`Error::Store`]: there is no such volume, or the batch isn't valid.
     pub fn add(&mut self, volume: u32, batch: &Batch) -> Result<()> {
         let volumes = self.files.len() as u32;
         let part = self.files.get_mut(volume as usize);

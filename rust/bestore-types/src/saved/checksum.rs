@@ -1,4 +1,4 @@
-//! Checksums of the rows of a file. docs/KEPT.md describes them.
+//! Checksums of the rows in a file. docs/KEPT.md describes them.
 
 use crc32fast::Hasher;
 
@@ -8,8 +8,8 @@ pub(super) enum Column<'a> {
     Bytes(&'a [u8]),
 }
 
-/// The CRC-32 of these columns: a number counts as 8 bytes, little-endian, and a text or blob as its length, as such a number, and its
-/// bytes.
+/// Returns the CRC-32 of these columns. A number counts as 8 bytes, little-endian. A text or blob counts as its length, in the same form,
+/// followed by its bytes.
 pub(super) fn checksum(columns: &[Column<'_>]) -> u32 {
     let mut hasher = Hasher::new();
     for column in columns {

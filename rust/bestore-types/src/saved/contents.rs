@@ -6,14 +6,14 @@ use crate::Batch;
 use std::collections::BTreeMap;
 use std::path::{Path, PathBuf};
 
-/// What the file of a volume has: the batches that rebuild its store from an empty one, one after another.
+/// The contents of a volume's file: the batches that rebuild its store from an empty one, one after another.
 #[derive(Clone, Debug, PartialEq, Eq)]
 pub struct Contents {
     /// The numbers of the state.
     pub about: About,
-    /// The batches of the state. New nodes get the next numbers.
+    /// The batches that make up the state. New nodes get the next numbers.
     pub state: Vec<Batch>,
-    /// The entries since. Each new node has the number that it got.
+    /// The entries after the state. Each new node has the number that it got.
     pub entries: Vec<Batch>,
 }
 
@@ -35,7 +35,7 @@ impl Contents {
         Ok(Self { about, state, entries })
     }
 
-    /// The batches in order, with their places in the file.
+    /// Returns the batches in order, with their positions in the file.
     pub fn batches(&self) -> impl Iterator<Item = (Place, &Batch)> {
         let state = (0..).map(Place::State).zip(&self.state);
         state.chain((self.about.entries + 1..).map(Place::Entry).zip(&self.entries))
@@ -46,7 +46,7 @@ fn batch(place: Place, bytes: &[u8]) -> Result<Batch> {
     Batch::from_bytes(bytes).map_err(|error| Error::differs(place, error))
 }
 
-/// Reads a file, or those of the volumes of a folder, and leaves them as they are. It takes memory for all batches.
+/// Reads a file, or the files of the volumes in a folder, and leaves them unchanged. It takes memory for all batches.
 ///
 /// # Errors
 /// [`Error::Foreign`], [`Error::Newer`], [`Error::Held`], [`Error::Damaged`], [`Error::CutOff`], [`Error::Differs`],
@@ -55,11 +55,11 @@ pub fn read(path: impl AsRef<Path>) -> Result<Vec<Contents>> {
     read_until(path, &BTreeMap::new())
 }
 
-/// The same, but reads each of these volumes only up to an entry of its file, such as the last one before a damaged entry. The
-/// volume of a single file is 0.
+/// Like [`read`], but reads each of these volumes only up to an entry in its file, such as the last one before a damaged entry. The volume
+/// of a single file is 0.
 ///
 /// # Errors
-/// Those of [`read`]. [`Error::NotWithin`]: the file hasn't the entry. [`Error::NoVolume`]: there is no such volume.
+/// The same as [`read`]. [`Error::NotWithin`]: the file doesn't have the entry. [`Error::NoVolume`]: there is no such volume.
 pub fn read_until(path: impl AsRef<Path>, until: &BTreeMap<u32, u64>) -> Result<Vec<Contents>> {
     let path = path.as_ref();
     let is_folder = path.is_dir();

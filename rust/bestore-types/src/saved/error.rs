@@ -5,7 +5,7 @@ use std::fmt;
 use std::path::{Path, PathBuf};
 use std::sync::Arc;
 
-/// Where in a file something is.
+/// A position in a file.
 #[derive(Clone, Copy, Debug, PartialEq, Eq)]
 pub enum Place {
     /// The batch of the state with this index, from 0.
@@ -14,7 +14,7 @@ pub enum Place {
     Entry(u64),
     /// The token of the entry with this number.
     Token(u64),
-    /// What the file says about its state.
+    /// What the file records about its state.
     About,
     /// SQLite's pages.
     Structure,
@@ -65,7 +65,7 @@ pub enum Error {
         /// The file.
         path: PathBuf,
     },
-    /// A backup would replace what is at its path.
+    /// A backup would replace what exists at its path.
     Exists {
         /// The path.
         path: PathBuf,
@@ -79,11 +79,11 @@ pub enum Error {
     Damaged {
         /// The file.
         path: PathBuf,
-        /// The first part that is found to be damaged.
+        /// The first part that was found to be damaged.
         place: Place,
         /// Up to which entry [`read_until`](super::read_until) can read the file, if it can.
         until: Option<u64>,
-        /// How it was found.
+        /// How the damage was found.
         why: Box<dyn std::error::Error + Send + Sync>,
     },
     /// The file ends earlier than it did: a frame of its WAL is damaged, or the WAL is missing.
@@ -99,32 +99,32 @@ pub enum Error {
     NotWithin {
         /// The file.
         path: PathBuf,
-        /// The last entry that was asked for.
+        /// The last entry to read, as requested.
         until: u64,
         /// The last entry that the state contains.
         first: u64,
         /// The last entry that was read.
         last: u64,
     },
-    /// What is to be read up to an entry has no such volume.
+    /// A volume is to be read up to an entry, but there is no such volume.
     NoVolume {
         /// The file or folder.
         path: PathBuf,
-        /// The volume that was asked for.
+        /// The volume that was requested.
         volume: u32,
-        /// How many there are, from 0 on.
+        /// How many volumes there are, from 0 on.
         volumes: u32,
     },
-    /// What the file has isn't what a store did.
+    /// The file's contents aren't what a store did.
     Differs {
-        /// Where it differs.
+        /// Where they differ.
         place: Place,
-        /// What is wrong there.
+        /// What is wrong at that position.
         why: Box<dyn std::error::Error + Send + Sync>,
     },
-    /// What the file has doesn't fit the limits of the store.
+    /// The file's contents don't fit the limits of the store.
     TooLarge {
-        /// What was applied when the store refused.
+        /// What was being applied when the store refused.
         place: Place,
         /// The store's error.
         error: crate::Error,
@@ -138,7 +138,7 @@ pub enum Error {
     },
     /// The saving thread couldn't be started.
     Thread(std::io::Error),
-    /// The folder of a shelf can't be read or made, or a file or folder of a backup can't be made.
+    /// The folder of a shelf can't be read or created, or a file or folder of a backup can't be created.
     Folder {
         /// The folder, or the file.
         path: PathBuf,
@@ -154,33 +154,33 @@ pub enum Error {
     Fewer {
         /// The folder.
         folder: PathBuf,
-        /// How many it has.
+        /// How many volumes the folder has.
         found: u32,
-        /// How many were asked for, or `found` if no number was given.
+        /// How many volumes were requested, or `found` if no number was given.
         wanted: u32,
     },
-    /// The error of one volume of a shelf.
+    /// An error from one volume of a shelf.
     OfVolume {
         /// The volume.
         volume: u32,
-        /// What is wrong there.
+        /// The error in that volume.
         error: Box<Error>,
     },
-    /// An error of the store.
+    /// An error from the store.
     Store(crate::Error),
-    /// Saving has failed before.
+    /// Saving failed earlier.
     Stopped(Arc<Error>),
     /// The file was closed.
     Closed,
 }
 
 impl Error {
-    /// The error of a place whose contents no store wrote.
+    /// Returns the error for a position whose contents no store wrote.
     pub fn differs(place: Place, why: impl Into<Box<dyn std::error::Error + Send + Sync>>) -> Self {
         Error::Differs { place, why: why.into() }
     }
 
-    /// The error of a store that refuses what the file has at this place.
+    /// Returns the error for a store that refuses the file's contents at this position.
     #[must_use]
     pub fn refused(place: Place, error: crate::Error) -> Self {
         match error {
@@ -191,7 +191,7 @@ impl Error {
         }
     }
 
-    /// The error of a file that lacks what should be at this place.
+    /// Returns the error for a file that lacks what should be at this position.
     pub(super) fn missing(place: Place) -> Self {
         let why = match place {
             Place::State(_) => "the batch is missing",
@@ -200,7 +200,7 @@ impl Error {
         Error::differs(place, why)
     }
 
-    /// The error of a part of the file whose checksum doesn't fit.
+    /// Returns the error for a part of the file whose checksum doesn't fit.
     pub(super) fn wrong_sum(path: &Path, place: Place, until: Option<u64>) -> Self {
         Error::Damaged {
             path: path.to_owned(),
@@ -210,7 +210,7 @@ impl Error {
         }
     }
 
-    /// The error of a part of the file that SQLite can't read.
+    /// Returns the error for a part of the file that SQLite can't read.
     pub(super) fn of_reading(path: &Path, place: Place, until: Option<u64>, error: rusqlite::Error) -> Self {
         use ErrorCode::{
             CannotOpen, DatabaseBusy, DatabaseLocked, DiskFull, NotADatabase, OutOfMemory, ReadOnly, SystemIoFailure,
@@ -229,21 +229,21 @@ impl Error {
         }
     }
 
-    /// The system's error about a folder, or a file of a backup.
+    /// Returns the system's error about a folder, or a file of a backup.
     #[must_use]
     pub fn folder(path: &Path, error: std::io::Error) -> Self {
         let path = path.to_owned();
         Error::Folder { path, error }
     }
 
-    /// The same error, of this volume.
+    /// Returns the same error with this volume.
     #[must_use]
     pub fn of_volume(self, volume: u32) -> Self {
         let error = Box::new(self);
         Error::OfVolume { volume, error }
     }
 
-    /// SQLite's error about this file.
+    /// Returns SQLite's error about this file.
     #[must_use]
     pub fn of_sqlite(path: &Path, error: rusqlite::Error) -> Self {
         let path = path.to_owned();
@@ -333,7 +333,7 @@ impl fmt::Display for Error {
             Error::Fewer { folder, found: 0, .. } => {
                 write!(
                     f,
-                    "{}: the folder has no volumes, and it isn't said how many to make",
+                    "{}: the folder has no volumes; say how many to make",
                     folder.display()
                 )
             }

@@ -26,26 +26,27 @@ const SETTINGS: &str = "
 /// The greatest number that an entry can have, as SQLite's integers end there.
 const LAST_NUMBER: u64 = i64::MAX as u64;
 
-/// What a file says about its state.
+/// What a file records about its state.
 #[derive(Clone, Copy, Debug, PartialEq, Eq)]
 pub struct About {
     /// The number of the last entry that the state contains.
     pub entries: u64,
-    /// The number of the next node after it.
+    /// The number of the next node after the state.
     pub next: u64,
 }
 
-/// How many tokens a file keeps before the oldest ones are removed, and how many are removed at once.
+/// How many tokens a file keeps before the oldest ones are removed, and how many are removed at a time.
 const MOST_TOKENS: usize = super::TOKENS;
 const TOKENS_AT_ONCE: usize = 1_024;
 
+/// The state is rewritten once the entries take half of its bytes, so that repeating them takes about a fifth of the time to open the file.
 /// The state isn't rewritten until the entries take this many bytes.
-const LEAST_DUE: u64 = 1 << 20;
+const LEAST_DUE: u64 = 512 << 10;
 
 /// About how many bytes a row of the file has besides its batch.
 const ROW_BYTES: u64 = 20;
 
-/// For a file that nobody sees before it is complete. It uses SQLite's default journal, so one file has everything.
+/// For a file that nobody sees before it is complete. It uses SQLite's default journal, so everything is in one file.
 const STATE_SETTINGS: &str = "
     PRAGMA auto_vacuum = FULL;
     PRAGMA journal_mode = MEMORY;
@@ -87,10 +88,10 @@ impl Token {
     }
 }
 
-/// Makes the file if it isn't there, so that only the user may read it. SQLite gives the file with `-wal` the same mode.
+/// Creates the file if it doesn't exist, with permissions for the user only. SQLite gives the file with `-wal` the same mode.
 fn make_private(path: &Path) {
     let made = OpenOptions::new().write(true).create_new(true).mode(0o600).open(path);
-    // If it can't be made, opening it says why.
+    // If the file can't be created, opening it says why.
     drop(made);
 }
 
@@ -98,22 +99,22 @@ fn make_private(path: &Path) {
 pub struct File {
     connection: Connection,
     path: PathBuf,
-    /// Whether its rows have checksums. Those of the earlier format have none.
+    /// Whether the rows have checksums. The rows of the earlier format have none.
     has_checksums: bool,
-    /// The entries whose tokens the file has, by ascending numbers.
+    /// The entries whose tokens the file has, sorted by number.
     with_token: VecDeque<u64>,
     /// How many bytes the entries take, and at how many the state is rewritten.
     entry_bytes: u64,
     due_bytes: u64,
-    /// It is dropped after the connection.
+    /// Dropped after the connection.
     last: Option<LastEntry>,
 }
 
 impl File {
-    /// Opens or makes the file, for this process only.
+    /// Opens or creates the file, for this process only.
     pub fn open(path: &Path) -> Result<Self> {
         let flags = OpenFlags::SQLITE_OPEN_READ_WRITE | OpenFlags::SQLITE_OPEN_CREATE | OpenFlags::SQLITE_OPEN_NO_MUTEX;
-        // SQLite takes ":memory:" and an empty name for no file, and neither has a folder before it.
+        // SQLite doesn't take ":memory:" or an empty name for a file, and neither has a folder before it.
         let within = Path::new(".").join(path);
         make_private(&within);
         let mut file = Self::connect(&within, path, flags)?;
@@ -135,7 +136,7 @@ impl File {
         })
     }
 
-    /// Opens a file of a store to read it, and leaves it as it is.
+    /// Opens a store's file for reading, and leaves it unchanged.
     pub fn open_to_read(path: &Path) -> Result<Self> {
         let flags = OpenFlags::SQLITE_OPEN_READ_ONLY | OpenFlags::SQLITE_OPEN_NO_MUTEX;
         let mut file = Self::connect(&Path::new(".").join(path), path, flags)?;
@@ -199,7 +200,7 @@ impl File {
         self.sqlite(tables::make_tokens(&self.connection, self.has_checksums))
     }
 
-    /// Whether the file is new. A file that belongs to another program, or has a newer format, is refused.
+    /// Returns whether the file is new. A file that belongs to another program, or has a newer format, is refused.
     fn check_format(&mut self) -> Result<bool> {
         let tables = self
             .connection
@@ -221,7 +222,7 @@ impl File {
         }
     }
 
-    /// Whether the file has the earlier format, without checksums.
+    /// Returns whether the file has the earlier format, without checksums.
     pub fn lacks_checksums(&self) -> bool {
         !self.has_checksums
     }
@@ -234,7 +235,7 @@ impl File {
         }
     }
 
-    /// The error of a part of the file that can't be read. What comes before it ends with this entry, if that is known.
+    /// Returns the error for a part of the file that can't be read. The part before it ends with this entry, if that is known.
     fn unreadable(&self, place: Place, until: Option<u64>, error: rusqlite::Error) -> Error {
         Error::of_reading(&self.path, place, until, error)
     }
@@ -308,7 +309,7 @@ impl File {
         }
     }
 
-    /// Whether the entries take more than the state, and more than a little.
+    /// Returns whether the entries take more than half as many bytes as the state, and more than the minimum.
     pub fn is_due(&self) -> bool {
         self.entry_bytes > self.due_bytes
     }
@@ -322,7 +323,7 @@ impl File {
         };
         let state = self.sqlite(sum("state"))?;
         self.entry_bytes = self.sqlite(sum("entry"))?;
-        self.due_bytes = state.max(LEAST_DUE);
+        self.due_bytes = (state / 2).max(LEAST_DUE);
         Ok(())
     }
 
@@ -342,7 +343,7 @@ impl File {
             .set_db_config(DbConfig::SQLITE_DBCONFIG_NO_CKPT_ON_CLOSE, true);
     }
 
-    /// The limits for a store of this file: it may not accept more transactions than there are numbers left for entries.
+    /// Returns the limits for a store with this file: the store may not accept more transactions than there are numbers left for entries.
     ///
     /// # Errors
     /// [`Error::TooLarge`] if no number is left and the state is empty.
@@ -364,7 +365,7 @@ impl File {
         }
     }
 
-    /// Hands each batch of the state to the closure, in order, with its index.
+    /// Passes each batch of the state to the closure, in order, with its index.
     pub fn each_state(&self, take: impl FnMut(u64, &[u8]) -> Result<()>) -> Result<()> {
         let sql = format!(
             "SELECT place, NULL, batch, {} FROM state ORDER BY place",
@@ -373,7 +374,7 @@ impl File {
         self.each(&sql, 0..=u64::MAX, Place::State, take)
     }
 
-    /// Hands each entry after `after` and up to `until` to the closure, by ascending numbers.
+    /// Passes each entry after `after` and up to `until` to the closure, sorted by number.
     pub fn each_entry(&self, after: u64, until: u64, take: impl FnMut(u64, &[u8]) -> Result<()>) -> Result<()> {
         let sql = format!(
             "SELECT number, pass, batch, {} FROM entry ORDER BY number",
@@ -382,8 +383,8 @@ impl File {
         self.each(&sql, after.wrapping_add(1)..=until, Place::Entry, take)
     }
 
-    /// Hands the batch of each row to the closure. There has to be one for each of the numbers up to the last row. Rows beyond the
-    /// numbers aren't looked at.
+    /// Passes the batch in each row to the closure. Each of the numbers up to the last row must have a batch. Rows beyond the numbers
+    /// aren't checked.
     fn each(
         &self,
         sql: &str,
@@ -431,7 +432,7 @@ impl File {
         Ok((number, tables::fits(row, 3, sum)?))
     }
 
-    /// Adds the rows, all in one commit. A single row is a transaction of its own, without statements that begin and end it.
+    /// Adds the rows, all in one commit. A single row is its own transaction, without statements that begin and end it.
     pub fn append(&mut self, rows: &[Row]) -> Result<()> {
         let added = match rows {
             [row] if row.token.is_none() => self.insert(row),
@@ -445,7 +446,7 @@ impl File {
         Ok(())
     }
 
-    /// The tokens that the file has, with the numbers of their entries, in ascending order. `last` is its last entry.
+    /// Returns the tokens in the file, with the numbers of their entries, in ascending order. `last` is the file's last entry.
     pub fn tokens(&mut self, last: u64) -> Result<Vec<(u64, Token)>> {
         let mut due = 0;
         let tokens = self.read_tokens(&mut due);
@@ -458,7 +459,7 @@ impl File {
         Ok(tokens)
     }
 
-    /// Reads the tokens. `None`: a checksum doesn't fit. `due` is the number of the last one that was read.
+    /// Reads the tokens. Returns `None` if a checksum doesn't fit. `due` is the number of the last token that was read.
     fn read_tokens(&self, due: &mut u64) -> rusqlite::Result<Option<Vec<(u64, Token)>>> {
         let sql = format!(
             "SELECT number, token, nodes, {} FROM token ORDER BY number",
@@ -530,15 +531,15 @@ impl File {
         added
     }
 
-    /// Replaces the old state, and the entries up to `number`, with this state, which contains them. A file of the earlier format
-    /// gets checksums.
+    /// Replaces the old state, and the entries up to `number`, with this state, which contains them. A file in the earlier format gets
+    /// checksums.
     pub fn write_state(
         &mut self,
         number: u64,
         next: u64,
         batches: impl Iterator<Item = crate::Result<Batch>>,
     ) -> Result<()> {
-        // If it fails, it isn't due again at once.
+        // If it fails, it isn't due again immediately.
         self.due_bytes = self.due_bytes.max(self.entry_bytes) + LEAST_DUE;
         let mut failed = None;
         let batches = batches.map(|batch| batch.and_then(|batch| batch.to_bytes()));
@@ -556,7 +557,7 @@ impl File {
     }
 }
 
-/// Replaces the state, and the entries that this one contains, within a transaction that is returned.
+/// Replaces the state, and the entries that this one contains, within a transaction, and returns the transaction.
 fn replace_state(
     connection: &mut Connection,
     has_checksums: bool,

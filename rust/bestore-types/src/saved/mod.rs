@@ -1,6 +1,6 @@
-//! The file that keeps a store, without the store: its format, its errors, backups, and what a file has.
+//! The file that keeps a store, without the store: its format, its errors, backups, and the file's contents.
 //!
-//! `docs/KEPT.md` of the repository describes the format. The crate `bestore` opens such a file and keeps writes in it.
+//! `docs/KEPT.md` in the repository describes the format. The crate `bestore` opens such a file and keeps writes in it.
 
 mod backup;
 mod checksum;
@@ -19,7 +19,7 @@ pub use error::{Error, Place};
 pub use file::About;
 pub use volumes::{check_volumes, count, files_of, path_of};
 
-/// The result of a call of this module.
+/// The result of a call in this module.
 pub type Result<T> = std::result::Result<T, Error>;
 
 /// A file has the tokens of at least this many of the last writes that had one.

@@ -1,17 +1,17 @@
-//! The files of several volumes: each in one of its own, in one folder.
+//! The files of several volumes: each volume has its own file, and all files are in one folder.
 
 use super::{Error, Result};
 use std::collections::BTreeMap;
 use std::fs;
 use std::path::{Path, PathBuf};
 
-/// The file of a volume.
+/// Returns the file of a volume.
 #[must_use]
 pub fn path_of(folder: &Path, volume: u32) -> PathBuf {
     folder.join(format!("{volume}.bestore"))
 }
 
-/// The files of this many volumes at a path: the path itself, or those within the folder.
+/// Returns the files of this many volumes at a path: the path itself, or the files within the folder.
 #[must_use]
 pub fn files_of(place: &Path, volumes: u32) -> Vec<PathBuf> {
     match place.is_dir() {
@@ -23,7 +23,7 @@ pub fn files_of(place: &Path, volumes: u32) -> Vec<PathBuf> {
 /// Refuses entries up to which volumes are to be read, if there aren't so many volumes at the path.
 ///
 /// # Errors
-/// [`Error::NoVolume`] with the first that isn't there.
+/// [`Error::NoVolume`] with the first volume that doesn't exist.
 pub fn check_volumes(path: &Path, until: &BTreeMap<u32, u64>, volumes: u32) -> Result<()> {
     match until.range(volumes..).next() {
         Some((&volume, _)) => Err(Error::NoVolume {
@@ -35,14 +35,14 @@ pub fn check_volumes(path: &Path, until: &BTreeMap<u32, u64>, volumes: u32) -> R
     }
 }
 
-/// The volume whose file has this name.
+/// Returns the volume whose file has this name.
 fn volume_of(name: &std::ffi::OsStr) -> Option<u32> {
     let digits = name.to_str()?.strip_suffix(".bestore")?;
     let volume = digits.parse().ok()?;
     (format!("{volume}") == digits).then_some(volume)
 }
 
-/// How many volumes the folder has.
+/// Returns how many volumes the folder has.
 ///
 /// # Errors
 /// [`Error::Folder`], [`Error::NoFile`].

@@ -7,7 +7,7 @@ use std::ptr::NonNull;
 use std::sync::atomic::{AtomicU64, Ordering};
 use std::sync::Once;
 
-/// How many forks lie between the first process and this one.
+/// How many forks there were from the first process to this one.
 static FORKS: AtomicU64 = AtomicU64::new(0);
 
 extern "C" fn count_fork() {
@@ -28,7 +28,7 @@ impl Birthplace {
         Self(FORKS.load(Ordering::Relaxed))
     }
 
-    /// Whether this process is that one, and no forked child of it.
+    /// Returns whether this is the same process, and not a forked child of it.
     pub(crate) fn is_here(self) -> bool {
         FORKS.load(Ordering::Relaxed) == self.0
     }
@@ -45,7 +45,7 @@ impl Birthplace {
     }
 }
 
-/// A handle of C, with how it begins and how it is closed.
+/// A handle of the C library, with its initial value and the call that closes it.
 pub(super) trait CloseHandle: Sized {
     const CLOSED: Self;
 
@@ -75,14 +75,14 @@ impl CloseHandle for bes_draft {
     const CLOSED: Self = Self::INIT;
 
     unsafe fn close(at: *mut Self) {
-        // With a pass that is closed the call closes just the draft, whatever its own pass does.
+        // With a closed pass, the call closes only the draft, whatever the draft's own pass does.
         let mut none = bes_pass::INIT;
-        // SAFETY: as the trait asks; the pass is of this call alone.
+        // SAFETY: as the trait asks; only this call uses the pass.
         unsafe { sys::bes_abandon_change(&mut none, at) };
     }
 }
 
-/// A handle at one address, which is closed at the end. In a forked child it is dead, and is left as it is.
+/// A handle at a fixed address, which is closed when it is dropped. In a forked child it is dead, and is left unchanged.
 #[derive(Debug)]
 pub(super) struct Handle<T: CloseHandle> {
     at: NonNull<T>,
@@ -90,7 +90,7 @@ pub(super) struct Handle<T: CloseHandle> {
     owns: PhantomData<T>,
 }
 
-// SAFETY: the header lets a handle go to another thread whose calls come after. It isn't `Sync`.
+// SAFETY: the header allows a handle to move to another thread whose calls come later. It isn't `Sync`.
 unsafe impl<T: CloseHandle> Send for Handle<T> {}
 
 impl<T: CloseHandle> Handle<T> {
@@ -110,7 +110,7 @@ impl<T: CloseHandle> Handle<T> {
 impl<T: CloseHandle> Drop for Handle<T> {
     fn drop(&mut self) {
         if self.birthplace.is_here() {
-            // SAFETY: `at` is of a box that was leaked by `new`, and nothing uses it any more.
+            // SAFETY: `at` comes from a box that `new` leaked, and nothing uses it any more.
             unsafe {
                 T::close(self.at.as_ptr());
                 drop(Box::from_raw(self.at.as_ptr()));

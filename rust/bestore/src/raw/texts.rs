@@ -1,12 +1,12 @@
-//! The calls of the library on texts of queries, which need no handle.
+//! The library's calls on query texts, which need no handle.
 
 use super::{check, whole, Answer};
 use bestore_sys::{self as sys, bes_compared, bes_counts};
 
-/// The most comparisons of a query.
+/// The maximum number of comparisons in a query.
 const COMPARISONS: usize = 256;
 
-/// A pattern that matches the text in upper and lower case.
+/// Returns a pattern that matches the text in upper and lower case.
 pub(crate) fn any_case(text: &str) -> Answer<Vec<u8>> {
     whole(12 * text.len(), |bytes, room, count| {
         // SAFETY: as the module says.
@@ -14,7 +14,7 @@ pub(crate) fn any_case(text: &str) -> Answer<Vec<u8>> {
     })
 }
 
-/// The comparisons of a query's text, and the bytes of their names and values.
+/// The comparisons in a query's text, and the bytes of their names and values.
 #[derive(Debug)]
 pub(crate) struct Comparisons {
     pub(crate) list: Vec<bes_compared>,
@@ -22,12 +22,12 @@ pub(crate) struct Comparisons {
 }
 
 impl Comparisons {
-    /// The name of a listed comparison.
+    /// Returns the name in a listed comparison.
     pub(crate) fn name(&self, one: &bes_compared) -> String {
         self.part(one.plain_name_at, one.plain_value_at)
     }
 
-    /// What it compares with, without backslashes, or the canonical text of a pattern.
+    /// Returns the value that it compares with: without backslashes, or in a pattern's canonical form.
     pub(crate) fn value(&self, one: &bes_compared) -> String {
         self.part(one.plain_value_at, one.plain_end)
     }
@@ -38,12 +38,12 @@ impl Comparisons {
     }
 }
 
-/// The comparisons of a query, from left to right.
+/// Returns the comparisons in a query, from left to right.
 pub(crate) fn comparisons(text: &str) -> Answer<Comparisons> {
     let mut list = Vec::with_capacity(COMPARISONS.min(text.len()));
     let mut bytes = Vec::with_capacity(64 * list.capacity() + 4 * text.len());
     let (mut counts, mut place) = (bes_counts::default(), 0);
-    // SAFETY: as the module says. There is room for all, since a comparison has a character at least.
+    // SAFETY: as the module says. The buffer holds all comparisons, since each has at least one character.
     unsafe {
         let code = sys::bes_query_comparisons(
             text.as_ptr(),

@@ -22,13 +22,13 @@
 //! # Ok::<(), Box<dyn std::error::Error>>(())
 //! ```
 //!
-//! A write that has returned is in the file, even after `kill -9`. A snapshot may show a write before that. The file's
-//! format, and everything that is promised, are in `docs/KEPT.md` of the repository.
+//! A write that has returned is in the file, even after `kill -9`. A snapshot may show a write before it is in the file. The file's format
+//! and everything that is promised are in `docs/KEPT.md` in the repository.
 //!
-//! When a commit fails, such as on a full disk, the writes that are waiting for it return [`NotSaved`](crate::Error::NotSaved), and
-//! later ones [`Stopped`](crate::Error::Stopped). Reads go on.
+//! When a commit fails, for example because the disk is full, the writes that wait for it return [`NotSaved`](crate::Error::NotSaved), and
+//! later writes return [`Stopped`](crate::Error::Stopped). Reads go on.
 //!
-//! Opening and [`Saved::compact`] rewrite the state, so the file doesn't grow for ever.
+//! Opening the file and [`Saved::compact`] rewrite the state, so the file doesn't grow forever.
 
 mod queue;
 mod shelf;
@@ -45,15 +45,15 @@ use std::path::{Path, PathBuf};
 use std::sync::Arc;
 use std::time::Duration;
 
-/// Opens the file, or makes it, with the default limits. Each write is saved before its call returns.
+/// Opens the file, or creates it, with the default limits. Each write is saved before its call returns.
 ///
 /// # Errors
-/// Those of [`Options::open`].
+/// The same as [`Options::open`].
 pub fn open(path: impl AsRef<Path>) -> Result<Saved> {
     Options::new().open(path)
 }
 
-/// The token of a write in the file: see [`Batch::set_token`].
+/// The token of a write in the file; see [`Batch::set_token`].
 #[derive(Clone, Debug, PartialEq, Eq)]
 pub struct Token {
     /// The token.
@@ -67,7 +67,7 @@ pub struct Token {
 /// The longest time for which a write waits to be saved.
 const YEAR: Duration = Duration::from_secs(365 * 24 * 3600);
 
-/// How a file is opened.
+/// Options for opening a file.
 #[derive(Clone, Debug, Default)]
 pub struct Options {
     limits: Limits,
@@ -76,19 +76,19 @@ pub struct Options {
 }
 
 impl Options {
-    /// The default limits; each write is saved before its call returns.
+    /// Returns the default limits. Each write is saved before its call returns.
     #[must_use]
     pub fn new() -> Self {
         Self::default()
     }
 
-    /// Sets how large the store in memory may grow. The journal in memory begins with the entries that opening the file takes.
+    /// Sets how large the store in memory may grow. The journal in memory begins with the entries that opening the file adds.
     pub fn limits(&mut self, limits: Limits) -> &mut Self {
         self.limits = limits;
         self
     }
 
-    /// Saves a write within this time after it returned. A crash within that time can lose it.
+    /// Saves each write within this time after its call has returned. A crash within that time can lose the write.
     pub fn every(&mut self, time: Duration) -> &mut Self {
         self.every = Some(time.min(YEAR));
         self
@@ -101,7 +101,7 @@ impl Options {
         self
     }
 
-    /// Opens or makes the file, and rebuilds the store. A file that is refused stays as it is.
+    /// Opens or creates the file, and rebuilds the store. A file that is refused isn't changed.
     ///
     /// # Errors
     /// [`Error::Foreign`], [`Error::Newer`], [`Error::Held`], [`Error::Damaged`], [`Error::CutOff`], [`Error::Differs`],
@@ -123,7 +123,7 @@ impl Options {
         file.measure()?;
         let token = |(entry, token): (u64, file::Token)| Token {
             text: token.text.into(),
-            // Before the entries come the batches of the state, which have no entries of their own.
+            // The batches of the state come before the entries, and aren't entries themselves.
             commit: in_memory.saturating_sub(number.saturating_sub(entry.max(of_state))),
             nodes: token.nodes,
         };
@@ -132,7 +132,7 @@ impl Options {
         Ok(Saved { store, queue, tokens })
     }
 
-    /// Makes the store of a file.
+    /// Makes the store for a file.
     fn open_store(&self, file: &mut File) -> Result<Loaded> {
         let store = Store::open(file.limits_within(self.limits)?)?;
         let number = load(file, &store, u64::MAX)?;
@@ -141,12 +141,12 @@ impl Options {
         Ok(Loaded { store, number, tokens })
     }
 
-    /// Rebuilds the store of a file, or the volumes of a folder, and leaves the files as they are: what is written then isn't kept
-    /// anywhere. The limits are those of each volume.
+    /// Rebuilds the store of a file, or the volumes of a folder, and leaves the files unchanged: writes to the result aren't kept anywhere.
+    /// The limits apply to each volume.
     ///
     /// # Errors
-    /// Those of [`open`](Self::open) and [`open_shelf`](Self::open_shelf), but for a full disk. [`Error::NotWithin`],
-    /// [`Error::NoVolume`]: the file hasn't the entry that [`until`](Self::until) names, or there is no such volume.
+    /// The same as [`open`](Self::open) and [`open_shelf`](Self::open_shelf), except for a full disk. [`Error::NotWithin`]: the file
+    /// doesn't have the entry that [`until`](Self::until) names. [`Error::NoVolume`]: there is no such volume.
     pub fn load(&self, path: impl AsRef<Path>) -> Result<Shelf> {
         let path = path.as_ref();
         let is_folder = path.is_dir();
@@ -181,7 +181,7 @@ struct Loaded {
     tokens: Vec<(u64, file::Token)>,
 }
 
-/// Applies what the file has to the empty store, up to the entry `until`. Returns the number of the last one.
+/// Applies the file's contents to the empty store, up to the entry `until`. Returns the number of the last entry applied.
 fn load(file: &File, store: &Store, until: u64) -> Result<u64> {
     let mut own = store.own()?;
     let state = file.state()?;
@@ -205,7 +205,7 @@ fn load(file: &File, store: &Store, until: u64) -> Result<u64> {
     Ok(last)
 }
 
-/// Applies an entry, and compares its outcome with the one that the file has.
+/// Applies an entry, and compares its outcome with the outcome in the file.
 fn repeat(pass: &Pass, number: u64, batch: &Batch) -> Result<()> {
     let place = Place::Entry(number);
     match pass.repeat(batch) {
@@ -219,8 +219,8 @@ fn read(place: Place, bytes: &[u8]) -> Result<Batch> {
     Batch::from_bytes(bytes).map_err(|error| Error::differs(place, error))
 }
 
-/// Rewrites the state if there are entries since, or if the file has no checksums. On a full disk the file stays as it is, and
-/// the next write says so.
+/// Rewrites the state if there are entries after it, or if the file has no checksums. If the disk is full, the file isn't changed, and the
+/// next write reports the error.
 fn renew(file: &mut File, snapshot: &Snapshot<'_>, number: u64) -> Result<()> {
     if number == file.state()?.entries && !file.lacks_checksums() {
         return Ok(());
@@ -229,12 +229,6 @@ fn renew(file: &mut File, snapshot: &Snapshot<'_>, number: u64) -> Result<()> {
         Err(Error::DiskFull { .. }) => Ok(()),
         answer => answer,
     }
-}
-
-/// The number of the snapshot, its next node, and the batches that make it again.
-fn copy_state(snapshot: &Snapshot<'_>) -> crate::Result<(u64, u64, Vec<Batch>)> {
-    let batches = snapshot.state().collect::<crate::Result<_>>()?;
-    Ok((snapshot.number(), snapshot.next_node()?, batches))
 }
 
 /// A store whose writes are kept in a file. It closes the file when it is dropped.
@@ -246,7 +240,7 @@ pub struct Saved {
 }
 
 impl Saved {
-    /// The store in memory. What its own passes write isn't saved.
+    /// Returns the store in memory. Writes by its own passes aren't saved.
     #[must_use]
     pub fn store(&self) -> &Store {
         &self.store
@@ -255,13 +249,13 @@ impl Saved {
     /// Takes a pass, whose writes are saved.
     ///
     /// # Errors
-    /// Those of [`Store::pass`].
+    /// The same as [`Store::pass`].
     pub fn pass(&self) -> crate::Result<Pass> {
         Ok(self.store.pass()?.kept_by(self.queue.keeper()))
     }
 
-    /// Takes the tokens that the file had when it was opened, those of earlier writes first. A token is saved in the same commit as its
-    /// write. A second call returns none.
+    /// Takes the tokens that the file had when it was opened, with those of earlier writes first. A token is saved in the same commit as
+    /// its write. A second call returns no tokens.
     pub fn take_tokens(&mut self) -> Vec<Token> {
         std::mem::take(&mut self.tokens)
     }
@@ -269,40 +263,39 @@ impl Saved {
     /// Waits until everything written before the call is in the file.
     ///
     /// # Errors
-    /// The error of the commit that failed, in [`Error::Stopped`]; [`Error::Store`] in a forked child.
+    /// The error from the commit that failed, in [`Error::Stopped`]; [`Error::Store`] in a forked child.
     pub fn flush(&self) -> Result<()> {
         self.store.check()?;
         self.queue.flush(None)
     }
 
-    /// The error of the commit that failed, if one has. Since then memory is ahead of the file.
+    /// Returns the error from the commit that failed, if one has failed. Since then, memory is ahead of the file.
     #[must_use]
     pub fn failure(&self) -> Option<Arc<Error>> {
         self.queue.failure()
     }
 
-    /// Writes the current snapshot into the file, in the place of the state and of the entries that it contains. Writes go on
-    /// meanwhile, and are saved after it. It takes the memory of the state's batches.
+    /// Writes a [copy](Store::copy_state) of the current snapshot into the file, where it replaces the state and the entries that the copy
+    /// contains. Writes go on meanwhile, and are saved after it. It takes the memory of the state's batches.
     ///
     /// # Errors
-    /// Those of [`flush`](Self::flush); [`Error::DiskFull`], [`Error::Sqlite`]: the file is as it was.
+    /// The same as [`flush`](Self::flush); [`Error::DiskFull`], [`Error::Sqlite`]: the file is unchanged.
     pub fn compact(&self) -> Result<()> {
-        // The pass is given up before the queue is locked, since a writer that has locked it may wait for the pass.
-        let (commit, next, batches) = copy_state(&self.store.spare()?.pin()?)?;
-        let number = self.queue.number_in_file(commit);
+        let copy = self.store.copy_state()?;
+        let number = self.queue.number_in_file(copy.number);
         self.queue.flush(Some(number))?;
         self.queue
-            .with_file(|file| file.write_state(number, next, batches.into_iter().map(Ok)))
+            .with_file(|file| file.write_state(number, copy.next, copy.batches.into_iter().map(Ok)))
     }
 
-    /// Whether the entries since the state take more bytes of the file than the state and 1 MiB, so that [`compact`](Self::compact)
-    /// makes the file smaller and faster to open. After a `compact` that failed, it takes 1 MiB more.
+    /// Returns whether the entries since the state take more bytes in the file than half of the state and 512 KiB, so that
+    /// [`compact`](Self::compact) makes the file smaller and faster to open. After a failed `compact`, it takes another 512 KiB.
     #[must_use]
     pub fn is_due(&self) -> bool {
         self.queue.is_due()
     }
 
-    /// The number in the file of the entry with this commit number. Numbers in the file continue from one opening to the next.
+    /// Returns the number in the file for the entry with this commit number. Numbers in the file continue from one opening to the next.
     #[must_use]
     pub fn number_in_file(&self, commit: u64) -> u64 {
         self.queue.number_in_file(commit)
@@ -311,7 +304,7 @@ impl Saved {
     /// Saves what was written, and closes the file. Passes that are still open can read.
     ///
     /// # Errors
-    /// Those of [`flush`](Self::flush).
+    /// The same as [`flush`](Self::flush).
     pub fn close(mut self) -> Result<()> {
         self.store.check()?;
         self.queue.close()

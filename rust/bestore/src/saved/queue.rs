@@ -1,4 +1,4 @@
-//! The order of the writes, and who saves them: one of the waiting writers, or a thread if there is a time.
+//! The order of the writes, and who saves them: one of the waiting writers, or a thread if writes are saved within a given time.
 
 use super::{Error, Result};
 use crate::pass::Keeper;
@@ -11,7 +11,7 @@ use std::sync::{Arc, Condvar, Mutex, MutexGuard, PoisonError};
 use std::thread::{self, JoinHandle};
 use std::time::{Duration, Instant};
 
-/// How many bytes may wait to be saved before the next write waits too.
+/// How many bytes can wait to be saved before the next write waits too.
 const WAITING: usize = 16 << 20;
 
 fn lock<T>(mutex: &Mutex<T>) -> MutexGuard<'_, T> {
@@ -22,25 +22,25 @@ fn wait<'a, T>(condition: &Condvar, guard: MutexGuard<'a, T>) -> MutexGuard<'a, 
     condition.wait(guard).unwrap_or_else(PoisonError::into_inner)
 }
 
-/// What was written and what was saved, by numbers of the file.
+/// What was written and what was saved, as numbers in the file.
 #[derive(Debug)]
 struct Line {
     waiting: Vec<Row>,
     waiting_bytes: usize,
-    /// When the first of those that wait has to be saved.
+    /// When the first waiting write has to be saved.
     due: Option<Instant>,
     written: u64,
     saved: u64,
     /// Whether somebody is making a commit.
     is_saving: bool,
-    /// Whether somebody is waiting for what is queued, so that it is saved at once.
+    /// Whether somebody is waiting for queued writes, so that they are saved immediately.
     is_urgent: bool,
     is_closed: bool,
     failed: Option<Arc<Error>>,
 }
 
 impl Line {
-    /// The waiting rows, which are to be saved now.
+    /// Takes the waiting rows, which are to be saved now.
     fn take_rows(&mut self) -> Vec<Row> {
         self.due = None;
         self.is_urgent = false;
@@ -61,11 +61,11 @@ impl Line {
 #[derive(Debug)]
 struct Shared {
     line: Mutex<Line>,
-    /// Something waits to be saved, or the queue is closing.
+    /// Signals that something waits to be saved, or that the queue is closing.
     work: Condvar,
-    /// Something was saved, or saving has failed.
+    /// Signals that something was saved, or that saving has failed.
     done: Condvar,
-    /// Until the queue is closed.
+    /// `Some` until the queue is closed.
     file: Mutex<Option<File>>,
     /// Whether the state of the file is to be rewritten.
     is_due: AtomicBool,
@@ -90,7 +90,7 @@ impl Shared {
         Ok(())
     }
 
-    /// Commits what is waiting, or waits until somebody else has done so.
+    /// Commits the waiting rows, or waits until somebody else has done so.
     fn advance<'a>(&'a self, mut line: MutexGuard<'a, Line>) -> MutexGuard<'a, Line> {
         if self.every.is_none() && !line.is_saving {
             return self.save_rows(line);
@@ -102,7 +102,7 @@ impl Shared {
         wait(&self.done, line)
     }
 
-    /// Commits what is waiting. Other writes that come meanwhile wait for the next commit.
+    /// Commits the waiting rows. Writes that come meanwhile wait for the next commit.
     fn save_rows<'a>(&'a self, mut line: MutexGuard<'a, Line>) -> MutexGuard<'a, Line> {
         let rows = line.take_rows();
         drop(line);
@@ -119,7 +119,7 @@ impl Shared {
         line
     }
 
-    /// Waits until something has to be saved. `None` at the end.
+    /// Waits until something has to be saved. Returns `None` at the end.
     fn next_work(&self) -> Option<MutexGuard<'_, Line>> {
         let mut line = lock(&self.line);
         loop {
@@ -137,7 +137,7 @@ impl Shared {
         }
     }
 
-    /// Keeps saving what is waiting, until the end or until a commit fails.
+    /// Saves the waiting rows repeatedly, until the end or until a commit fails.
     fn save(&self) {
         while let Some(line) = self.next_work() {
             if self.save_rows(line).failed.is_some() {
@@ -158,7 +158,7 @@ impl Shared {
     }
 }
 
-/// A commit that is being made. If it ends in a panic, nobody waits for it any more.
+/// A commit in progress. If it ends in a panic, nobody waits for it any more.
 struct Saving<'a>(&'a Shared);
 
 impl Drop for Saving<'_> {
@@ -217,7 +217,7 @@ impl Keeper for Shared {
     }
 }
 
-/// The queue of one file, and its saving thread if there is a time.
+/// The queue of one file, and its saving thread if writes are saved within a given time.
 #[derive(Debug)]
 pub(super) struct Queue {
     shared: Arc<Shared>,
@@ -227,7 +227,7 @@ pub(super) struct Queue {
 }
 
 impl Queue {
-    /// Starts the thread if it is needed, for a file whose last entry has this number and a store whose last entry has that one.
+    /// Starts the thread if it is needed. The file's last entry has the number `number`, and the store's last entry has `in_memory`.
     pub(super) fn start(file: File, number: u64, in_memory: u64, every: Option<Duration>) -> Result<Self> {
         let shared = Arc::new(Shared {
             line: Mutex::new(Line {
@@ -282,7 +282,7 @@ impl Queue {
         lock(&self.shared.line).failed.clone()
     }
 
-    /// Waits until the entry with this number is saved, or all that were written.
+    /// Waits until the entry with this number is saved, or if there is no number, until all entries are saved.
     pub(super) fn flush(&self, number: Option<u64>) -> Result<()> {
         let line = lock(&self.shared.line);
         let number = number.unwrap_or(line.written);
@@ -296,7 +296,7 @@ impl Queue {
         }
         let saving = self.saving.take();
         if !self.birthplace.is_here() {
-            // A forked child has no such thread, and the file belongs to the parent: it must not be closed here.
+            // A forked child has no such thread, and the file belongs to the parent: the child must not close it.
             mem::forget((saving, self.shared.clone()));
             return Ok(());
         }

@@ -1,4 +1,4 @@
-//! Kept shelves: each volume has a file of its own, in one folder.
+//! Kept shelves: each volume has its own file, and all files are in one folder.
 
 use super::{Error, Options, Result, Saved};
 use crate::{Shelf, ShelfPass, MOST_VOLUMES};
@@ -16,14 +16,13 @@ pub struct SavedShelf {
 }
 
 impl Options {
-    /// Opens the volumes that the folder has, each in a file of its own: `0.bestore`, `1.bestore` and so on. If `volumes` is
-    /// given, 1 to 64, it makes the folder and the missing volumes. A new volume gets the indices that the others have. The
-    /// options are for each volume.
+    /// Opens the volumes in the folder. Each has its own file: `0.bestore`, `1.bestore` and so on. If `volumes` is given, 1 to 64, it
+    /// creates the folder and the missing volumes. A new volume gets the indices that the others have. The options apply to each volume.
     ///
     /// # Errors
-    /// Those of [`open`](Self::open), in [`Error::OfVolume`]. [`Error::Folder`]: the folder can't be read or made. [`Error::Fewer`]: it
-    /// has more volumes than `volumes`, or none and no number is given. [`Error::NoFile`]: a volume is missing and a later one is
-    /// there.
+    /// The same as [`open`](Self::open), in [`Error::OfVolume`]. [`Error::Folder`]: the folder can't be read or created. [`Error::Fewer`]:
+    /// the folder has more volumes than `volumes`, or it has none and no number is given. [`Error::NoFile`]: a volume is missing although a
+    /// later one exists.
     pub fn open_shelf(&self, folder: impl AsRef<Path>, volumes: Option<u32>) -> Result<SavedShelf> {
         let folder = folder.as_ref();
         if !(1..=MOST_VOLUMES).contains(&volumes.unwrap_or(1)) {
@@ -49,7 +48,7 @@ impl Options {
     }
 }
 
-/// Makes the folder, if it isn't there.
+/// Creates the folder if it doesn't exist.
 fn make(folder: &Path) -> Result<()> {
     match DirBuilder::new().mode(0o700).create(folder) {
         Err(error) if error.kind() != ErrorKind::AlreadyExists => Err(Error::folder(folder, error)),
@@ -58,10 +57,10 @@ fn make(folder: &Path) -> Result<()> {
 }
 
 impl SavedShelf {
-    /// A shelf of these volumes. One that never had a node gets the indices that all the others have.
+    /// Makes a shelf of these volumes. A volume that never had a node gets the indices that all the others have.
     ///
     /// # Errors
-    /// Those of [`Shelf::of_volumes`]; those of a write.
+    /// The same as [`Shelf::of_volumes`], and the errors of a write.
     pub fn of_volumes(volumes: Vec<Saved>) -> Result<Self> {
         let shelf = Shelf::of_volumes(volumes.iter().map(|saved| saved.store.clone()).collect())?;
         let saved = Self { shelf, volumes };
@@ -69,19 +68,19 @@ impl SavedShelf {
         Ok(saved)
     }
 
-    /// The volumes.
+    /// Returns the volumes.
     #[must_use]
     pub fn volumes(&self) -> &[Saved] {
         &self.volumes
     }
 
-    /// The volumes in memory. What their own passes write isn't saved.
+    /// Returns the volumes in memory. Writes by their own passes aren't saved.
     #[must_use]
     pub fn shelf(&self) -> &Shelf {
         &self.shelf
     }
 
-    /// Takes the tokens of each volume, as [`Saved::take_tokens`].
+    /// Takes the tokens of each volume, like [`Saved::take_tokens`].
     pub fn take_tokens(&mut self) -> Vec<Vec<super::Token>> {
         self.volumes.iter_mut().map(Saved::take_tokens).collect()
     }
@@ -89,7 +88,7 @@ impl SavedShelf {
     /// Takes a pass, whose writes are saved.
     ///
     /// # Errors
-    /// Those of [`Shelf::pass`].
+    /// The same as [`Shelf::pass`].
     pub fn pass(&self) -> crate::Result<ShelfPass> {
         self.shelf.pass_of(self.volumes.iter().map(Saved::pass))
     }
@@ -102,7 +101,7 @@ impl SavedShelf {
         outcome
     }
 
-    /// An error of one volume, with the volume if there are several.
+    /// Returns an error from one volume, with the volume if there are several.
     fn error(&self, volume: u32, error: Error) -> Error {
         match self.volumes.len() {
             1 => error,
@@ -113,7 +112,7 @@ impl SavedShelf {
     /// Waits until everything written before the call is in the files.
     ///
     /// # Errors
-    /// Those of [`Saved::flush`], for the first volume that can't be saved. The others are saved.
+    /// The same as [`Saved::flush`], for the first volume that can't be saved. The other volumes are saved.
     pub fn flush(&self) -> Result<()> {
         self.each(Saved::flush)
     }
@@ -121,21 +120,21 @@ impl SavedShelf {
     /// Writes the current snapshots into the files, like [`Saved::compact`], one after another.
     ///
     /// # Errors
-    /// Those of `Saved::compact`, for the first volume that can't be written. The others are written.
+    /// The same as `Saved::compact`, for the first volume that can't be written. The other volumes are written.
     pub fn compact(&self) -> Result<()> {
         self.each(Saved::compact)
     }
 
-    /// Whether a volume needs compacting, by [`Saved::is_due`].
+    /// Returns whether a volume needs compacting, according to [`Saved::is_due`].
     #[must_use]
     pub fn is_due(&self) -> bool {
         self.volumes.iter().any(Saved::is_due)
     }
 
-    /// Compacts the volumes for which that [is due](Self::is_due).
+    /// Compacts the volumes for which compacting [is due](Self::is_due).
     ///
     /// # Errors
-    /// Those of [`compact`](Self::compact).
+    /// The same as [`compact`](Self::compact).
     pub fn compact_if_due(&self) -> Result<()> {
         self.each(|volume| match volume.is_due() {
             true => volume.compact(),
@@ -146,7 +145,7 @@ impl SavedShelf {
     /// Saves what was written, and closes the files. Passes that are still open can read.
     ///
     /// # Errors
-    /// Those of [`flush`](Self::flush).
+    /// The same as [`flush`](Self::flush).
     pub fn close(self) -> Result<()> {
         let outcome = self.flush();
         let closed = self.volumes.into_iter().map(Saved::close);

@@ -1,12 +1,13 @@
-//! Changes of a shelf: reading all volumes, and writing one.
+//! Changes to a shelf: they read all volumes and write one.
 
 use super::{ShelfPass, ShelfSnapshot};
 use crate::{Change, Error, Node, Result, Value};
 
-/// What the closure of [`ShelfPass::change`] reads, and the operations that it collects. All of them are in one volume: the one
-/// that was asked for, otherwise that of the first operation.
+/// A change to a shelf in progress. The closure of [`ShelfPass::change`] reads the volumes through it, and collects operations in it. All
+/// operations are in one volume: the volume that was asked for, or the volume of the first operation.
 ///
-/// [`get`](Self::get) reads the snapshot with the operations so far, and [`snapshot`](Self::snapshot) the one that they are based on.
+/// [`get`](Self::get) reads the snapshot with the operations so far applied. [`snapshot`](Self::snapshot) returns the snapshot on which
+/// they are based.
 #[derive(Debug)]
 pub struct ShelfChange<'a> {
     snapshot: &'a ShelfSnapshot<'a>,
@@ -16,19 +17,19 @@ pub struct ShelfChange<'a> {
 }
 
 impl<'a> ShelfChange<'a> {
-    /// The snapshot on which the change is made.
+    /// Returns the snapshot on which the change is made.
     #[must_use]
     pub fn snapshot(&self) -> &'a ShelfSnapshot<'a> {
         self.snapshot
     }
 
-    /// The volume that is written, if it is known already.
+    /// Returns the volume that is written, if it is known yet.
     #[must_use]
     pub fn volume(&self) -> Option<u32> {
         self.volume
     }
 
-    /// The change of this volume.
+    /// Returns the change to this volume.
     fn in_volume(&mut self, volume: u32) -> Result<&mut Change<'a>> {
         if *self.volume.get_or_insert(volume) != volume {
             return Err(Error::OtherVolume {
@@ -46,7 +47,7 @@ impl<'a> ShelfChange<'a> {
         self.change.as_mut().ok_or(Error::NoNode)
     }
 
-    /// The change of the node's volume, and the node's number in it.
+    /// Returns the change to the node's volume, and the node's number in that volume.
     fn of_node(&mut self, node: u64) -> Result<(&mut Change<'a>, u64)> {
         let Node { volume, number } = node.into();
         if self.snapshot.volume(volume).is_err() {
@@ -55,10 +56,10 @@ impl<'a> ShelfChange<'a> {
         Ok((self.in_volume(volume)?, number))
     }
 
-    /// An attribute as the operations so far leave it, or `None` if the node or the attribute doesn't exist then.
+    /// Returns an attribute as the operations so far leave it, or `None` if the node or the attribute doesn't exist then.
     ///
     /// # Errors
-    /// Those of [`ShelfSnapshot::get`].
+    /// The same as [`ShelfSnapshot::get`].
     pub fn get(&self, node: u64, name: &str) -> Result<Option<Value>> {
         let Node { volume, number } = node.into();
         match &self.change {
@@ -67,7 +68,7 @@ impl<'a> ShelfChange<'a> {
         }
     }
 
-    /// Accepts values of any kind from now on, as [`Change::any_kind`].
+    /// Accepts values of any kind from now on, like [`Change::any_kind`].
     pub fn any_kind(&mut self) -> &mut Self {
         self.takes_any_kind = true;
         if let Some(change) = &mut self.change {
@@ -76,11 +77,11 @@ impl<'a> ShelfChange<'a> {
         self
     }
 
-    /// Makes a node, and returns its future number. If no volume was asked for, and this is the first operation, the volume is the one
-    /// with the most free pages.
+    /// Makes a node, and returns the number that it will have. If no volume was asked for and this is the first operation, the node goes to
+    /// the volume with the most free pages.
     ///
     /// # Errors
-    /// [`Error::NoVolume`]: the volume that was asked for doesn't exist; those of [`ShelfSnapshot::roomiest`].
+    /// [`Error::NoVolume`]: the volume that was asked for doesn't exist. Otherwise the same as [`ShelfSnapshot::roomiest`].
     pub fn new_node(&mut self) -> Result<u64> {
         let volume = self.volume.map_or_else(|| self.snapshot.roomiest(), Ok)?;
         let number = self.in_volume(volume)?.new_node();
@@ -100,7 +101,7 @@ impl<'a> ShelfChange<'a> {
     /// Sets the attribute.
     ///
     /// # Errors
-    /// Those of [`remove_node`](Self::remove_node); [`Error::KindMismatch`], as [`Change::set`].
+    /// The same as [`remove_node`](Self::remove_node); [`Error::KindMismatch`], as in [`Change::set`].
     pub fn set(&mut self, node: u64, name: &str, value: impl Into<Value>) -> Result<&mut Self> {
         let (change, number) = self.of_node(node)?;
         change.set(number, name, value)?;
@@ -110,14 +111,14 @@ impl<'a> ShelfChange<'a> {
     /// Removes the attribute.
     ///
     /// # Errors
-    /// Those of [`remove_node`](Self::remove_node).
+    /// The same as [`remove_node`](Self::remove_node).
     pub fn unset(&mut self, node: u64, name: &str) -> Result<&mut Self> {
         let (change, number) = self.of_node(node)?;
         change.unset(number, name);
         Ok(self)
     }
 
-    /// Runs the closure on one snapshot after another, until its operations are written on the one that it has read.
+    /// Runs the closure on one snapshot after another, until its operations are written on the snapshot that it has read.
     pub(super) fn run<T>(
         pass: &mut ShelfPass,
         volume: Option<u32>,

@@ -5,8 +5,7 @@ use crate::{Live, Result, Snapshot, Updates};
 use bestore_types::raw::extend;
 use std::collections::BTreeSet;
 
-/// A live query over all volumes: each refresh returns what changed since the last one. At the first, all nodes of the answer
-/// come.
+/// A live query over all volumes: each refresh returns what changed since the last one. The first refresh returns all nodes of the answer.
 ///
 /// ```
 /// # use bestore::{Kind, Limits, Shelf, ShelfLive};
@@ -21,9 +20,9 @@ use std::collections::BTreeSet;
 #[derive(Debug)]
 pub struct ShelfLive {
     text: String,
-    /// The query of each volume that has been asked.
+    /// The query for each volume that has been read so far.
     volumes: Vec<Live>,
-    /// What was found by a refresh that then failed in another volume.
+    /// What a refresh found before it failed in another volume.
     pending: Updates,
 }
 
@@ -31,7 +30,7 @@ impl ShelfLive {
     /// Parses the query.
     ///
     /// # Errors
-    /// Those of [`Live::new`].
+    /// The same as [`Live::new`].
     pub fn new(text: &str) -> Result<Self> {
         Ok(Self {
             text: text.into(),
@@ -40,18 +39,18 @@ impl ShelfLive {
         })
     }
 
-    /// Asks the whole query in each volume, and compares with its answer at the last refresh. Use snapshots of one shelf.
+    /// Runs the whole query in each volume, and compares the answer with the answer at the last refresh. Use snapshots of one shelf.
     ///
     /// # Errors
-    /// Those of [`ShelfSnapshot::query`]. What changed until then is returned by the next refresh that succeeds.
+    /// The same as [`ShelfSnapshot::query`]. The next refresh that succeeds also returns the changes that this one found.
     pub fn refresh(&mut self, snapshot: &ShelfSnapshot<'_>) -> Result<Updates> {
         self.refresh_by(snapshot, Live::refresh)
     }
 
-    /// Returns what [`refresh`](Self::refresh) does, in each volume by [`Live::refresh_changed`], which says when that is faster.
+    /// Returns what [`refresh`](Self::refresh) does, but uses [`Live::refresh_changed`] in each volume, which explains when that is faster.
     ///
     /// # Errors
-    /// Those of [`Live::refresh_changed`]. What changed until then is returned by the next refresh that succeeds.
+    /// The same as [`Live::refresh_changed`]. The next refresh that succeeds also returns the changes that this one found.
     pub fn refresh_changed(&mut self, snapshot: &ShelfSnapshot<'_>) -> Result<Updates> {
         self.refresh_by(snapshot, Live::refresh_changed)
     }
@@ -80,7 +79,7 @@ impl ShelfLive {
 /// A refresh of one volume.
 type Refresh = fn(&mut Live, &Snapshot<'_>) -> Result<Updates>;
 
-/// The changes that these two make, one after the other.
+/// Combines two changes, made one after the other.
 fn after(first: Updates, then: Updates) -> Updates {
     if first == Updates::default() {
         return then;

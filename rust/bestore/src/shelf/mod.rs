@@ -1,6 +1,6 @@
 //! Shelves: several stores that one query searches.
 //!
-//! A [`Shelf`] has 1 to 64 stores, its *volumes*, so it has room for more nodes than one store. A query searches all of them, and a
+//! A [`Shelf`] has 1 to 64 stores, its *volumes*, so it can hold more nodes than one store. A query searches all of them, and a
 //! [node](crate::Node) says which volume it is in. A node never leaves its volume.
 //!
 //! ```
@@ -27,14 +27,11 @@
 //!
 //! # What is promised
 //!
-//! Each volume by itself keeps the promises of a store: its writes are serializable in its journal, and what is read from it is one
-//! snapshot. Across volumes there is no order:
+//! Each volume by itself keeps the promises of a store: its writes are serializable in its journal, and reads see one snapshot of it.
+//! Across volumes there is no order:
 //!
-//! - A [`ShelfSnapshot`] has a snapshot of each volume, which are pinned one after another. It may have a later write to one
-//!   volume, and not an earlier one to another. It has everything that its pass has written or seen.
-//! - A batch is in one volume. A [change](ShelfPass::change) writes one volume, only if nothing else was written there. What it
-//!   read from other volumes may have changed meanwhile.
-//! - Indices are made in one volume after another. A query that one volume can't answer is refused, so no answer is partial.
+//! A [`ShelfSnapshot`] has a snapshot of each volume. The volumes are pinned one after another, so it may contain a later write to one
+//!   volume and lack an earlier write to another. It contains everything that its pass has written or seen.
 
 mod change;
 mod live;
@@ -51,7 +48,7 @@ use crate::{Error, Limits, Pass, Result, Store, MOST_VOLUMES};
 use bestore_types::raw::fits;
 use std::sync::{Arc, Mutex};
 
-/// Several stores that one query searches. Clones are the same shelf, and each thread may make its pass from one.
+/// Several stores that one query searches. Clones share the same shelf, and each thread can make its pass from a clone.
 #[derive(Clone, Debug)]
 pub struct Shelf {
     volumes: Vec<Store>,
@@ -60,7 +57,7 @@ pub struct Shelf {
 }
 
 impl Shelf {
-    /// Opens this many empty volumes, 1 to 64. The limits are for each volume.
+    /// Opens a shelf of this many empty volumes, 1 to 64. The limits apply to each volume.
     ///
     /// # Errors
     /// [`Error::BadLimits`], [`Error::OutOfMemory`].
@@ -70,11 +67,11 @@ impl Shelf {
         Self::of_volumes(volumes)
     }
 
-    /// A shelf of these stores, 1 to 64. You may use passes of the stores themselves as well.
+    /// Makes a shelf of these stores, 1 to 64. You may use passes of the stores themselves as well.
     ///
     /// # Errors
-    /// [`Error::BadLimits`]: there are no volumes or too many. [`Error::NodesSpent`] with the volume whose next node can't have its
-    /// number in a shelf. [`Error::Forked`].
+    /// [`Error::BadLimits`]: there are no volumes or too many. [`Error::NodesSpent`] with the volume, if the number of its next node
+    /// doesn't fit into a shelf. [`Error::Forked`].
     pub fn of_volumes(volumes: Vec<Store>) -> Result<Self> {
         check_count(u32::try_from(volumes.len()).unwrap_or(u32::MAX))?;
         for (volume, store) in (0..).zip(&volumes) {
@@ -88,16 +85,16 @@ impl Shelf {
         })
     }
 
-    /// The volumes.
+    /// Returns the volumes.
     #[must_use]
     pub fn volumes(&self) -> &[Store] {
         &self.volumes
     }
 
-    /// Carries those volumes on for which it [is due](Store::is_due), one after another, as [`Store::carry_on`].
+    /// Carries on each volume for which this [is due](Store::is_due), one after another, like [`Store::carry_on`].
     ///
     /// # Errors
-    /// As that, of the first volume that can't be carried on. The others are.
+    /// The same as `Store::carry_on`, for the first volume that can't be carried on. The other volumes are carried on.
     pub fn carry_on_if_due(&self) -> Result<()> {
         let mut outcome = Ok(());
         for (volume, store) in (0..).zip(&self.volumes) {
@@ -108,19 +105,19 @@ impl Shelf {
         outcome
     }
 
-    /// Whether a volume is to be carried on, as [`Store::is_due`].
+    /// Returns whether a volume is due to be carried on, like [`Store::is_due`].
     #[must_use]
     pub fn is_due(&self) -> bool {
         self.volumes.iter().any(Store::is_due)
     }
 
-    /// Whether a pass still has what was carried on, as [`Store::is_read_before`].
+    /// Returns whether a pass still holds what was carried on, like [`Store::is_read_before`].
     #[must_use]
     pub fn is_read_before(&self) -> bool {
         self.volumes.iter().any(Store::is_read_before)
     }
 
-    /// An error of one volume, with the volume if there are several.
+    /// Returns an error from one volume, with the volume if there are several.
     fn error(&self, volume: u32, error: Error) -> Error {
         match self.volumes.len() {
             1 => error,
@@ -128,15 +125,15 @@ impl Shelf {
         }
     }
 
-    /// Takes a pass of each volume.
+    /// Takes a pass from each volume.
     ///
     /// # Errors
-    /// Those of [`Store::pass`]. No pass is taken then.
+    /// The same as [`Store::pass`]. If there is an error, no pass is taken.
     pub fn pass(&self) -> Result<ShelfPass> {
         self.pass_of(self.volumes.iter().map(Store::pass))
     }
 
-    /// The pass of the shelf that these passes of its volumes make.
+    /// Makes the shelf's pass from these passes of its volumes.
     pub(crate) fn pass_of(&self, passes: impl Iterator<Item = Result<Pass>>) -> Result<ShelfPass> {
         let passes = (0..).zip(passes);
         let passes = passes.map(|(volume, pass)| pass.map_err(|error| self.error(volume, error)));

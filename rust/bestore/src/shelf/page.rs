@@ -1,4 +1,4 @@
-//! Pages of all volumes: the pages of each, merged.
+//! Pages over all volumes: the pages of the volumes, merged.
 
 use super::ShelfSnapshot;
 use crate::page::begin;
@@ -9,20 +9,20 @@ use std::cmp::Ordering;
 use std::collections::VecDeque;
 
 impl<'a> ShelfSnapshot<'a> {
-    /// The nodes of all volumes that the query finds, in an order: an iterator that reads page after page.
+    /// Returns an iterator over the nodes that the query finds in all volumes, in an order. The iterator reads page after page.
     ///
     /// # Errors
-    /// Those of [`Snapshot::ordered`].
+    /// The same as [`Snapshot::ordered`].
     pub fn ordered(&self, text: &str, order: Order) -> Result<Ordered<'_>> {
         Ok(Ordered::of_shelf(self, Prepared::new(text)?, order))
     }
 
-    /// A page of all volumes, like [`Snapshot::page`]. Nodes with equal values are in the order of their integers. It costs about
-    /// as much as a page of each volume.
+    /// Returns a page over all volumes, like [`Snapshot::page`]. Nodes with equal values are sorted by their integers. It costs about as
+    /// much as one page from each volume.
     ///
     /// # Errors
-    /// Those of [`Snapshot::page`], with the volume. [`Error::NoOrder`] for the first volume that lacks the index, or whose index
-    /// has a different kind from the first volume's.
+    /// The same as [`Snapshot::page`], with the volume. [`Error::NoOrder`] for the first volume that lacks the index, or whose index has a
+    /// different kind from the first volume's.
     pub fn page(&self, prepared: &Prepared, order: &Order, after: Option<&Cursor>, most: usize) -> Result<Page> {
         if let [only] = self.volumes() {
             return only.page(prepared, order, after, most);
@@ -44,7 +44,7 @@ impl<'a> ShelfSnapshot<'a> {
         })
     }
 
-    /// An error unless all volumes have the index, with the same kind.
+    /// Returns an error unless all volumes have the index, with the same kind.
     fn check_kinds(&self, order: &Order) -> Result<()> {
         let mut first = None;
         for (volume, snapshot) in (0..).zip(self.volumes()) {
@@ -58,10 +58,10 @@ impl<'a> ShelfSnapshot<'a> {
         Ok(())
     }
 
-    /// The first `most` nodes of all volumes that the query finds, ascending from this one on.
+    /// Returns the first `most` nodes that the query finds in all volumes, in ascending order, starting at this one.
     ///
     /// # Errors
-    /// Those of [`Snapshot::first`].
+    /// The same as [`Snapshot::first`].
     pub fn first(&self, text: &str, from: u64, most: usize) -> Result<Vec<u64>> {
         self.first_prepared(&Prepared::new(text)?, from, most)
     }
@@ -69,7 +69,7 @@ impl<'a> ShelfSnapshot<'a> {
     /// Like [`first`](Self::first), for a prepared query.
     ///
     /// # Errors
-    /// Those of `first`.
+    /// The same as `first`.
     pub fn first_prepared(&self, prepared: &Prepared, from: u64, most: usize) -> Result<Vec<u64>> {
         let from = Node::from(from);
         self.some(most, |volume, snapshot, most| match volume.cmp(&from.volume) {
@@ -79,10 +79,10 @@ impl<'a> ShelfSnapshot<'a> {
         })
     }
 
-    /// Any `most` of the nodes of all volumes that the query finds, or all if there are fewer, in no particular order.
+    /// Returns any `most` of the nodes that the query finds in all volumes, or all of them if there are fewer, in no particular order.
     ///
     /// # Errors
-    /// Those of [`Snapshot::any`].
+    /// The same as [`Snapshot::any`].
     pub fn any(&self, text: &str, most: usize) -> Result<Vec<u64>> {
         self.any_prepared(&Prepared::new(text)?, most)
     }
@@ -90,12 +90,12 @@ impl<'a> ShelfSnapshot<'a> {
     /// Like [`any`](Self::any), for a prepared query.
     ///
     /// # Errors
-    /// Those of `any`.
+    /// The same as `any`.
     pub fn any_prepared(&self, prepared: &Prepared, most: usize) -> Result<Vec<u64>> {
         self.some(most, |_, snapshot, most| snapshot.any_prepared(prepared, most))
     }
 
-    /// What is found in one volume after another, until there are `most`.
+    /// Collects what is found in one volume after another, until there are `most` nodes.
     fn some(&self, most: usize, find: impl Fn(u32, &Snapshot<'a>, usize) -> Result<Vec<u64>>) -> Result<Vec<u64>> {
         if most == 0 {
             return Err(Error::NoRoom);
@@ -111,25 +111,25 @@ impl<'a> ShelfSnapshot<'a> {
     }
 }
 
-/// The pages of the volumes as one.
+/// Merges the pages of the volumes.
 struct Merge<'s, 'a> {
     shelf: &'s ShelfSnapshot<'a>,
     prepared: &'s Prepared,
     volumes: Vec<Ahead>,
-    /// How many nodes a volume is asked for at a time.
+    /// How many nodes to ask a volume for at a time.
     most: usize,
-    /// The position of the last node that was taken.
+    /// The position of the last node taken.
     last: Cursor,
 }
 
-/// What was read from a volume, and hasn't been taken yet.
+/// What was read from a volume and hasn't been taken yet.
 struct Ahead {
     nodes: VecDeque<Keyed>,
-    /// The position from which the volume goes on, if it has more.
+    /// The position from which the volume continues, if it has more.
     after: Option<Cursor>,
 }
 
-/// A node with its value, and with its key, which contains the shelf's integer for it.
+/// A node with its value and its key. The key contains the node's integer in the shelf.
 struct Keyed {
     key: Vec<u8>,
     value: Value,
@@ -154,7 +154,7 @@ impl<'s, 'a> Merge<'s, 'a> {
         Ok(merge)
     }
 
-    /// Reads the next page of a volume, if nothing of it is left and it has more.
+    /// Reads the next page from a volume, if all of the last page has been taken and the volume has more.
     fn read_on(&mut self, volume: usize) -> Result<()> {
         let ahead = &mut self.volumes[volume];
         if !ahead.nodes.is_empty() {
@@ -174,7 +174,7 @@ impl<'s, 'a> Merge<'s, 'a> {
         Ok(())
     }
 
-    /// The volume whose next node comes first.
+    /// Returns the volume whose next node comes first.
     fn first(&self) -> Option<usize> {
         let heads = self.volumes.iter().enumerate();
         let heads = heads.filter_map(|(volume, ahead)| Some((&ahead.nodes.front()?.key, volume)));
@@ -203,7 +203,7 @@ impl<'s, 'a> Merge<'s, 'a> {
     }
 }
 
-/// A volume is asked for at least this many nodes, if the page has room for them.
+/// A volume is asked for at least this many nodes, if the page has space for them.
 const LEAST_ASKED: usize = 8;
 
 fn keyed_in(volume: u32, number: u64, value: Value) -> Option<Keyed> {
@@ -212,13 +212,13 @@ fn keyed_in(volume: u32, number: u64, value: Value) -> Option<Keyed> {
     Some(Keyed { key, value, node })
 }
 
-/// The position in a volume of a shelf's cursor. Among the nodes with the cursor's value, those of lower volumes come before it in
-/// the ascending order, and those of higher volumes after it.
+/// Returns the position in a volume for a cursor of the shelf. Among the nodes with the cursor's value, the nodes of lower volumes come
+/// before it in ascending order, and the nodes of higher volumes after it.
 fn of_volume(after: &Cursor, volume: u32) -> Cursor {
     match after.node().map(Node::from) {
         None => after.clone(),
         Some(last) => after.with_node(match volume.cmp(&last.volume) {
-            // No node has the greatest number or 0, so these come after and before all nodes of the value.
+            // No node has the greatest number or 0, so these positions come after and before all nodes with that value.
             Ordering::Less => u64::MAX,
             Ordering::Equal => last.number,
             Ordering::Greater => 0,

@@ -8,17 +8,17 @@ use std::sync::{Arc, Mutex};
 use std::thread;
 use std::time::{Duration, Instant};
 
-/// How often [`ShelfPass::reach`] looks.
+/// How often [`ShelfPass::reach`] checks.
 const LOOK: Duration = Duration::from_millis(2);
 
 /// An accepted transaction of a shelf.
 #[derive(Clone, Debug, PartialEq, Eq)]
 pub struct ShelfWritten {
-    /// The volume that was written.
+    /// The volume that was written to.
     pub volume: u32,
     /// The commit number in that volume.
     pub number: u64,
-    /// The nodes that it made, in the order of the operations.
+    /// The nodes that the transaction made, in the order of the operations.
     pub nodes: Vec<u64>,
 }
 
@@ -36,8 +36,8 @@ impl ShelfPass {
         Self { volumes, indexing }
     }
 
-    /// The pass, whose writes go through the keeper of their volume from now on, as with [`Pass::kept_by`]. Keepers get the volume's
-    /// own node numbers.
+    /// Returns the pass, whose writes go through the keeper of their volume from now on, as with [`Pass::kept_by`]. Keepers get the
+    /// volume's own node numbers.
     #[must_use]
     pub fn kept_by(self, keeper: impl Fn(u32) -> Arc<dyn Keeper>) -> Self {
         let passes = (0..).zip(self.volumes);
@@ -47,13 +47,13 @@ impl ShelfPass {
         }
     }
 
-    /// The pass of each volume, which uses the volume's own node numbers. It may also write.
+    /// Returns the pass of each volume. These passes use the volume's own node numbers, and can also write.
     #[must_use]
     pub fn volumes(&self) -> &[Pass] {
         &self.volumes
     }
 
-    /// The pass of a volume.
+    /// Returns the pass of a volume.
     ///
     /// # Errors
     /// [`Error::NoVolume`].
@@ -61,12 +61,12 @@ impl ShelfPass {
         at(&self.volumes, volume)
     }
 
-    /// Sets how often calls of this pass are tried again.
+    /// Sets how often this pass retries its calls.
     pub fn set_retry(&mut self, retry: Retry) {
         self.volumes.iter_mut().for_each(|pass| pass.set_retry(retry));
     }
 
-    /// How a change waits.
+    /// Returns how a change waits.
     pub(super) fn waits(&self) -> Waits {
         Waits::of(&self.volumes[0])
     }
@@ -78,7 +78,7 @@ impl ShelfPass {
         }
     }
 
-    /// Pins the current snapshot of each volume, one after another. They can be read until they are dropped.
+    /// Pins the current snapshot of each volume, one after another. You can read the snapshots until they are dropped.
     ///
     /// # Errors
     /// [`Error::Forked`].
@@ -96,15 +96,15 @@ impl ShelfPass {
         self.volumes.iter_mut().map(Pass::hold).collect()
     }
 
-    /// Unpins the snapshots that are held, if they are.
+    /// Unpins the held snapshots, if there are any.
     pub fn release(&mut self) {
         self.volumes.iter_mut().for_each(Pass::release);
     }
 
-    /// Lets go of what was carried on of each volume, as [`Pass::follow`].
+    /// Gives up what was carried on in each volume, like [`Pass::follow`].
     ///
     /// # Errors
-    /// As that.
+    /// The same as that call.
     pub fn follow(&mut self) -> Result<bool> {
         let mut has_followed = false;
         for pass in &mut self.volumes {
@@ -113,13 +113,13 @@ impl ShelfPass {
         Ok(has_followed)
     }
 
-    /// Writes all operations of the batch or none, in the volume of the nodes that they name. If they name none, the volume with the
-    /// most free pages is taken.
+    /// Writes all operations of the batch or none, in the volume of the nodes that they name. If they name no node, the batch goes to the
+    /// volume with the most free pages.
     ///
     /// # Errors
-    /// [`Error::OtherVolume`] with the first operation that names a node of another volume. [`Error::NoNode`] if that volume doesn't
-    /// exist. [`Error::PartialIndex`]: one makes or removes an index, and there are several volumes; use
-    /// [`make_index`](Self::make_index). Otherwise as [`Pass::apply`].
+    /// [`Error::OtherVolume`] with the first operation that names a node in another volume. [`Error::NoNode`] if that volume doesn't exist.
+    /// [`Error::PartialIndex`] if an operation makes or removes an index and there are several volumes; use
+    /// [`make_index`](Self::make_index). Otherwise the same as [`Pass::apply`].
     pub fn apply(&self, batch: &Batch) -> Result<ShelfWritten> {
         batch.check_no_index(self.volumes.len())?;
         let (volume, within) = batch.to_volume(None)?;
@@ -130,24 +130,24 @@ impl ShelfPass {
         }
     }
 
-    /// Writes like [`apply`](Self::apply), in this volume. It may make an index only there.
+    /// Writes like [`apply`](Self::apply), but in this volume. It can make an index in this volume only.
     ///
     /// # Errors
-    /// [`Error::NoVolume`]; otherwise as `apply`.
+    /// [`Error::NoVolume`]; otherwise the same as `apply`.
     pub fn apply_in(&self, volume: u32, batch: &Batch) -> Result<ShelfWritten> {
         self.write(volume, None, &self.within(volume, batch)?)
     }
 
-    /// Writes like [`apply_in`](Self::apply_in), but only if the volume's journal has exactly `expected` entries. What was read from
-    /// other volumes may have changed.
+    /// Writes like [`apply_in`](Self::apply_in), but only if the volume's journal has exactly `expected` entries. Data read from other
+    /// volumes may have changed.
     ///
     /// # Errors
-    /// [`Error::Conflict`] if the journal has another length; otherwise as `apply_in`.
+    /// [`Error::Conflict`] if the journal has another length; otherwise the same as `apply_in`.
     pub fn apply_in_if(&self, volume: u32, expected: u64, batch: &Batch) -> Result<ShelfWritten> {
         self.write(volume, Some(expected), &self.within(volume, batch)?)
     }
 
-    /// The batch with the numbers in this volume.
+    /// Returns the batch with the node numbers in this volume.
     fn within(&self, volume: u32, batch: &Batch) -> Result<Batch> {
         self.volume(volume)?;
         Ok(batch.to_volume(Some(volume))?.1)
@@ -172,20 +172,20 @@ impl ShelfPass {
         kept.map_err(|error| self.error(volume, error))
     }
 
-    /// Reads and writes as one, like [`Pass::change`]: the closure reads all volumes, and its operations are written to one,
-    /// if nothing else was written there since. What it read from other volumes may have changed.
+    /// Reads and writes atomically, like [`Pass::change`]: the closure reads all volumes, and its operations are written to one volume if
+    /// nothing else has been written there since. Data that the closure read from other volumes may have changed.
     ///
     /// # Errors
-    /// Those of the closure; [`Error::Conflict`] after as many tries as [`Retry::conflict`] says; otherwise as
+    /// The closure's errors; [`Error::Conflict`] after as many tries as [`Retry::conflict`] says; otherwise the same as
     /// [`apply`](Self::apply).
     pub fn change<T>(&mut self, mut change: impl FnMut(&mut ShelfChange<'_>) -> Result<T>) -> Result<T> {
         ShelfChange::run(self, None, &mut change)
     }
 
-    /// The same, writing to this volume.
+    /// The same, but writes to this volume.
     ///
     /// # Errors
-    /// [`Error::NoVolume`]; otherwise as [`change`](Self::change).
+    /// [`Error::NoVolume`]; otherwise the same as [`change`](Self::change).
     pub fn change_in<T>(
         &mut self,
         volume: u32,
@@ -195,10 +195,10 @@ impl ShelfPass {
         ShelfChange::run(self, Some(volume), &mut change)
     }
 
-    /// Makes a node in the volume with the most free pages. It writes like [`apply`](Self::apply), as do the next three calls.
+    /// Makes a node in the volume with the most free pages. This call and the next three write like [`apply`](Self::apply).
     ///
     /// # Errors
-    /// Those of `apply`.
+    /// The same as `apply`.
     pub fn new_node(&self) -> Result<u64> {
         Ok(self.apply(Batch::new().new_node())?.nodes[0])
     }
@@ -206,7 +206,7 @@ impl ShelfPass {
     /// Removes the node and all its attributes.
     ///
     /// # Errors
-    /// Those of [`apply`](Self::apply).
+    /// The same as [`apply`](Self::apply).
     pub fn remove_node(&self, node: u64) -> Result<()> {
         self.apply(Batch::new().remove_node(node)).map(drop)
     }
@@ -214,7 +214,7 @@ impl ShelfPass {
     /// Sets the attribute.
     ///
     /// # Errors
-    /// Those of [`apply`](Self::apply).
+    /// The same as [`apply`](Self::apply).
     pub fn set(&self, node: u64, name: &str, value: impl Into<Value>) -> Result<()> {
         self.apply(Batch::new().set(node, name, value)).map(drop)
     }
@@ -222,7 +222,7 @@ impl ShelfPass {
     /// Removes the attribute.
     ///
     /// # Errors
-    /// Those of [`apply`](Self::apply).
+    /// The same as [`apply`](Self::apply).
     pub fn unset(&self, node: u64, name: &str) -> Result<()> {
         self.apply(Batch::new().unset(node, name)).map(drop)
     }
@@ -230,16 +230,16 @@ impl ShelfPass {
     /// Makes an index of this name for values of this kind in each volume, like [`ShelfSnapshot::make_index`] on a new snapshot.
     ///
     /// # Errors
-    /// Those of that call.
+    /// The same as that call.
     pub fn make_index(&mut self, name: &str, kind: Kind) -> Result<()> {
         self.pin()?.make_index(name, kind)
     }
 
-    /// Sets the attributes that the index of this name lacks to the same values again, like [`Pass::reindex`] in each volume. Returns
-    /// how many were set.
+    /// Sets attributes that the index of this name lacks to the same values again, like [`Pass::reindex`] in each volume. Returns how many
+    /// were set.
     ///
     /// # Errors
-    /// [`Error::NoIndex`]: some volume lacks the index. Otherwise as `Pass::reindex`.
+    /// [`Error::NoIndex`]: a volume lacks the index. Otherwise the same as `Pass::reindex`.
     pub fn reindex(&mut self, name: &str) -> Result<u64> {
         let indices = self.pin()?.indices()?;
         if !indices.iter().any(|(index, _)| index == name) {
@@ -257,35 +257,36 @@ impl ShelfPass {
     /// Removes the index from each volume that has it, like [`ShelfSnapshot::remove_index`].
     ///
     /// # Errors
-    /// Those of that call.
+    /// The same as that call.
     pub fn remove_index(&mut self, name: &str) -> Result<()> {
         self.pin()?.remove_index(name)
     }
 
-    /// How full each volume is.
+    /// Returns how full each volume is.
     ///
     /// # Errors
-    /// Those of [`Pass::status`].
+    /// The same as [`Pass::status`].
     pub fn status(&self) -> Result<Vec<Status>> {
         let all = (0..).zip(&self.volumes);
         let all = all.map(|(volume, pass)| pass.status().map_err(|error| self.error(volume, error)));
         all.collect()
     }
 
-    /// The volume with the most free pages, or the first of several. If there is more than one volume, it asks each for its status.
+    /// Returns the volume with the most free pages, or the first of several such volumes. If the shelf has more than one volume, each
+    /// volume's status is read.
     ///
     /// # Errors
-    /// Those of [`Pass::status`].
+    /// The same as [`Pass::status`].
     pub fn roomiest(&self) -> Result<u32> {
         roomiest(self.volumes.iter())
     }
 
-    /// Waits up to this time until the journal of each volume has at least this many entries; volumes without a number aren't waited
-    /// for. Snapshots that the pass pins after that include them. Returns whether the entries came in time. It asks each volume for its
-    /// status every 2 milliseconds.
+    /// Waits up to this time until the journal of each volume has at least this many entries. A volume without a number isn't waited for.
+    /// Snapshots that the pass pins afterwards include the entries. Returns whether the entries came in time. It reads each volume's status
+    /// every 2 milliseconds.
     ///
     /// # Errors
-    /// [`Error::NoVolume`]: there are more numbers than volumes; otherwise as [`Pass::status`].
+    /// [`Error::NoVolume`]: there are more numbers than volumes; otherwise the same as [`Pass::status`].
     pub fn reach(&self, numbers: &[u64], within: Duration) -> Result<bool> {
         if numbers.len() > self.volumes.len() {
             return self.volume(self.volumes.len() as u32).map(|_| false);
@@ -303,7 +304,7 @@ impl ShelfPass {
         }
     }
 
-    /// Makes the indices that all other volumes have in those that never had a node, so that they are complete there.
+    /// Finds the indices that all other volumes have, and makes them in each volume that never had a node, so that they are complete there.
     #[cfg(feature = "saved")]
     pub(crate) fn index_new_volumes(&mut self) -> Result<()> {
         let mut new = Vec::new();

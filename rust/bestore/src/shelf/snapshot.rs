@@ -5,8 +5,8 @@ use bestore_types::raw::extend;
 use std::collections::BTreeMap;
 use std::sync::{Mutex, PoisonError};
 
-/// A snapshot of each volume. They are pinned one after another, so it may have a later write to one volume and lack an earlier
-/// one to another.
+/// A snapshot of each volume. The volumes are pinned one after another, so the shelf's snapshot may contain a later write to one volume and
+/// lack an earlier write to another.
 ///
 /// If there are several volumes, [`Error::volume`] says which one an error comes from.
 #[derive(Debug)]
@@ -21,24 +21,24 @@ impl<'a> ShelfSnapshot<'a> {
         Ok(Self { volumes, indexing })
     }
 
-    /// How many entries of all volumes' journals it contains in total.
+    /// Returns how many entries from all volumes' journals the snapshot contains in total.
     #[must_use]
     pub fn number(&self) -> u64 {
         self.numbers().sum()
     }
 
-    /// The number of each volume's snapshot.
+    /// Returns the number of each volume's snapshot.
     pub fn numbers(&self) -> impl Iterator<Item = u64> + '_ {
         self.volumes.iter().map(Snapshot::number)
     }
 
-    /// The snapshot of each volume, which uses the volume's own node numbers.
+    /// Returns the snapshot of each volume. These snapshots use the volume's own node numbers.
     #[must_use]
     pub fn volumes(&self) -> &[Snapshot<'a>] {
         &self.volumes
     }
 
-    /// The snapshot of a volume.
+    /// Returns the snapshot of a volume.
     ///
     /// # Errors
     /// [`Error::NoVolume`].
@@ -50,7 +50,7 @@ impl<'a> ShelfSnapshot<'a> {
         (0..).zip(&self.volumes)
     }
 
-    /// An error of one volume, with the volume if there are several.
+    /// Returns an error from one volume, with the volume if there are several.
     pub(super) fn error(&self, volume: u32, error: Error) -> Error {
         match self.volumes.len() {
             1 => error,
@@ -58,7 +58,7 @@ impl<'a> ShelfSnapshot<'a> {
         }
     }
 
-    /// The snapshot that may have the node, and the node's number there.
+    /// Returns the snapshot that may have the node, and the node's number in that volume.
     fn place(&self, node: u64) -> Option<(&Snapshot<'a>, u64)> {
         let node = Node::from(node);
         Some((self.volumes.get(node.volume as usize)?, node.number))
@@ -73,10 +73,10 @@ impl<'a> ShelfSnapshot<'a> {
         Ok(found)
     }
 
-    /// The nodes of all volumes that the query finds, ascending. The text is parsed once.
+    /// Returns the nodes that the query finds in all volumes, in ascending order. The text is parsed once.
     ///
     /// # Errors
-    /// Those of [`Snapshot::query`]. If volumes can't answer the query, the error names the first of them.
+    /// The same as [`Snapshot::query`]. If some volumes can't answer the query, the error names the first such volume.
     pub fn query(&self, text: &str) -> Result<Vec<u64>> {
         if let [only] = &self.volumes[..] {
             return only.query(text);
@@ -84,44 +84,44 @@ impl<'a> ShelfSnapshot<'a> {
         let prepared = Prepared::new(text)?;
         self.found(|snapshot| {
             let found = snapshot.query_prepared(&prepared);
-            // The error for the text has the place that is wrong in it.
+            // The prepared query's error gives a wrong position in this text.
             found.or_else(|_| snapshot.query(text))
         })
     }
 
-    /// The nodes of all volumes that the prepared query finds, ascending.
+    /// Returns the nodes that the prepared query finds in all volumes, in ascending order.
     ///
     /// # Errors
-    /// Those of [`query`](Self::query).
+    /// The same as [`query`](Self::query).
     pub fn query_prepared(&self, prepared: &Prepared) -> Result<Vec<u64>> {
         self.found(|snapshot| snapshot.query_prepared(prepared))
     }
 
-    /// How many nodes the query finds in all volumes. It costs as much as the query, except for the list.
+    /// Returns how many nodes the query finds in all volumes. It costs as much as the query, except for the list.
     ///
     /// # Errors
-    /// Those of [`query`](Self::query).
+    /// The same as [`query`](Self::query).
     pub fn count(&self, text: &str) -> Result<u64> {
         let prepared = Prepared::new(text)?;
         self.sum(|snapshot| {
             let counted = snapshot.count_prepared(&prepared);
-            // The error for the text has the place that is wrong in it.
+            // The prepared query's error gives a wrong position in this text.
             counted.or_else(|_| snapshot.count(text))
         })
     }
 
-    /// How many nodes the prepared query finds in all volumes.
+    /// Returns how many nodes the prepared query finds in all volumes.
     ///
     /// # Errors
-    /// Those of [`query`](Self::query).
+    /// The same as [`query`](Self::query).
     pub fn count_prepared(&self, prepared: &Prepared) -> Result<u64> {
         self.sum(|snapshot| snapshot.count_prepared(prepared))
     }
 
-    /// How many pairs of a value and a node the index of this name has in all volumes.
+    /// Returns how many pairs of a value and a node the index of this name has in all volumes.
     ///
     /// # Errors
-    /// Those of [`Snapshot::pairs`].
+    /// The same as [`Snapshot::pairs`].
     pub fn pairs(&self, name: &str) -> Result<u64> {
         self.sum(|snapshot| snapshot.pairs(name))
     }
@@ -134,20 +134,20 @@ impl<'a> ShelfSnapshot<'a> {
         counts.sum()
     }
 
-    /// The comparisons of a query that are never true, judging by the indices that every volume has with the same kind.
+    /// Returns the comparisons in a query that are never true, judging by the indices that every volume has with the same kind.
     ///
     /// # Errors
-    /// Those of [`Snapshot::hints`].
+    /// The same as [`Snapshot::hints`].
     pub fn hints(&self, text: &str) -> Result<Vec<Hint>> {
         let indices: BTreeMap<_, _> = self.indices()?.into_iter().collect();
         hints(text, |name| indices.get(name).copied())
     }
 
-    /// The chosen indices of the query in the first volume, and the cost there. The others choose the same if they have the same
-    /// indices.
+    /// Returns the indices chosen for the query in the first volume, and the cost there. The other volumes choose the same if they have the
+    /// same indices.
     ///
     /// # Errors
-    /// Those of [`query`](Self::query).
+    /// The same as [`query`](Self::query).
     pub fn explain(&self, text: &str) -> Result<String> {
         let explained = self.each().map(|(volume, snapshot)| {
             let text = snapshot.explain(text);
@@ -157,7 +157,7 @@ impl<'a> ShelfSnapshot<'a> {
         Ok(explained.into_iter().next().unwrap_or_default())
     }
 
-    /// All nodes from this one on, ascending: 0 for all.
+    /// Returns all nodes from this one on, in ascending order. Pass 0 to get all nodes.
     pub fn nodes_from(&self, from: u64) -> ShelfNodes<'_> {
         let Node { volume, number } = from.into();
         ShelfNodes {
@@ -167,19 +167,19 @@ impl<'a> ShelfSnapshot<'a> {
         }
     }
 
-    /// Whether the node exists.
+    /// Returns whether the node exists.
     ///
     /// # Errors
-    /// Those of [`Snapshot::contains`].
+    /// The same as [`Snapshot::contains`].
     pub fn contains(&self, node: u64) -> Result<bool> {
         self.place(node)
             .map_or(Ok(false), |(snapshot, number)| snapshot.contains(number))
     }
 
-    /// An attribute, or `None` if the node or the attribute doesn't exist.
+    /// Returns an attribute, or `None` if the node or the attribute doesn't exist.
     ///
     /// # Errors
-    /// Those of [`Snapshot::get`].
+    /// The same as [`Snapshot::get`].
     pub fn get(&self, node: u64, name: &str) -> Result<Option<Value>> {
         match self.place(node) {
             Some((snapshot, number)) => snapshot.get(number, name),
@@ -188,16 +188,16 @@ impl<'a> ShelfSnapshot<'a> {
         }
     }
 
-    /// The attributes of a node, by ascending names.
+    /// Returns the attributes of a node, sorted by name.
     ///
     /// # Errors
-    /// Those of [`Snapshot::attributes`].
+    /// The same as [`Snapshot::attributes`].
     pub fn attributes(&self, node: u64) -> Result<Vec<(String, Value)>> {
         let (snapshot, number) = self.place(node).ok_or(Error::NoNode)?;
         snapshot.attributes(number)
     }
 
-    /// For each index, by ascending names, the volumes that have it, with its kind there.
+    /// Returns the volumes that have each index, with the index's kind there. The indices are sorted by name.
     fn all_indices(&self) -> Result<BTreeMap<String, Vec<(u32, Kind)>>> {
         let mut indices: BTreeMap<String, Vec<(u32, Kind)>> = BTreeMap::new();
         for (volume, snapshot) in self.each() {
@@ -208,17 +208,17 @@ impl<'a> ShelfSnapshot<'a> {
         Ok(indices)
     }
 
-    /// The kind of an index, if every volume has it with the same kind.
+    /// Returns the kind of an index, if every volume has the index with the same kind.
     fn common_kind(&self, volumes: &[(u32, Kind)]) -> Option<Kind> {
         let (_, kind) = volumes[0];
         let is_common = volumes.len() == self.volumes.len() && volumes.iter().all(|(_, other)| *other == kind);
         is_common.then_some(kind)
     }
 
-    /// The indices that every volume has with the same kind, by ascending names.
+    /// Returns the indices that every volume has with the same kind, sorted by name.
     ///
     /// # Errors
-    /// Those of [`Snapshot::indices`].
+    /// The same as [`Snapshot::indices`].
     pub fn indices(&self) -> Result<Vec<(String, Kind)>> {
         if let [only] = &self.volumes[..] {
             return only.indices();
@@ -228,10 +228,10 @@ impl<'a> ShelfSnapshot<'a> {
         Ok(common.collect())
     }
 
-    /// The indices that some volumes lack or have with another kind, with the volumes that have them.
+    /// Returns the indices that some volumes lack or have with another kind, with the volumes that have them.
     ///
     /// # Errors
-    /// Those of [`Snapshot::indices`].
+    /// The same as [`Snapshot::indices`].
     pub fn partial_indices(&self) -> Result<BTreeMap<String, Vec<u32>>> {
         let indices = self.all_indices()?.into_iter();
         let partial = indices.filter(|(_, volumes)| self.common_kind(volumes).is_none());
@@ -240,13 +240,13 @@ impl<'a> ShelfSnapshot<'a> {
             .collect())
     }
 
-    /// Makes an index of this name for values of this kind in each volume that has none, one after another. Meanwhile no other call
-    /// on the shelf makes or removes indices in all volumes.
+    /// Makes an index of this name for values of this kind in each volume that has none, one volume after another. Until it is done, no
+    /// other call on the shelf makes or removes indices in all volumes.
     ///
     /// # Errors
-    /// [`Error::IndexExists`] if each volume has it, or if in this snapshot one has it with another kind, which the error then names;
-    /// nothing was written. Otherwise as [`Pass::apply`], with the volume that refuses: those before it have the index, and the same
-    /// call makes the others.
+    /// [`Error::IndexExists`] if each volume has the index, or if in this snapshot a volume has it with another kind. The error then names
+    /// that volume, and nothing was written. Otherwise the same as [`Pass::apply`], with the volume that refuses. The volumes before it
+    /// have the index, and the same call makes the index in the others.
     pub fn make_index(&self, name: &str, kind: Kind) -> Result<()> {
         for (volume, snapshot) in self.each() {
             let differs = |(index, found): &(String, Kind)| index == name && *found != kind;
@@ -261,14 +261,14 @@ impl<'a> ShelfSnapshot<'a> {
     /// Removes the index of this name from each volume that has it, one after another.
     ///
     /// # Errors
-    /// [`Error::NoIndex`] if none has it; otherwise as [`make_index`](Self::make_index).
+    /// [`Error::NoIndex`] if no volume has the index; otherwise the same as [`make_index`](Self::make_index).
     pub fn remove_index(&self, name: &str) -> Result<()> {
         let batch = Batch::new().remove_index(name).clone();
         self.write_each(&batch, Error::NoIndex, |error| matches!(error, Error::NoIndex))
     }
 
-    /// Writes the batch in each volume, except those where it fails with this error. `all` is the error if it fails with that
-    /// everywhere.
+    /// Writes the batch in each volume, and skips volumes where it fails with an error for which `is_done` is true. If every volume fails
+    /// that way, returns `all`.
     fn write_each(&self, batch: &Batch, all: Error, is_done: impl Fn(&Error) -> bool) -> Result<()> {
         let _turn = self.indexing.lock().unwrap_or_else(PoisonError::into_inner);
         let mut outcome = Err(all);
@@ -282,18 +282,19 @@ impl<'a> ShelfSnapshot<'a> {
         outcome
     }
 
-    /// The volume with the most free pages, or the first of several. If there is more than one volume, it asks each for its status.
+    /// Returns the volume with the most free pages, or the first of several such volumes. If the shelf has more than one volume, each
+    /// volume's status is read.
     ///
     /// # Errors
-    /// Those of [`Pass::status`].
+    /// The same as [`Pass::status`].
     pub fn roomiest(&self) -> Result<u32> {
         roomiest(self.volumes.iter().map(Snapshot::pass))
     }
 
-    /// How full each volume is.
+    /// Returns how full each volume is.
     ///
     /// # Errors
-    /// Those of [`Pass::status`].
+    /// The same as [`Pass::status`].
     pub fn status(&self) -> Result<Vec<Status>> {
         let all = self.each().map(|(volume, snapshot)| {
             let status = snapshot.pass().status();
@@ -302,17 +303,17 @@ impl<'a> ShelfSnapshot<'a> {
         all.collect()
     }
 
-    /// The number that the next node of this volume will have, if it is made on this snapshot.
+    /// Returns the number that the next node of this volume will have, if it is made on this snapshot.
     ///
     /// # Errors
-    /// Those of [`Snapshot::next_node`]; [`Error::NoVolume`].
+    /// The same as [`Snapshot::next_node`]; [`Error::NoVolume`].
     pub fn next_node(&self, volume: u32) -> Result<u64> {
         let number = self.volume(volume)?.next_node()?;
         Ok(Node { volume, number }.into())
     }
 }
 
-/// What belongs to a volume.
+/// Returns the item that belongs to a volume.
 pub(super) fn at<T>(volumes: &[T], volume: u32) -> Result<&T> {
     volumes.get(volume as usize).ok_or(Error::NoVolume {
         volume,
@@ -320,7 +321,7 @@ pub(super) fn at<T>(volumes: &[T], volume: u32) -> Result<&T> {
     })
 }
 
-/// The first of the volumes with the most free pages.
+/// Returns the first volume among those with the most free pages.
 pub(super) fn roomiest<'p>(passes: impl ExactSizeIterator<Item = &'p Pass>) -> Result<u32> {
     if passes.len() == 1 {
         return Ok(0);
@@ -335,7 +336,7 @@ pub(super) fn roomiest<'p>(passes: impl ExactSizeIterator<Item = &'p Pass>) -> R
     Ok(roomiest)
 }
 
-/// The nodes of a shelf, from [`ShelfSnapshot::nodes_from`]. After an error it goes on with the next volume.
+/// An iterator over the nodes of a shelf, returned by [`ShelfSnapshot::nodes_from`]. After an error it goes on with the next volume.
 #[derive(Debug)]
 pub struct ShelfNodes<'a> {
     snapshot: &'a ShelfSnapshot<'a>,

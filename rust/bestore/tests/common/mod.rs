@@ -1,7 +1,7 @@
 //! What the tests share. Not every test uses all of it.
 #![allow(dead_code)]
 
-use bestore::{Kind, Limits, Pass, Store};
+use bestore::{Kind, Limits, Pass, ShelfPass, Store};
 
 /// A small store.
 pub fn store() -> Store {
@@ -15,6 +15,26 @@ pub fn sized(pages: u64) -> Store {
         ..Limits::default()
     };
     Store::open(limits).unwrap()
+}
+
+/// A small store with this many passes.
+pub fn shared(passes: u64) -> Store {
+    let limits = Limits {
+        pages: 64,
+        passes,
+        ..Limits::default()
+    };
+    Store::open(limits).unwrap()
+}
+
+/// Makes a node of this size in this volume of a shelf.
+pub fn make_sized(pass: &mut ShelfPass, volume: u32, size: i64) -> u64 {
+    let made = pass.change_in(volume, |change| {
+        let node = change.new_node()?;
+        change.set(node, "size", size)?;
+        Ok(node)
+    });
+    made.unwrap()
 }
 
 /// A pass of a small store with an index `size` of 64 bits, and nodes 1 to 10 of the sizes 1 to 10.

@@ -1,4 +1,4 @@
-//! How to reach the database of a log: its URL, and the password, which may be in a file like that of PostgreSQL's own programs.
+//! How to reach the database of a log: its URL, and the password, which may be in a file like the one that PostgreSQL's own programs use.
 
 use super::database::Database;
 use super::error::{Error, Result};
@@ -10,7 +10,7 @@ use std::time::Duration;
 use tokio_postgres::config::Host;
 use tokio_postgres::Config;
 
-/// The port of PostgreSQL if the URL has none.
+/// The port of PostgreSQL if the URL doesn't give one.
 const PORT: u16 = 5432;
 
 /// The values of `sslmode` that don't need TLS.
@@ -20,9 +20,9 @@ const PLAIN: [&str; 3] = ["disable", "allow", "prefer"];
 #[derive(Clone, Debug)]
 pub struct Access {
     pub config: Config,
-    /// A name of this server for people: its machine and its socket.
+    /// A name for this server that people can read: its machine and its socket.
     pub name: String,
-    /// A different text for each run.
+    /// A different string for each run.
     pub run: String,
 }
 
@@ -42,7 +42,7 @@ impl Access {
     }
 }
 
-/// The machine and the path of the socket.
+/// Returns the machine and the path of the socket.
 fn name(options: &Options) -> String {
     let machine = fs::read_to_string("/proc/sys/kernel/hostname").unwrap_or_default();
     format!("{}:{}", machine.trim(), options.socket().path().display())
@@ -66,7 +66,7 @@ fn config(in_log: &InLog) -> Result<Config> {
     Ok(config)
 }
 
-/// The value of `sslmode` in a URL, or in words such as `host=db sslmode=require`.
+/// Returns the value of `sslmode` in a URL, or in words such as `host=db sslmode=require`.
 fn ssl_mode(url: &str) -> Option<&str> {
     let mut parameters = url.split(|character: char| "?& ".contains(character));
     parameters.find_map(|parameter| parameter.strip_prefix("sslmode="))
@@ -79,7 +79,7 @@ fn check_plain(mode: Option<&str>) -> Result<()> {
     }
 }
 
-/// Takes the password from the file, or from the one that PostgreSQL's programs would read.
+/// Takes the password from the file, or from the file that PostgreSQL's programs would read.
 fn add_password(config: &mut Config, passfile: Option<&Path>) -> Result<()> {
     let found = match passfile {
         Some(path) => {
@@ -107,7 +107,7 @@ fn default_passfile() -> Option<PathBuf> {
     named.map(PathBuf::from).or_else(home)
 }
 
-/// The text of a file that nobody else may read.
+/// Returns the text in a file that nobody else may read.
 fn private_text(path: &Path) -> std::result::Result<String, String> {
     let about = fs::metadata(path).map_err(|error| error.to_string())?;
     let mode = about.permissions().mode() & 0o777;
@@ -119,7 +119,7 @@ fn private_text(path: &Path) -> std::result::Result<String, String> {
     fs::read_to_string(path).map_err(|error| error.to_string())
 }
 
-/// How the lines with a password for this database begin: a machine, a port, a database and a user, for each machine.
+/// Returns how the lines with a password for this database begin: a machine, a port, a database and a user, for each machine.
 fn wanted(config: &Config) -> Vec<String> {
     let user = config.get_user().unwrap_or_default();
     let database = config.get_dbname().unwrap_or(user);
@@ -135,7 +135,7 @@ fn wanted(config: &Config) -> Vec<String> {
     config.get_hosts().iter().enumerate().map(machine).collect()
 }
 
-/// The password of the first line that is for the database.
+/// Returns the password in the first line that fits the database.
 fn password(text: &str, config: &Config) -> Option<String> {
     let wanted = wanted(config);
     let lines = text.lines().filter(|line| !line.starts_with('#'));
@@ -154,7 +154,7 @@ fn is_for(fields: &[String], wanted: &str) -> bool {
     both.all(|(field, wanted)| field == "*" || field == wanted)
 }
 
-/// The fields of a line, separated by `:`. A `\` makes the character after it part of the field.
+/// Returns the fields in a line, separated by `:`. A `\` makes the character after it part of the field.
 fn fields(line: &str) -> Vec<String> {
     let mut fields = vec![String::new()];
     let mut characters = line.chars();

@@ -16,17 +16,17 @@ use tokio_postgres::{AsyncMessage, Client, Config, NoTls, Row as SqlRow, Socket,
 /// The version of the tables.
 const FORMAT: i32 = 1;
 
-/// How long a call may take. PostgreSQL gives a statement up a little sooner.
+/// How long a call may take. PostgreSQL gives up on a statement slightly sooner.
 const LIMIT: Duration = Duration::from_secs(7);
 
-/// The maximum number of entries that are read at once.
+/// The maximum number of entries to read at a time.
 pub const ENTRIES: usize = 500;
 
-/// How many entries before the state stay in the log, for followers that are a little late.
+/// How many entries before the state stay in the log, for followers that are slightly late.
 const SPARE: u64 = 10_000;
 
-/// PostgreSQL gives up on a leader whose machine is gone after about 11 seconds, so that another one can lead. A confirmed
-/// write is on PostgreSQL's disk, whatever the database's default is.
+/// PostgreSQL gives up after about 11 seconds on a leader whose machine is gone, so that another server can lead. A confirmed write is on
+/// PostgreSQL's disk, whatever the database's default is.
 const SETTINGS: &str = "
     SET statement_timeout = '6s';
     SET tcp_keepalives_idle = 5;
@@ -56,8 +56,8 @@ const TABLES: &str = "
     );
 ";
 
-/// Adds entries if the log ends with `$2` and this term is still the last one. It is one statement, so no other leader can
-/// add entries in between. The row of `bestore_log` is locked until the commit.
+/// Adds entries if the log ends with `$2` and this term is still the last one. It is one statement, so no other leader can add entries in
+/// between. The row in `bestore_log` is locked until the commit.
 const APPEND: &str = "
     WITH head AS (
         UPDATE bestore_log SET last = last + cardinality($3::bigint[]), touched = clock_timestamp(), touched_term = term
@@ -69,24 +69,24 @@ const APPEND: &str = "
     )
     SELECT pg_notify('bestore_log', last::text) FROM head";
 
-/// What earlier versions lacked.
+/// Adds what earlier versions lacked.
 const COLUMNS: &str = "
     ALTER TABLE bestore_entry ADD COLUMN IF NOT EXISTS token text;
     ALTER TABLE bestore_log ADD COLUMN IF NOT EXISTS touched timestamptz, ADD COLUMN IF NOT EXISTS touched_term bigint;
 ";
 
-/// The head, and how many seconds its leader has been silent, if it is one that reports that it is alive.
+/// Reads the head, and for how many seconds its leader has been silent, if that leader reports that it is alive.
 const HEAD: &str = "
     SELECT *, CASE WHEN touched_term = term THEN extract(epoch FROM clock_timestamp() - touched)::float8 END AS silence
     FROM bestore_log";
 
-/// Reports that the leader of the term `$1` is alive. This needn't be on a standby's disk.
+/// Reports that the leader of the term `$1` is alive. The report needn't be on a standby's disk.
 const TOUCH: &str = "
     UPDATE bestore_log SET touched = clock_timestamp(), touched_term = term
     FROM (SELECT set_config('synchronous_commit', 'local', true)) AS once
     WHERE term = $1 RETURNING bestore_log.*";
 
-/// Ends the session that has the lock, if it has done nothing for `$1` seconds, so that a follower that has just taken it stays.
+/// Ends the session that holds the lock if it has done nothing for `$1` seconds. So a follower that has just taken the lock keeps it.
 const END_LEADER: &str = "
     SELECT pg_terminate_backend(pid) FROM pg_locks JOIN pg_stat_activity USING (pid)
     WHERE locktype = 'advisory' AND datname = current_database() AND granted
@@ -102,13 +102,13 @@ const REMOVE: &str = "
 /// The advisory lock of a log: "best" in ASCII, and the number of its table in the database.
 const LOCK: &str = "SELECT pg_try_advisory_lock(1650815860, 'bestore_log'::regclass::oid::integer)";
 
-/// Also locks out others that make the tables.
+/// Also locks out other servers that make the tables.
 const MAKE_LOCK: &str = "SELECT pg_advisory_xact_lock(1650815860, 0)";
 
-/// What the log says about itself.
+/// What the log records about itself.
 #[derive(Clone, Debug)]
 pub struct Head {
-    /// A different text for each log.
+    /// A different string for each log.
     pub log: String,
     /// The number of the last entry.
     pub last: u64,
@@ -172,7 +172,7 @@ impl Entry {
     }
 }
 
-/// The next message of a connection that PostgreSQL sends without a request.
+/// The next message that PostgreSQL sends on a connection without a request.
 struct NextMessage<'a>(&'a mut tokio_postgres::Connection<Socket, tokio_postgres::tls::NoTlsStream>);
 
 impl Future for NextMessage<'_> {
@@ -213,7 +213,7 @@ impl fmt::Debug for Database {
 }
 
 impl Database {
-    /// Connects. To be called in a runtime.
+    /// Connects. It has to be called in a runtime.
     pub async fn connect(config: &Config) -> Result<Self> {
         let (client, mut connection) = limited(config.connect(NoTls)).await?;
         let news = Arc::new(Notify::new());
@@ -235,13 +235,13 @@ impl Database {
         Ok(database)
     }
 
-    /// Closes the connection without waiting for a reply. PostgreSQL then ends the session, and releases its lock, once the
-    /// running statement has ended.
+    /// Closes the connection without waiting for a reply. PostgreSQL ends the session and releases its lock once the running statement has
+    /// ended.
     pub fn close(&self) {
         self.receiving.abort();
     }
 
-    /// Whether the connection has ended.
+    /// Returns whether the connection has ended.
     pub fn is_closed(&self) -> bool {
         self.client.is_closed()
     }
@@ -265,7 +265,7 @@ impl Database {
         Ok(found.try_get(0)?)
     }
 
-    /// Refuses a database without a log, and a log of another format.
+    /// Refuses a database without a log, and a log with another format.
     pub async fn check_format(&self) -> Result<()> {
         if !self.has_tables().await? {
             return Err(Error::NoLog);
@@ -305,7 +305,7 @@ impl Database {
 
     /// Waits until there are new entries, or for this time.
     pub async fn news(&self, within: Duration) {
-        // Either may come first.
+        // Either can come first.
         let _ = tokio::time::timeout(within, self.news.notified()).await;
     }
 
@@ -313,19 +313,19 @@ impl Database {
         Head::of(&self.one(HEAD, &[]).await?)
     }
 
-    /// Reports that the leader of this term is alive. `None`: there is a later term.
+    /// Reports that the leader of this term is alive. Returns `None` if there is a later term.
     pub async fn touch(&self, term: u64) -> Result<Option<Head>> {
         let touched = limited(self.client.query_opt(TOUCH, &[&(term as i64)])).await?;
         touched.as_ref().map(Head::of).transpose()
     }
 
-    /// Ends the session of a leader that has done nothing for this many seconds. Returns whether there was one.
+    /// Ends the session of a leader that has done nothing for this many seconds. Returns whether there was such a session.
     pub async fn end_leader(&self, silence: f64) -> Result<bool> {
         let ended = limited(self.client.query(END_LEADER, &[&silence])).await?;
         Ok(!ended.is_empty())
     }
 
-    /// Takes the leader's lock, if nobody has it. It is released when the connection ends.
+    /// Takes the leader's lock, if nobody holds it. The lock is released when the connection ends.
     pub async fn try_lock(&self) -> Result<bool> {
         Ok(self.one(LOCK, &[]).await?.try_get(0)?)
     }
@@ -352,14 +352,14 @@ impl Database {
         Ok(limited(self.client.query_opt(&statement, &parameters)).await?.is_some())
     }
 
-    /// Some of the entries after this one, by ascending numbers.
+    /// Returns some of the entries after this one, sorted by number.
     pub async fn entries(&self, after: u64) -> Result<Vec<Entry>> {
         let sql = "SELECT number, batch, token FROM bestore_entry WHERE number > $1 ORDER BY number LIMIT $2";
         let rows = limited(self.client.query(sql, &[&(after as i64), &(ENTRIES as i64)])).await?;
         rows.iter().map(Entry::of).collect()
     }
 
-    /// Some of the entries after this one and up to `last` that have a token, by ascending numbers.
+    /// Returns some of the entries after this one and up to `last` that have a token, sorted by number.
     pub async fn entries_with_token(&self, after: u64, last: u64) -> Result<Vec<Entry>> {
         let sql = "SELECT number, batch, token FROM bestore_entry
             WHERE token IS NOT NULL AND number > $1 AND number <= $2 ORDER BY number LIMIT $3";
@@ -368,7 +368,7 @@ impl Database {
         rows.iter().map(Entry::of).collect()
     }
 
-    /// The head and the state, read together.
+    /// Returns the head and the state, read together.
     pub async fn state(&mut self) -> Result<(Head, Vec<Vec<u8>>)> {
         let begin = "BEGIN ISOLATION LEVEL REPEATABLE READ READ ONLY; SET LOCAL statement_timeout = 0";
         self.client.batch_execute(begin).await?;

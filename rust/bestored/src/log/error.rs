@@ -11,7 +11,7 @@ use std::time::Duration;
 /// Classes of PostgreSQL's errors: the connection is lost, resources are missing, or the database is starting or stopping.
 const NOT_NOW: [&str; 3] = ["08", "53", "57"];
 
-/// The result of a call of this module.
+/// The result of a call in this module.
 pub type Result<T> = std::result::Result<T, Error>;
 
 /// Why the log can't be read or written.
@@ -19,11 +19,11 @@ pub type Result<T> = std::result::Result<T, Error>;
 pub enum Error {
     /// The URL can't be read.
     Url(tokio_postgres::Error),
-    /// TLS is asked for.
+    /// The URL asks for TLS.
     NoTls { mode: String },
-    /// The password file has no password for it, or others may read it.
+    /// The password file has no password for the URL, or others may read the file.
     Passfile { path: PathBuf, why: String },
-    /// An error of PostgreSQL, or of the connection to it.
+    /// An error from PostgreSQL, or from the connection to it.
     Database(tokio_postgres::Error),
     /// PostgreSQL didn't reply within this time.
     Slow(Duration),
@@ -43,16 +43,16 @@ pub enum Error {
     Replaced,
     /// The log has fewer entries than before, or more than anybody can have added.
     Length { known: u64, found: u64 },
-    /// The log has something that no store wrote.
+    /// The log contains something that no store wrote.
     Differs {
         place: Place,
         why: Box<dyn std::error::Error + Send + Sync>,
     },
     /// The contents of the log don't fit the limits of the store.
     TooLarge { place: Place, error: bestore::Error },
-    /// An error of the store.
+    /// An error from the store.
     Store(bestore::Error),
-    /// There is no thread or runtime for the log.
+    /// A thread or runtime for the log couldn't be made.
     Thread(io::Error),
     /// The thread of the log has panicked.
     Fault,
@@ -63,7 +63,7 @@ impl Error {
         Error::Differs { place, why: why.into() }
     }
 
-    /// The error of a store that refuses what the log has at this place.
+    /// Returns the error for a store that refuses the log's contents at this position.
     pub fn refused(place: Place, error: bestore::Error) -> Self {
         use bestore::Error::{CommitsSpent, Full, OutOfMemory};
         match error {
@@ -72,12 +72,12 @@ impl Error {
         }
     }
 
-    /// Whether it may work later.
+    /// Returns whether the call may succeed later.
     pub fn is_passing(&self) -> bool {
         matches!(self, Error::Database(_) | Error::Slow(_) | Error::OldSession)
     }
 
-    /// Whether the database is missing, or doesn't accept connections or statements for now, such as while it starts.
+    /// Returns whether the database is missing, or doesn't accept connections or statements for now, for example while it starts.
     pub fn is_unreachable(&self) -> bool {
         match self {
             Error::Slow(_) => true,
@@ -151,7 +151,7 @@ impl std::error::Error for Error {
     }
 }
 
-/// An error of PostgreSQL on one line, with its code.
+/// Shows an error from PostgreSQL on one line, with its code.
 struct Shown<'a>(&'a tokio_postgres::Error);
 
 impl fmt::Display for Shown<'_> {
@@ -168,7 +168,7 @@ impl fmt::Display for Shown<'_> {
 pub enum Refused {
     /// This server follows.
     NotLeader { leader: String },
-    /// The write was made in memory, and may be in the log or not.
+    /// The write was made in memory, and may or may not be in the log.
     NotSaved(Arc<Error>),
     /// Nothing was written, because the log can't be written.
     Stopped(Arc<Error>),

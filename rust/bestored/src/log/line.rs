@@ -1,4 +1,4 @@
-//! The writes on their way into the log, and what is known about the log here.
+//! The writes on their way into the log, and what this server knows about the log.
 
 use super::database::Row;
 use super::error::{Error, Refused};
@@ -11,21 +11,21 @@ use tokio::sync::Notify;
 /// How many bytes may wait for the log before the next write waits too.
 const WAITING: usize = 16 << 20;
 
-/// How long writes wait for a log that can't be written.
+/// How long writes wait for a log that can't be written to.
 const PATIENCE: Duration = Duration::from_secs(10);
 
-/// What a server does.
+/// The role of a server.
 #[derive(Clone, Copy, Debug, PartialEq, Eq)]
 pub enum Role {
     Follower,
-    /// In which term, by the log's count of leaders.
+    /// The term, by the log's count of leaders.
     Leader {
         term: u64,
     },
 }
 
 impl Role {
-    /// Reports what the server does from now on.
+    /// Reports the server's role from now on.
     pub fn say(self, leader: &str) {
         match self {
             Role::Leader { term } => eprintln!("bestored: this server leads the log, in term {term}"),
@@ -61,18 +61,18 @@ pub struct State {
     pub trouble: Option<Trouble>,
     waiting: Vec<Row>,
     waiting_bytes: usize,
-    /// The server ends.
+    /// Whether the server is ending.
     is_closing: bool,
-    /// How often it was asked whether this server still leads, and up to which of these questions it did.
+    /// How often somebody has asked whether this server still leads, and the last question that was answered with yes.
     asked: u64,
     confirmed: u64,
-    /// Nothing more is read or written.
+    /// Whether reading and writing have ended.
     is_over: bool,
     failed: Option<Arc<Error>>,
 }
 
 impl State {
-    /// Why nothing can be written, if so.
+    /// Returns why nothing can be written, if that is so.
     fn refused(&self) -> Option<Refused> {
         if let Some(error) = &self.failed {
             return Some(Refused::Stopped(error.clone()));
@@ -86,7 +86,7 @@ impl State {
         }
     }
 
-    /// Why the waiting writes are given up.
+    /// Returns why the waiting writes are given up.
     fn given_up(&self) -> Option<Arc<Error>> {
         let trouble = self.trouble.as_ref().filter(|trouble| trouble.is_long());
         self.failed
@@ -106,7 +106,7 @@ pub struct Line {
 }
 
 impl Line {
-    /// For a store whose last commit has the number `commit`, and which has the log's entries up to `entry`.
+    /// For a store whose last commit has the number `commit`, and which contains the log's entries up to `entry`.
     pub fn new(role: Role, leader: String, entry: u64, commit: u64) -> Self {
         role.say(&leader);
         let state = State {
@@ -148,17 +148,17 @@ impl Line {
         changed
     }
 
-    /// The number in the log of the entry with this commit number.
+    /// Returns the number in the log for the entry with this commit number.
     pub fn entry(&self, commit: u64) -> u64 {
         commit.wrapping_add(self.shift)
     }
 
-    /// The commit number of this entry of the log.
+    /// Returns the commit number for this entry in the log.
     pub fn commit(&self, entry: u64) -> u64 {
         entry.wrapping_sub(self.shift)
     }
 
-    /// Takes the writes that wait.
+    /// Takes the waiting writes.
     pub fn take(&self) -> Vec<Row> {
         let mut state = self.lock();
         state.waiting_bytes = 0;
@@ -167,11 +167,11 @@ impl Line {
 
     /// Waits until there may be writes, or for this time.
     pub async fn work(&self, within: Duration) {
-        // Either may come first.
+        // Either can come first.
         let _ = tokio::time::timeout(within, self.work.notified()).await;
     }
 
-    /// The entries up to this one are in memory and in the log.
+    /// Records that the entries up to this one are in memory and in the log.
     pub fn saved(&self, number: u64) {
         self.change(|state| {
             state.saved = number;
@@ -180,7 +180,7 @@ impl Line {
         });
     }
 
-    /// The log hasn't been readable or writable since then. Returns whether that is new.
+    /// Records that the log hasn't been readable or writable since then. Returns whether that is new.
     pub fn trouble(&self, error: Error, since: Instant) -> bool {
         let why = Arc::new(error);
         self.change(|state| match &mut state.trouble {
@@ -219,13 +219,13 @@ impl Line {
         Ok(())
     }
 
-    /// The number of the last question, if somebody is waiting for an answer.
+    /// Returns the number of the last question, if somebody is waiting for an answer.
     pub fn asked(&self) -> Option<u64> {
         let state = self.lock();
         (state.confirmed < state.asked).then_some(state.asked)
     }
 
-    /// This server has led since the question with this number.
+    /// Records that this server has led since the question with this number.
     pub fn confirmed(&self, asked: Option<u64>) {
         if let Some(asked) = asked {
             self.change(|state| state.confirmed = state.confirmed.max(asked));
@@ -249,7 +249,7 @@ impl Line {
         Ok(state)
     }
 
-    /// Waits until the entry with this number is here, for a limited time. Returns the last one that is here.
+    /// Waits until this server has the entry with this number, for a limited time. Returns the last entry that it has.
     pub fn wait_for(&self, number: u64, within: Duration) -> u64 {
         let until = Instant::now() + within;
         let mut state = self.lock();
@@ -263,7 +263,7 @@ impl Line {
         state.saved
     }
 
-    /// Nothing more can be read or written.
+    /// Records that nothing more can be read or written.
     pub fn fail(&self, error: Error) {
         self.change(|state| state.failed = Some(Arc::new(error)));
     }
@@ -274,7 +274,7 @@ impl Line {
         self.work.notify_one();
     }
 
-    /// Whether the thread has to end: there is nothing left to write, or the wait has been too long.
+    /// Returns whether the thread has to end, because there is nothing left to write or the wait has been too long.
     pub fn is_at_end(&self) -> bool {
         let state = self.lock();
         state.is_closing && (state.written == state.saved || state.given_up().is_some())
@@ -284,7 +284,7 @@ impl Line {
         self.lock().is_closing
     }
 
-    /// The thread has ended.
+    /// Records that the thread has ended.
     pub fn end(&self) {
         self.change(|state| {
             state.is_over = true;

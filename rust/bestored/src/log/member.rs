@@ -1,4 +1,4 @@
-//! What the thread of the log does: it follows, and it leads.
+//! What the thread for the log does: it follows, and it leads.
 
 use super::database::{Database, Entry, Head, Row, ENTRIES};
 use super::error::{Error, Result};
@@ -20,17 +20,17 @@ const LOOK: Duration = Duration::from_millis(100);
 /// How often a leader that has nothing to write checks whether it still leads.
 const LEADING: Duration = Duration::from_secs(1);
 
-/// After so many seconds without a word of the leader a follower takes over, so that one leads 10 seconds after a leader was paused. A call
-/// of the database that begins a second after the last word takes less.
+/// A follower takes over after the leader has been silent for this many seconds, so that some server leads within 10 seconds after a leader
+/// is paused. A database call that begins a second after the leader's last report takes less.
 const LEASE: f64 = 9.0;
 
-/// How long a follower lets the leader come back after the connection to the database has broken.
+/// How long a follower gives the leader to come back after the connection to the database has broken.
 const GRACE: Duration = Duration::from_secs(3);
 
-/// How long entries that find no free page are tried again, while clients' snapshots keep pages.
+/// How long to retry entries that find no free page, while clients' snapshots keep pages.
 const FOR_PAGES: Duration = Duration::from_secs(60);
 
-/// After this many entries the leader writes the state.
+/// The leader writes the state after this many entries.
 const STATE_EVERY: u64 = 100_000;
 
 /// Why a turn of the thread ends.
@@ -54,9 +54,9 @@ pub struct Member {
     log: String,
     /// The writes that are being added.
     sending: Vec<Row>,
-    /// The number of the last entry that the state contains, as far as is known here.
+    /// The number of the last entry that the state contains, as far as this server knows.
     state: u64,
-    /// When a follower may lead, at the earliest.
+    /// The earliest time at which a follower may lead.
     may_lead: Instant,
     /// When the last database call that may fail began.
     tried: Instant,
@@ -118,7 +118,7 @@ impl Member {
         }
     }
 
-    /// Reports once that the log can't be read or written.
+    /// Reports once that the log can't be read or written to.
     fn note(&self, error: Error) {
         let text = error.to_string();
         if self.line.trouble(error, self.tried) {
@@ -126,9 +126,9 @@ impl Member {
         }
     }
 
-    /// Tries to connect until it succeeds. A leader then has to find the log as it left it.
+    /// Tries to connect until it succeeds. A leader then has to find the log unchanged.
     async fn connect_again(&mut self, role: Role) -> Result<Turn> {
-        // Otherwise a session that hangs and later goes on would keep the lock.
+        // Otherwise a session that hangs and resumes later would keep the lock.
         self.database.close();
         loop {
             if self.line.is_at_end() || role == Role::Follower && self.line.is_closing() {
@@ -156,7 +156,7 @@ impl Member {
         }
     }
 
-    /// Whether it is the same log, with all entries that are known here.
+    /// Returns whether it is the same log, with all entries that this server knows.
     fn check(&self, head: &Head) -> Result<()> {
         let known = self.line.lock().saved;
         if head.log != self.log {
@@ -200,7 +200,7 @@ impl Member {
         Ok(Turn::End)
     }
 
-    /// Takes the lock if nobody has it, or if its owner has been silent for too long, such as on a paused machine. Whatever such a
+    /// Takes the lock if nobody holds it, or if its owner has been silent for too long, for example on a paused machine. Whatever such a
     /// leader tries to add later has an old term, and so isn't added.
     async fn gets_lock(&self, head: &Head) -> Result<bool> {
         if head.silence.map_or(false, |silence| silence >= LEASE) && self.database.end_leader(LEASE).await? {
@@ -227,12 +227,12 @@ impl Member {
         Ok(())
     }
 
-    /// Lets go of a store that was carried on. What fails is tried again.
+    /// Gives up a store that was carried on. If that fails, it is tried again.
     fn let_go(&mut self) {
         let _ = self.pass.follow();
     }
 
-    /// Applies all entries up to this one, which the log has.
+    /// Applies all entries up to this one, which is in the log.
     async fn apply_to(&mut self, last: u64, shared: Option<&Shared>) -> Result<()> {
         self.apply_new(shared).await?;
         let known = self.line.lock().saved;
@@ -286,7 +286,7 @@ impl Member {
         }
     }
 
-    /// Remembers the token of an entry, for a client that comes to this server with it.
+    /// Remembers the token of an entry, for a client that sends it to this server.
     fn add_token(&self, entry: &Entry, written: &Written) {
         if let Some(token) = &entry.token {
             self.tokens.add(token.as_str().into(), volumes::shown(None, written));
@@ -308,8 +308,8 @@ impl Member {
         }
     }
 
-    /// Adds what is written to the log, until another server leads or this one ends. The live queries may have given up waiting
-    /// for what is in the log by then.
+    /// Adds writes to the log, until another server leads or this one ends. By then, live queries may have stopped waiting for what is in
+    /// the log.
     async fn lead(&mut self, term: u64, shared: &Arc<Shared>) -> Result<Turn> {
         shared.watcher.written();
         loop {
@@ -347,7 +347,7 @@ impl Member {
                 let head = self.database.head().await?;
                 self.settle(&head, term)
             }
-            // PostgreSQL has refused the statement, such as on a full disk: nothing was added.
+            // PostgreSQL has refused the statement, for example because the disk is full: nothing was added.
             Err(error @ Error::Database(_)) if !self.database.is_closed() && is_refusal(&error) => {
                 self.note(error);
                 tokio::time::sleep(REST).await;
@@ -380,7 +380,7 @@ impl Member {
         }
     }
 
-    /// Why this server no longer leads.
+    /// Returns why this server no longer leads.
     fn deposed(&self, head: &Head) -> Error {
         let state = self.line.lock();
         Error::Deposed {
@@ -452,7 +452,7 @@ impl Member {
     }
 }
 
-/// Whether PostgreSQL has refused the statement but the connection still works.
+/// Returns whether PostgreSQL has refused the statement although the connection still works.
 fn is_refusal(error: &Error) -> bool {
     matches!(error, Error::Database(error) if error.code().is_some())
 }

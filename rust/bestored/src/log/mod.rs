@@ -1,8 +1,8 @@
-//! A log in PostgreSQL that several machines share. One server leads: it writes, and adds each accepted transaction to the log
-//! before the reply. The others follow: they apply the entries in order, and compare each outcome with the leader's.
+//! A log in PostgreSQL that several machines share. One server leads: it writes, and adds each accepted transaction to the log before it
+//! replies. The others follow: they apply the entries in order, and compare each outcome with the leader's.
 //!
-//! The leader has an advisory lock of the database, so that there is only one. But what ensures that nobody else writes is
-//! the statement that adds entries: it adds them only in the last term, and only after the last entry.
+//! The leader holds an advisory lock in the database, so there is only one leader. But the statement that adds entries is what ensures that
+//! nobody else writes: it adds them only in the last term, and only after the last entry.
 
 mod access;
 mod database;
@@ -14,19 +14,17 @@ mod state;
 pub use error::{Error, Refused};
 
 use crate::failure::Failure;
-use crate::kept::Kept;
-use crate::notify::Notifier;
+use crate::kept::{Kept, Opening};
 use crate::options::Options;
 use crate::os;
 use crate::server::Shared;
 use crate::tokens::Tokens;
 use access::Access;
-use bestore::{Shelf, ShelfPass, Store};
+use bestore::{Batch, Shelf, ShelfPass, Store};
 use bestore_client::wire::{self, ErrorName};
 use error::Result;
 use line::{Line, Role};
 use member::Member;
-use std::fs::File;
 use std::mem;
 use std::os::unix::io::AsRawFd;
 use std::sync::{Arc, Mutex, MutexGuard, PoisonError};
@@ -34,7 +32,7 @@ use std::thread;
 use std::time::Duration;
 use tokio::runtime::{Builder, Runtime};
 
-/// How long a leader waits for the lock when it starts, since the session of a killed one may end a little later.
+/// How long a starting leader waits for the lock, since a killed leader's session may end slightly later.
 const FOR_LOCK: Duration = Duration::from_secs(5);
 
 /// How long to rest before trying again after a failure.
@@ -55,36 +53,31 @@ pub struct Log {
     shelf: Shelf,
     line: Arc<Line>,
     access: Access,
-    /// Whoever writes the state holds this.
+    /// Held while the state is written.
     writing_state: Mutex<()>,
-    /// What the thread begins with.
+    /// What the thread starts with.
     begun: Mutex<Option<(Runtime, Member)>>,
 }
 
 impl Log {
-    /// Connects, trying again while the database can't be reached, and rebuilds the store up to the end of the log. `None`: a
-    /// signal came first.
-    pub fn open(
-        options: &Options,
-        run: &str,
-        tokens: &Arc<Tokens>,
-        notifier: &Notifier,
-        signals: &File,
-    ) -> Result<Option<Self>> {
+    /// Connects, retrying while the database can't be reached, and rebuilds the store up to the end of the log. Returns `None` if a signal
+    /// came first.
+    pub fn open(opening: Opening<'_>) -> Result<Option<Self>> {
+        let options = opening.options;
         let in_log = options.log.as_ref().ok_or(Error::NoLog)?;
-        let access = Access::new(in_log, options, run)?;
+        let access = Access::new(in_log, options, opening.run)?;
         let mut is_said = false;
         loop {
-            match Self::begin(options, &access, tokens, in_log.leads) {
+            match Self::begin(options, &access, opening.tokens, in_log.leads) {
                 Err(error) if error.is_unreachable() => {
-                    notifier.waits(&error.to_string());
+                    opening.notifier.waits(&error.to_string());
                     if !mem::replace(&mut is_said, true) {
                         eprintln!("bestored: {error}; it is tried again");
                     }
                 }
                 begun => return begun.map(Some),
             }
-            if os::wait_readable([signals.as_raw_fd()], Some(REST)).map_err(Error::Thread)? == [true] {
+            if os::wait_readable([opening.signals.as_raw_fd()], Some(REST)).map_err(Error::Thread)? == [true] {
                 return Ok(None);
             }
         }
@@ -106,7 +99,7 @@ impl Log {
         })
     }
 
-    /// The store as the one volume of the server.
+    /// Returns the store as the one volume of the server.
     pub fn shelf(&self) -> &Shelf {
         &self.shelf
     }
@@ -141,12 +134,12 @@ impl Log {
         }
     }
 
-    /// The number in the log of the entry with this commit number.
+    /// Returns the number in the log for the entry with this commit number.
     pub fn entry(&self, commit: u64) -> u64 {
         self.line.entry(commit)
     }
 
-    /// Refuses a write that this server can't make now, as if it follows.
+    /// Refuses a write that this server can't make now, for example because it follows.
     pub fn check(&self) -> std::result::Result<(), Refused> {
         self.line.check()
     }
@@ -161,7 +154,7 @@ impl Log {
         self.line.flush()
     }
 
-    /// Waits until the entry with this number is here, for a limited time, and returns what the server is doing.
+    /// Waits until this server has the entry with this number, for a limited time, and returns what the server is doing.
     pub fn status(&self, wanted: &wire::OfLog) -> std::result::Result<wire::LogStatus, Failure> {
         if let Some(entry) = wanted.entry {
             let found = self.line.wait_for(entry, within(wanted.within)?);
@@ -184,7 +177,7 @@ impl Log {
         })
     }
 
-    /// What the server is doing, and how many entries it still lacks.
+    /// Returns what the server is doing, and how many entries it still lacks.
     pub fn role(&self) -> wire::Role {
         let state = self.line.lock();
         let (role, term, last) = match state.role {
@@ -199,7 +192,7 @@ impl Log {
         }
     }
 
-    /// Why the database can't be read or written, if it can't.
+    /// Returns why the database can't be read or written, if that is so.
     pub fn trouble(&self) -> Option<String> {
         let state = self.line.lock();
         state.trouble.as_ref().map(|trouble| trouble.why.to_string())
@@ -222,13 +215,15 @@ impl Log {
     }
 
     fn write_state(&self, term: u64) -> Result<()> {
-        let state = state::collect(&mut self.store.pass()?)?;
-        let number = self.line.entry(state.commit);
-        // The snapshot may have later writes than the log.
+        let state = self.store.copy_state()?;
+        let batches = state.batches.iter().map(Batch::to_bytes);
+        let batches = batches.collect::<bestore::Result<Vec<_>>>()?;
+        let number = self.line.entry(state.number);
+        // The snapshot may have later writes than the log has.
         self.line.wait_for(number, FOR_LOCK);
         runtime()?.block_on(async {
             let database = self.access.connect().await?;
-            match database.write_state(term, number, state.next, &state.batches).await? {
+            match database.write_state(term, number, state.next, &batches).await? {
                 true => Ok(()),
                 false => Err(Error::Deposed {
                     leader: database.head().await?.leader,
@@ -245,7 +240,7 @@ impl Log {
     }
 }
 
-/// The end of the thread, even by a panic.
+/// Marks the end of the thread, even if it panics.
 struct Ending<'a>(&'a Line);
 
 impl Drop for Ending<'_> {
@@ -258,7 +253,7 @@ impl Drop for Ending<'_> {
     }
 }
 
-/// How long to wait for an entry, given in milliseconds.
+/// Returns how long to wait for an entry, given in milliseconds.
 fn within(milliseconds: Option<u64>) -> std::result::Result<Duration, Failure> {
     match milliseconds.unwrap_or(5_000) {
         time @ 0..=60_000 => Ok(Duration::from_millis(time)),

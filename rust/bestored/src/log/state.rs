@@ -1,4 +1,4 @@
-//! The state: batches that rebuild a store, so that a start needn't repeat all entries.
+//! The state: batches that rebuild a store, so that the server doesn't have to repeat all entries when it starts.
 
 use super::database::{Database, ENTRIES};
 use super::error::{Error, Result};
@@ -7,28 +7,7 @@ use crate::volumes;
 use bestore::saved::Place;
 use bestore::{Batch, Operation, Pass, Written};
 
-/// A snapshot in the form in which it goes into the log.
-#[derive(Debug)]
-pub struct State {
-    /// The commit number of the snapshot.
-    pub commit: u64,
-    /// The number of the next node.
-    pub next: u64,
-    pub batches: Vec<Vec<u8>>,
-}
-
-/// The state of the current snapshot.
-pub fn collect(pass: &mut Pass) -> Result<State> {
-    let snapshot = pass.pin()?;
-    let batches = snapshot.state().map(|batch| batch.and_then(|batch| batch.to_bytes()));
-    Ok(State {
-        commit: snapshot.number(),
-        next: snapshot.next_node()?,
-        batches: batches.collect::<bestore::Result<_>>()?,
-    })
-}
-
-/// Applies the state of the log to an empty store. Returns the number of the last entry that it contains.
+/// Applies the state in the log to an empty store. Returns the number of the last entry that the state contains.
 pub async fn load(database: &mut Database, pass: &mut Pass) -> Result<u64> {
     let (head, batches) = database.state().await?;
     for (index, bytes) in (0..).zip(&batches) {
@@ -46,7 +25,7 @@ pub async fn load(database: &mut Database, pass: &mut Pass) -> Result<u64> {
     Ok(head.entries)
 }
 
-/// Adds the tokens of entries that the state contains. `entries` is the last one, and `commit` is the state's commit number.
+/// Adds the tokens of entries that the state contains. `entries` is the last such entry, and `commit` is the state's commit number.
 pub async fn load_tokens(database: &Database, entries: u64, commit: u64, tokens: &Tokens) -> Result<()> {
     let mut after = 0;
     loop {

@@ -1,4 +1,4 @@
-//! A small disk that gets full.
+//! A small disk that fills up.
 
 use super::Folder;
 use std::cell::Cell;
@@ -9,10 +9,10 @@ use std::process::{Child, Command, Stdio};
 /// Mounts a file system in memory, says so, and holds the namespace until its input is closed.
 const HOLD: &str = "mount -t tmpfs -o size=8m tmpfs \"$1\" && echo mounted && exec cat";
 
-/// Runs a program for which no file may have more than this many blocks of 512 bytes.
+/// Runs a program whose files may have at most this many blocks of 512 bytes.
 const LIMITED: &str = "trap '' XFSZ && ulimit -f \"$1\" && shift && exec \"$@\"";
 
-/// A disk of a size that can be changed.
+/// A disk whose size can be changed.
 #[derive(Debug)]
 pub enum Disk {
     /// A file system in memory, in a namespace of its own. It ends with the process that holds the namespace.
@@ -36,7 +36,7 @@ impl Drop for Disk {
 }
 
 impl Disk {
-    /// A file system, if this user may mount one: root, or any user who may have a namespace of users.
+    /// A file system, if this user may mount one: root may, and any user who can have a user namespace.
     pub fn mounted() -> Option<Self> {
         Self::held(&["--mount"], &[]).or_else(|| {
             let entered = ["--user", "--preserve-credentials"];
@@ -112,7 +112,7 @@ impl Disk {
     /// Sets the size, in KiB.
     pub fn resize(&self, kib: u64) {
         match self {
-            // With the kind and the source, options that are there now aren't given again.
+            // If the kind and the source are given, the present options needn't be given again.
             Disk::Mounted { .. } => {
                 let options = format!("remount,size={kib}k");
                 self.output("mount", &["-t", "tmpfs", "-o", &options, "tmpfs"]);

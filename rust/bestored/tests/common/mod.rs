@@ -1,4 +1,4 @@
-//! A server of a test, in a folder of its own. Not every test uses all of it.
+//! A test's server, in a folder of its own. Not every test uses all of it.
 #![allow(dead_code)]
 
 pub mod disk;
@@ -20,7 +20,7 @@ use std::sync::{Mutex, MutexGuard, PoisonError};
 use std::thread;
 use std::time::{Duration, Instant, SystemTime};
 
-/// How long a server may take for anything. Under memcheck, and beside other work, it takes long.
+/// How long a server may take for anything. Under memcheck, and on a busy machine, it takes a long time.
 pub const PATIENCE: Duration = Duration::from_secs(300);
 
 /// A folder that is removed at the end.
@@ -32,7 +32,7 @@ impl Folder {
         Self::new_in(&std::env::temp_dir())
     }
 
-    /// A folder in memory, if there is such a place. What is in it outlives a process that is killed.
+    /// A folder in memory, if possible. What is in it outlives a killed process.
     pub fn in_memory() -> Self {
         match Path::new("/dev/shm") {
             memory if memory.is_dir() => Self::new_in(memory),
@@ -82,6 +82,13 @@ impl Random {
     }
 }
 
+/// Starts a server in a folder of its own.
+pub fn start(options: &[&str]) -> (Folder, Server) {
+    let folder = Folder::new();
+    let server = Server::start(&folder, options);
+    (folder, server)
+}
+
 /// The command that starts a server at this socket.
 pub fn command(socket: &Path, options: &[&str]) -> Command {
     let mut command = Command::new(env!("CARGO_BIN_EXE_bestored"));
@@ -89,12 +96,12 @@ pub fn command(socket: &Path, options: &[&str]) -> Command {
     command
 }
 
-/// Waits until it is so.
+/// Waits until the condition holds.
 pub fn wait_until(what: &str, is_so: impl FnMut() -> bool) {
     wait_within(PATIENCE, what, is_so);
 }
 
-/// Waits until it is so, for a limited time.
+/// Waits until the condition holds, for a limited time.
 pub fn wait_within(time: Duration, what: &str, mut is_so: impl FnMut() -> bool) {
     let until = Instant::now() + time;
     while !is_so() {
@@ -122,6 +129,12 @@ impl Server {
         let server = Self::start_only(folder, options);
         wait_until("the server listens", || UnixStream::connect(&server.socket).is_ok());
         server
+    }
+
+    /// Starts a server that keeps its store in a file in the folder.
+    pub fn start_kept(folder: &Folder, options: &[&str]) -> Self {
+        let keep = folder.join("kept");
+        Self::start(folder, &[options, &["--keep", keep.to_str().unwrap()]].concat())
     }
 
     /// Starts a server in the folder.
@@ -184,7 +197,7 @@ impl Server {
         Talk::new(UnixStream::connect(&self.socket).unwrap())
     }
 
-    /// Kills the server, also while others use it, and waits for its end.
+    /// Kills the server, even while others use it, and waits for its end.
     pub fn kill(&self) {
         let mut child = self.child();
         // It fails if the server has ended.
@@ -199,7 +212,7 @@ impl Server {
         assert!(sent.unwrap().success());
     }
 
-    /// Stops the server, and waits until none of its threads runs. The signal CONT lets it go on.
+    /// Stops the server, and waits until none of its threads runs. The signal CONT resumes it.
     pub fn stop(&self) {
         self.signal("STOP");
         let tasks = format!("/proc/{}/task", self.child().id());
@@ -224,7 +237,7 @@ impl Server {
         self.child().wait().unwrap()
     }
 
-    /// The most memory that the server has had, in KiB.
+    /// The most memory that the server has used, in KiB.
     pub fn most_memory(&self) -> u64 {
         let status = fs::read_to_string(format!("/proc/{}/status", self.child().id())).unwrap();
         let line = status.lines().find(|line| line.starts_with("VmHWM:")).unwrap();
@@ -250,7 +263,7 @@ impl Talk {
         BufReader::new(Cursor::new(first).chain(stream.try_clone().unwrap()))
     }
 
-    /// Lets the next lines begin with what was read from the stream already.
+    /// Puts what was already read from the stream before the next lines.
     pub fn begin_with(&mut self, first: Vec<u8>) {
         self.reader = Self::reader_of(&self.stream, first);
     }
@@ -280,5 +293,14 @@ impl Talk {
     pub fn check(&mut self, request: &str, reply: &str) {
         let said = self.ask(&format!("{{\"id\":1,{request}}}"));
         assert_eq!(said, format!("{{\"id\":1,{reply}}}"), "{request}");
+    }
+
+    /// Sends a request as `check` does, and checks that the reply has each of these parts.
+    #[track_caller]
+    pub fn check_parts(&mut self, request: &str, parts: &[&str]) {
+        let said = self.ask(&format!("{{\"id\":1,{request}}}"));
+        for part in parts {
+            assert!(said.contains(part), "{part:?} isn't in {said}");
+        }
     }
 }

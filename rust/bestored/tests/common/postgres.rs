@@ -1,4 +1,4 @@
-//! A PostgreSQL of a test, in a folder of its own.
+//! A test's PostgreSQL, in a folder of its own.
 
 use super::{wait_until, Folder};
 use std::fs;
@@ -18,7 +18,7 @@ const OPTIONS: [&str; 5] = [
     "max_wal_size=64MB",
 ];
 
-/// A database server, which is ended at the end.
+/// A database server, which is stopped at the end.
 #[derive(Debug)]
 pub struct Postgres {
     child: Mutex<Option<Child>>,
@@ -44,7 +44,7 @@ fn programs() -> Option<PathBuf> {
     programs.pop()
 }
 
-/// Whom PostgreSQL runs as, if this is root, as whom it doesn't run.
+/// The user that PostgreSQL runs as if this is root, since it refuses to run as root.
 fn other_user() -> Option<(u32, u32)> {
     let status = fs::read_to_string("/proc/self/status").ok()?;
     let ids = status.lines().find_map(|line| line.strip_prefix("Uid:"))?;
@@ -60,15 +60,15 @@ fn other_user() -> Option<(u32, u32)> {
     id_of("postgres").or_else(|| id_of("nobody"))
 }
 
-/// A port that nobody listens at.
+/// A port on which nobody listens.
 fn free_port() -> u16 {
     let listener = TcpListener::bind("127.0.0.1:0").unwrap();
     listener.local_addr().unwrap().port()
 }
 
 impl Postgres {
-    /// Starts a server in memory. A test kills it and not the machine, so nothing has to be on a disk. `None`: PostgreSQL isn't
-    /// installed.
+    /// Starts a server in memory. A test kills only the server and not the machine, so nothing has to be on a disk. `None`: PostgreSQL
+    /// isn't installed.
     pub fn start() -> Option<Arc<Self>> {
         Self::start_in(Folder::in_memory(), "fsync=off")
     }
@@ -78,7 +78,7 @@ impl Postgres {
         Self::start_in(Folder::new(), "fsync=on")
     }
 
-    /// The server that tests share while they run.
+    /// The server that running tests share.
     pub fn shared() -> Option<Arc<Self>> {
         static SHARED: Mutex<Option<Weak<Postgres>>> = Mutex::new(None);
         let mut shared = SHARED.lock().unwrap_or_else(PoisonError::into_inner);
@@ -119,7 +119,7 @@ impl Postgres {
         Some(Arc::new(postgres))
     }
 
-    /// From now on asks this role for its password by TCP.
+    /// From now on this role is asked for its password over TCP.
     pub fn ask_for_password(&self, role: &str) {
         let path = self.data().join("pg_hba.conf");
         let rules = fs::read_to_string(&path).unwrap();
@@ -169,7 +169,7 @@ impl Postgres {
         });
     }
 
-    /// Ends the server by a signal: INT lets sessions roll back, QUIT is as a crash.
+    /// Ends the server by a signal: INT rolls sessions back, and QUIT is like a crash.
     pub fn end(&self, signal: &str) {
         if let Some(mut child) = self.child.lock().unwrap().take() {
             let number = child.id().to_string();
@@ -200,7 +200,7 @@ impl Postgres {
     }
 }
 
-/// A database of a test.
+/// A test's database.
 #[derive(Debug)]
 pub struct Database {
     pub postgres: Arc<Postgres>,
@@ -208,7 +208,7 @@ pub struct Database {
 }
 
 impl Database {
-    /// Its URL, by a Unix socket.
+    /// Its URL through a Unix socket.
     pub fn url(&self) -> String {
         let (folder, port) = (self.postgres.path().display(), self.postgres.port);
         format!("postgresql:///{}?user=bestore&host={folder}&port={port}", self.name)
@@ -219,12 +219,12 @@ impl Database {
         self.url_at(self.postgres.port)
     }
 
-    /// Its URL by TCP, for this role.
+    /// Its URL over TCP, for this role.
     pub fn url_of(&self, role: &str) -> String {
         format!("postgresql://{role}@127.0.0.1:{}/{}", self.postgres.port, self.name)
     }
 
-    /// Its URL through what listens at this port.
+    /// Its URL through the listener on this port.
     pub fn url_at(&self, port: u16) -> String {
         format!("postgresql://bestore@127.0.0.1:{port}/{}", self.name)
     }

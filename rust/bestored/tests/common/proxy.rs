@@ -1,4 +1,4 @@
-//! A connection by TCP between a server and its database, which breaks when a test says so.
+//! A TCP connection between a server and its database, which breaks when a test says so.
 
 use std::io::{Read, Write};
 use std::net::{Shutdown, TcpListener, TcpStream};
@@ -6,7 +6,7 @@ use std::sync::atomic::{AtomicU8, Ordering::SeqCst};
 use std::sync::Arc;
 use std::thread;
 
-/// Which bytes get lost, and with them the connection.
+/// Which bytes are lost, together with the connection.
 #[derive(Clone, Copy, Debug, PartialEq, Eq)]
 pub enum Lost {
     Nothing = 0,
@@ -41,7 +41,7 @@ impl Proxy {
         proxy
     }
 
-    /// The next bytes of this kind get lost.
+    /// The next bytes of this kind are lost.
     pub fn lose(&self, what: Lost) {
         self.lost.store(what as u8, SeqCst);
     }
@@ -52,7 +52,7 @@ impl Proxy {
     }
 }
 
-/// Lets a thread forward what comes from one to the other.
+/// Has a thread forward what comes from one to the other.
 fn forward(from: &TcpStream, to: &TcpStream, what: Lost, lost: &Arc<AtomicU8>) {
     let (mut from, mut to, lost) = (from.try_clone().unwrap(), to.try_clone().unwrap(), lost.clone());
     thread::spawn(move || {

@@ -1,4 +1,4 @@
-//! Clients that write until their server is gone, and what they know of their writes.
+//! Clients that write until their server is gone, and what they know about their writes.
 
 use super::wait_until;
 use bestore::{Batch, Limits, Snapshot, Store};
@@ -22,7 +22,7 @@ struct Known {
 }
 
 impl Known {
-    /// Writes until a write is not answered or refused. Each one makes a node, removes the one before, and counts in the
+    /// Writes until a write gets no answer or is refused. Each one makes a node, removes the one before, and counts in the
     /// writer's own node.
     fn write(&self, socket: &Path, own: u64) -> Result<Infallible> {
         let mut client = Client::connect(socket)?;
@@ -46,12 +46,12 @@ impl Known {
 #[derive(Debug, Default)]
 pub struct Writers {
     known: [Known; WRITERS],
-    /// The next node before they have written.
+    /// The next node before they write.
     first: AtomicU64,
 }
 
 impl Writers {
-    /// Makes the nodes of the writers, and others whose texts are a state of some size.
+    /// Makes the writers' nodes, and others whose texts make up a state of some size.
     pub fn begin(&self, client: &mut Client, others: u64) {
         let mut batch = Batch::new();
         for own in 1..=WRITERS as u64 {
@@ -67,7 +67,7 @@ impl Writers {
         self.first.store(first, Relaxed);
     }
 
-    /// Lets all write until each gets an error, and returns these errors.
+    /// Lets all of them write until each gets an error, and returns these errors.
     pub fn write(&self, socket: &Path, meanwhile: impl FnOnce()) -> Vec<Error> {
         thread::scope(|scope| {
             let own = (1..).zip(&self.known);
@@ -96,8 +96,8 @@ impl Writers {
         known.any(|known| known.sent.load(Relaxed) > known.answered.load(Relaxed))
     }
 
-    /// Compares what is there with what was answered: no write is missing, and none was made twice. Returns how many each
-    /// writer has.
+    /// Compares what is there with what was answered: no write is missing, and none was made twice. Returns how many
+    /// writes each writer has.
     pub fn check(&self, client: &mut Client) -> Vec<u64> {
         let next = client.pin().unwrap().next;
         let mut asked = Vec::new();
@@ -114,7 +114,7 @@ impl Writers {
             let last: Option<Result<wire::Attributes>> = last.map(|last| client.receive(last));
             let (answered, sent) = (known.answered.load(Relaxed), known.sent.load(Relaxed));
             assert!(answered <= found && found <= sent, "{answered} <= {found} <= {sent}");
-            // What the last answered write made is there, unless one came after it that wasn't answered.
+            // What the last answered write made is there, unless an unanswered one came after it.
             assert!(found > answered || last.map_or(true, |last| last.is_ok()));
             found
         });
@@ -125,7 +125,7 @@ impl Writers {
         found
     }
 
-    /// Like `check`, after the server has ended and another one has opened its file. From here on what it has is known.
+    /// Like `check`, after the server has ended and another one has opened its file. From here on the contents are known.
     pub fn go_on(&self, client: &mut Client) {
         for (known, found) in self.known.iter().zip(self.check(client)) {
             if found > known.answered.swap(found, Relaxed) {
@@ -136,8 +136,8 @@ impl Writers {
     }
 }
 
-/// Repeats the journal of the server, from its start to the snapshot that is pinned here, on a store of this process. The nodes
-/// that it makes and the states are the same.
+/// Repeats the server's journal, from its start to the snapshot that is pinned here, in a store of this process. The nodes that
+/// it makes and the states are the same.
 pub fn check_history(client: &mut Client) {
     let commit = client.pin().unwrap().commit;
     let limits = Limits {

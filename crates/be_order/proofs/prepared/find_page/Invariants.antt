@@ -11,3 +11,6 @@ ghost-asking_page g a = g.volume
 
 abbrev pub ghost-look_up_page : goal.ghost-look_up_page
 ghost-look_up_page g a = g.volume
+
+abbrev pub ghost-text_page : goal.ghost-text_page
+ghost-text_page g a = g.volume

@@ -1,7 +1,7 @@
 use Rattle.std.proofs.Common.{List, ℕ, inl, refl, sym, subst}
 use Rattle.be_script_runner.specs.Output.{Replies, Serves}
 use Rattle.be_script_language.specs.Reply.{none, bad_line}
-use Rattle.be_script_language.specs.Request.{live, query, explain}
+use Rattle.be_script_language.specs.Request.{live, query, page, explain}
 use Rattle.be_script_language.specs.View.{request_of, reply_of}
 use Rattle.be_script_runner.specs.View.{session}
 use Rattle.be_script_language.specs.declared.requests.Request.{Request}
@@ -30,6 +30,14 @@ returns-in-Query-clause-replies g c =
     serves_joined (session (g.S.Server.shows c.args.server.now) c.args.client.now) s new (request_of c.args.request) (reply_of c.query.result) c.query.ensures.joins
     (subst (λ (r : Request). Replies s (request_of r) (reply_of c.query.result) s) (sym c.in-Query.is)
     (subst (λ (text : List ℕ). Replies s (query text) (reply_of c.query.result) s) c.as_str.ensures.value (c.query.ensures.replies c.args.client.now)))
+
+pub returns-in-Page-clause-replies : goal.returns-in-Page-clause-replies
+returns-in-Page-clause-replies g c =
+    let new = g.S.Server.shows c.page.new.server in
+    let s = session new c.args.client.now in
+    serves_joined (session (g.S.Server.shows c.args.server.now) c.args.client.now) s new (request_of c.args.request) (reply_of c.page.result) c.page.ensures.joins
+    (subst (λ (r : Request). Replies s (request_of r) (reply_of c.page.result) s) (sym c.in-Page.is)
+    (subst (λ (text : List ℕ). Replies s (page c.in-Page.paging text) (reply_of c.page.result) s) c.as_str-in-Page.ensures.value (c.page.ensures.replies c.args.client.now)))
 
 pub returns-in-Explain-clause-replies : goal.returns-in-Explain-clause-replies
 returns-in-Explain-clause-replies g c =

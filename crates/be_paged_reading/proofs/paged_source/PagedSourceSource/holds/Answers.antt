@@ -2,7 +2,7 @@ use Rattle.be_paged_reading.proofs.Stored.PageIndices.{source_since}
 use Rattle.be_paged_reading.proofs.paged_source.PagedSourceSource.holds.Goals as goal
 
 pub holds_in-requires : goal.holds_in-requires
-holds_in-requires g c = record { version = (c.requires.0, c.requires.1.version); known = c.requires.1.known_is }
+holds_in-requires g c = record { version = (c.requires.0, c.requires.1.version); test = tt; known = c.requires.1.known_is }
 
 pub returns-clause-answer : goal.returns-clause-answer
 returns-clause-answer g c = λ volume of. c.holds_in.ensures.answer volume of.version

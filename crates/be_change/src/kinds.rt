@@ -1,0 +1,71 @@
+//! Whether the sets of a list of operations have the kinds that the indices of their names take.
+ghost use Rattle.std.specs.Prelude.{◌≡◌, ℕ, IfErr, IfOk, OnOk, length};
+ghost use Rattle.be_volume.specs.Reading.{index_kind};
+ghost use Rattle.be_volume.specs.Volume.{steps};
+ghost use Rattle.be_store.specs.Passes.{HasRead, IsPassOf, IsPinnedTo, volume_pinned};
+ghost use Rattle.be_change.specs.Comparing.{ComparesKinds, HaveRightKinds, IsFirstOfWrongKind};
+
+use crate::overlay::index_left;
+use be_store::{Name, Pass, Store};
+use be_value::Kind;
+use be_volume::Op;
+
+/// A set of another kind than the index of its name takes. The store would keep the attribute, and
+/// no query of that name would find its node.
+#[derive(Clone, Copy, Debug, PartialEq, Eq)]
+pub struct KindMismatch {
+    /// The index of the operation in its list, from 0.
+    pub place: usize,
+    /// The kind that the index takes.
+    pub index: Kind,
+}
+
+/// Compares the kind of each set with that of the index of its name, as the operations before it
+/// leave the pinned snapshot's, and returns the first that differs. A name without an index takes
+/// any kind. It reads the version page for each set, and takes no memory.
+pub fn check_kinds(store: &Store, pass: &mut Pass, ops: &[Op]) -> Result<(), KindMismatch>
+    requires pass { IsPassOf store.now pass.old }
+    requires pinned { (n : ℕ) × IsPinnedTo pass.old.knows n }
+    ensures pass { IsPassOf store.now pass.new × HasRead pass.old.knows pass.new.knows }
+    ensures right { OnOk result (HaveRightKinds (volume_pinned pass.old.knows) ops.now
+        (length ops.now)) }
+    ensures wrong { IfErr result (λ e. IsFirstOfWrongKind (volume_pinned pass.old.knows) ops.now
+        e.place e.index) }
+{
+    for (i, op) in ops.iter().enumerate() {
+        if let Some(index) = other_kind(store, pass, &ops[..i], op) {
+            return Err(KindMismatch { place: i, index });
+        }
+    }
+    Ok(())
+}
+
+/// The kind of the index of a set's name, if the value has another.
+fn other_kind(store: &Store, pass: &mut Pass, before: &[Op], op: &Op) -> Option<Kind>
+    requires pass { IsPassOf store.now pass.old }
+    requires pinned { (n : ℕ) × IsPinnedTo pass.old.knows n }
+    ensures pass { IsPassOf store.now pass.new × HasRead pass.old.knows pass.new.knows }
+    ensures compared { ComparesKinds (volume_pinned pass.old.knows) before.now op.now result }
+{
+    let Op::Set(_, name, value) = op else {
+        return None;
+    };
+    match kind_left(store, pass, before, name) {
+        Some(index) if index != value.kind() => Some(index),
+        _ => None,
+    }
+}
+
+/// The kind of the index of this name, as the operations leave the pinned snapshot's.
+fn kind_left(store: &Store, pass: &mut Pass, ops: &[Op], name: &Name) -> Option<Kind>
+    requires pass { IsPassOf store.now pass.old }
+    requires pinned { (n : ℕ) × IsPinnedTo pass.old.knows n }
+    ensures pass { IsPassOf store.now pass.new × HasRead pass.old.knows pass.new.knows }
+    ensures kind { IfOk (steps (volume_pinned pass.old.knows) ops.now)
+        (λ r. result ≡ index_kind r.0 name.now) }
+{
+    match index_left(ops, name) {
+        Some(kind) => kind,
+        None => store.index_kind(pass, name),
+    }
+}

@@ -1,0 +1,128 @@
+//! Pages by a walk over the index that tests its own keys.
+//!
+//! If one comparison with texts is left of a query and is on the order's own name, as a pattern may
+//! be, the texts of the keys decide it. If all nodes are known of which the rest is true, marks of
+//! these nodes do. So the walk asks for no node.
+ghost use Rattle.std.specs.Prelude.{◌≡◌, IfErr, IfOk, IfSome, None, OnErr, Some};
+ghost use Rattle.std.specs.Option.{option_copied};
+ghost use Rattle.be_value.specs.declared.refusals.Refusal.TheVariants.{OutOfMemory};
+ghost use Rattle.be_query.specs.Grammar.{Formula};
+ghost use Rattle.be_query.specs.View.{formula};
+ghost use Rattle.be_volume.specs.Reading.{index_kind};
+ghost use Rattle.be_volume.specs.Volume.{State};
+ghost use Rattle.be_order.specs.Asked.{IsPageOfRest, IsTestFor, Lists};
+ghost use Rattle.be_order.specs.Ordered.{cursor_bytes};
+
+use crate::asked::Walk;
+use crate::prepared::keep_first;
+use crate::{OrderedKeys, OrderedSource};
+use arrayvec::ArrayVec;
+use be_plan::{KeyTest, Marks, TextTest, asked_of_texts};
+use be_query::Tree;
+use be_value::Refusal;
+use std::alloc::Global;
+
+/// A page of a query that rests on an index, by a walk that tests each key for what is left of the
+/// query. It costs a test for each key that the walk passes until the page is full. None if the
+/// source doesn't test keys so.
+fn test_page<S: OrderedSource>(
+    source: &mut S,
+    walk: Walk<'_>,
+    test: KeyTest<'_, '_>,
+    most: usize,
+    cursor: &mut Option<ArrayVec<u8, 264>>,
+    found: &mut Vec<u64>,
+) -> Result<Option<bool>, Refusal>
+    ghost volume: { State }
+    requires answers { S.answers_for source.old volume }
+    requires kind { index_kind volume walk.keys.name.now ≡ Some walk.kind }
+    ensures page { IfOk result (λ tested. IfSome tested (λ more. (rest : Formula)
+        → IsTestFor volume walk.entry.keys.name.now test.entry rest
+        → IsPageOfRest volume rest walk.entry.keys.name.now walk.entry.kind
+        walk.entry.keys.low.now (option_copied walk.entry.keys.high) walk.entry.descending most
+        (cursor_bytes cursor.old) found.new.items (cursor_bytes cursor.new) more)) }
+    ensures memory { IfErr result (λ e. e ≡ OutOfMemory) }
+    ensures cursor { OnErr result (cursor.new ≡ cursor.old) }
+    ensures none { IfOk result (λ tested. tested ≡ None → cursor.new ≡ cursor.old) }
+    ensures stays { S.kept source.new ≡ S.kept source.old }
+    ensures answers { S.answers_for source.new volume }
+{
+    let Some(one_more) = most.checked_add(1) else {
+        return Ok(None);
+    };
+    let keys = OrderedKeys {
+        keys: walk.keys,
+        descending: walk.descending,
+        cursor,
+    };
+    if !source.first_passing(keys, test, one_more, found)? {
+        return Ok(None);
+    }
+    let more = found.len() > most;
+    keep_first(source, walk.keys.name, most, cursor, found);
+    Ok(Some(more))
+}
+
+/// A page of a query that rests on an index and leaves one comparison with the texts of the order's
+/// own index, by a walk that tests these texts. None if something else is left, or the source
+/// doesn't test texts so.
+pub(crate) fn text_page<S: OrderedSource>(
+    alloc: Global,
+    tree: &Tree,
+    source: &mut S,
+    walk: Walk<'_>,
+    most: usize,
+    cursor: &mut Option<ArrayVec<u8, 264>>,
+    found: &mut Vec<u64>,
+) -> Result<Option<bool>, Refusal>
+    ghost volume: { State }
+    requires answers { S.answers_for source.old volume }
+    requires kind { index_kind volume walk.keys.name.now ≡ Some walk.kind }
+    ensures page { IfOk result (λ asked. IfSome asked (IsPageOfRest volume (formula tree.now)
+        walk.entry.keys.name.now walk.entry.kind walk.entry.keys.low.now
+        (option_copied walk.entry.keys.high) walk.entry.descending most (cursor_bytes cursor.old)
+        found.new.items (cursor_bytes cursor.new))) }
+    ensures memory { IfErr result (λ e. e ≡ OutOfMemory) }
+    ensures cursor { OnErr result (cursor.new ≡ cursor.old) }
+    ensures none { IfOk result (λ asked. asked ≡ None → cursor.new ≡ cursor.old) }
+    ensures stays { S.kept source.new ≡ S.kept source.old }
+    ensures answers { S.answers_for source.new volume }
+{
+    let Some(comparison) = asked_of_texts(tree, walk.keys.name, walk.kind) else {
+        return Ok(None);
+    };
+    let test = TextTest::new(alloc, comparison)?;
+    test_page(source, walk, KeyTest::Text(&test), most, cursor, found)
+}
+
+/// A page of a query that rests on an index, by a walk that looks each node up among these, which
+/// are all of which the rest is true. None if they are few or lie far apart, if memory runs out, or
+/// if the source doesn't test keys.
+pub(crate) fn marked_page<S: OrderedSource>(
+    alloc: Global,
+    nodes: &[u64],
+    source: &mut S,
+    walk: Walk<'_>,
+    most: usize,
+    cursor: &mut Option<ArrayVec<u8, 264>>,
+    found: &mut Vec<u64>,
+) -> Result<Option<bool>, Refusal>
+    ghost volume: { State }
+    requires answers { S.answers_for source.old volume }
+    requires kind { index_kind volume walk.keys.name.now ≡ Some walk.kind }
+    ensures page { IfOk result (λ looked_up. IfSome looked_up (λ more. (rest : Formula)
+        → Lists volume rest nodes.now
+        → IsPageOfRest volume rest walk.entry.keys.name.now walk.entry.kind
+        walk.entry.keys.low.now (option_copied walk.entry.keys.high) walk.entry.descending most
+        (cursor_bytes cursor.old) found.new.items (cursor_bytes cursor.new) more)) }
+    ensures memory { IfErr result (λ e. e ≡ OutOfMemory) }
+    ensures cursor { OnErr result (cursor.new ≡ cursor.old) }
+    ensures none { IfOk result (λ looked_up. looked_up ≡ None → cursor.new ≡ cursor.old) }
+    ensures stays { S.kept source.new ≡ S.kept source.old }
+    ensures answers { S.answers_for source.new volume }
+{
+    let Some(marks) = Marks::new(alloc, nodes) else {
+        return Ok(None);
+    };
+    test_page(source, walk, KeyTest::Marked(&marks), most, cursor, found)
+}

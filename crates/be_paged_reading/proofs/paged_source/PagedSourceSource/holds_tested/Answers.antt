@@ -1,0 +1,15 @@
+use Rattle.be_paged_reading.proofs.Stored.PageIndices.{source_since}
+use Rattle.be_paged_reading.proofs.paged_source.PagedSourceSource.holds_tested.Goals as goal
+
+pub holds_in-requires : goal.holds_in-requires
+holds_in-requires g c = record { version = (c.requires.source.0, c.requires.source.1.version); test = c.requires.test; known = c.requires.source.1.known_is }
+
+pub returns-clause-answer : goal.returns-clause-answer
+returns-clause-answer g c = λ volume of. c.holds_in.ensures.answer volume of.version
+
+pub returns-clause-answers : goal.returns-clause-answers
+returns-clause-answers g c = λ volume of.
+    let self = c.args.self.now in
+    let since = c.holds_in.ensures.unchanged in
+    source_since (g.L.Look.standing self.look) (g.L.Look.standing c.holds_in.new.look) (g.L.Look.words self.look) (g.L.Look.words c.holds_in.new.look) self.page self.known c.holds_in.new.known self.cursor self.place self.last.0 self.last.1 volume since.standing since.words
+    c.holds_in.ensures.known of

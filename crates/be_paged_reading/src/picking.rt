@@ -1,0 +1,182 @@
+//! Keys of an index, tested on a walk in their order or in the reverse order.
+//!
+//! The walk goes leaf by leaf. Each key is compared with the end of the way, and tested where it
+//! is, until enough have passed or the way ends.
+ghost use Rattle.std.specs.Prelude.{◌≡◌, ◌+◌, ◌≤◌, ◌++◌, ℕ, List, [], IfOk, IsTrue, OnOk};
+ghost use Rattle.std.specs.Prelude.{false, length, take, true};
+ghost use Rattle.be_pages.specs.Pages.{IsUnchanged, is_readable};
+ghost use Rattle.be_tree_reading.specs.Page.{IsItem, item_at};
+ghost use Rattle.be_tree_reading.specs.Pair.{Pair};
+ghost use Rattle.be_tree_reading.specs.Tree.{IsTree, pairs};
+ghost use Rattle.be_tree_reading.specs.Walk.{IsLeaf, IsWalk, StaysFalse, ahead, end_of_way};
+ghost use Rattle.be_tree_reading.specs.Walk.{is_on_way, items_ahead};
+ghost use Rattle.be_tree_reading.specs.Way.{walk_of};
+ghost use Rattle.be_tree_reading.specs.Words.{IsFirstOf};
+ghost use Rattle.be_paged_reading.specs.KeyTests.{AreTestable, IsTestable, node_if, nodes_passing};
+ghost use Rattle.be_paged_reading.specs.KeyTests.{passing_on};
+
+use crate::texts::{ROOM, test_item};
+use be_pages::Look;
+use be_plan::KeyTest;
+use be_tree_reading::{Leaf, Walk, Way, first_of_end, is_within, number_at};
+use std::alloc::AllocError;
+
+/// Adds the node of the key at a place of a page, if the key passes the test.
+#[inline(always)]
+fn pick_item<L: Look>(
+    look: &mut L,
+    page: u64,
+    at: usize,
+    test: KeyTest<'_, '_>,
+    room: &mut [u8],
+    found: &mut Vec<u64>,
+) -> Result<(), AllocError>
+    requires readable { IsTrue (is_readable (L.standing look.old page)) }
+    requires in_page { at + 42 ≤ 512 }
+    requires item { IsItem (L.words look.old page) at }
+    requires testable { IsTestable test (item_at (L.words look.old page) at).key }
+    requires fits { length room.old ≡ 256 }
+    ensures added { OnOk result (found.new.items ≡ found.old.items
+        ++ node_if test.entry (item_at (L.words look.old page) at)) }
+    ensures unchanged { IsUnchanged L.kept L.standing L.words look.old look.new }
+{
+    match test {
+        KeyTest::Text(test) => test_item(look, page, at, test, room, found),
+        KeyTest::Marked(marks) => {
+            let number = number_at(look, page, at);
+            if marks.has(number) {
+                found.push(number)?;
+            }
+            Ok(())
+        }
+    }
+}
+
+/// Whether no key of a tree is past the end of a way.
+fn is_endless(way: Way<'_>) -> bool
+    ensures { result ≡ true → (key : List ℕ) → is_on_way way.entry key ≡ true }
+{
+    if way.back {
+        return way.low.is_empty();
+    }
+    match way.high {
+        Some(_) => false,
+        None => true,
+    }
+}
+
+/// Whether the key of the item at a place isn't past the end of a way, whose first word is at hand.
+/// Of an endless way no key is compared.
+#[inline(always)]
+fn is_ahead<L: Look>(
+    look: &mut L,
+    page: u64,
+    at: usize,
+    way: Way<'_>,
+    first: u64,
+    endless: bool,
+) -> bool
+    requires readable { IsTrue (is_readable (L.standing look.old page)) }
+    requires in_page { at + 42 ≤ 512 }
+    requires item { IsItem (L.words look.old page) at }
+    requires first { IsFirstOf (end_of_way way) first }
+    requires endless { endless ≡ true → (key : List ℕ) → is_on_way way key ≡ true }
+    ensures within { result ≡ is_on_way way.entry (item_at (L.words look.old page) at).key }
+    ensures unchanged { IsUnchanged L.kept L.standing L.words look.old look.new }
+{
+    endless || is_within(look, page, at, way, first)
+}
+
+/// Adds the nodes of the items that a walk has ahead in a leaf that pass the test, in its order,
+/// until the list has `most`. Returns whether the walk ends in this leaf: the list is full,
+/// or a key is past the end of the way.
+fn pick_ahead<L: Look>(
+    look: &mut L,
+    leaf: Leaf,
+    way: Way<'_>,
+    test: KeyTest<'_, '_>,
+    room: &mut [u8],
+    most: usize,
+    found: &mut Vec<u64>,
+) -> Result<bool, AllocError>
+    requires leaf { IsLeaf (L.standing look.old) (L.words look.old) leaf }
+    requires back { leaf.back ≡ way.back }
+    requires testable { AreTestable test (items_ahead (L.words look.old) leaf) }
+    requires fits { length room.old ≡ 256 }
+    requires few { length found.old.items ≤ most }
+    ensures few { IfOk result (λ _. length found.new.items ≤ most) }
+    ensures ended { IfOk result (λ ended. ended ≡ true → (rest : List Pair)
+        → StaysFalse (is_on_way way.entry) (items_ahead (L.words look.old) leaf ++ rest)
+        → found.new.items ≡ take most (found.old.items ++ passing_on test.entry
+        way.entry (items_ahead (L.words look.old) leaf ++ rest))) }
+    ensures goes_on { IfOk result (λ ended. ended ≡ false → found.new.items
+        ≡ found.old.items ++ passing_on test.entry way.entry
+        (items_ahead (L.words look.old) leaf)) }
+    ensures unchanged { IsUnchanged L.kept L.standing L.words look.old look.new }
+{
+    let first = first_of_end(way);
+    let endless = is_endless(way);
+    let ahead = leaf.count(look);
+    for i in 0..ahead {
+        if found.len() >= most {
+            return Ok(true);
+        }
+        let at = leaf.place(i);
+        if !is_ahead(look, leaf.page, at, way, first, endless) {
+            return Ok(true);
+        }
+        pick_item(look, leaf.page, at, test, room, found)?;
+    }
+    Ok(false)
+}
+
+/// Puts the nodes of the keys that a walk has ahead and that pass the test into an empty list, up
+/// to the end of the way and up to `most` of them.
+fn pick_all<L: Look>(
+    look: &mut L,
+    walk: &mut Walk,
+    way: Way<'_>,
+    test: KeyTest<'_, '_>,
+    most: usize,
+    found: &mut Vec<u64>,
+) -> Result<(), AllocError>
+    requires walk { IsWalk (L.standing look.old) (L.words look.old) walk.old }
+    requires back { walk.old.back ≡ way.back }
+    requires testable { AreTestable test (ahead (L.words look.old) walk.old) }
+    requires ends { StaysFalse (is_on_way way) (ahead (L.words look.old) walk.old) }
+    requires empty { found.old.items ≡ [] }
+    ensures found { OnOk result (found.new.items ≡ take most (passing_on test.entry
+        way.entry (ahead (L.words look.old) walk.old))) }
+    ensures unchanged { IsUnchanged L.kept L.standing L.words look.old look.new }
+{
+    let mut room = [0u8; ROOM];
+    'leaves: while let Some(leaf) = walk.step_leaf(look) {
+        let is_last = pick_ahead(look, leaf, way, test, &mut room, most, found)?;
+        if is_last {
+            return Ok(());
+        }
+    }
+    Ok(())
+}
+
+/// Puts the nodes of the first keys on a way over an index that pass the test into a list, in place
+/// of what it had, in the order of the way, `most` at most. It costs one descent, and reads of each
+/// key that the walk passes what the test asks for.
+pub(crate) fn passing_in_order<L: Look>(
+    look: &mut L,
+    root: u64,
+    way: Way<'_>,
+    test: KeyTest<'_, '_>,
+    most: usize,
+    found: &mut Vec<u64>,
+) -> Result<(), AllocError>
+    requires tree { IsTree (L.standing look.old) (L.words look.old) root }
+    requires testable { AreTestable test (pairs (L.words look.old) root) }
+    ensures found { OnOk result (found.new.items ≡ take most (nodes_passing test.entry
+        (walk_of way.entry (pairs (L.words look.old) root)))) }
+    ensures unchanged { IsUnchanged L.kept L.standing L.words look.old look.new }
+{
+    found.clear();
+    let mut walk = Walk::begin(look, root, way);
+    pick_all(look, &mut walk, way, test, most, found)
+}

@@ -1,0 +1,234 @@
+//! What a line `page` asks for, and what it finds.
+//!
+//! The words come in one order: `by NAME`, `descending` if the order is the reverse, `after KIND
+//! VALUE NODE` if the page isn't the first, and `limit N`. What follows these is the query's text.
+ghost use Rattle.std.specs.Option.{option_map};
+ghost use Rattle.std.specs.Prelude.{◌≡◌, IfErr, IfOk, false, string_bytes, true};
+ghost use Rattle.be_value.specs.Name.{name_from};
+ghost use Rattle.be_value.specs.declared.refusals.Refusal.TheVariants.{NoSuchIndex};
+ghost use Rattle.be_script_language.specs.Page as spec;
+
+use crate::values::{kind_of, value_of};
+use crate::words::{first_word, skip, text_of};
+use arrayvec::ArrayVec;
+use be_value::{Kind, Name, Refusal, Value, key_of, word_of};
+use std::alloc::{AllocError, Global};
+
+/// The page that a line asks for, of the answer to its query.
+#[derive(Debug, Drop)]
+pub struct Paging {
+    /// The name of the index whose order it is.
+    pub by: Name,
+    /// Whether the order is exactly the reverse.
+    pub descending: bool,
+    /// The value and the node after which the page begins; the first page has none.
+    pub after: Option<(Value, u64)>,
+    /// The most nodes, at least 1.
+    pub most: u64,
+}
+
+impl Paging {
+    /// The key after which the page begins in an index of this kind; the first page has none.
+    /// NoSuchIndex if there is no index, or if its kind isn't that of the value.
+    pub fn cursor(&self, kind: Option<Kind>) -> Result<Option<ArrayVec<u8, 264>>, Refusal>
+        ensures begins { IfOk result (λ _. spec.may_begin kind self.now.after ≡ true) }
+        ensures key { IfOk result (λ cursor. option_map (λ key. key.items) cursor
+            ≡ option_map spec.key_at self.now.after) }
+        ensures refused { IfErr result (λ e. (e ≡ NoSuchIndex)
+            × (spec.may_begin kind self.now.after ≡ false)) }
+    {
+        let Some((value, node)) = &self.after else {
+            return Ok(None);
+        };
+        let Some(kind) = kind else {
+            return Err(Refusal::NoSuchIndex);
+        };
+        if !value.kind().indexable() {
+            return Err(Refusal::NoSuchIndex);
+        }
+        if value.kind().number() != kind.number() {
+            return Err(Refusal::NoSuchIndex);
+        }
+        Ok(Some(key_of(value, *node)))
+    }
+}
+
+/// The page that a line finds.
+#[derive(Debug, Drop)]
+pub struct Page {
+    /// Its nodes, in the order of the index.
+    pub nodes: Vec<u64>,
+    /// Whether others come after them.
+    pub more: bool,
+    /// The value of the last one, and its number, after which the next page begins.
+    pub last: Option<(Value, u64)>,
+}
+
+/// What follows a word, if that is the first one.
+fn past<'a>(
+    alloc: Global,
+    expected: &str,
+    text: &'a [char],
+) -> Result<Option<&'a [char]>, AllocError>
+    ensures { IfOk result (λ rest. option_map (λ r. r.now) rest
+        ≡ spec.past expected.now text.now) }
+{
+    let Some((word, rest)) = first_word(alloc, text)? else {
+        return Ok(None);
+    };
+    if word.as_str() == expected {
+        Ok(Some(rest))
+    } else {
+        Ok(None)
+    }
+}
+
+/// `by NAME`, and what follows.
+fn name_part(alloc: Global, text: &[char]) -> Result<Option<(String, &[char])>, AllocError>
+    ensures { IfOk result (λ name. option_map (λ p. (string_bytes p.0, p.1.now)) name
+        ≡ spec.name_in text.now) }
+{
+    match past(alloc, "by", text)? {
+        Some(rest) => first_word(alloc, rest),
+        None => Ok(None),
+    }
+}
+
+/// Whether `descending` comes first, and what follows.
+fn direction_part(alloc: Global, text: &[char]) -> Result<(bool, &[char]), AllocError>
+    ensures { IfOk result (λ direction. (direction.0, direction.1.now)
+        ≡ spec.direction_in text.now) }
+{
+    match past(alloc, "descending", text)? {
+        Some(rest) => Ok((true, rest)),
+        None => Ok((false, text)),
+    }
+}
+
+/// The value and the node that three words encode, or the value's refusal.
+fn pair_of(
+    alloc: Global,
+    kind: &str,
+    value: &str,
+    node: &str,
+) -> Result<Option<Result<Option<(Value, u64)>, Refusal>>, AllocError>
+    ensures { IfOk result (λ pair. pair ≡ spec.pair_from kind.now value.now node.now) }
+{
+    let Some(kind) = kind_of(kind) else {
+        return Ok(None);
+    };
+    let Some(value) = value_of(alloc, kind, value)? else {
+        return Ok(None);
+    };
+    let Some(node) = word_of(node.as_bytes()) else {
+        return Ok(None);
+    };
+    match value {
+        Ok(value) => Ok(Some(Ok(Some((value, node))))),
+        Err(refusal) => Ok(Some(Err(refusal))),
+    }
+}
+
+/// `KIND VALUE NODE`, and what follows.
+fn pair_part(
+    alloc: Global,
+    text: &[char],
+) -> Result<Option<(Result<Option<(Value, u64)>, Refusal>, &[char])>, AllocError>
+    ensures { IfOk result (λ pair. option_map (λ p. (p.0, p.1.now)) pair
+        ≡ spec.pair_in text.now) }
+{
+    let Some((kind, rest)) = first_word(alloc, text)? else {
+        return Ok(None);
+    };
+    let Some((value, rest)) = first_word(alloc, rest)? else {
+        return Ok(None);
+    };
+    let Some((node, rest)) = first_word(alloc, rest)? else {
+        return Ok(None);
+    };
+    match pair_of(alloc, kind.as_str(), value.as_str(), node.as_str())? {
+        Some(pair) => Ok(Some((pair, rest))),
+        None => Ok(None),
+    }
+}
+
+/// `after KIND VALUE NODE`, if `after` comes first, and what follows.
+fn after_part(
+    alloc: Global,
+    text: &[char],
+) -> Result<Option<(Result<Option<(Value, u64)>, Refusal>, &[char])>, AllocError>
+    ensures { IfOk result (λ after. option_map (λ p. (p.0, p.1.now)) after
+        ≡ spec.after_in text.now) }
+{
+    match past(alloc, "after", text)? {
+        Some(rest) => pair_part(alloc, rest),
+        None => Ok(Some((Ok(None), text))),
+    }
+}
+
+/// The number of a word, unless it is 0.
+fn most_of(word: &str) -> Option<u64>
+    ensures { result ≡ spec.most_from word.now }
+{
+    let most = word_of(word.as_bytes())?;
+    if most == 0 { None } else { Some(most) }
+}
+
+/// `limit N`, and what follows.
+fn limit_part(alloc: Global, text: &[char]) -> Result<Option<(u64, &[char])>, AllocError>
+    ensures { IfOk result (λ limit. option_map (λ p. (p.0, p.1.now)) limit
+        ≡ spec.limit_in text.now) }
+{
+    let Some(rest) = past(alloc, "limit", text)? else {
+        return Ok(None);
+    };
+    let Some((word, rest)) = first_word(alloc, rest)? else {
+        return Ok(None);
+    };
+    match most_of(word.as_str()) {
+        Some(most) => Ok(Some((most, rest))),
+        None => Ok(None),
+    }
+}
+
+/// The name is looked at before the value.
+fn paging_of(
+    name: &str,
+    descending: bool,
+    after: Result<Option<(Value, u64)>, Refusal>,
+    most: u64,
+) -> Result<Paging, Refusal>
+    ensures { result ≡ spec.paging_from (name_from name.now) descending after most }
+{
+    let by = Name::new(name)?;
+    let after = after?;
+    Ok(Paging {
+        by,
+        descending,
+        after,
+        most,
+    })
+}
+
+/// The page that the words after `page` ask for, or why its name or its value is none; and the
+/// query's text. None if the line is bad.
+pub(crate) fn page_asked(
+    alloc: Global,
+    text: &[char],
+) -> Result<Option<(Result<Paging, Refusal>, String)>, AllocError>
+    ensures { IfOk result (λ page. option_map (λ p. (p.0, string_bytes p.1)) page
+        ≡ spec.asked_in text.now) }
+{
+    let Some((name, rest)) = name_part(alloc, text)? else {
+        return Ok(None);
+    };
+    let (descending, rest) = direction_part(alloc, rest)?;
+    let Some((after, rest)) = after_part(alloc, rest)? else {
+        return Ok(None);
+    };
+    let Some((most, rest)) = limit_part(alloc, rest)? else {
+        return Ok(None);
+    };
+    let paging = paging_of(name.as_str(), descending, after, most);
+    Ok(Some((paging, text_of(alloc, skip(rest))?)))
+}
