@@ -1,85 +1,84 @@
 //! Patterns and texts, by bytes and by characters, with what has to come by the rules of
 //! `docs/QUERIES.md`.
+use super::lines::{replies, yes_or_no};
 use be_byte_pattern::BytePattern;
 use be_pattern::Pattern;
+use be_test_tools::again;
 use be_value::Refusal;
 use std::alloc::Global;
 use std::test::Fail;
 
-/// A pattern, a text, and whether the one matches the other.
-const CASES: [(&str, &str, bool); 44] = [
-    ("", "", true),
-    ("", "a", false),
-    ("*", "", true),
-    ("**", "", true),
-    ("**", "ab", true),
-    ("abc", "abc", true),
-    ("abc", "abcd", false),
-    ("abc*", "abc", true),
-    ("abc*", "abcd", true),
-    ("abc*", "ab", false),
-    ("*.jpg", "a.jpg", true),
-    ("*.jpg", ".jpg", true),
-    ("*.jpg", "a.jpg ", false),
-    ("*.jpg", "jpg", false),
-    ("*report*", "draft-report-2022.png", true),
-    ("*report*", "draft-repor-2022.png", false),
-    ("a*a", "a", false),
-    ("a*a", "aa", true),
-    ("a**b", "ab", true),
-    ("*aab*", "aaab", true),
-    ("*ab*ba*", "aba", false),
-    ("*ab*ba*", "abba", true),
-    ("*ab*b", "ab", false),
-    ("*ab*b", "abab", true),
-    ("*photo*77*.pdf", "my-photo-1770.pdf", true),
-    ("*photo*77*.pdf", "my-photo-7.pdf", false),
-    // Two, three and four bytes a character; some share their first byte, others their last.
-    ("*é*", "café au lait", true),
-    ("*é*", "cafe", false),
-    ("*©*", "é", false),
-    ("é*", "è", false),
-    ("*日*本", "日x本", true),
-    ("*本*", "日", false),
-    ("*😀", "a😀", true),
-    ("*😀*", "😁", false),
-    // Characters with a backslash.
-    ("\\**", "*a", true),
-    ("\\**", "a", false),
-    ("*\\?", "a?", true),
-    ("*\\[x*", "y[x", true),
-    ("*\\\\*", "a\\b", true),
-    // `?` and sets.
-    ("*re?ort*", "a-report", true),
-    ("?", "é", true),
-    ("??", "é", false),
-    ("*[3-7]é", "5é", true),
-    ("[^é]*", "è", true),
-];
-
-/// Whether a pattern matches a text, by its bytes and by its characters.
-fn both_ways(alloc: Global, words: &str, text: &str) -> Result<(bool, bool), Refusal> {
+/// Whether a pattern matches the text after it, by its bytes and by its characters.
+pub(crate) fn matches_both_ways(alloc: Global, request: &str) -> Result<String, Refusal> {
+    let (words, text) = request.split_once(" ").unwrap_or((request, ""));
     let pattern = Pattern::parse(alloc, words)?;
-    let compiled = BytePattern::new(alloc, &pattern)?;
-    Ok((compiled.matches(text.as_bytes()), pattern.matches(text)))
-}
-
-/// The same, asked once more if memory is refused.
-fn both_ways_or_again(alloc: Global, words: &str, text: &str) -> Result<(bool, bool), Refusal> {
-    match both_ways(alloc, words, text) {
-        Err(Refusal::OutOfMemory) => both_ways(alloc, words, text),
-        answer => answer,
+    let by_bytes = BytePattern::new(alloc, &pattern)?.matches(text.as_bytes());
+    if by_bytes != pattern.matches(text) {
+        return Ok(String::from_str(alloc, "one way")?);
     }
+    yes_or_no(alloc, by_bytes)
 }
 
+/// Literal characters and `*`, of one byte a character.
 #[test]
 fn matches_as_written(rt: HostRuntime) -> Result<(), Fail> {
-    for case in &CASES {
-        let (by_bytes, by_characters) = both_ways_or_again(rt.alloc(), case.0, case.1)?;
-        assert_eq!(rt; by_bytes, case.2, "{:?} and {:?}", case.0, case.1);
-        assert_eq!(rt; by_characters, case.2, "{:?} and {:?}", case.0, case.1);
-    }
-    Ok(())
+    let lines = "bytes   => yes
+bytes  a => no
+bytes *  => yes
+bytes **  => yes
+bytes ** ab => yes
+bytes abc abc => yes
+bytes abc abcd => no
+bytes abc* abc => yes
+bytes abc* abcd => yes
+bytes abc* ab => no
+bytes *.jpg a.jpg => yes
+bytes *.jpg .jpg => yes
+bytes *.jpg a.jpg  => no
+bytes *.jpg jpg => no
+bytes *report* draft-report-2022.png => yes
+bytes *report* draft-repor-2022.png => no
+bytes a*a a => no
+bytes a*a aa => yes
+bytes a**b ab => yes
+bytes *aab* aaab => yes
+bytes *ab*ba* aba => no
+bytes *ab*ba* abba => yes
+bytes *ab*b ab => no
+bytes *ab*b abab => yes
+bytes *photo*77*.pdf my-photo-1770.pdf => yes
+bytes *photo*77*.pdf my-photo-7.pdf => no";
+    replies(rt.alloc(), lines)
+}
+
+/// Of two, three and four bytes a character; some share their first byte, others their last.
+#[test]
+fn matches_longer_characters(rt: HostRuntime) -> Result<(), Fail> {
+    let lines = "bytes *é* café au lait => yes
+bytes *é* cafe => no
+bytes *©* é => no
+bytes é* è => no
+bytes *日*本 日x本 => yes
+bytes *本* 日 => no
+bytes *😀 a😀 => yes
+bytes *😀* 😁 => no";
+    replies(rt.alloc(), lines)
+}
+
+/// Characters with a backslash, then `?` and sets.
+#[test]
+fn matches_marked_characters(rt: HostRuntime) -> Result<(), Fail> {
+    let lines = "bytes \\** *a => yes
+bytes \\** a => no
+bytes *\\? a? => yes
+bytes *\\[x* y[x => yes
+bytes *\\\\* a\\b => yes
+bytes *re?ort* a-report => yes
+bytes ? é => yes
+bytes ?? é => no
+bytes *[3-7]é 5é => yes
+bytes [^é]* è => yes";
+    replies(rt.alloc(), lines)
 }
 
 /// Whether a pattern matches these bytes.
@@ -88,18 +87,10 @@ fn matches_bytes(alloc: Global, words: &str, bytes: &[u8]) -> Result<bool, Refus
     Ok(BytePattern::new(alloc, &pattern)?.matches(bytes))
 }
 
-/// The same, asked once more if memory is refused.
-fn matches_or_again(alloc: Global, words: &str, bytes: &[u8]) -> Result<bool, Refusal> {
-    match matches_bytes(alloc, words, bytes) {
-        Err(Refusal::OutOfMemory) => matches_bytes(alloc, words, bytes),
-        answer => answer,
-    }
-}
-
 /// Bytes that are no text get an answer too.
 #[test]
 fn takes_any_bytes(rt: HostRuntime) -> Result<(), Fail> {
-    assert!(rt; matches_or_again(rt.alloc(), "*b", b"\xffb")?);
-    assert!(rt; !matches_or_again(rt.alloc(), "?b", b"\xffb")?);
+    assert!(rt; again!(matches_bytes(rt.alloc(), "*b", b"\xffb"))?);
+    assert!(rt; !again!(matches_bytes(rt.alloc(), "?b", b"\xffb"))?);
     Ok(())
 }

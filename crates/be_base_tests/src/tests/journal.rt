@@ -84,28 +84,17 @@ fn journal_of(alloc: Global, request: &str) -> Result<Journal, Refusal> {
     Ok(journal)
 }
 
-/// Pushes an entry of one operation.
-fn push_one(alloc: Global, journal: &mut Journal, op: Op, done: Done) -> Result<(), Refusal> {
-    let mut ops = Vec::new(alloc);
-    ops.push(op)?;
-    let mut dones = Vec::new(alloc);
-    dones.push(done)?;
-    push(journal, ops, dones)
-}
-
-/// A journal whose one entry has a name and a text with all that is escaped.
-fn escaped(alloc: Global) -> Result<Journal, Refusal> {
-    let mut journal = journal_within(alloc, 1)?;
-    let set = Op::Set(1, Name::new("a\"b")?, Value::text("x\\y\n\r")?);
-    push_one(alloc, &mut journal, set, Done::Unit)?;
-    Ok(journal)
+/// Pushes the making of a node.
+fn push_node(alloc: Global, journal: &mut Journal, node: u64) -> Result<(), Refusal> {
+    let text = format!(in alloc; "new -> node {node}")?;
+    push_text(alloc, journal, text.as_str())
 }
 
 /// 1,100 nodes that were made.
 fn nodes(alloc: Global) -> Result<Journal, Refusal> {
     let mut journal = journal_within(alloc, 1_100)?;
     for node in 1..=1_100 {
-        push_one(alloc, &mut journal, Op::New, Done::Node(node))?;
+        push_node(alloc, &mut journal, node)?;
     }
     Ok(journal)
 }
@@ -113,11 +102,9 @@ fn nodes(alloc: Global) -> Result<Journal, Refusal> {
 /// A list of 64 texts of 255 bytes.
 fn long_list(alloc: Global) -> Result<Vec<Op>, Refusal> {
     let text = "x".repeat(alloc, 255)?;
-    let mut ops = Vec::new(alloc);
-    for node in 0..64 {
-        ops.push(Op::Set(node, Name::new("a")?, Value::text(text.as_str())?))?;
-    }
-    Ok(ops)
+    let set = format!(in alloc; "set 0 a CSTR {text}")?;
+    let sets = format!(in alloc; ";{set}")?.as_str().repeat(alloc, 63)?;
+    list_of(alloc, format!(in alloc; "{set}{sets}")?.as_str())
 }
 
 /// So many long lists, each by the pass of its number. A block of the journal has room for 15 of
@@ -170,7 +157,7 @@ fn has_room(journal: &mut Journal) -> Result<bool, Refusal> {
 }
 
 fn takes_entry(alloc: Global, journal: &mut Journal) -> Result<bool, Refusal> {
-    match push_one(alloc, journal, Op::New, Done::Unit) {
+    match push_text(alloc, journal, "new -> ok") {
         Err(Refusal::CommitsSpent) => Ok(false),
         Err(refusal) => Err(refusal),
         Ok(()) => Ok(true),
@@ -202,10 +189,6 @@ fn told(alloc: Global, mut journal: Journal) -> Result<String, Refusal> {
 /// The report on the journal of a request.
 pub(crate) fn told_of(alloc: Global, request: &str) -> Result<String, Refusal> {
     told(alloc, journal_of(alloc, request)?)
-}
-
-pub(crate) fn told_of_escaped(alloc: Global) -> Result<String, Refusal> {
-    told(alloc, escaped(alloc)?)
 }
 
 /// The report on 1,100 nodes, from the text after the 1,099th entry on.
@@ -248,8 +231,8 @@ journal 2 mkindex k LONG -> ok | new;set 1 k LONG 5 -> node 1;ok => 1 by 0 mkind
 #[test]
 fn operations_have_a_text(rt: HostRuntime) -> Result<(), Fail> {
     let lines =
-        "escaped => 1 by 0 set 1 \"a\\\"b\" CSTR \"x\\\\y\\n\\r\" -> ok / wrong, spent, next 1 / \
-         refused 2 NoNode
+        "journal 1 set 1 \"a\\\"b\" CSTR \"x\\\\y\\n\\r\" -> ok => 1 by 0 set 1 \"a\\\"b\" CSTR \
+         \"x\\\\y\\n\\r\" -> ok / wrong, spent, next 1 / refused 2 NoNode
 journal 1 set 1 r RAWT 00abff -> ok => 1 by 0 set 1 \"r\" RAWT \"00abff\" -> ok / wrong, spent, \
          next 1 / refused 2 NoNode
 journal 2 set 1 l LLNG -9223372036854775808 -> ok | set 1 u ULLG 18446744073709551615 -> ok => 1 \

@@ -1,7 +1,7 @@
 //! Requests and replies of tests, as text: a line `COMMAND TEXT => REPLY` each. What is refused is
 //! replied as it is printed.
 
-use super::{journal, machine, pattern, query, stored_words, tree, value};
+use super::{byte_pattern, journal, machine, pattern, query, stored_words, tree, value};
 use be_test_tools::{Answers, check_lines};
 use be_value::{Refusal, word_of};
 use std::alloc::Global;
@@ -11,7 +11,6 @@ use std::test::Fail;
 fn answer(alloc: Global, command: &str, text: &str) -> Result<String, Refusal> {
     match command {
         "journal" => journal::told_of(alloc, text),
-        "escaped" => journal::told_of_escaped(alloc),
         "nodes" => journal::told_end(alloc),
         "lists" => journal::told_lists(alloc, text),
         "machine" => machine::is_opened(alloc, text),
@@ -41,6 +40,7 @@ fn answer_pattern(alloc: Global, command: &str, text: &str) -> Result<String, Re
     match command {
         "pattern" => pattern::canonical(alloc, text),
         "matches" => pattern::matches(alloc, text),
+        "bytes" => byte_pattern::matches_both_ways(alloc, text),
         "prefix" => pattern::prefix(alloc, text),
         "decided" => pattern::is_decided_by_prefix(alloc, text),
         "around" => pattern::around(alloc, text),
