@@ -288,8 +288,8 @@ impl Saved {
             .with_file(|file| file.write_state(number, copy.next, copy.batches.into_iter().map(Ok)))
     }
 
-    /// Returns whether the entries since the state take more bytes in the file than half of the state and 512 KiB, so that
-    /// [`compact`](Self::compact) makes the file smaller and faster to open. After a failed `compact`, it takes another 512 KiB.
+    /// Returns whether [`compact`](Self::compact) would make the file smaller and faster to open: the entries since the state
+    /// take more than half of the state's bytes, and at least 512 KiB. After a failed `compact`, it takes another 512 KiB.
     #[must_use]
     pub fn is_due(&self) -> bool {
         self.queue.is_due()
