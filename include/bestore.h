@@ -653,7 +653,8 @@ uint32_t bes_changes(bes_prepared *prepared, uint64_t *created, size_t created_r
 
 /* Explains a query: writes the comparisons whose indices the query reads, joined by " || ", and the cost, such as "size"<"0" score 3.
  * [out] bytes    the first bytes of the explanation; at most bytes_room. No zero byte follows them.
- * [out] count    how many bytes the explanation has Returns the errors that bes_query returns.
+ * [out] count    how many bytes the explanation has
+ * Returns the errors that bes_query returns.
  * Cost: the time to parse the query, and to find the indices of its names. Memory for the plan and the text. No node is read. */
 uint32_t bes_explain(bes_pass *pass, const uint8_t *text, size_t text_length, uint8_t *bytes, size_t bytes_room, uint64_t *count);
 
