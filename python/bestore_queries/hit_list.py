@@ -296,7 +296,7 @@ class HitList(tk.Frame):
         return "break"
 
     def edit(self) -> str:
-        """Edits an attribute of the hit that keys move from: the clicked attribute, or else the first that can be edited."""
+        """Edits an attribute of the hit that keys move from: the clicked attribute, otherwise the first that can be edited."""
         self._cancel_edit()
         place = self.selection.cursor
         can = [column for column in self.columns if column.is_edited]
