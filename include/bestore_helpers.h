@@ -1,6 +1,6 @@
 /* Helpers over the calls of bestore.h. Include bestore.h, which includes this file.
  *
- * Helpers that have a body here are inline functions. The others are in libbestore, in plain C beside the proved calls. If a helper's
+ * Helpers that have a body here are inline functions. The others are in libbestore, in plain C next to the proved calls. If a helper's
  * comment names no errors, the helper returns the errors of the call that it makes. Names that end with _ are only for these headers. */
 #include "bestore.h" /* which includes this file once more, and then nothing here is left */
 

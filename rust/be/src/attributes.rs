@@ -99,7 +99,7 @@ pub fn add(client: &mut Client, added: &Added, output: &mut Output) -> Result<()
     output.line(node.to_string().as_bytes())
 }
 
-/// Prints a warning if the index of this name will leave out the value.
+/// Prints a warning if the index with this name will leave out the value.
 fn warn_of_index(client: &mut Client, name: &str, value: &Value) -> Result<(), Failure> {
     let indices = server::indices(client)?;
     let taken = indices

@@ -67,7 +67,7 @@ pub fn tokens(text: &str) -> Vec<Token<'_>> {
     }
 }
 
-/// Returns the form and the length of the token with which the text begins.
+/// Returns the form and the length of the token that the text begins with.
 fn first_token(text: &str, may_be_date: bool) -> Option<(Form, usize)> {
     let rest = text.get(1..).unwrap_or_default();
     match text.as_bytes() {

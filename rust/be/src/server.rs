@@ -7,7 +7,7 @@ use bestore_client::{Client, Error, ErrorName, Options, SocketPath};
 use bestore_types::Batch;
 use std::collections::BTreeMap;
 
-/// How often to retry a write if another client is writing.
+/// How many times to retry a write if another client is writing.
 const TRIES: u32 = 100;
 
 /// The maximum number of operations in a batch.

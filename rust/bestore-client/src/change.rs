@@ -135,7 +135,7 @@ impl Client {
         value.and_then(|value| written.map(|_| value))
     }
 
-    /// Fails if the batch sets an attribute of a kind that the index of that name doesn't take by then.
+    /// Fails if the batch sets an attribute of a kind that the index with that name doesn't take by then.
     fn check_kinds(&mut self, batch: &Batch) -> Result<()> {
         if !batch
             .operations()

@@ -18,7 +18,7 @@ pub struct Order {
 }
 
 impl Order {
-    /// Returns the ascending order by the index of this name.
+    /// Returns the ascending order by the index with this name.
     #[must_use]
     pub fn by(name: &str) -> Self {
         Self {

@@ -21,7 +21,7 @@ pub fn escape(text: &str) -> String {
     escaped
 }
 
-/// Returns the query for everything in the index of this name, which has this kind.
+/// Returns the query for everything in the index with this name, which has this kind.
 ///
 /// ```
 /// use bestore_types::{all_in, Kind};

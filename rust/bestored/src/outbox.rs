@@ -172,7 +172,7 @@ mod tests {
         lines
     }
 
-    /// Reads what comes until the end, in a thread of its own.
+    /// Reads what comes until the end, in a separate thread.
     fn read_all(mut client: UnixStream) -> thread::JoinHandle<Vec<u8>> {
         thread::spawn(move || {
             let mut read = Vec::new();

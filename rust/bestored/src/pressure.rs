@@ -93,7 +93,7 @@ impl Pressure {
     }
 }
 
-/// How often the library retries calls of a connection's pass: only if another pass is busy.
+/// How many times the library retries calls of a connection's pass: only if another pass is busy.
 pub fn retry() -> Retry {
     Retry {
         full: 0,
@@ -146,7 +146,7 @@ mod tests {
         }
     }
 
-    /// Returns the outcome of a write, and how often it was tried, if another pass is busy for this many tries.
+    /// Returns the outcome of a write, and how many times it was tried, if another pass is busy for this many tries.
     fn write_beside(store: &Store, busy: u64, batch: &Batch) -> (Result<Written>, u64) {
         let mut other = store.pass().unwrap();
         other.set_retry(Retry::NEVER);

@@ -11,7 +11,7 @@ use std::path::{Path, PathBuf};
 use std::thread;
 use std::time::Duration;
 
-/// How often to retry taking a lock that another starting server holds, every 0.1 seconds.
+/// How many times to retry taking a lock that another starting server holds, every 0.1 seconds.
 const TRIES: u32 = 50;
 
 /// A listening socket, which is removed at the end if this program made it.

@@ -327,7 +327,7 @@ impl File {
         Ok(())
     }
 
-    /// From now on, also keeps the number of the last entry beside the file. It is this one now.
+    /// From now on, also keeps the number of the last entry next to the file. It is this one now.
     pub fn keep_last(&mut self, last: u64) -> Result<()> {
         if self.has_checksums {
             self.last = LastEntry::begin(&self.path, self.number("file")?, last);
@@ -335,7 +335,7 @@ impl File {
         Ok(())
     }
 
-    /// Says that the file is refused: the WAL then stays beside it when it is closed.
+    /// Says that the file is refused: the WAL then stays next to it when it is closed.
     pub fn leave(&self) {
         // Otherwise SQLite would copy the undamaged part of the WAL into the file, and remove the rest.
         let _ = self

@@ -1,6 +1,6 @@
 //! The file with `-last`: the number of a file's last entry.
 //!
-//! SQLite leaves out everything after a damaged frame of the WAL, and doesn't report that. So the number is also kept beside the file
+//! SQLite leaves out everything after a damaged frame of the WAL, and doesn't report that. So the number is also kept next to the file
 //! while that is open, and after a crash. It is written after each commit and isn't waited for: after a power failure it may be too
 //! small.
 
@@ -28,7 +28,7 @@ impl Drop for LastEntry {
     }
 }
 
-/// The path of a file beside a store's, named as SQLite names its own: a link is followed.
+/// The path of a file next to a store's, named as SQLite names its own: a link is followed.
 fn beside(path: &Path, ending: &str) -> PathBuf {
     let mut path = fs::canonicalize(path)
         .unwrap_or_else(|_| path.to_owned())

@@ -63,7 +63,7 @@ pub struct State {
     waiting_bytes: usize,
     /// Whether the server is ending.
     is_closing: bool,
-    /// How often somebody has asked whether this server still leads, and the last question that was answered with yes.
+    /// How many times someone has asked whether this server still leads, and the last question that was answered with yes.
     asked: u64,
     confirmed: u64,
     /// Whether reading and writing have ended.
@@ -219,7 +219,7 @@ impl Line {
         Ok(())
     }
 
-    /// Returns the number of the last question, if somebody is waiting for an answer.
+    /// Returns the number of the last question, if someone is waiting for an answer.
     pub fn asked(&self) -> Option<u64> {
         let state = self.lock();
         (state.confirmed < state.asked).then_some(state.asked)
