@@ -151,7 +151,7 @@ pub enum Error {
 }
 
 impl Error {
-    /// Makes an error of the program's own. The closure of a change returns it to stop the change.
+    /// Makes an error of the program's own. A change's closure returns it to stop the change.
     pub fn other(error: impl Into<Box<dyn std::error::Error + Send + Sync>>) -> Self {
         Error::Other(error.into())
     }

@@ -4,7 +4,8 @@ use crate::Kind;
 
 /// Returns the text with a backslash before each character that is special in a query or a pattern.
 ///
-/// The result stands for the text itself, both as a word in a query and between quotes. If the text is empty, the query needs the quotes.
+/// The result means the text itself, both as a word in a query and between quotes. If the text is empty, the query needs the
+/// quotes.
 ///
 /// ```
 /// assert_eq!(bestore_types::escape("[draft].txt"), r"\[draft\]\.txt");

@@ -98,7 +98,7 @@ impl Client {
         lock(&self.doing).command = Some(command);
     }
 
-    /// Records that the command has been carried out.
+    /// Records that the command is finished.
     pub fn ends(&self) {
         lock(&self.doing).command = None;
     }

@@ -20,8 +20,8 @@ const LOOK: Duration = Duration::from_millis(100);
 /// How often a leader that has nothing to write checks whether it still leads.
 const LEADING: Duration = Duration::from_secs(1);
 
-/// A follower takes over after the leader has been silent for this many seconds, so that some server leads within 10 seconds after a leader
-/// is paused. A database call that begins a second after the leader's last report takes less.
+/// A follower takes over after the leader has been silent for this many seconds, so that some server leads within 10 seconds
+/// after a leader is paused. A database call that begins one second after the leader's last report takes less time than this.
 const LEASE: f64 = 9.0;
 
 /// How long a follower gives the leader to come back after the connection to the database has broken.
