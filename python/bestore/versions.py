@@ -253,7 +253,7 @@ class Version(ABC):
     def refresh(self, prepared: Prepared) -> Tuple[List[int], List[int]]:
         """Returns which nodes joined the answer and which left it since the prepared query was last refreshed: two lists in ascending
         order. The first time, all nodes that match the query come. Refresh a query only in versions of one store, or of
-        another store to which the first store's state was carried on, because nodes are compared by their numbers.
+        another store that the first store's state was carried on to, because nodes are compared by their numbers.
         After an error the query is unchanged.
 
         Runs the whole query and takes no lock, so it never makes another pass's write `Busy`."""
