@@ -373,7 +373,7 @@ class Version(ABC):
         return [(node, list(values)) for node, values in zip(nodes, zip(*found))] if names else [(node, []) for node in nodes]
 
     def __getitem__(self, node: int) -> Attributes:
-        """Returns a node's attributes, each of which is read when you access it."""
+        """Returns a node's attributes. Each one is read when you access it."""
         return Attributes(self, node)
 
     def __contains__(self, node: int) -> bool:
