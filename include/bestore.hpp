@@ -76,7 +76,7 @@ private:
     Node add(const detail::Edit &edit)
     {
         std::uint64_t made = 0;
-        handle(); // which throws in a forked child
+        handle(); // throws in a forked child
         parts_.assign(edit.name).append(edit.value);
         const auto name_length = static_cast<std::uint32_t>(edit.name.size());
         const bes_operation operation{edit.kind,   edit.code,   edit.node, edit.number, 0, name_length, name_length,
@@ -256,7 +256,7 @@ public:
         }
     }
 
-    // Writes all operations or none. Tries again as bes_apply_or_retry does, with `tries` tries in all, and at least one.
+    // Writes all operations or none. Like bes_apply_or_retry, makes up to `tries` tries, and at least one.
     Written apply(const Batch &batch, std::uint32_t tries = BES_TRIES)
     {
         return written(batch, tries, [&](auto... list) { return bes_apply(handle(), list...); });

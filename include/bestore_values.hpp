@@ -456,7 +456,7 @@ public:
         return operations;
     }
 
-    // Returns the batch as bytes, to be kept or sent, as bes_batch_to_bytes writes it.
+    // Returns the batch as bytes, to keep or send, as bes_batch_to_bytes writes it.
     Raw to_bytes() const
     {
         Raw bytes(BES_BATCH_BYTES);
@@ -535,7 +535,7 @@ struct Written {
     std::vector<Node> made;
 };
 
-// What an item of a predicate does, by the names of BeOS.
+// What an item of a predicate does, with BeOS's names.
 enum query_op : std::uint32_t {
     B_EQ = BES_ITEM_EQ, B_NE = BES_ITEM_NE, B_LT = BES_ITEM_LT, B_LE = BES_ITEM_LE, B_GT = BES_ITEM_GT, B_GE = BES_ITEM_GE,
     B_CONTAINS = BES_ITEM_CONTAINS, B_BEGINS_WITH = BES_ITEM_BEGINS_WITH, B_ENDS_WITH = BES_ITEM_ENDS_WITH,

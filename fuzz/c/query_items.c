@@ -1,6 +1,6 @@
-/* A predicate's items, whatever their numbers and parts are: each call takes or refuses them alike, and those that are taken have a
- * canonical text that stands for the same query. An item has six bytes: its kind, and three for where its bytes are and how many, or its
- * number; the bytes follow the last one. */
+/* A predicate's items with any numbers and parts. Each call accepts or refuses them alike, and the accepted ones have a canonical
+ * text for the same query. An item has six bytes: its kind, and its number or the position and length of its bytes. The bytes
+ * follow the last item. */
 #include "fuzz.h"
 
 enum { PREPARED, QUERIED, PLACED };
@@ -22,7 +22,7 @@ static void open_store(void)
     CHECK(bes_pin(&pass, &number) == BES_OK);
 }
 
-/* Reads the items. Most kinds are those that there are, and a part begins most often within the bytes. */
+/* Reads the items. Most are of valid kinds, and most parts begin within the bytes. */
 static size_t take_items(fuzz_input *input, bes_item *items)
 {
     size_t count = (size_t)take(input, 2) % MOST, all = 0;
@@ -42,7 +42,8 @@ static bool has_place(uint32_t error)
            error == BES_NO_ITEM || error == BES_BAD_RPN || error == BES_BAD_PATTERN;
 }
 
-/* The canonical text of a predicate, if it isn't too long, is a query with that canonical text, which finds the same nodes. */
+/* Checks that a predicate's canonical text, unless it is too long, is a query with the same canonical text that finds the same
+ * nodes. */
 static void is_same_query(bes_prepared *prepared, const uint64_t *nodes, uint64_t count, uint32_t error)
 {
     static uint8_t text[ROOM], again[ROOM];

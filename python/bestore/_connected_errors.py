@@ -169,7 +169,8 @@ _REFUSALS = {kind.__name__: kind for kind in (
 
 
 def _class_of(name: str) -> ErrorClass:
-    """Returns the class of a server's own error. If the error is unknown, nothing says that the same request may succeed later."""
+    """Returns the class of a server's own error. If the error is unknown, it is assumed that the same request won't succeed
+    later."""
     known = SERVER_MEANINGS.get(name)
     return ErrorClass.MINE if known is None else known.error_class
 

@@ -1,4 +1,4 @@
-"""The errors of the package. Each error number of bestore.h has a class of its own, which carries its details."""
+"""The package's errors. Each error number of bestore.h has its own class, with fields for its details."""
 
 from __future__ import annotations
 
@@ -9,7 +9,7 @@ from ._surface import KIND_MEMBERS, MEANINGS, ErrorClass, ErrorNumber
 
 
 class Error(Exception):
-    """Every exception that the package defines is one of these."""
+    """The base class of every exception that the package defines."""
 
     error_class: ErrorClass = ErrorClass.MINE
     """What a program can do about it."""
@@ -49,8 +49,8 @@ class Nested(Error):
 
 
 class TooManyAttempts(Error):
-    """Other writes came between the snapshot and the commit of a change at every attempt. Nothing was written. The last
-    `Conflict` is its `__cause__`."""
+    """At every attempt, other writes came between the change's snapshot and its commit. Nothing was written. `__cause__` is the
+    last `Conflict`."""
 
     error_class = ErrorClass.RETRY
 
@@ -95,8 +95,8 @@ class OtherVolume(Error, ValueError):
 
 
 class PartialIndex(Error, ValueError):
-    """An index has to be made in all volumes, by a batch with no other operations. A batch that names a volume may make the index in that
-    volume."""
+    """An index has to be made in all volumes, with a batch that has no other operations. A batch that names a volume can make the
+    index only in that volume."""
 
     def __init__(self, operation: Optional[int]) -> None:
         super().__init__(operation)
@@ -329,7 +329,7 @@ class NoNode(Refusal, KeyError, number=ErrorNumber.NO_NODE):
             self.nodes = (carried,)
 
     def _name(self, node: int, name: str) -> None:
-        """Says what was looked for."""
+        """Records what was looked for."""
         self.nodes = (node,)
 
     @property
@@ -351,7 +351,7 @@ class NoAttribute(Refusal, KeyError, number=ErrorNumber.NO_ATTRIBUTE):
     """The attribute's name."""
 
     def _name(self, node: int, name: str) -> None:
-        """Says what was looked for."""
+        """Records what was looked for."""
         self.node, self.name = node, name
 
     @property
@@ -433,7 +433,7 @@ class NoRoom(Refusal, ValueError, number=ErrorNumber.NO_ROOM):
 
 
 class WrongKind(Refusal, TypeError, number=ErrorNumber.WRONG_KIND):
-    """A change sets a value of one kind under a name whose index takes another kind, so no query would find it."""
+    """A change sets a value whose kind isn't its index's kind, so no query would find it."""
 
     name: Optional[str] = None
     """The attribute's name, if that is known, and then both kinds are."""
@@ -479,7 +479,7 @@ def bad_cursor(reason: str) -> BadCursor:
 
 
 def wrong_kind(name: str, kind: str, index_kind: str) -> WrongKind:
-    """Returns the error for a value of this kind under a name whose index takes another kind."""
+    """Returns the error for a value of this kind whose index takes another kind."""
     error = WrongKind()
     error.name, error.kind, error.index_kind = name, kind, index_kind
     return error

@@ -34,7 +34,7 @@ pub enum Failure {
     LongPath(PathBuf),
     /// A folder can't be watched.
     Watch(PathBuf, io::Error),
-    /// The folder that is imported is gone.
+    /// The folder that is being imported is gone.
     Gone(PathBuf),
     /// The folder isn't the same one as before, and has no files.
     Another(PathBuf),
@@ -64,7 +64,7 @@ pub struct QueryRefused {
 }
 
 impl Failure {
-    /// Returns whether the server is gone or has no place for the client. A later connection may succeed.
+    /// Returns whether the server is gone or has no place for the client. If so, connecting later may succeed.
     pub fn is_of_connection(&self) -> bool {
         match self {
             Failure::NoServer(..) | Failure::Server(Error::Io(_) | Error::Closed | Error::TimedOut(_)) => true,

@@ -1,4 +1,4 @@
-//! Each command over a server of its own.
+//! Tests each command with its own server.
 
 use crate::common::{Said, Server, BE};
 use bestore_client::Client;
@@ -164,14 +164,14 @@ fn nodes_are_removed_with_their_attributes() {
     server.done(&["rmnode", "1"]);
     assert_eq!(server.done(&["query", "name==*"]), "2\n3\n");
     refused(&server, &["listattr", "1"], "be: node 1: there is no such node\n");
-    // One that is gone, or given twice, doesn't stop the others.
+    // A node that is gone, or given twice, doesn't stop the others.
     refused(
         &server,
         &["rmnode", "2", "1", "2"],
         "be: node 1: there is no such node\nbe: node 2: there is no such node\n",
     );
     assert_eq!(server.done(&["query", "name==*"]), "3\n");
-    // Numbers are not used again.
+    // Node numbers aren't reused.
     assert_eq!(server.done(&["addattr", "--new", "name", "d"]), "4\n");
 }
 
@@ -373,7 +373,7 @@ fn the_tools_work_over_volumes() {
     let volumes: Vec<&str> = status.lines().filter(|line| line.starts_with("volume")).collect();
     assert_eq!(volumes.len(), 2, "{status}");
     assert!(volumes[1].contains("1024 pages, "), "{status}");
-    // These are in two volumes, so they aren't a single transaction.
+    // These nodes are in two volumes, so the change isn't a single transaction.
     server.done(&["rmattr", "size", &nodes[0], &nodes[19]]);
     server.done(&["rmnode", &nodes[1], &nodes[18]]);
     assert_eq!(server.done(&["query", "--count", "size==5"]), "16\n");

@@ -1,4 +1,4 @@
-//! The declarations agree with the header: a C program prints sizes, offsets and constants, and they are compared.
+//! Checks the declarations against the header: a C program prints sizes, offsets and constants, and the test compares them.
 
 use bestore_sys::*;
 use std::fmt::Write as _;
@@ -15,7 +15,7 @@ macro_rules! layouts {
             vec![$((stringify!($field), {
                 let value = std::mem::MaybeUninit::<$type>::uninit();
                 let base = value.as_ptr();
-                // SAFETY: the address of a field is taken and nothing is read.
+                // SAFETY: this takes a field's address and reads nothing.
                 unsafe { std::ptr::addr_of!((*base).$field) as usize - base as usize }
             })),*],
         )),*]
@@ -47,7 +47,7 @@ fn layouts() -> Vec<Layout> {
     }
 }
 
-/// The folder with `bestore.h`: `BESTORE_INCLUDE_DIR`, otherwise the one of the repository.
+/// The folder with `bestore.h`: `BESTORE_INCLUDE_DIR`, otherwise the repository's.
 fn include_folder() -> PathBuf {
     std::env::var_os("BESTORE_INCLUDE_DIR").map_or_else(
         || PathBuf::from(concat!(env!("CARGO_MANIFEST_DIR"), "/../../include")),
@@ -120,9 +120,9 @@ fn agrees_with_the_header() {
     assert_eq!(String::from_utf8(printed).unwrap(), declared());
 }
 
-/// The library that is linked has every call, and is of the version of these declarations.
+/// The linked library has every call, and its version matches these declarations.
 #[test]
 fn has_every_call() {
-    // SAFETY: the call takes nothing.
+    // SAFETY: the call takes no arguments.
     assert_eq!(unsafe { bes_version() } / 1000, BES_VERSION_NUMBER / 1000);
 }

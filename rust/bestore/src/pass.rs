@@ -13,7 +13,7 @@ use std::sync::Arc;
 use std::thread;
 use std::time::Duration;
 
-/// How often to retry a call before its error is returned. [`Pass::change`] runs its closure again each time.
+/// How many times to retry a call before its error is returned. [`Pass::change`] runs its closure again each time.
 #[derive(Clone, Copy, Debug, PartialEq, Eq)]
 pub struct Retry {
     /// Retries while another pass is writing. Between two attempts it yields to other threads, twice as often each time, up to 1,024 times.
@@ -365,12 +365,12 @@ impl Pass {
         self.retry
     }
 
-    /// Sets how often this pass retries its calls.
+    /// Sets how many times this pass retries its calls.
     pub fn set_retry(&mut self, retry: Retry) {
         self.retry = retry;
     }
 
-    /// Returns how often the store had been [carried on](crate::Store::carry_on) when the pass last gave up the earlier memory. While that
+    /// Returns how many times the store had been [carried on](crate::Store::carry_on) when the pass last gave up the earlier memory. While that
     /// is less than [`Store::generation`](crate::Store::generation), the pass keeps the earlier memory.
     #[must_use]
     pub fn generation(&self) -> u64 {
@@ -621,7 +621,7 @@ impl Pass {
         self.apply(Batch::new().unset(node, name)).map(drop)
     }
 
-    /// Makes an index, which takes attributes of this name and kind that are set from then on. [`reindex`](Self::reindex) sets the earlier
+    /// Makes an index, which takes attributes with this name and kind that are set from then on. [`reindex`](Self::reindex) sets the earlier
     /// ones again.
     ///
     /// # Errors
@@ -638,7 +638,7 @@ impl Pass {
         self.apply(Batch::new().remove_index(name)).map(drop)
     }
 
-    /// Sets attributes that the index of this name lacks, because they were set before it was made, to the same values again. Each change
+    /// Sets attributes that the index with this name lacks, because they were set before it was made, to the same values again. Each change
     /// sets up to 64 attributes, so no newer value is lost. Returns how many were set. It reads each node, and writes each such attribute.
     ///
     /// ```

@@ -1,4 +1,4 @@
-//! Stores that are kept: opened again, refused, on a full disk, and after the process was killed.
+//! Tests of kept stores: reopening, errors, full disks, and killed processes.
 #![cfg(feature = "saved")]
 
 use bestore::saved::{self, Error as SavedError, Options, Place, Saved};
@@ -13,7 +13,7 @@ use std::process::{Child, Command, Stdio};
 use std::thread;
 use std::time::{Duration, SystemTime, UNIX_EPOCH};
 
-/// A folder of a test, which is removed at its end.
+/// A test's folder, which is removed when the test ends.
 struct Folder(PathBuf);
 
 impl Folder {
@@ -21,7 +21,7 @@ impl Folder {
         Self::within(Path::new(env!("CARGO_TARGET_TMPDIR")), name)
     }
 
-    /// A folder in memory if there may be one, for a test that opens many files.
+    /// A folder in memory if possible, for a test that opens many files.
     fn in_memory(name: &str) -> Self {
         let memory = Path::new("/dev/shm");
         let name = format!("bestore-{}-{name}", std::process::id());
@@ -105,7 +105,7 @@ fn what_was_written_is_there_again() {
     assert_eq!(snapshot.indices().unwrap(), [("size".to_owned(), Kind::Int64)]);
 }
 
-/// The mode of each file of the folder, by its name.
+/// The mode of each file in the folder, by name.
 fn modes(folder: &Folder) -> BTreeMap<String, u32> {
     let files = std::fs::read_dir(&folder.0).unwrap().flatten();
     let mode = |file: &std::fs::DirEntry| file.metadata().unwrap().permissions().mode() & 0o7777;
@@ -123,7 +123,7 @@ fn the_user_alone_may_read_a_file() {
     assert!(found.contains_key("test.bestore-wal"), "{found:?}");
     assert!(found.values().all(|mode| *mode == 0o600), "{found:?}");
     saved.close().unwrap();
-    // The mode that somebody has chosen for a file stays.
+    // A mode that someone has chosen for a file isn't changed.
     std::fs::set_permissions(folder.file(), Permissions::from_mode(0o640)).unwrap();
     let saved = saved::open(folder.file()).unwrap();
     saved.pass().unwrap().new_node().unwrap();
@@ -159,7 +159,7 @@ fn writers_on_several_passes_share_the_file() {
     assert_eq!(sizes(&mut saved.pass().unwrap()).len(), 100);
 }
 
-/// The next number of a sequence that looks random.
+/// The next number of a pseudo-random sequence.
 fn next_random(state: &mut u64, below: u64) -> u64 {
     *state ^= *state << 13;
     *state ^= *state >> 7;
@@ -167,7 +167,7 @@ fn next_random(state: &mut u64, below: u64) -> u64 {
     *state % below
 }
 
-/// Any of the six operations, some of which the store refuses.
+/// One of the six operations at random. The store refuses some of them.
 fn random_batch(random: &mut u64) -> Batch {
     let mut batch = Batch::new();
     for _ in 0..=next_random(random, 3) {
@@ -186,7 +186,7 @@ fn random_batch(random: &mut u64) -> Batch {
     batch
 }
 
-/// Everything that a snapshot has, with what its indices hold.
+/// Everything in a snapshot, including the contents of its indices.
 fn shown(pass: &mut Pass) -> String {
     let snapshot = pass.pin().unwrap();
     let mut all = format!("next {}", snapshot.next_node().unwrap());
@@ -222,7 +222,7 @@ fn any_store_is_the_same_when_it_is_opened_again() {
     assert!(accepted > 200, "{accepted}");
 }
 
-/// A writer that waits for the file keeps no pages.
+/// A writer that waits for the file doesn't hold any pages.
 #[test]
 fn writers_share_a_store_that_is_almost_full() {
     let folder = Folder::new("almost-full");
@@ -384,14 +384,14 @@ fn a_file_is_opened_once() {
     saved::open(folder.file()).unwrap();
 }
 
-/// Turns the file into one of the first format, so that changes aren't found by a checksum.
+/// Converts the file to the first format, which has no checksums that would reveal changes.
 fn remove_checksums(path: &Path) {
     let remove = |table: &str| sql(path, &format!("ALTER TABLE {table} DROP COLUMN checksum"));
     ["about", "state", "entry", "token"].into_iter().for_each(remove);
     sql(path, "PRAGMA user_version = 1");
 }
 
-/// The place where a file of the first format is refused after this change.
+/// Makes this change to a file of the first format, and returns the place named by the error.
 fn place_after(name: &str, change: &str) -> Place {
     let folder = Folder::new(name);
     three(&folder.file());
@@ -519,7 +519,7 @@ impl Drop for Mounted {
     }
 }
 
-/// Writes until a write fails. Returns how many succeeded, and the error.
+/// Writes until a write fails. Returns how many writes succeeded, and the error.
 fn write_on(pass: &Pass, node: u64) -> (u64, Error) {
     for count in 1_u64.. {
         if let Err(error) = pass.set(node, "count", count) {
@@ -583,7 +583,7 @@ fn each_writer_learns_of_a_commit_that_failed() {
     assert!(saved.number_in_file(commit) > acknowledged);
 }
 
-/// Opens the file while the disk is full, and once there is room again.
+/// Opens the file while the disk is full, and again once there is room.
 fn opens_on_a_full_disk(mounted: &Mounted, node: u64, acknowledged: u64) {
     let path = mounted.0.file();
     let count = |saved: &Saved| {
@@ -603,7 +603,7 @@ fn opens_on_a_full_disk(mounted: &Mounted, node: u64, acknowledged: u64) {
     reopened.pass().unwrap().new_node().unwrap();
 }
 
-/// What a child process does, which is this test program again.
+/// Tells the child process, which is this test program again, what to do.
 const CHILD: &str = "BESTORE_TEST_CHILD";
 
 fn child(path: &Path, task: &str, round: u64) -> Child {
@@ -621,7 +621,7 @@ fn say(line: &str) {
     out.flush().unwrap();
 }
 
-/// It does nothing in the test program itself.
+/// In the test program itself, this does nothing.
 #[test]
 fn in_a_child() {
     let task = match std::env::var(CHILD) {
@@ -638,7 +638,7 @@ fn in_a_child() {
     }
 }
 
-/// Writes on three passes, prints each write that has returned, and rewrites the state now and then.
+/// Writes through three passes, prints each write that has returned, and rewrites the state now and then.
 fn write_for_ever(saved: &Saved, round: u64) {
     say("");
     thread::scope(|scope| {
@@ -677,14 +677,14 @@ fn flush_once(path: &str) {
     thread::sleep(Duration::from_secs(60));
 }
 
-/// A time of up to `most` milliseconds, which differs from call to call.
+/// A time of up to `most` milliseconds, which varies between calls.
 fn some_time(most: u64) -> Duration {
     let now = SystemTime::now().duration_since(UNIX_EPOCH).unwrap();
     let mixed = u64::from(now.subsec_nanos()).wrapping_mul(0x9e37_79b9_7f4a_7c15) >> 32;
     Duration::from_micros(mixed % (1000 * most))
 }
 
-/// Lets a child write, kills it at some moment, and returns the writes that had returned.
+/// Lets a child write, kills it at a random moment, and returns the writes that had returned.
 fn killed(path: &Path, round: u64) -> Vec<String> {
     let mut child = child(path, "write", round);
     let mut lines = BufReader::new(child.stdout.take().unwrap()).lines();
@@ -701,7 +701,7 @@ fn killed(path: &Path, round: u64) -> Vec<String> {
     said.iter().map(|line| line["wrote ".len()..].to_owned()).collect()
 }
 
-/// How often each key is in the store.
+/// How many times each key is in the store.
 fn keys(saved: &Saved) -> BTreeMap<String, u32> {
     let mut pass = saved.pass().unwrap();
     let snapshot = pass.pin().unwrap();

@@ -1,4 +1,4 @@
-//! What opening a file reads, after few writes and after many.
+//! Tests how much opening a file reads, after few writes and after many.
 #![cfg(feature = "saved")]
 
 use bestore::saved::{Options, Saved};
@@ -8,17 +8,17 @@ use std::fs;
 use std::path::{Path, PathBuf};
 use std::time::Duration;
 
-/// How many nodes a batch of the test makes.
+/// How many nodes each batch makes.
 const AT_ONCE: u64 = 16;
 
 /// How many writes are saved together.
 const SAVED: u64 = 64;
 
-/// A file of a test, which is removed with its folder at the end.
+/// A test's file, which is removed with its folder when the test ends.
 struct File(PathBuf);
 
 impl File {
-    /// A file in memory if there may be one, since it is saved often.
+    /// A file in memory if possible, since it is saved often.
     fn new(name: &str) -> Self {
         let name = format!("bestore-{}-growth-{name}", std::process::id());
         let parents = [Path::new("/dev/shm"), Path::new(env!("CARGO_TARGET_TMPDIR"))];
@@ -37,7 +37,7 @@ impl File {
         options.open(&self.0).unwrap()
     }
 
-    /// How many operations opening the file makes: those of the state, and those of the entries.
+    /// How many operations opening the file makes: from the state, and from the entries.
     fn operations(&self) -> (usize, usize) {
         let contents = saved::read(&self.0).unwrap();
         let count = |batches: &[Batch]| batches.iter().map(Batch::len).sum();
@@ -51,7 +51,7 @@ impl Drop for File {
     }
 }
 
-/// Makes this many nodes of three attributes, in a new file.
+/// Makes this many nodes with three attributes each, in a new file.
 fn fill(file: &File, nodes: u64) {
     let saved = file.open();
     let pass = saved.pass().unwrap();
@@ -70,7 +70,7 @@ fn fill(file: &File, nodes: u64) {
     saved.close().unwrap();
 }
 
-/// Makes small writes until the state is to be rewritten.
+/// Makes small writes until the state is due to be rewritten.
 fn write_until_due(saved: &Saved, pass: &Pass, nodes: u64) {
     let mut count = 0;
     while !saved.is_due() {
@@ -82,8 +82,8 @@ fn write_until_due(saved: &Saved, pass: &Pass, nodes: u64) {
     }
 }
 
-/// Makes writes until the state is to be rewritten for the last of so many times, and closes the file then. So opening it would never read
-/// more. Returns how many operations it makes.
+/// Writes until the state has been due to be rewritten this many times, and then closes the file. At that point opening reads the
+/// most. Returns how many operations opening makes.
 fn operations_after(file: &File, nodes: u64, times: u64) -> (usize, usize) {
     let saved = file.open();
     let pass = saved.pass().unwrap();
@@ -112,7 +112,7 @@ fn opening_reads_as_much_after_many_writes_as_after_few() {
             few.1.max(many.1) <= few.1.min(many.1) + SAVED as usize,
             "{few:?}, {many:?}"
         );
-        // An operation of the state is written again, and takes longer than one of an entry.
+        // The state's operations are written again, so each takes longer than an entry's.
         assert!(many.1 < 12_000 || 10 * many.1 < 3 * all.0, "{all:?}, {many:?}");
     }
 }

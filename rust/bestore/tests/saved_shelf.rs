@@ -1,4 +1,4 @@
-//! Shelves that are kept: opened again, with more volumes, and refused.
+//! Tests of kept shelves: reopening, adding volumes, and errors.
 #![cfg(feature = "saved")]
 
 mod common;
@@ -11,7 +11,7 @@ use std::path::{Path, PathBuf};
 use std::thread;
 use std::time::Duration;
 
-/// A folder of a test, which is removed at its end.
+/// A test's folder, which is removed when the test ends.
 struct Folder(PathBuf);
 
 impl Folder {
@@ -44,7 +44,7 @@ fn found(saved: &SavedShelf, query: &str) -> Vec<u64> {
     saved.pass().unwrap().pin().unwrap().query(query).unwrap()
 }
 
-/// A folder of three volumes with a node each.
+/// A folder with three volumes that have one node each.
 fn three(name: &str) -> (Folder, Vec<u64>) {
     let folder = Folder::new(name);
     let saved = folder.open(Some(3)).unwrap();
@@ -71,7 +71,7 @@ fn more_volumes_get_the_indices_of_the_others() {
     let (folder, mut nodes) = three("more");
     {
         let saved = folder.open(None).unwrap();
-        // An index that one volume lacks isn't made in the new ones.
+        // An index that one volume lacks isn't made in new volumes.
         saved
             .pass()
             .unwrap()
@@ -178,7 +178,7 @@ fn a_volume_that_cant_be_saved_stops_alone() {
         .change(|change| change.set(nodes[1], "size", 7_i64).map(drop))
         .unwrap_err();
     assert!(matches!(stopped.without_volume(), bestore::Error::Stopped(_)));
-    // The others go on, and reads see what is in memory.
+    // The other volumes still work, and reads see what is in memory.
     pass.set(nodes[0], "size", 6_i64).unwrap();
     let third = make_sized(&mut pass, 2, 6);
     assert_eq!(
@@ -209,7 +209,7 @@ fn the_file_of_one_store_becomes_a_volume() {
     assert_eq!(found(&saved, "size>=5"), [node, second]);
 }
 
-/// All passes are taken, so both tasks use the store's own pass.
+/// All passes are in use, so both tasks use the store's own pass.
 #[test]
 fn writers_go_on_while_the_store_is_compacted_and_carried_on() {
     const WRITES: u64 = 500;
@@ -229,7 +229,8 @@ fn writers_go_on_while_the_store_is_compacted_and_carried_on() {
             scope.spawn(move || {
                 for number in 0..WRITES {
                     pass.new_node().unwrap();
-                    // Most writes after a task find out by themselves that the store was carried on.
+                    // Most writes after a task find out by themselves that the store was carried
+                    // on.
                     if number % 8 == 0 {
                         pass.follow().unwrap();
                     }

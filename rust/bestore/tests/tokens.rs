@@ -1,4 +1,4 @@
-//! The tokens of writes that are kept, and files without them.
+//! Tests of the tokens of kept writes, and of files without tokens.
 #![cfg(feature = "saved")]
 
 use bestore::saved::{Options, Saved, Token, TOKENS};
@@ -7,7 +7,7 @@ use rusqlite::Connection;
 use std::path::{Path, PathBuf};
 use std::time::Duration;
 
-/// A test's file, which is removed with its folder at the end.
+/// A test's file, which is removed with its folder when the test ends.
 struct File(PathBuf);
 
 impl File {
@@ -42,7 +42,7 @@ impl Drop for File {
     }
 }
 
-/// Makes a node with a batch that has this token. Returns its commit number.
+/// Makes a node with a batch that has this token. Returns the token's commit number.
 fn make(saved: &Saved, token: &str) -> Token {
     let mut batch = Batch::new();
     batch.new_node().new_node().set_token(token);
@@ -62,7 +62,8 @@ fn a_token_is_kept_with_its_write() {
     let made = ["a", "ä"].map(|token| make(&saved, token));
     saved.pass().unwrap().new_node().unwrap();
     saved.close().unwrap();
-    // First the entries are repeated, so the commit numbers are the same; then they are part of a state.
+    // At first the entries are repeated, so the commit numbers are the same. Later they are part of
+    // a state.
     assert_eq!(file.open().take_tokens(), made);
     let mut saved = file.open();
     let of_state = saved.pass().unwrap().pin().unwrap().number();

@@ -1,6 +1,6 @@
-//! Random pages in an order, compared with the plain way: the whole answer, its values, sorted and cut. Another client writes between
-//! pages, and cursors are kept across restarts. A failed test shows its seed: `SEED=NUMBER cargo test` runs the same
-//! again.
+//! Compares random pages in an order with the plain way: the whole answer with its values, sorted and cut. Another client writes
+//! between pages, and cursors are kept across restarts. If a test fails, it shows its seed; `SEED=NUMBER cargo test` repeats that
+//! run.
 
 use crate::common::{Folder, Server};
 use bestore::{attribute, Batch, Cursor, Kind, Node, Order, Page, Value};
@@ -15,7 +15,7 @@ const NAMES: [(&str, Kind); 5] = [
     ("uint64", Kind::Uint64),
 ];
 
-/// An index that is made after nodes have got the attribute, so it lacks some of them.
+/// An index that is made after some nodes have the attribute, so it lacks these nodes.
 const LATE: &str = "late";
 
 const QUERIES: [&str; 9] = [
@@ -30,11 +30,11 @@ const QUERIES: [&str; 9] = [
     "uint32>5",
 ];
 
-/// Numbers that follow from the first one.
+/// Pseudo-random numbers from a seed.
 struct Random(u64);
 
 impl Random {
-    /// Begins with SEED if that is set.
+    /// Starts from SEED if that is set.
     fn begin() -> Self {
         let now = || SystemTime::UNIX_EPOCH.elapsed().unwrap().as_nanos() as u64;
         let seed = std::env::var("SEED").map_or_else(|_| now(), |seed| seed.parse().unwrap());
@@ -54,7 +54,7 @@ impl Random {
         &all[self.below(all.len() as u64) as usize]
     }
 
-    /// A value of this kind. Many nodes share one, and some are at the limits.
+    /// A value of this kind. Many nodes share a value, and some values are at the limits.
     fn value(&mut self, kind: Kind) -> Value {
         let number = self.below(4) as i32;
         match (kind, self.below(8)) {
@@ -72,7 +72,7 @@ impl Random {
     }
 }
 
-/// A value and a node, ordered as in the index.
+/// A sort key that orders value and node as the index does.
 fn place(value: &Value, node: u64) -> (i128, Vec<u8>, u64) {
     match value {
         Value::Text(text) => (0, text.as_bytes().to_vec(), node),
@@ -84,7 +84,7 @@ fn place(value: &Value, node: u64) -> (i128, Vec<u8>, u64) {
     }
 }
 
-/// The nodes of a page, and whether there are more, taken from the whole answer. The client is pinned.
+/// A page's nodes, and whether there are more, taken from the whole answer. The client has to be pinned.
 fn plain(
     client: &mut Client,
     text: &str,
@@ -114,7 +114,7 @@ fn plain(
     (nodes, more)
 }
 
-/// A server with nodes, and one that writes to it.
+/// A server with nodes, and a client that writes to it.
 struct Shop {
     folder: Folder,
     options: Vec<String>,
@@ -163,7 +163,7 @@ impl Shop {
         server
     }
 
-    /// Ends the server, and starts it again on its file.
+    /// Ends the server, and starts it again with its file.
     fn restart(&mut self) {
         assert!(self.server.end_by("TERM").success());
         self.server = Self::serve(&self.folder, &self.options);
@@ -181,7 +181,7 @@ impl Shop {
             1..=4 if known > 9 => {
                 let node = *random.one_of(&self.nodes);
                 set_some(&mut batch, node, random);
-                // A node without the attribute stays as it is.
+                // If the batch is refused, the node stays as it is.
                 drop(client.apply(&batch));
             }
             _ => {
@@ -196,7 +196,7 @@ impl Shop {
     }
 }
 
-/// Sets some attributes of a node, now and then to a value of a kind that the index doesn't take.
+/// Sets some of a node's attributes, now and then to a value whose kind isn't the index's.
 fn set_some(batch: &mut Batch, node: u64, random: &mut Random) {
     batch.set(node, LATE, random.value(Kind::Int64));
     for (name, kind) in NAMES {
@@ -241,7 +241,7 @@ fn compare(shop: &mut Shop, random: &mut Random) {
     }
 }
 
-/// Compares a page by number, and some of any nodes, with the whole answer. The client is pinned.
+/// Compares a page by number, and a few arbitrary nodes, with the whole answer. The client has to be pinned.
 fn check_parts(client: &mut Client, text: &str, random: &mut Random) {
     let whole = client.query(text).unwrap();
     let from = match random.below(3) {
@@ -283,7 +283,7 @@ fn pages_of_several_volumes_are_too() {
     (0..60).for_each(|_| compare(&mut shop, &mut random));
 }
 
-/// A cursor's text with a change: cut, longer, or with other characters.
+/// Changes a cursor's text: cuts it, extends it, or replaces characters.
 fn changed(text: &str, random: &mut Random) -> String {
     const DIGITS: &[char] = &[
         'A', 'Z', 'a', 'z', '0', '9', '-', '_', '=', '+', '/', ' ', '\n', '\0', 'é', '"',
@@ -322,7 +322,7 @@ fn a_changed_cursor_is_refused() {
     }
 }
 
-/// The page after a text that may not be a cursor.
+/// Requests the page after a text that may not be a valid cursor.
 fn ask_after(client: &mut Client, name: &str, after: &str) -> Result<bestore_client::wire::Page, Error> {
     use bestore_client::wire::{Command, Query};
     client.call(Command::Query(Query {

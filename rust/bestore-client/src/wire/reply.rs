@@ -254,7 +254,7 @@ replies! {
         pub commit: u64,
         /// The pass that wrote it.
         pub pass: u64,
-        /// The operations, in which each new node has its number.
+        /// The operations, with the number of each new node filled in.
         pub operations: Operations,
     }
 
@@ -280,7 +280,7 @@ replies! {
     Push {
         /// The number of the watch.
         pub watch: u64,
-        /// The snapshot to which the changes lead.
+        /// The snapshot that the changes lead to.
         pub commit and commits,
         /// The nodes that joined the answer.
         #[serde(default)]

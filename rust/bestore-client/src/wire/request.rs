@@ -204,10 +204,10 @@ parameters_with_texts! {
         /// Whether only the number of nodes is wanted.
         #[serde(default)]
         pub count: bool,
-        /// Whether the reply omits `count`, for which the whole answer is needed.
+        /// Whether the reply omits `count`, which takes the whole answer to find.
         #[serde(default, skip_serializing_if = "std::ops::Not::not")]
         pub uncounted: bool,
-        /// The index in whose order the nodes come. Nodes without a value there are left out.
+        /// The index that orders the nodes. Nodes that have no value in it are left out.
         #[serde(borrow, default, deserialize_with = "given", skip_serializing_if = "Option::is_none")]
         pub by: Option<Cow<'a, str>>,
         /// Whether the greatest values come first.

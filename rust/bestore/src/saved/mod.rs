@@ -26,7 +26,7 @@
 //! and everything that is promised are in `docs/KEPT.md` in the repository.
 //!
 //! When a commit fails, for example because the disk is full, the writes that wait for it return [`NotSaved`](crate::Error::NotSaved), and
-//! later writes return [`Stopped`](crate::Error::Stopped). Reads go on.
+//! later writes return [`Stopped`](crate::Error::Stopped). Reads still work.
 //!
 //! Opening the file and [`Saved::compact`] rewrite the state, so the file doesn't grow forever.
 
@@ -276,7 +276,7 @@ impl Saved {
     }
 
     /// Writes a [copy](Store::copy_state) of the current snapshot into the file, where it replaces the state and the entries that the copy
-    /// contains. Writes go on meanwhile, and are saved after it. It takes the memory of the state's batches.
+    /// contains. Writes continue meanwhile, and are saved after it. It takes the memory of the state's batches.
     ///
     /// # Errors
     /// The same as [`flush`](Self::flush); [`Error::DiskFull`], [`Error::Sqlite`]: the file is unchanged.

@@ -31,9 +31,9 @@ struct Line {
     due: Option<Instant>,
     written: u64,
     saved: u64,
-    /// Whether somebody is making a commit.
+    /// Whether someone is making a commit.
     is_saving: bool,
-    /// Whether somebody is waiting for queued writes, so that they are saved immediately.
+    /// Whether someone is waiting for queued writes, so that they are saved immediately.
     is_urgent: bool,
     is_closed: bool,
     failed: Option<Arc<Error>>,
@@ -90,7 +90,7 @@ impl Shared {
         Ok(())
     }
 
-    /// Commits the waiting rows, or waits until somebody else has done so.
+    /// Commits the waiting rows, or waits until someone else has done so.
     fn advance<'a>(&'a self, mut line: MutexGuard<'a, Line>) -> MutexGuard<'a, Line> {
         if self.every.is_none() && !line.is_saving {
             return self.save_rows(line);

@@ -8,7 +8,7 @@ pub fn store() -> Store {
     sized(256)
 }
 
-/// A store of this many pages.
+/// A store with this many pages.
 pub fn sized(pages: u64) -> Store {
     let limits = Limits {
         pages,
@@ -27,7 +27,7 @@ pub fn shared(passes: u64) -> Store {
     Store::open(limits).unwrap()
 }
 
-/// Makes a node of this size in this volume of a shelf.
+/// Makes a node with this size in a shelf's volume.
 pub fn make_sized(pass: &mut ShelfPass, volume: u32, size: i64) -> u64 {
     let made = pass.change_in(volume, |change| {
         let node = change.new_node()?;
@@ -37,7 +37,8 @@ pub fn make_sized(pass: &mut ShelfPass, volume: u32, size: i64) -> u64 {
     made.unwrap()
 }
 
-/// A pass of a small store with an index `size` of 64 bits, and nodes 1 to 10 of the sizes 1 to 10.
+/// A pass of a small store with an index `size` of kind `Int64`, and nodes 1 to 10 with sizes 1 to
+/// 10.
 pub fn ten() -> Pass {
     let pass = store().pass().unwrap();
     pass.make_index("size", Kind::Int64).unwrap();

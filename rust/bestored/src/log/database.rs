@@ -25,8 +25,8 @@ pub const ENTRIES: usize = 500;
 /// How many entries before the state stay in the log, for followers that are slightly late.
 const SPARE: u64 = 10_000;
 
-/// PostgreSQL gives up after about 11 seconds on a leader whose machine is gone, so that another server can lead. A confirmed write is on
-/// PostgreSQL's disk, whatever the database's default is.
+/// PostgreSQL gives up on a leader whose machine is gone after about 11 seconds, so that another server can lead. A confirmed
+/// write is on PostgreSQL's disk, whatever the database's default is.
 const SETTINGS: &str = "
     SET statement_timeout = '6s';
     SET tcp_keepalives_idle = 5;
@@ -56,8 +56,8 @@ const TABLES: &str = "
     );
 ";
 
-/// Adds entries if the log ends with `$2` and this term is still the last one. It is one statement, so no other leader can add entries in
-/// between. The row in `bestore_log` is locked until the commit.
+/// Adds entries if the log ends with `$2` and this term is still the last one. It is a single statement, so no other leader can
+/// add entries in between. The row in `bestore_log` is locked until the commit.
 const APPEND: &str = "
     WITH head AS (
         UPDATE bestore_log SET last = last + cardinality($3::bigint[]), touched = clock_timestamp(), touched_term = term
@@ -69,24 +69,25 @@ const APPEND: &str = "
     )
     SELECT pg_notify('bestore_log', last::text) FROM head";
 
-/// Adds what earlier versions lacked.
+/// Adds columns that earlier versions lacked.
 const COLUMNS: &str = "
     ALTER TABLE bestore_entry ADD COLUMN IF NOT EXISTS token text;
     ALTER TABLE bestore_log ADD COLUMN IF NOT EXISTS touched timestamptz, ADD COLUMN IF NOT EXISTS touched_term bigint;
 ";
 
-/// Reads the head, and for how many seconds its leader has been silent, if that leader reports that it is alive.
+/// Reads the head, and how many seconds its leader has been silent, if that leader reports that it is alive.
 const HEAD: &str = "
     SELECT *, CASE WHEN touched_term = term THEN extract(epoch FROM clock_timestamp() - touched)::float8 END AS silence
     FROM bestore_log";
 
-/// Reports that the leader of the term `$1` is alive. The report needn't be on a standby's disk.
+/// Reports that the leader of term `$1` is alive. The report doesn't have to be on a standby's disk.
 const TOUCH: &str = "
     UPDATE bestore_log SET touched = clock_timestamp(), touched_term = term
     FROM (SELECT set_config('synchronous_commit', 'local', true)) AS once
     WHERE term = $1 RETURNING bestore_log.*";
 
-/// Ends the session that holds the lock if it has done nothing for `$1` seconds. So a follower that has just taken the lock keeps it.
+/// Ends the session that holds the lock if it has done nothing for `$1` seconds. A follower that has just taken the lock keeps
+/// it.
 const END_LEADER: &str = "
     SELECT pg_terminate_backend(pid) FROM pg_locks JOIN pg_stat_activity USING (pid)
     WHERE locktype = 'advisory' AND datname = current_database() AND granted
@@ -112,7 +113,7 @@ pub struct Head {
     pub log: String,
     /// The number of the last entry.
     pub last: u64,
-    /// Counts the leaders.
+    /// How many leaders there have been.
     pub term: u64,
     /// The last leader.
     pub leader: String,
@@ -222,7 +223,7 @@ impl Database {
             while let Some(Ok(_)) = NextMessage(&mut connection).await {
                 of_task.notify_one();
             }
-            // The client's calls report what has happened.
+            // The client's calls report what happened.
             of_task.notify_one();
         });
         let database = Self {

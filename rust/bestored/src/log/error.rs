@@ -41,7 +41,7 @@ pub enum Error {
     Deposed { leader: String, unsaved: u64 },
     /// The database has a different log from before.
     Replaced,
-    /// The log has fewer entries than before, or more than anybody can have added.
+    /// The log has fewer entries than before, or more than anyone can have added.
     Length { known: u64, found: u64 },
     /// The log contains something that no store wrote.
     Differs {
