@@ -27,8 +27,7 @@ pub fn stays()
         → IsChangeOf change c }
 {}
 
-/// Where a volume accepts all operations, what they leave of an index is the kind of the index
-/// after them.
+/// If a volume accepts all operations, the kind that they leave an index is its kind after them.
 pub fn index_left()
     ensures { (base : State) (ops : List Op) (name : List ℕ) → IsOk (steps base ops)
         → index_kind (state_after base ops) name ≡ index_kind_left base ops name }
