@@ -19,27 +19,23 @@ class NoServer(ServerError, ConnectionError):
     """No server can be reached at the socket. The system's error is in `__cause__`."""
 
     error_class = ErrorClass.GONE
+    _summary = "no server can be reached: {reason}; start it with `bestored --background`"
 
     reason: str
-
-    @property
-    def summary(self) -> str:
-        return f"no server can be reached: {self.reason}; start it with `bestored --background`"
 
 
 @dataclass(eq=False, repr=False)
 class OtherUser(ServerError, PermissionError):
     """The server at a default path runs neither as the effective user nor as root. Nothing was sent to it."""
 
+    _summary = (
+        "the server runs as user {server_user}, and has to run as user {user} or as root; BESTORE_SOCKET or a parameter can name the "
+        "socket of a server that you trust")
+
     server_user: int
     """The user that the server runs as."""
     user: int
     """The effective user of this process."""
-
-    @property
-    def summary(self) -> str:
-        return (f"the server runs as user {self.server_user}, and has to run as user {self.user} or as root; BESTORE_SOCKET or a "
-                "parameter can name the socket of a server that you trust")
 
 
 @dataclass(eq=False, repr=False)
@@ -73,28 +69,26 @@ class ProtocolError(BrokenConnection):
 class LineTooLong(ServerError):
     """The request is larger than 1 MiB. It wasn't sent."""
 
+    _summary = "a request has up to 1 MiB, and this one has {length} bytes; write or ask less at a time"
+
     length: int
     """The bytes of the request."""
-
-    @property
-    def summary(self) -> str:
-        return f"a request has up to 1 MiB, and this one has {self.length} bytes; write or ask less at a time"
 
 
 @dataclass(eq=False, repr=False)
 class Unavailable(ServerError):
     """The call can't be made through a server."""
 
+    _summary = "`{call}` can't be called through a server; only a store of this process has it"
+
     call: str
     """The name of the call."""
-
-    @property
-    def summary(self) -> str:
-        return f"`{self.call}` can't be called through a server; only a store of this process has it"
 
 
 class ServerRefusal(ServerError):
     """The server refused a request for a reason that isn't a library error, and did nothing."""
+
+    _summary = "{message}"
 
     def __init__(self, path: str, name: str, message: str, error_class: Optional[ErrorClass] = None) -> None:
         super().__init__(path)
@@ -103,10 +97,6 @@ class ServerRefusal(ServerError):
         """The error's name in the protocol."""
         self.message = message
         self.error_class = error_class or _class_of(name)
-
-    @property
-    def summary(self) -> str:
-        return self.message
 
 
 # surface.toml: exceptions

@@ -28,41 +28,39 @@ class SavedError(_OfPath):
 class Foreign(SavedError):
     """The file belongs to another program. It is left unchanged."""
 
-    summary = "the file belongs to another program; name another one"
+    _summary = "the file belongs to another program; name another one"
 
 
 @dataclass(eq=False, repr=False)
 class Newer(SavedError):
     """The file has a newer format. It is left unchanged."""
 
+    _summary = "the file has format {version}, and format {known} is the latest known here; use a newer version of bestore"
+
     version: int
     """The version of its format."""
     known: int
     """The latest version that can be read."""
-
-    @property
-    def summary(self) -> str:
-        return f"the file has format {self.version}, and format {self.known} is the latest known here; use a newer version of bestore"
 
 
 class Held(SavedError):
     """Another process has the file open, or another store in this process has."""
 
     error_class = ErrorClass.RETRY
-    summary = "the file is open in another process or store; close it there first"
+    _summary = "the file is open in another process or store; close it there first"
 
 
 class DiskFull(SavedError):
     """The disk is full."""
 
     error_class = ErrorClass.FULL
-    summary = "the disk is full"
+    _summary = "the disk is full"
 
 
 class NoFile(SavedError):
     """A volume's file is missing, but a later volume's file exists."""
 
-    summary = "the file of this volume is missing, and a later volume has one; put it back"
+    _summary = "the file of this volume is missing, and a later volume has one; put it back"
 
 
 @dataclass(eq=False, repr=False)
@@ -151,17 +149,14 @@ class CutOff(SavedError):
     """The file ends earlier than it once did: a frame in its WAL is damaged, or the WAL is missing."""
 
     error_class = ErrorClass.GONE
+    _summary = (
+        "the file ends with entry {last}, and it has had entry {had}: {path}-wal is damaged or missing; put it back, or restore what is "
+        "left by be restore --until {last}. If the file is an older copy, remove {path}-last")
 
     last: int
     """The last entry that it has."""
     had: int
     """The last entry that it once had."""
-
-    @property
-    def summary(self) -> str:
-        path = self.path
-        return (f"the file ends with entry {self.last}, and it has had entry {self.had}: {path}-wal is damaged or missing; put it back, "
-                f"or restore what is left by be restore --until {self.last}. If the file is an older copy, remove {path}-last")
 
 
 @dataclass(eq=False, repr=False)

@@ -28,13 +28,14 @@ class _Detailed(Error):
 class _OfPath(_Detailed):
     """An error from a file or a server. Its text begins with the path."""
 
+    _summary: ClassVar[str] = "it can't be used"  # to be formatted with the fields
     path: str
     """The file, or the server's socket."""
 
     @property
     def summary(self) -> str:
         """What went wrong, without the path."""
-        return "it can't be used"
+        return self._summary.format_map(vars(self))
 
     def __str__(self) -> str:
         return f"{self.path}: {self.summary}"
