@@ -1,12 +1,15 @@
 //! Kept files in which something was changed or is missing: they are refused, or have everything that was acknowledged.
 #![cfg(feature = "saved")]
 
+mod common;
+
 use bestore::saved::{self, Error as SavedError, Options, Place, Saved};
 use bestore::{Kind, Limits};
+use common::Folder;
 use rusqlite::Connection;
 use std::collections::BTreeMap;
 use std::fs;
-use std::path::{Path, PathBuf};
+use std::path::PathBuf;
 
 /// How many entries a file has after its state.
 const ENTRIES: u64 = 150;
@@ -14,25 +17,7 @@ const ENTRIES: u64 = 150;
 /// How many bytes are changed, one in each copy of the file. `BESTORE_CHANGES` has another number.
 const CHANGES: u64 = 300;
 
-/// A test's folder, in memory if possible, which is removed at its end.
-struct Folder(PathBuf);
-
 impl Folder {
-    fn new(name: &str) -> Self {
-        let name = format!("bestore-damaged-{}-{name}", std::process::id());
-        let memory = Path::new("/dev/shm").join(&name);
-        let path = match fs::create_dir(&memory) {
-            Ok(()) => memory,
-            Err(_) => Path::new(env!("CARGO_TARGET_TMPDIR")).join(name),
-        };
-        fs::create_dir_all(&path).unwrap();
-        Self(path)
-    }
-
-    fn file(&self) -> PathBuf {
-        self.0.join("test.bestore")
-    }
-
     /// A file that belongs to that one.
     fn beside(&self, ending: &str) -> PathBuf {
         self.0.join(format!("test.bestore{ending}"))
@@ -56,12 +41,6 @@ impl Folder {
     #[track_caller]
     fn refusal(&self) -> SavedError {
         self.open().map(drop).unwrap_err()
-    }
-}
-
-impl Drop for Folder {
-    fn drop(&mut self) {
-        let _ = fs::remove_dir_all(&self.0);
     }
 }
 
@@ -105,7 +84,7 @@ fn write(saved: &Saved, count: u64) {
 
 /// A file with this many entries, as `kill -9` leaves it.
 fn killed(name: &str, entries: u64) -> (Folder, Image) {
-    let folder = Folder::new(name);
+    let folder = Folder::in_memory(&format!("damaged-{name}"));
     let saved = folder.open().unwrap();
     saved.pass().unwrap().make_index("size", Kind::Int64).unwrap();
     write(&saved, entries - 1);
