@@ -1,5 +1,6 @@
 //! Stands between a client and its server, and refuses writes while a test says so.
 
+use super::files::Folder;
 use super::Server;
 use std::fs;
 use std::io::{self, BufRead, BufReader, Write};
@@ -36,6 +37,13 @@ impl Refuser {
             }
         });
         Self { socket, state }
+    }
+
+    /// A server, one that stands before it, and a folder. `None` if the server isn't built.
+    pub fn with_server() -> Option<(Server, Self, Folder)> {
+        let (server, folder) = Folder::with_server()?;
+        let refuser = Self::start(&server);
+        Some((server, refuser, folder))
     }
 
     pub fn socket(&self) -> &Path {
