@@ -39,7 +39,7 @@ impl Refuser {
         Self { socket, state }
     }
 
-    /// A server, one that stands before it, and a folder. `None` if the server isn't built.
+    /// A server, a refuser between it and its clients, and a folder. `None` if the server isn't built.
     pub fn with_server() -> Option<(Server, Self, Folder)> {
         let (server, folder) = Folder::with_server()?;
         let refuser = Self::start(&server);
