@@ -20,7 +20,7 @@ const SAVED: u64 = 64;
 impl Folder {
     /// How many operations opening the file makes: those of the state, and those of the entries.
     fn operations(&self) -> (usize, usize) {
-        let contents = saved::read(&self.file()).unwrap();
+        let contents = saved::read(self.file()).unwrap();
         let count = |batches: &[Batch]| batches.iter().map(Batch::len).sum();
         (count(&contents[0].state), count(&contents[0].entries))
     }
