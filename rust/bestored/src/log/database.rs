@@ -339,7 +339,10 @@ impl Database {
         };
         let passes: Vec<i64> = rows.iter().map(|row| row.pass as i64).collect();
         let batches: Vec<&[u8]> = rows.iter().map(|row| &*row.batch).collect();
-        let tokens: Vec<Option<&str>> = rows.iter().map(|row| row.token.as_ref().map(|token| &*token.text)).collect();
+        let tokens: Vec<Option<&str>> = rows
+            .iter()
+            .map(|row| row.token.as_ref().map(|token| &*token.text))
+            .collect();
         let parameters: [&(dyn ToSql + Sync); 5] = [&(term as i64), &(last as i64), &passes, &batches, &tokens];
         Ok(limited(self.client.query_opt(&statement, &parameters)).await?.is_some())
     }

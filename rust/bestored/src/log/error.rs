@@ -50,7 +50,9 @@ pub enum Error {
     #[error("an earlier session of this server still has the leader's lock")]
     OldSession,
     /// Another server has taken over from this one.
-    #[error("{leader} leads the log now; {unsaved} writes of this server, none of them confirmed, may be missing there")]
+    #[error(
+        "{leader} leads the log now; {unsaved} writes of this server, none of them confirmed, may be missing there"
+    )]
     Deposed { leader: String, unsaved: u64 },
     /// The database has a different log from before.
     #[error("the database has a different log from before")]
