@@ -533,9 +533,7 @@ public:
     // Returns how many nodes have an attribute with this name that the index holds.
     std::uint64_t pairs(std::string_view name)
     {
-        std::uint64_t count = 0;
-        detail::check(bes_pairs(handle(), std::string(name).c_str(), &count));
-        return count;
+        return detail::number_from(bes_pairs, handle(), std::string(name).c_str());
     }
 
 protected:

@@ -205,6 +205,14 @@ inline void check(std::uint32_t error, std::uint64_t carried = 0, Place place = 
         throw Refusal(error, carried, place);
 }
 
+// Makes a call that writes one number, and returns that number.
+template <class Call, class... Arguments> std::uint64_t number_from(Call call, Arguments... arguments)
+{
+    std::uint64_t number = 0;
+    check(call(arguments..., &number));
+    return number;
+}
+
 // Returns a pointer to the text's bytes. The library needs a pointer that isn't null, even if there are no bytes.
 inline const std::uint8_t *bytes_of(std::string_view text)
 {

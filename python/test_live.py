@@ -58,38 +58,41 @@ class Refreshes(unittest.TestCase):
         self.found = self.found.difference(removed).union(created)
         self.assertEqual(sorted(self.found), version.query("size>=0"))
 
-    def test_few_and_many_writes_between(self):
-        for at in range(120):
-            for _ in range(self.chance.choice((0, 1, 2, 5, 12, 80))):
-                change(self.store, self.chance)
-            if at % 40 == 39:
-                self.store.make_index(f"other{at}", bestore.INT64)
-            with self.store.pin() as version:
-                self.compare(version)
-        self.assertGreater(len(self.found), 96)
-
-    def test_the_index_goes_and_comes(self):
-        with self.store.pin() as version:
+    def compare_now(self, store):
+        with store.pin() as version:
             self.compare(version)
-        self.store.remove_index("size")
-        with self.store.pin() as version:
-            self.assertRaises(bestore.NotCovered, version.refresh_changed, self.changed)
-        self.store.make_index("size", bestore.INT64)
-        for _ in range(3):
-            change(self.store, self.chance)
-            with self.store.pin() as version:
-                self.compare(version)
 
-    def test_versions_of_several_stores(self):
-        other = bestore.open()
+    def compare_both(self, other):
+        """Compares while now one store is written and read, now the other."""
         self.addCleanup(other.close)
         fill(other, self.chance)
         for _ in range(30):
             store = self.chance.choice((self.store, other))
             for _ in range(self.chance.randrange(4)):
                 change(store, self.chance)
-            with store.pin() as version:
-                self.compare(version)
+            self.compare_now(store)
+
+    def test_few_and_many_writes_between(self):
+        for at in range(120):
+            for _ in range(self.chance.choice((0, 1, 2, 5, 12, 80))):
+                change(self.store, self.chance)
+            if at % 40 == 39:
+                self.store.make_index(f"other{at}", bestore.INT64)
+            self.compare_now(self.store)
+        self.assertGreater(len(self.found), 96)
+
+    def test_the_index_goes_and_comes(self):
+        self.compare_now(self.store)
+        self.store.remove_index("size")
+        with self.store.pin() as version:
+            self.assertRaises(bestore.NotCovered, version.refresh_changed, self.changed)
+        self.store.make_index("size", bestore.INT64)
+        for _ in range(3):
+            change(self.store, self.chance)
+            self.compare_now(self.store)
+
+    def test_versions_of_several_stores(self):
+        self.compare_both(bestore.open())
 
     def test_in_a_change(self):
         self.store.change(self.compare)
@@ -108,8 +111,7 @@ class Refreshes(unittest.TestCase):
         writer.start()
         try:
             for _ in range(200):
-                with self.store.pin() as version:
-                    self.compare(version)
+                self.compare_now(self.store)
         finally:
             is_over.set()
             writer.join()
@@ -142,14 +144,7 @@ class OfServer(OverServer, Refreshes):
     """The same tests with a server's store, whose watcher refreshes from what was written."""
 
     def test_in_both_stores(self):
-        here = local.open()
-        self.addCleanup(here.close)
-        fill(here, self.chance)
-        for _ in range(20):
-            store = self.chance.choice((self.store, here))
-            change(store, self.chance)
-            with store.pin() as version:
-                self.compare(version)
+        self.compare_both(local.open())
 
 
 if __name__ == "__main__":

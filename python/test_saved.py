@@ -124,9 +124,17 @@ def three(path):
             file_size(store, size)
 
 
-def four_writers(store, write):
-    """Makes four threads that call `write`, each with its own pass."""
-    return [threading.Thread(target=write, args=(store.another(),)) for _ in range(4)]
+def four_writers(store):
+    """Threads that make nodes until one isn't saved, each with a pass of its own, and the list that their errors go into."""
+    refused = []
+
+    def write(user):
+        try:
+            while True:
+                user.new_node()
+        except (saved.NotSaved, saved.Stopped) as error:
+            refused.append(error)
+    return [threading.Thread(target=write, args=(store.another(),)) for _ in range(4)], refused
 
 
 def sizes(store):
@@ -551,16 +559,8 @@ class Failures(Files):
 
     def test_each_that_waits(self):
         with self.assertRaises(saved.Stopped), saved.open(self.path, 64) as store:
-            refused = []
-
-            def write(user):
-                try:
-                    while True:
-                        user.new_node()
-                except (saved.NotSaved, saved.Stopped) as error:
-                    refused.append(error)
             with self.broken(saved.DiskFull(self.path), 10):
-                running = four_writers(store, write)
+                running, refused = four_writers(store)
                 for thread in running:
                     thread.start()
                 for thread in running:
@@ -600,14 +600,7 @@ class Failures(Files):
     def test_each_of_one_commit(self):
         """If a commit of several rows fails, each of its writers gets an error, and none hangs."""
         with self.assertRaises(saved.Stopped), saved.open(self.path, 64) as store:
-            refused = []
-
-            def write(user):
-                try:
-                    user.new_node()
-                except saved.NotSaved as error:
-                    refused.append((error.number, type(error.__cause__)))
-            running = four_writers(store, write)
+            running, refused = four_writers(store)
             with self.broken(saved.DiskFull(self.path)):
                 with store._saver._line.turn():
                     for thread in running:
@@ -616,7 +609,8 @@ class Failures(Files):
                         time.sleep(0.001)
                 for thread in running:
                     thread.join()
-            self.assertEqual(sorted(refused), [(number, saved.DiskFull) for number in range(1, 5)])
+            found = sorted((error.number, type(error.__cause__)) for error in refused)
+            self.assertEqual(found, [(number, saved.DiskFull) for number in range(1, 5)])
         self.assertEqual(sql(self.path, "SELECT count(*) FROM entry"), [(0,)])
 
     def test_interrupted_before_it_is_handed_in(self):

@@ -63,4 +63,14 @@ static inline char *copy_of(const void *bytes, size_t length)
     return copy;
 }
 
+/* Opens a store with an index "a" of texts and an index of numbers, and with nodes 1 to 20, which have the numbers -5 to 14. */
+static inline void open_indexed(bes_pass *pass, const char *numbers)
+{
+    uint64_t node = 0;
+    CHECK(bes_open(256, 1, 1000, pass) == BES_OK);
+    CHECK(bes_make_index(pass, "a", BES_STRING_TYPE) == BES_OK && bes_make_index(pass, numbers, BES_INT64_TYPE) == BES_OK);
+    for (int64_t number = -5; number < 15; number++)
+        CHECK(bes_new_node(pass, &node) == BES_OK && bes_set_int64(pass, node, numbers, number) == BES_OK);
+}
+
 #endif

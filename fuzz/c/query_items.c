@@ -12,13 +12,10 @@ static bes_pass pass = BES_PASS_INIT;
 
 static void open_store(void)
 {
-    uint64_t node = 0, number = 0;
-    CHECK(bes_open(256, 1, 1000, &pass) == BES_OK);
-    CHECK(bes_make_index(&pass, "a", BES_STRING_TYPE) == BES_OK && bes_make_index(&pass, "b", BES_INT64_TYPE) == BES_OK);
-    for (int64_t i = 0; i < 20; i++) {
-        CHECK(bes_new_node(&pass, &node) == BES_OK && bes_set_int64(&pass, node, "b", i - 5) == BES_OK);
-        CHECK(bes_set_text(&pass, node, "a", i % 2 == 0 ? "ab*" : "[b]\"") == BES_OK);
-    }
+    uint64_t number = 0;
+    open_indexed(&pass, "b");
+    for (uint64_t node = 1; node <= 20; node++)
+        CHECK(bes_set_text(&pass, node, "a", node % 2 == 1 ? "ab*" : "[b]\"") == BES_OK);
     CHECK(bes_pin(&pass, &number) == BES_OK);
 }
 

@@ -33,7 +33,7 @@ impl Added {
     /// Parses the command line, and reads the value. If the command line is wrong, the error is a string.
     pub fn read(line: AddAttribute) -> Result<Result<Self, Failure>, String> {
         let AddAttribute {
-            kind,
+            r#type,
             file,
             new,
             name,
@@ -54,7 +54,7 @@ impl Added {
             (Some(path), _) => read_file(path).map_err(|error| Failure::File(path.clone(), error)),
             (None, given) => Ok(given.unwrap_or_default().into_vec()),
         };
-        let value = bytes.and_then(|bytes| kind.value(bytes));
+        let value = bytes.and_then(|bytes| r#type.value(bytes));
         Ok(value.map(|value| Self {
             name,
             value,

@@ -107,14 +107,8 @@ pub struct Query {
 )]
 pub struct AddAttribute {
     /// The type of the value
-    #[arg(
-        short = 't',
-        long = "type",
-        value_enum,
-        value_name = "TYPE",
-        default_value = "string"
-    )]
-    pub kind: Type,
+    #[arg(short, long, value_enum, default_value = "string")]
+    pub r#type: Type,
     /// Read the value from a file; - is standard input
     #[arg(short, long, value_name = "FILE")]
     pub file: Option<PathBuf>,
@@ -208,15 +202,9 @@ pub struct Import {
 #[derive(Debug, Args)]
 pub struct MakeIndex {
     /// The type of the values that it takes
-    #[arg(
-        short = 't',
-        long = "type",
-        value_enum,
-        value_name = "TYPE",
-        default_value = "string"
-    )]
-    pub kind: Type,
-    /// The name of the attributes in the index
+    #[arg(short, long, value_enum, default_value = "string")]
+    pub r#type: Type,
+    /// The name of the attributes
     pub name: String,
 }
 

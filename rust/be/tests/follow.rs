@@ -116,8 +116,7 @@ fn same(server: &Server, folder: &Folder) -> bool {
 
 #[test]
 fn what_changes_is_followed() {
-    let server = server!(Server::start());
-    let folder = Folder::new();
+    let (server, folder) = server!(Folder::with_server());
     folder.folder("a/b");
     folder.file("a/x", "x");
     let _follower = Follower::start(&server, &folder);
@@ -155,8 +154,7 @@ fn what_changes_is_followed() {
 
 #[test]
 fn a_followed_file_keeps_its_node_when_an_editor_saves() {
-    let server = server!(Server::start());
-    let folder = Folder::new();
+    let (server, folder) = server!(Folder::with_server());
     folder.file("y", "");
     let _follower = Follower::start(&server, &folder);
     server.done(&["addattr", "mark", "x", &folder.word("y")]);
@@ -347,9 +345,7 @@ fn a_server_that_is_killed_again_and_again_is_caught_up_with() {
 
 #[test]
 fn what_is_refused_for_a_moment_is_written_later() {
-    let server = server!(Server::start());
-    let refuser = Refuser::start(&server);
-    let folder = Folder::new();
+    let (server, refuser, folder) = server!(Refuser::with_server());
     folder.file("changed", "x");
     folder.file("removed", "");
     let mut command = server.command(&["import", "--follow", "--json", "--verbose", &folder.all()]);
@@ -376,9 +372,7 @@ fn what_is_refused_for_a_moment_is_written_later() {
 
 #[test]
 fn a_node_that_is_not_removed_goes_later_though_its_file_is_there_again() {
-    let server = server!(Server::start());
-    let refuser = Refuser::start(&server);
-    let folder = Folder::new();
+    let (server, refuser, folder) = server!(Refuser::with_server());
     let file = folder.file("x", "");
     let mut command = server.command(&["import", "--follow", "--json", &folder.all()]);
     command.env("BESTORE_SOCKET", refuser.socket());
@@ -397,8 +391,7 @@ fn a_node_that_is_not_removed_goes_later_though_its_file_is_there_again() {
 
 #[test]
 fn a_file_system_that_is_mounted_later_is_not_read() {
-    let server = server!(Server::start());
-    let folder = Folder::new();
+    let (server, folder) = server!(Folder::with_server());
     let follower = Follower::run(server.command(&["import", "--follow", "-x", "--json", &folder.all()]));
     // The folder is created and mounted before it can be read.
     follower.signal("-STOP");

@@ -38,8 +38,7 @@ fn paste(home: &Folder, lines: &str) -> Said {
 
 #[test]
 fn the_lines_of_the_guide_run() {
-    let server = server!(Server::start());
-    let home = Folder::new();
+    let (server, home) = server!(Folder::with_server());
     home.folder("Music");
     home.file("Music/song.ogg", "");
     server.import(&home);

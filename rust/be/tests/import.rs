@@ -514,9 +514,7 @@ fn a_file_of_as_many_attributes_as_a_node_holds_is_imported() {
 
 #[test]
 fn a_file_of_which_a_part_was_refused_is_written_by_the_next_import() {
-    let server = server!(Server::start());
-    let refuser = Refuser::start(&server);
-    let folder = Folder::new();
+    let (server, refuser, folder) = server!(Refuser::with_server());
     let file = folder.file("x", "");
     // Use more operations than fit in a batch.
     let names = |letter: char| (0..35).map(move |number| format!("user.{letter}{number}"));
@@ -547,8 +545,7 @@ fn a_file_of_which_a_part_was_refused_is_written_by_the_next_import() {
 
 #[test]
 fn mails_have_the_attributes_of_their_heads() {
-    let server = server!(Server::start());
-    let folder = Folder::new();
+    let (server, folder) = server!(Folder::with_server());
     for side in ["cur", "new", "tmp"] {
         folder.folder(side);
     }
@@ -672,8 +669,7 @@ fn the_content_decides_between_the_types_that_a_name_fits() {
         println!("be, types by contents: skipped, there is no /usr/share/mime/magic");
         return;
     }
-    let server = server!(Server::start());
-    let folder = Folder::new();
+    let (server, folder) = server!(Folder::with_server());
     for (name, content, _) in CONTENTS {
         folder.file(name, content);
     }

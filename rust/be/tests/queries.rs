@@ -30,8 +30,7 @@ fn nodes_are_found_with_columns_up_to_a_limit_and_counted() {
 
 #[test]
 fn an_answer_of_several_pages_is_whole() {
-    let server = server!(Server::start());
-    server.done(&["mkindex", "n"]);
+    let server = server!(Server::with_index("n"));
     let text = "x".repeat(255);
     server.make(300, "n", &text);
     let columns = vec!["n"; 64].join(",");
@@ -87,8 +86,7 @@ fn nodes_are_sorted_by_an_index_page_after_page() {
 
 #[test]
 fn a_sorted_answer_of_several_pages_is_whole() {
-    let server = server!(Server::start());
-    server.done(&["mkindex", "n"]);
+    let server = server!(Server::with_index("n"));
     server.make(300, "n", &"x".repeat(255));
     let columns = vec!["n"; 64].join(",");
     let printed = server.done(&["query", "-c", &columns, "-s", "n", "-r", "n==*"]);

@@ -177,8 +177,7 @@ fn nodes_are_removed_with_their_attributes() {
 
 #[test]
 fn many_nodes_are_removed() {
-    let server = server!(Server::start());
-    server.done(&["mkindex", "mark"]);
+    let server = server!(Server::with_index("mark"));
     server.make(150, "mark", "x");
     let found = server.done(&["query", "mark==x"]);
     let nodes: Vec<&str> = found.lines().collect();
@@ -188,8 +187,7 @@ fn many_nodes_are_removed() {
 
 #[test]
 fn many_nodes_are_written() {
-    let server = server!(Server::start());
-    server.done(&["mkindex", "mark"]);
+    let server = server!(Server::with_index("mark"));
     server.make(150, "n", "x");
     let nodes: Vec<String> = (1..=150).map(|node| node.to_string()).collect();
     let mut words = vec!["addattr", "mark", "y"];
@@ -204,8 +202,7 @@ fn many_nodes_are_written() {
 
 #[test]
 fn new_nodes_of_several_tools_are_apart() {
-    let server = server!(Server::start());
-    server.done(&["mkindex", "n"]);
+    let server = server!(Server::with_index("n"));
     let begin = |number: u32| {
         let number = number.to_string();
         let mut command = server.command(&["addattr", "--new", "n", &number]);
@@ -226,8 +223,7 @@ fn new_nodes_of_several_tools_are_apart() {
 
 #[test]
 fn indices_are_made_listed_and_removed() {
-    let server = server!(Server::start());
-    server.done(&["mkindex", "name"]);
+    let server = server!(Server::with_index("name"));
     server.done(&["mkindex", "--type=uint32", "a b"]);
     assert_eq!(server.done(&["lsindex"]), "a b\nname\n");
     assert_eq!(server.done(&["lsindex", "-l"]), "a b\tuint32\nname\tstring\n");

@@ -192,6 +192,9 @@ pub struct Pass {
     _place: Option<Place>,
 }
 
+/// Makes a write in memory, when a [`Keeper`] calls it.
+pub type MakeWrite<'a> = &'a mut dyn FnMut() -> Result<Written>;
+
 /// Keeps a store's writes somewhere else too, such as in a log. [`Pass::kept_by`] sends a pass's writes through a keeper.
 ///
 /// `keep` makes a write in memory, and the call that writes returns after `wait`. So a snapshot may show a write that isn't kept yet.
@@ -201,7 +204,7 @@ pub trait Keeper: Send + Sync + fmt::Debug {
     ///
     /// # Errors
     /// The errors of `write`, and the keeper's own errors as [`Error::Other`], either before or after `write` is called.
-    fn keep(&self, pass: u64, batch: &Batch, write: &mut dyn FnMut() -> Result<Written>) -> Result<(Written, u64)>;
+    fn keep(&self, pass: u64, batch: &Batch, write: MakeWrite<'_>) -> Result<(Written, u64)>;
 
     /// Returns once the write with this number is kept.
     ///
@@ -242,7 +245,7 @@ impl Pass {
     /// Returns the pass, whose writes go through the keeper from now on. All passes that write must have the same keeper.
     ///
     /// ```
-    /// use bestore::{Batch, Keeper, Limits, Result, Store, Written};
+    /// use bestore::{Batch, Keeper, Limits, MakeWrite, Result, Store, Written};
     /// use std::sync::{Arc, Mutex};
     ///
     /// /// Keeps the batches in a list.
@@ -250,7 +253,7 @@ impl Pass {
     /// struct List(Mutex<Vec<Batch>>);
     ///
     /// impl Keeper for List {
-    ///     fn keep(&self, _: u64, batch: &Batch, write: &mut dyn FnMut() -> Result<Written>) -> Result<(Written, u64)> {
+    ///     fn keep(&self, _: u64, batch: &Batch, write: MakeWrite<'_>) -> Result<(Written, u64)> {
     ///         let mut list = self.0.lock().unwrap();
     ///         let written = write()?;
     ///         list.push(batch.clone());

@@ -1,12 +1,15 @@
 //! Tests of kept files with changed or missing parts: each is refused, or has every acknowledged write.
 #![cfg(feature = "saved")]
 
+mod common;
+
 use bestore::saved::{self, Error as SavedError, Options, Place, Saved};
 use bestore::{Kind, Limits};
+use common::Folder;
 use rusqlite::Connection;
 use std::collections::BTreeMap;
 use std::fs;
-use std::path::{Path, PathBuf};
+use std::path::PathBuf;
 
 /// How many entries a file has after its state.
 const ENTRIES: u64 = 150;
@@ -14,26 +17,8 @@ const ENTRIES: u64 = 150;
 /// How many bytes are changed, each in its own copy of the file. `BESTORE_CHANGES` overrides it.
 const CHANGES: u64 = 300;
 
-/// A test's folder, in memory if possible, which is removed when the test ends.
-struct Folder(PathBuf);
-
 impl Folder {
-    fn new(name: &str) -> Self {
-        let name = format!("bestore-damaged-{}-{name}", std::process::id());
-        let memory = Path::new("/dev/shm").join(&name);
-        let path = match fs::create_dir(&memory) {
-            Ok(()) => memory,
-            Err(_) => Path::new(env!("CARGO_TARGET_TMPDIR")).join(name),
-        };
-        fs::create_dir_all(&path).unwrap();
-        Self(path)
-    }
-
-    fn file(&self) -> PathBuf {
-        self.0.join("test.bestore")
-    }
-
-    /// A file that belongs to the store's file.
+    /// A file that belongs to that one.
     fn beside(&self, ending: &str) -> PathBuf {
         self.0.join(format!("test.bestore{ending}"))
     }
@@ -59,13 +44,7 @@ impl Folder {
     }
 }
 
-impl Drop for Folder {
-    fn drop(&mut self) {
-        let _ = fs::remove_dir_all(&self.0);
-    }
-}
-
-/// A store's files at one moment.
+/// The files of a store at one time.
 #[derive(Clone, PartialEq, Eq)]
 struct Image(BTreeMap<&'static str, Vec<u8>>);
 
@@ -105,7 +84,7 @@ fn write(saved: &Saved, count: u64) {
 
 /// A file with this many entries, as `kill -9` would leave it.
 fn killed(name: &str, entries: u64) -> (Folder, Image) {
-    let folder = Folder::new(name);
+    let folder = Folder::in_memory(&format!("damaged-{name}"));
     let saved = folder.open().unwrap();
     saved.pass().unwrap().make_index("size", Kind::Int64).unwrap();
     write(&saved, entries - 1);

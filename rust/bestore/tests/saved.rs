@@ -1,54 +1,20 @@
 //! Tests of kept stores: reopening, errors, full disks, and killed processes.
 #![cfg(feature = "saved")]
 
+mod common;
+
 use bestore::saved::{self, Error as SavedError, Options, Place, Saved};
 use bestore::{Batch, Error, Kind, Limits, Live, Pass, Value};
+use common::Folder;
 use rusqlite::Connection;
 use std::collections::BTreeMap;
 use std::fs::Permissions;
 use std::io::{BufRead, BufReader, Write};
 use std::os::unix::fs::PermissionsExt;
-use std::path::{Path, PathBuf};
+use std::path::Path;
 use std::process::{Child, Command, Stdio};
 use std::thread;
 use std::time::{Duration, SystemTime, UNIX_EPOCH};
-
-/// A test's folder, which is removed when the test ends.
-struct Folder(PathBuf);
-
-impl Folder {
-    fn new(name: &str) -> Self {
-        Self::within(Path::new(env!("CARGO_TARGET_TMPDIR")), name)
-    }
-
-    /// A folder in memory if possible, for a test that opens many files.
-    fn in_memory(name: &str) -> Self {
-        let memory = Path::new("/dev/shm");
-        let name = format!("bestore-{}-{name}", std::process::id());
-        if std::fs::create_dir(memory.join(&name)).is_ok() {
-            Self::within(memory, &name)
-        } else {
-            Self::new(&name)
-        }
-    }
-
-    fn within(parent: &Path, name: &str) -> Self {
-        let path = parent.join(name);
-        let _ = std::fs::remove_dir_all(&path);
-        std::fs::create_dir_all(&path).unwrap();
-        Self(path)
-    }
-
-    fn file(&self) -> PathBuf {
-        self.0.join("test.bestore")
-    }
-}
-
-impl Drop for Folder {
-    fn drop(&mut self) {
-        let _ = std::fs::remove_dir_all(&self.0);
-    }
-}
 
 fn sql(path: &Path, text: &str) {
     Connection::open(path).unwrap().execute_batch(text).unwrap();
@@ -70,6 +36,13 @@ fn three(path: &Path) {
     saved.close().unwrap();
 }
 
+/// A folder with such a file.
+fn of_three(name: &str) -> Folder {
+    let folder = Folder::new(name);
+    three(&folder.file());
+    folder
+}
+
 fn file_size(pass: &mut Pass, size: i64) -> bestore::Result<u64> {
     pass.change(|change| {
         let node = change.new_node();
@@ -84,8 +57,7 @@ fn sizes(pass: &mut Pass) -> Vec<u64> {
 
 #[test]
 fn what_was_written_is_there_again() {
-    let folder = Folder::new("again");
-    three(&folder.file());
+    let folder = of_three("again");
     for round in 0..3 {
         let saved = saved::open(folder.file()).unwrap();
         let mut pass = saved.pass().unwrap();
@@ -251,8 +223,7 @@ fn writers_share_a_store_that_is_almost_full() {
 
 #[test]
 fn the_state_takes_the_place_of_the_entries() {
-    let folder = Folder::new("compact");
-    three(&folder.file());
+    let folder = of_three("compact");
     assert_eq!(number(&folder.file(), "SELECT count(*) FROM entry"), 4);
     let saved = saved::open(folder.file()).unwrap();
     let mut pass = saved.pass().unwrap();
@@ -393,8 +364,7 @@ fn remove_checksums(path: &Path) {
 
 /// Makes this change to a file of the first format, and returns the place named by the error.
 fn place_after(name: &str, change: &str) -> Place {
-    let folder = Folder::new(name);
-    three(&folder.file());
+    let folder = of_three(name);
     remove_checksums(&folder.file());
     sql(&folder.file(), change);
     match refusal(&folder.file()) {
@@ -455,6 +425,17 @@ fn writes_end_with_the_last_number_of_an_entry() {
     }
 }
 
+/// This entry was refused, because the store has no commit number for it.
+fn check_spent(refused: &SavedError, entry: u64) {
+    match refused {
+        SavedError::TooLarge {
+            place,
+            error: Error::CommitsSpent,
+        } => assert_eq!(*place, Place::Entry(entry)),
+        other => panic!("{other}"),
+    }
+}
+
 #[test]
 fn an_empty_file_with_no_number_left_is_refused() {
     let folder = Folder::new("no number");
@@ -462,31 +443,18 @@ fn an_empty_file_with_no_number_left_is_refused() {
     let last = format!("UPDATE about SET number = {} WHERE what = 'entries'", i64::MAX);
     remove_checksums(&folder.file());
     sql(&folder.file(), &last);
-    match refusal(&folder.file()) {
-        SavedError::TooLarge { place, error } => {
-            assert_eq!(place, Place::Entry(i64::MAX as u64));
-            assert!(matches!(error, Error::CommitsSpent));
-        }
-        other => panic!("{other}"),
-    }
+    check_spent(&refusal(&folder.file()), i64::MAX as u64);
 }
 
 #[test]
 fn a_store_that_is_too_small_is_an_error_of_its_own() {
-    let folder = Folder::new("small");
-    three(&folder.file());
+    let folder = of_three("small");
     let limits = Limits {
         commits: 3,
         ..Limits::default()
     };
     let refused = Options::new().limits(limits).open(folder.file()).map(drop);
-    match refused.unwrap_err() {
-        SavedError::TooLarge { place, error } => {
-            assert_eq!(place, Place::Entry(4));
-            assert!(matches!(error, Error::CommitsSpent));
-        }
-        other => panic!("{other}"),
-    }
+    check_spent(&refused.unwrap_err(), 4);
 }
 
 /// A small file system in memory, which is unmounted at the end.

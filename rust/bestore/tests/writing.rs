@@ -2,7 +2,7 @@
 
 mod common;
 
-use bestore::{Batch, Error, Keeper, Kind, Limits, Oldest, Pass, Retry, Status, Store, Value, Written};
+use bestore::{Batch, Error, Keeper, Kind, Limits, MakeWrite, Oldest, Pass, Retry, Status, Store, Value, Written};
 use common::{sized, store, ten};
 use std::sync::atomic::{AtomicBool, Ordering};
 use std::sync::{mpsc, Arc, Mutex};
@@ -330,12 +330,7 @@ fn a_write_waits_for_another_pass_to_unpin() {
 struct Releases(Mutex<Pass>);
 
 impl Keeper for Releases {
-    fn keep(
-        &self,
-        _: u64,
-        _: &Batch,
-        write: &mut dyn FnMut() -> bestore::Result<Written>,
-    ) -> bestore::Result<(Written, u64)> {
+    fn keep(&self, _: u64, _: &Batch, write: MakeWrite<'_>) -> bestore::Result<(Written, u64)> {
         let written = write();
         if matches!(written, Err(Error::Full { .. })) {
             self.0.lock().unwrap().release();

@@ -52,6 +52,12 @@ class Checker(unittest.TestCase):
         for text in texts:
             self.assertTrue(any(text in it for it in found), found)
 
+    def check_longer(self, value: int, text: str) -> None:
+        """The trail has one batch more, with this value, and that violation is found."""
+        history = sound()
+        history.trail.append(value)
+        self.check(history, text)
+
     def test_sound(self) -> None:
         self.check(sound())
         self.check(History())
@@ -91,9 +97,7 @@ class Checker(unittest.TestCase):
         self.check(history)
 
     def test_write_twice(self) -> None:
-        history = sound()
-        history.trail.append(40)
-        self.check(history, "value 40 was written twice, as batch 4 and as batch 5")
+        self.check_longer(40, "value 40 was written twice, as batch 4 and as batch 5")
 
     def test_refused_write(self) -> None:
         history = sound()
@@ -101,9 +105,7 @@ class Checker(unittest.TestCase):
         self.check(history, "value 40 was refused, and is batch 4")
 
     def test_write_that_nobody_sent(self) -> None:
-        history = sound()
-        history.trail.append(50)
-        self.check(history, "batch 5 has the value 50, which nobody sent")
+        self.check_longer(50, "batch 5 has the value 50, which nobody sent")
 
     def test_number_that_goes_back(self) -> None:
         """The last batch was acknowledged before the first was sent."""

@@ -104,7 +104,7 @@ pub fn retry() -> Retry {
 #[cfg(test)]
 mod tests {
     use super::*;
-    use bestore::{Keeper, Limits, Store};
+    use bestore::{Keeper, Limits, MakeWrite, Store};
     use std::sync::{Arc, Mutex};
 
     /// Doesn't keep writes. Before some of them, another pass pins a snapshot and writes until no page is free. It unpins the
@@ -128,7 +128,7 @@ mod tests {
     }
 
     impl Keeper for Busy {
-        fn keep(&self, _: u64, _: &Batch, write: &mut dyn FnMut() -> Result<Written>) -> Result<(Written, u64)> {
+        fn keep(&self, _: u64, _: &Batch, write: MakeWrite<'_>) -> Result<(Written, u64)> {
             self.writes.fetch_add(1, Ordering::Relaxed);
             let mut other = self.other.lock().unwrap();
             if self.left.load(Ordering::Relaxed) > 0 {

@@ -4,18 +4,11 @@
 
 use crate::common::{Folder, Server};
 use bestore::{attribute, Batch, Cursor, Kind, Node, Order, Page, Value};
+use bestore_client::wire::kind_name;
 use bestore_client::{Client, Error, ErrorName};
 use std::time::SystemTime;
 
-const NAMES: [(&str, Kind); 5] = [
-    ("text", Kind::Text),
-    ("int32", Kind::Int32),
-    ("int64", Kind::Int64),
-    ("uint32", Kind::Uint32),
-    ("uint64", Kind::Uint64),
-];
-
-/// An index that is made after some nodes have the attribute, so it lacks these nodes.
+/// An index that is made after nodes have got the attribute, so it lacks some of them.
 const LATE: &str = "late";
 
 const QUERIES: [&str; 9] = [
@@ -30,7 +23,13 @@ const QUERIES: [&str; 9] = [
     "uint32>5",
 ];
 
-/// Pseudo-random numbers from a seed.
+/// The indices that nodes have from the beginning: one of each kind, with its name.
+fn indices() -> impl Iterator<Item = (&'static str, Kind)> {
+    let kinds = Kind::ALL.into_iter().filter(|kind| kind.is_indexable());
+    kinds.map(|kind| (kind_name(kind), kind))
+}
+
+/// Numbers that follow from the first one.
 struct Random(u64);
 
 impl Random {
@@ -147,7 +146,7 @@ impl Shop {
             nodes: Vec::new(),
         };
         let mut client = shop.server.client();
-        for (name, kind) in NAMES {
+        for (name, kind) in indices() {
             client.apply(Batch::new().make_index(name, kind)).unwrap();
         }
         (0..60).for_each(|_| shop.write(&mut client, random));
@@ -199,7 +198,7 @@ impl Shop {
 /// Sets some of a node's attributes, now and then to a value whose kind isn't the index's.
 fn set_some(batch: &mut Batch, node: u64, random: &mut Random) {
     batch.set(node, LATE, random.value(Kind::Int64));
-    for (name, kind) in NAMES {
+    for (name, kind) in indices() {
         let kind = match (random.below(8), kind) {
             (0, _) => continue,
             (1, Kind::Text) => Kind::Int32,
@@ -212,7 +211,8 @@ fn set_some(batch: &mut Batch, node: u64, random: &mut Random) {
 
 /// Reads all pages of a query in an order, compares each with the plain way, and lets another client write in between.
 fn compare(shop: &mut Shop, random: &mut Random) {
-    let (name, kind) = *random.one_of(&[&NAMES[..], &[(LATE, Kind::Int64)]].concat());
+    let all: Vec<_> = indices().chain([(LATE, Kind::Int64)]).collect();
+    let (name, kind) = *random.one_of(&all);
     let order = match random.below(2) {
         0 => Order::by(name),
         _ => Order::by(name).descending(),
@@ -307,7 +307,7 @@ fn a_changed_cursor_is_refused() {
     let mut random = Random::begin();
     let shop = Shop::open(1, &mut random);
     let mut client = shop.server.client();
-    for (name, _) in NAMES {
+    for (name, _) in indices() {
         let page = client.page("text==*", &Order::by(name), None, 3).unwrap();
         let text = page.cursor.to_string();
         for _ in 0..400 {

@@ -132,12 +132,18 @@ fn check_journal(client: &mut Client, last: u64) {
     assert!(client.journal_from(last).unwrap().entries.is_empty());
 }
 
+/// A server with a node that lets clients hold a snapshot for a day, and two clients.
+fn holding(folder: &Folder) -> (Server, Client, Client) {
+    let server = Server::start(folder, &[&LARGER[..], &["--hold", "86400"]].concat());
+    let (reading, mut writing) = (server.client(), server.client());
+    writing.apply(Batch::new().new_node()).unwrap();
+    (server, reading, writing)
+}
+
 #[test]
 fn a_snapshot_is_taken_back_when_its_memory_is_needed() {
     let folder = Folder::new();
-    let server = Server::start(&folder, &[&LARGER[..], &["--hold", "86400"]].concat());
-    let (mut reading, mut writing) = (server.client(), server.client());
-    writing.apply(Batch::new().new_node()).unwrap();
+    let (_server, mut reading, mut writing) = holding(&folder);
     pin_and_write_on(&mut reading, &mut writing);
     write_on(&mut writing);
     let refused = reading.next_node().unwrap_err();
@@ -149,9 +155,7 @@ fn a_snapshot_is_taken_back_when_its_memory_is_needed() {
 #[test]
 fn who_keeps_earlier_memory_is_named_and_can_be_ended() {
     let folder = Folder::new();
-    let server = Server::start(&folder, &[&LARGER[..], &["--hold", "86400"]].concat());
-    let (mut reading, mut writing) = (server.client(), server.client());
-    writing.apply(Batch::new().new_node()).unwrap();
+    let (server, mut reading, mut writing) = holding(&folder);
     let (_, pinned, _) = pin_and_write_on(&mut reading, &mut writing);
     let clients = writing.clients().unwrap();
     let reader = clients.iter().find(|client| client.pinned.is_some()).unwrap().client;

@@ -20,6 +20,11 @@ impl Folder {
         Self(path.canonicalize().unwrap())
     }
 
+    /// A server, and a folder for it. `None` if the server isn't built.
+    pub fn with_server() -> Option<(Server, Self)> {
+        Some((Server::start()?, Self::new()))
+    }
+
     pub fn path(&self, name: impl AsRef<OsStr>) -> PathBuf {
         self.0.join(name.as_ref())
     }

@@ -168,11 +168,16 @@ impl Server {
         }
     }
 
-    /// A store with indices `name` and `size`, and nodes 1 to 3: `a` with size 10, `b` with 20, and
-    /// `c` without a size.
-    pub fn with_three() -> Option<Self> {
+    /// A store with an index of this name for texts.
+    pub fn with_index(name: &str) -> Option<Self> {
         let server = Self::start()?;
-        server.done(&["mkindex", "name"]);
+        server.done(&["mkindex", name]);
+        Some(server)
+    }
+
+    /// A store with indices `name` and `size`, and nodes 1 to 3: `a` of 10, `b` of 20, and `c` without a size.
+    pub fn with_three() -> Option<Self> {
+        let server = Self::with_index("name")?;
         server.done(&["mkindex", "-t", "int64", "size"]);
         for (node, name) in [("1", "a"), ("2", "b"), ("3", "c")] {
             assert_eq!(server.done(&["addattr", "--new", "name", name]), format!("{node}\n"));

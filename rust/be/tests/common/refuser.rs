@@ -1,5 +1,6 @@
 //! Sits between clients and their server, and refuses writes when a test says so.
 
+use super::files::Folder;
 use super::Server;
 use std::fs;
 use std::io::{self, BufRead, BufReader, Write};
@@ -36,6 +37,13 @@ impl Refuser {
             }
         });
         Self { socket, state }
+    }
+
+    /// A server, a refuser between it and its clients, and a folder. `None` if the server isn't built.
+    pub fn with_server() -> Option<(Server, Self, Folder)> {
+        let (server, folder) = Folder::with_server()?;
+        let refuser = Self::start(&server);
+        Some((server, refuser, folder))
     }
 
     pub fn socket(&self) -> &Path {

@@ -189,18 +189,7 @@ replies! {
 
     /// The reply to `status`.
     Status {
-        /// The number of pages.
-        pub pages: u64,
-        /// The pages that a write can use.
-        pub free: u64,
-        /// The pages of older snapshots.
-        pub retired: u64,
-        /// How many entries the journal has.
-        pub entries: u64,
-        /// How many entries the journal can have.
-        pub commits: u64,
-        /// The oldest active reader.
-        pub oldest: Option<HeldBy>,
+        pub pages to oldest,
         /// How many clients are connected.
         pub clients: u64,
         /// How many live queries the clients have.
@@ -214,18 +203,7 @@ replies! {
 
     /// How full a volume is.
     VolumeStatus {
-        /// The number of pages.
-        pub pages: u64,
-        /// The pages that a write can use.
-        pub free: u64,
-        /// The pages of older snapshots.
-        pub retired: u64,
-        /// How many entries the journal has.
-        pub entries: u64,
-        /// How many entries the journal can have.
-        pub commits: u64,
-        /// The oldest active reader.
-        pub oldest: Option<HeldBy>,
+        pub pages to oldest,
     }
 
     /// The oldest active reader of a store.

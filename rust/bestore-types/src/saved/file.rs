@@ -53,13 +53,28 @@ const STATE_SETTINGS: &str = "
     PRAGMA synchronous = OFF;
 ";
 
-/// An accepted transaction on its way into the file.
+/// An accepted transaction on its way into the file, or into the log of several machines.
 #[derive(Debug)]
 pub struct Row {
     pub number: u64,
     pub pass: u64,
     pub batch: Vec<u8>,
     pub token: Option<Token>,
+}
+
+impl Row {
+    /// Returns the row of a batch that has made these nodes.
+    pub fn new(number: u64, pass: u64, batch: &Batch, nodes: &[u64]) -> crate::Result<Self> {
+        Ok(Self {
+            number,
+            pass,
+            batch: batch.clone().set_nodes(nodes).to_bytes()?,
+            token: batch.token().map(|text| Token {
+                text: text.into(),
+                nodes: nodes.into(),
+            }),
+        })
+    }
 }
 
 /// The token of an entry, and the nodes that it made.

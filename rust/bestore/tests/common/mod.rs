@@ -1,7 +1,67 @@
 //! What the tests share. Not every test uses all of it.
 #![allow(dead_code)]
 
+#[cfg(feature = "saved")]
+use bestore::saved::{Options, Saved};
 use bestore::{Kind, Limits, Pass, ShelfPass, Store};
+use std::fs;
+use std::path::{Path, PathBuf};
+#[cfg(feature = "saved")]
+use std::time::Duration;
+
+/// A test's folder, which is removed at its end.
+pub struct Folder(pub PathBuf);
+
+impl Folder {
+    /// An empty folder.
+    pub fn new(name: &str) -> Self {
+        let folder = Self::absent(name);
+        fs::create_dir_all(&folder.0).unwrap();
+        folder
+    }
+
+    /// A folder that isn't there yet.
+    pub fn absent(name: &str) -> Self {
+        let path = Path::new(env!("CARGO_TARGET_TMPDIR")).join(name);
+        let _ = fs::remove_dir_all(&path);
+        Self(path)
+    }
+
+    /// A folder in memory if there may be one, for a test that opens or saves many files.
+    pub fn in_memory(name: &str) -> Self {
+        let name = format!("bestore-{}-{name}", std::process::id());
+        let path = Path::new("/dev/shm").join(&name);
+        match fs::create_dir(&path) {
+            Ok(()) => Self(path),
+            Err(_) => Self::new(&name),
+        }
+    }
+
+    /// The file of the test's store.
+    pub fn file(&self) -> PathBuf {
+        self.0.join("test.bestore")
+    }
+}
+
+#[cfg(feature = "saved")]
+impl Folder {
+    /// Opens the file as a store of this many pages. Writes are saved when the test says so, or after an hour.
+    pub fn open_lazily(&self, pages: u64) -> Saved {
+        let limits = Limits {
+            pages,
+            ..Limits::default()
+        };
+        let mut options = Options::new();
+        options.limits(limits).every(Duration::from_secs(3_600));
+        options.open(self.file()).unwrap()
+    }
+}
+
+impl Drop for Folder {
+    fn drop(&mut self) {
+        let _ = fs::remove_dir_all(&self.0);
+    }
+}
 
 /// A small store.
 pub fn store() -> Store {

@@ -2,6 +2,7 @@
 
 use super::error::{Error, Result};
 use bestore::saved::TOKENS;
+use bestore_types::saved::file::Row;
 use std::fmt;
 use std::future::Future;
 use std::pin::Pin;
@@ -144,15 +145,6 @@ impl Head {
 
 fn unsigned(row: &SqlRow, name: &str) -> Result<u64> {
     Ok(row.try_get::<_, i64>(name)? as u64)
-}
-
-/// An accepted transaction on its way into the log.
-#[derive(Debug)]
-pub struct Row {
-    pub number: u64,
-    pub pass: u64,
-    pub batch: Vec<u8>,
-    pub token: Option<String>,
 }
 
 /// An entry of the log.
@@ -348,7 +340,10 @@ impl Database {
         };
         let passes: Vec<i64> = rows.iter().map(|row| row.pass as i64).collect();
         let batches: Vec<&[u8]> = rows.iter().map(|row| &*row.batch).collect();
-        let tokens: Vec<Option<&str>> = rows.iter().map(|row| row.token.as_deref()).collect();
+        let tokens: Vec<Option<&str>> = rows
+            .iter()
+            .map(|row| row.token.as_ref().map(|token| &*token.text))
+            .collect();
         let parameters: [&(dyn ToSql + Sync); 5] = [&(term as i64), &(last as i64), &passes, &batches, &tokens];
         Ok(limited(self.client.query_opt(&statement, &parameters)).await?.is_some())
     }

@@ -1,8 +1,8 @@
 //! Writes that are on their way into the log, and what this server knows about the log.
 
-use super::database::Row;
 use super::error::{Error, Refused};
-use bestore::{Batch, Keeper, Written};
+use bestore::{Batch, Keeper, MakeWrite, Written};
+use bestore_types::saved::file::Row;
 use std::mem;
 use std::sync::{Arc, Condvar, Mutex, MutexGuard, PoisonError};
 use std::time::{Duration, Instant};
@@ -306,12 +306,7 @@ impl Line {
 }
 
 impl Keeper for Line {
-    fn keep(
-        &self,
-        pass: u64,
-        batch: &Batch,
-        write: &mut dyn FnMut() -> bestore::Result<Written>,
-    ) -> bestore::Result<(Written, u64)> {
+    fn keep(&self, pass: u64, batch: &Batch, write: MakeWrite<'_>) -> bestore::Result<(Written, u64)> {
         let mut state = self.lock();
         while state.waiting_bytes > WAITING && state.refused().is_none() {
             state = self.wait(state, Duration::from_secs(1));
@@ -322,16 +317,10 @@ impl Keeper for Line {
         let written = write()?;
         let number = self.entry(written.number);
         state.written = number;
-        let token = batch.token().map(String::from);
-        match batch.clone().set_nodes(&written.nodes).to_bytes() {
-            Ok(batch) => {
-                state.waiting_bytes += batch.len();
-                state.waiting.push(Row {
-                    number,
-                    pass,
-                    batch,
-                    token,
-                });
+        match Row::new(number, pass, batch, &written.nodes) {
+            Ok(row) => {
+                state.waiting_bytes += row.batch.len();
+                state.waiting.push(row);
             }
             // A batch that the store has accepted can be encoded, if there is memory. Nothing may follow a missing entry.
             Err(error) => {

@@ -1,6 +1,6 @@
 //! What the log's thread does: it follows, and it leads.
 
-use super::database::{Database, Entry, Head, Row, ENTRIES};
+use super::database::{Database, Entry, Head, ENTRIES};
 use super::error::{Error, Result};
 use super::line::{Line, Role};
 use super::{state, Access, FOR_LOCK, REST};
@@ -10,6 +10,7 @@ use crate::tokens::Tokens;
 use crate::volumes;
 use bestore::saved::Place;
 use bestore::{Batch, Pass, Written};
+use bestore_types::saved::file::Row;
 use std::sync::Arc;
 use std::thread;
 use std::time::{Duration, Instant};
