@@ -1,4 +1,4 @@
--- How many comparisons a tree that is read or built from items has.
+-- How many comparisons a tree has that was read from a text or built from items.
 use Rattle.std.proofs.Common.{◌≡◌, ℕ, ◌+◌, ◌<◌, ◌≤◌, Bool, true, false, Option, Some, None, Result, Ok, Err, List, [], ◌∷◌, length, refl, sym, ap, ◌∙◌, subst, arith, cond}
 use Rattle.std.specs.Prelude.{nat_le, nat_lt}
 use Rattle.std.proofs.lemmas.Bool.{leb-false, ltb-false, cond_both}
@@ -27,7 +27,7 @@ turned_same : (b : Bool) (t : Formula) → comparisons (turned b t) ≡ comparis
 turned_same false t = refl
 turned_same true t = complement_same t
 
--- how many comparisons wait in a side, a level, the levels and a stage
+-- how many comparisons are in a side, in a level, in all levels and in a stage
 in_side : Option Formula → ℕ
 in_side None = 0
 in_side (Some t) = comparisons t
@@ -48,7 +48,7 @@ in_stage (Joints t) = comparisons t
 in_state : Stage → Level → List Level → ℕ
 in_state stage level outer = in_stage stage + (in_level level + in_levels outer)
 
--- a comparison ends with the next token
+-- how many comparisons the next token completes: one or none
 ends_one : Stage → ℕ
 ends_one Operands = 0
 ends_one (Operators n) = 0
@@ -118,7 +118,7 @@ build_holds (Joints t) level outer Either = let a = joined_or level.negated leve
 build_holds (Joints t) level outer (Compares op) = tt
 build_holds (Joints t) level outer (Text raw) = tt
 
--- a value that has no fault is at most the 256th
+-- a value without an error is at most the 256th
 value_few : (n start : ℕ) (o : Option ℕ) → value_fault n start o ≡ None → n < 256
 value_few n start (Some at) h = cc
 value_few n start None h = go (nat_le 256 n) refl h
@@ -153,7 +153,7 @@ none_built : (ts : List Token) (t : Formula) → tree_of (build_from None ts) �
 none_built [] t e = cc
 none_built (x ∷ ts) t e = cc
 
--- What is read on without a fault has no more comparisons than were counted.
+-- A text that is read without an error has no more comparisons than were counted.
 Few : List Placed → Type 0
 Few xs = (s : State) (n len : ℕ) (t : Formula) → IsSettled s → first_fault (awaited_at s.stage) (marks_of s.level s.outer) n len xs ≡ None
     → in_state s.stage s.level s.outer ≤ n → n ≤ 256 → tree_of (build_from (Some s) (whole xs)) ≡ Some t → comparisons t ≤ 256
@@ -205,7 +205,7 @@ fault_short text h = go (nat_lt 4096 (length text)) refl h
     go true e k = absurd (let no : Some TooLong ≡ None = k in cc)
     go false e k = ltb-false 4096 (length text) e
 
--- Where there is no fault each lexeme is a token.
+-- If there is no error, each lexeme is a token.
 Unbroken : ℕ → List Placed → Type 0
 Unbroken len xs = (place : Awaited) (marks : List Mark) (n : ℕ) → first_fault place marks n len xs ≡ None → all_whole xs ≡ true
 
@@ -236,7 +236,7 @@ pub whole_text : (text : List ℕ) → fault text ≡ None → all_whole (lexeme
 unfolding Unbroken
 whole_text text f = unbroken (length text) (lexemes 0 0 text) Operand [] 0 (sym (fault_within text (fault_short text f)) ∙ f)
 
--- the tree of a text without a fault has at most 256 comparisons
+-- the tree of a text without an error has at most 256 comparisons
 pub few_spelt : (text : List ℕ) (t : Formula) → fault text ≡ None → Spells (tokens text) t → comparisons t ≤ 256
 unfolding Few in_state in_stage in_level in_levels in_side
 few_spelt text t f (o, same, tree) =
@@ -244,7 +244,7 @@ few_spelt text t f (o, same, tree) =
     let built = ap (λ l. tree_of (build_from (Some nothing_built) l)) (sym same) ∙ tree_built o ∙ ap Some tree in
     read_few (lexemes 0 0 text) nothing_built 0 (length text) t tt first (omega arith) (omega arith) built
 
--- The same of items.
+-- The same for items.
 
 on_stack : List rpn.Thing → ℕ
 on_stack [] = 0

@@ -1,4 +1,4 @@
--- What stands at the front of a text.
+-- What is at the front of a text.
 use Rattle.std.proofs.Common.{◌≡◌, ℕ, ◌+◌, ◌-◌, ◌<◌, ◌≤◌, Bool, true, false, zero, suc, Option, List, [], ◌∷◌, length, take, drop, get_or, ◌||◌, refl, sym, ap, ◌∙◌, subst, arith, cond, not}
 use Rattle.std.specs.Bool.{◌==◌}
 use Rattle.std.proofs.lemmas.Bool.{true≢false, cond-true, cond-false, cond_both, or_cases, or_parts, eqb-true}
@@ -43,7 +43,7 @@ quoted_within q false (b ∷ bs) =
     (λ e. cond_both (b == 0) _ _ (IsQuotedSpan q (b ∷ bs)) (λ k. omega arith)
     (λ k. cond_both (b == 92) _ _ (IsQuotedSpan q (b ∷ bs)) (λ l. further_quoted q b bs _ (quoted_within q true bs)) (λ l. further_quoted q b bs _ (quoted_within q false bs))))
 
--- a word ends at the end or before an ASCII character
+-- a word ends at the text's end or before an ASCII character
 abbrev pub IsWordSpan : List ℕ → Span → Type 0
 IsWordSpan bs (Ends n) = (n ≤ length bs) × (n < length bs → get_or bs n 0 < 128)
 IsWordSpan bs (Breaks n) = n ≤ length bs
@@ -107,7 +107,7 @@ pick false false false false false false false true a0 x1 x2 x3 x4 x5 x6 x7 x8 x
 pick false false false false false false false false true x1 x2 x3 x4 x5 x6 x7 x8 x9 z w h = refl
 pick false false false false false false false false false x1 x2 x3 x4 x5 x6 x7 x8 x9 z w h = absurd (true≢false (sym h))
 
--- a sign is known from the byte after it
+-- what a sign is depends only on the byte after it
 pub sign_stands : (b : ℕ) (bs : List ℕ) → is_separator b ≡ false → is_quote b ≡ false → (is_sign b || (b == 0)) ≡ true → front b bs ≡ front b (take 1 bs)
 sign_stands b [] h q s = refl
 sign_stands b (c ∷ cs) h q s =

@@ -17,7 +17,7 @@ use Rattle.be_query.proofs.Sentences.{lexemes_after}
 use Rattle.be_query.proofs.Loop.{taken_at}
 use Rattle.be_query.proofs.Spelt.{printed_spells}
 
--- whatever stands after the text, it gives these tokens
+-- the text gives these tokens first, whatever comes after it
 Lexes : List ℕ → List Token → Type 0
 Lexes text ts = (at : ℕ) (rest : List ℕ) → (next : ℕ) × (whole (lexemes 0 at (text ++ rest)) ≡ ts ++ whole (lexemes 0 next rest)) × (all_whole (lexemes 0 at (text ++ rest)) ≡ all_whole (lexemes 0 next rest))
 
@@ -129,7 +129,7 @@ text_whole t h = let w = or_lex t h 0 [] in ap (λ x. all_whole (lexemes 0 0 x))
 pub text_spells : (t : Formula) → IsQuotable t → IsPrintable t → Spells (tokens (or_text t)) t
 text_spells t h k = subst (λ ts. Spells ts t) (sym (text_lexes t h)) (printed_spells t k)
 
--- a text without a NUL is whole between its quotes, once its backslashes are put in
+-- a text without a NUL is one token between quotes, once its backslashes are put in
 further_ends : (n m : ℕ) (s : Span) → s ≡ Ends n → m ≡ n + 1 → further s ≡ Ends m
 further_ends n m s e k = ap further e ∙ ap Ends (sym k)
 
