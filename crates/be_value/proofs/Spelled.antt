@@ -1,4 +1,4 @@
--- Numbers that digits spell.
+-- Numbers that digits encode.
 use Rattle.std.proofs.Common.{◌≡◌, ◌<◌, ◌≤◌, ◌^◌, ◌+◌, ◌*◌, ◌-◌, ℕ, suc, pos, Bool, true, false, List, [], ◌∷◌, Some, None, nat_lt, nat_le, length, take, drop, get_or, refl, sym, ap, ◌∙◌, ap₂, ◌&&◌, arith, cond, drop-cons}
 use Rattle.std.specs.List.{fold}
 use Rattle.std.specs.Option.{option_and_then, option_map}
@@ -10,7 +10,7 @@ use Rattle.std.proofs.lemmas.List.Sums.{fold-append}
 use Rattle.be_value.specs.Number.{are_digits, decimal_value, digits_in, negative, positive, word_in}
 use lib.IntN.{neg_ℤ}
 
--- digits that follow make a number no less
+-- further digits don't make a number smaller
 grows : (n : ℕ) (digits : List ℕ) → n ≤ fold (λ n digit. 10 * n + (digit - 48)) n digits
 grows n [] = omega arith
 grows n (d ∷ digits) = omega (arith, grows (10 * n + (d - 48)) digits)
@@ -22,13 +22,13 @@ module _ (text : List ℕ) (i : ℕ) (h : i < length text) where
   abbrev with_next : ℕ
   with_next = 10 * decimal_value (take i text) + (get_or text i 0 - 48)
 
-  -- the number goes on after its first digits
+  -- the number continues after its first digits
   goes_on : decimal_value text ≡ fold (λ n digit. 10 * n + (digit - 48)) with_next (drop (suc i) text)
   goes_on =
       sym (ap decimal_value (take-append-drop i text)) ∙ fold-append (λ n digit. 10 * n + (digit - 48)) 0 (take i text) (drop i text)
       ∙ ap (fold (λ n digit. 10 * n + (digit - 48)) (decimal_value (take i text))) (drop-cons text i 0 h)
 
-  -- first digits that are too large spell no word, whatever follows
+  -- if the first digits are too large, the text encodes no word, whatever follows
   pub too_large : 2 ^ 64 ≤ 10 * decimal_value (take i text) + (get_or text i 0 - 48) → None ≡ word_in text
   too_large large = none (are_digits text)
     where
@@ -39,7 +39,7 @@ module _ (text : List ℕ) (i : ℕ) (h : i < length text) where
       none true = sym (ap (λ t. cond t (Some (decimal_value text)) None) above)
       none false = refl
 
--- a text that was read to its end spells what was read
+-- a text that was read to its end encodes what was read
 pub spells : (text : List ℕ) (n i : ℕ) → n ≡ decimal_value (take i text) → all_ascii_digits text ≡ all_ascii_digits (drop i text) → length text ≤ i
     → 1 ≤ length text → length text ≤ 20 → n < 2 ^ 64 → Some n ≡ word_in text
 spells text n i value digits end some few fits =
@@ -52,7 +52,7 @@ spells text n i value digits end some few fits =
     let is : digits_in text ≡ Some n = ap (λ b. cond b (Some (decimal_value text)) None) are ∙ ap Some (sym whole) in
     sym (ap (option_and_then (λ m. cond (nat_lt m (2 ^ 64)) (Some m) None)) is ∙ ap (λ b. cond b (Some n) None) small)
 
--- a number without a sign is a word
+-- an unsigned number is a word
 pub positive_word : (digits : List ℕ) → positive digits ≡ option_map pos (word_in digits)
 positive_word digits = by (digits_in digits)
   where
@@ -64,7 +64,7 @@ positive_word digits = by (digits_in digits)
     by None = refl
     by (Some n) = each n (nat_lt n (2 ^ 64))
 
--- one after a sign is a word of up to 2^63
+-- a number after a sign is a word of at most 2^63
 pub negative_word : (digits : List ℕ) → negative digits ≡ option_and_then (λ n. cond (nat_le n (2 ^ 63)) (Some (neg_ℤ (pos n))) None) (word_in digits)
 negative_word digits = by (digits_in digits)
   where
