@@ -1,4 +1,4 @@
--- Lists of answers that test as equal are equal.
+-- Lists of outcomes that are tested as equal are equal.
 use Rattle.std.proofs.Common.{◌≡◌, ℕ, Bool, true, false, ◌&&◌, nat_eq, List, [], ◌∷◌, refl, ap, subst, ◌∙◌, arith}
 use Rattle.std.proofs.lemmas.Bool.Decides.{nat_tests}
 use Rattle.std.specs.Cmp.Lexicographic.{pointwise}
@@ -42,11 +42,11 @@ pub own_dones : (xs : List Done) → pointwise same.it xs xs ≡ true
 own_dones [] = refl
 own_dones (a ∷ xs) = ap (λ b. b && pointwise same.it xs xs) (own_done a) ∙ own_dones xs
 
--- the answers of what was accepted
+-- the outcomes, if the operations were accepted
 abbrev pub dones_of : List Done → Result (State × List Done) Refusal → List Done
 dones_of d (Ok x) = x.1
 dones_of d (Err e) = d
 
--- what a replay tells where it was accepted
+-- what a replay returns if it was accepted
 pub told : {X : Type 0} (view : X → List Done) (old new : State) (ops : List Op) (r : Result X Refusal) (x : X) → r ≡ Ok x → Replays view old ops r new → steps old ops ≡ Ok (new, view x)
 told view old new ops r x e h = subst (λ q. Replays view old ops q new) e h
