@@ -1,4 +1,4 @@
--- A room's standings, as its pool's places change.
+-- A page writer's page states, when its pool's places change.
 use Rattle.std.proofs.Common.{◌≡◌, ℕ, suc, ◌+◌, ◌<◌, ◌≤◌, ◌==◌, ◌⊎◌, List, [], ◌∷◌, length, cond, Bool, true, false, if◌then◌else◌, ap, sym, subst, ◌∙◌, refl, inl, inr, arith, slice_set, count_by, map}
 use Rattle.std.specs.Prelude.{IsTrue, slice_index_or}
 use Rattle.std.proofs.lemmas.Bool.{cases_eq, cases_lt}
@@ -15,7 +15,7 @@ use Rattle.be_pages.specs.Place.{given_place, is_free, is_held_page, is_in_hand,
 use Rattle.be_pages.specs.VecRoom.{standing_in, standing_of, standings}
 use Rattle.be_pages.proofs.PageSets.{same_test, other_test}
 
--- one page of the pool stands anew
+-- one page of the pool gets a new place
 pub stands_set : (P : List Place) (p : ℕ) (s : Place) → p < length P → StandsAt (standing_in P) (standing_in (slice_set P p s)) p (standing_of s)
 stands_set P p s lt q = elim (cases_eq q p) [
   | inl e ↦ subst (λ r. standing_in (slice_set P p s) r ≡ (if r == p then standing_of s else standing_in P r)) (sym e)
@@ -23,7 +23,7 @@ stands_set P p s lt q = elim (cases_eq q p) [
   | inr ne ↦ ap standing_of (get_or-set_other P p q s Free ne) ∙ sym (ap (λ (b : Bool). if b then standing_of s else standing_in P q) (other_test q p ne))
 ]
 
--- each page stands as the map says
+-- each page has the state that the map gives
 pub stands_map : (f : Place → Place) (g : Stands → Stands) → ((x : Place) → standing_of (f x) ≡ g (standing_of x)) → g stands.Free ≡ stands.Free → (P : List Place) (q : ℕ) → standing_in (map f P) q ≡ g (standing_in P q)
 stands_map f g same free P q = elim (cases_lt q (length P)) [
   | inl lt ↦ ap standing_of (get_or-map f P q Free Free lt) ∙ same (slice_index_or P q Free)
@@ -54,7 +54,7 @@ stands_given Current = refl
 stands_given GivenUp = refl
 stands_given (Retired n) = refl
 
--- none is retired
+-- no page is retired
 pub unretired_kept : (x : Place) → is_retired (kept_place x) ≡ is_retired x
 unretired_kept Free = refl
 unretired_kept Reserved = refl
@@ -94,7 +94,7 @@ unretired_set P p s is none q = elim (cases_lt p (length P)) [
   | inr past ↦ ap (λ (xs : List Place). is_retired (place_of xs q)) (set_past P p s past) ∙ none q
 ]
 
--- what a standing says of the place
+-- what a page's state says of its place
 pub standing_past : (P : List Place) (p : ℕ) → length P ≤ p → standing_in P p ≡ stands.Free
 standing_past P p past = ap standing_of (get_or_past P p Free past)
 
@@ -129,7 +129,7 @@ inside P p h = elim (cases_lt p (length P)) [
   | inr past ↦ absurd (false≢true (sym (ap is_taken (standing_past P p past)) ∙ h))
 ]
 
--- the page of a standing that can be read
+-- a readable page is in the pool
 pub read_inside : (P : List Place) (p : ℕ) → IsTrue (is_readable (standing_in P p)) → p < length P
 read_inside P p h = elim (cases_lt p (length P)) [
   | inl lt ↦ lt
@@ -164,7 +164,7 @@ free_place (Retired n) is e = absurd (false≢true (sym is))
 pub busy_place : (P : List Place) (q : ℕ) → q < length P → is_retired (place_of P q) ≡ false → (place_of P q ≡ Free → ⊥) → standing_in P q ≡ stands.Free → ⊥
 busy_place P q lt is busy e = busy (free_place (place_of P q) is (sym (standing_at P q lt) ∙ e))
 
--- the free pages, counted by standings
+-- the free pages, counted by their states
 same_free : (x : Place) → is_retired x ≡ false → stands_free (standing_of x) ≡ is_free x
 same_free Free is = refl
 same_free Reserved is = refl
@@ -188,10 +188,10 @@ pub count_free : (P : List Place) → ((q : ℕ) → is_retired (place_of P q) �
 count_free P none = sym (count_map P none)
     ∙ ap (count_by stands_free) (fill_by_all (standing_in P) (map standing_of P) (length P) stands.Free (length-map P standing_of) (λ k lt. get_or-map standing_of P k Free stands.Free lt))
 
--- what a call of `take` uses, and of `fill`
+-- what calls of `take` and `fill` use
 pub ruleset taking = (stands_set, unretired_set, busy_place)
 
--- a page that has a word filled stays as it is
+-- a page in which a word has been filled keeps its state
 pub filled_still : (P : List Place) (p : ℕ) → standing_in P p ≡ stands.Filled → StandsAt (standing_in P) (standing_in P) p stands.Filled
 filled_still P p h q = elim (cases_eq q p) [
   | inl e ↦ subst (λ r. standing_in P r ≡ (if r == p then stands.Filled else standing_in P r)) (sym e)

@@ -1,4 +1,4 @@
--- A room in memory, described by the states of its pages and by their words.
+-- A page writer in memory, described by its pages' states and words.
 use Rattle.std.specs.Prelude.{◌≡◌, ◌≢◌, ℕ, ◌+◌, ◌*◌, ◌<◌, ◌≤◌, ◌^◌, List, length, map, slice_index}
 use Rattle.std.specs.Prelude.{slice_index_or, if◌then◌else◌, nat_lt}
 use Rattle.std.specs.List.{range_with_len}
@@ -12,7 +12,7 @@ use Rattle.be_pages.specs.declared.page_pool.Place.{Place}
 use Rattle.be_pages.specs.declared.page_pool.Place.TheVariants.{Free, Reserved, Filled, Current}
 use Rattle.be_pages.specs.declared.page_pool.Place.TheVariants.{GivenUp, Retired}
 
--- the state of a page with this place in the open write
+-- the state, in the open write, of a page with this place
 abbrev pub standing_of : Place → Stands
 standing_of Free = stands.Free
 standing_of Reserved = stands.Taken
@@ -21,7 +21,7 @@ standing_of Current = stands.Old
 standing_of GivenUp = stands.GivenUp
 standing_of (Retired n) = stands.Free
 
--- the state of page q; past the pool there is no page
+-- the state of page q; outside the pool it is free
 abbrev pub standing_in : List Place → ℕ → Stands
 standing_in places q = standing_of (slice_index_or places q Free)
 
@@ -29,7 +29,7 @@ standing_in places q = standing_of (slice_index_or places q Free)
 abbrev pub standings : List Place → List Stands
 standings places = map (standing_in places) (range_with_len 0 (length places))
 
--- the word of page q at place i, for pages of 512 words one after another
+-- the word of page q at place i, if pages of 512 words are stored one after another
 abbrev pub pool_word : List ℕ → ℕ → ℕ → ℕ
 pool_word words q i = if nat_lt i 512 then slice_index words (q * 512 + i) else 0
 
@@ -37,7 +37,7 @@ pool_word words q i = if nat_lt i 512 then slice_index words (q * 512 + i) else 
 abbrev pub NoneFree : List Place → Type 0
 NoneFree places = (q : ℕ) → q < length places → standing_in places q ≢ stands.Free
 
--- a page of the pool has a small number
+-- a page of the pool has a number below 2^32
 pub small_in : (places : List Place) (q : ℕ) → length places ≤ 16384
     → (standing_in places q ≡ stands.Free → ⊥) → q < 2 ^ 32
 small_in places q few some = elim (cases_lt q (length places)) [

@@ -1,5 +1,5 @@
-//! A room in memory: a pool's places, and the words of its pages one page after another. Tests use
-//! it in place of a table, and so does code in which one thread alone reads and writes.
+//! A page writer in memory: a pool's places, and the words of its pages, one page after another.
+//! Tests use it instead of a table. So does code in which only one thread reads and writes.
 ghost use Rattle.std.specs.Prelude.{◌≡◌, ◌≢◌, ℕ, ◌<◌, ◌≤◌, ◌*◌, false, length, vec_len, count_by};
 ghost use Rattle.std.specs.Prelude.{slice_index, IfOk, IfErr, OnErr, ◌^◌};
 ghost use Rattle.be_pages.specs.declared.room.Standing.TheVariants.{Free, Taken};
@@ -86,8 +86,8 @@ impl Room for VecRoom {
 }
 
 impl VecRoom {
-    /// A room whose pages are all free. `BadLimits` for a number of pages out of its range,
-    /// otherwise `OutOfMemory` if a growth was refused.
+    /// A pool whose pages are all free. The error is `BadLimits` if the number of pages is out of
+    /// its range, and otherwise `OutOfMemory`.
     pub fn new(alloc: Global, pages: u64) -> Result<VecRoom, Refusal>
         ensures ok { IfOk result (λ r. (8 ≤ pages) × (pages ≤ 16384)
             × (⟦<VecRoom as Look>⟧.kept r ≡ pages)) }
@@ -110,8 +110,8 @@ impl VecRoom {
         Ok(VecRoom { words, pool })
     }
 
-    /// The write is kept: pages that it gave up are free, and pages that it took stay. Costs what
-    /// the write touched.
+    /// Keeps the write: pages that it gave up are free, and pages that it took stay. The cost
+    /// depends on how many pages the write touched.
     pub fn keep(&mut self)
         ensures standing { (q : ℕ) → ⟦<VecRoom as Look>⟧.standing self.new q
             ≡ after_keep (⟦<VecRoom as Look>⟧.standing self.old q) }
@@ -121,7 +121,7 @@ impl VecRoom {
         self.pool.keep();
     }
 
-    /// The write is undone: pages that it took are free, and pages that it gave up are old again.
+    /// Undoes the write: pages that it took are free, and pages that it gave up are old again.
     pub fn undo(&mut self)
         ensures standing { (q : ℕ) → ⟦<VecRoom as Look>⟧.standing self.new q
             ≡ after_undo (⟦<VecRoom as Look>⟧.standing self.old q) }
