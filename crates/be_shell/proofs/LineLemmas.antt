@@ -28,7 +28,7 @@ no_bytes : (xs : List ℕ) → length xs ≡ 0 → xs ≡ []
 no_bytes [] e = refl
 no_bytes (x ∷ xs) e = absurd (omega (arith, e))
 
--- a byte more, which ends no line
+-- one more byte, which doesn't end the line
 pub byte_taken : (old mid new : Option (List ℕ)) (kept kept' : List ℕ) (c : ℕ) → HasTaken old mid kept → Consumes mid new (c ∷ []) → is_line_end c ≡ false →
     (length kept ≤ 65536 → kept' ≡ kept ++ c ∷ []) → (65536 < length kept → kept' ≡ kept) → HasTaken old new kept'
 byte_taken old mid new kept kept' c h g e more full = by (nat_lt 65536 (length kept)) refl
@@ -99,7 +99,7 @@ line_left old mid new kept event h g last empty short long = by (nat_lt 65536 (l
         let nothing : h.bytes ≡ [] = no_bytes h.bytes (omega (arith, ap length (h.whole fits), none)) in
         subst (λ (e : Event). Hears old new e) (sym (empty none)) (subst (λ (z : List ℕ). Consumes old new z) nothing all, last)
 
--- what was heard leaves the writer alone
+-- hearing leaves the writer unchanged
 pub hears_moves : (left left' told : Option (List ℕ)) (event : Event) → Hears left left' event → ChangesBytes left left' told told event
 hears_moves left left' told (hears line) h = (h, refl)
 hears_moves left left' told ends h = (h, refl)

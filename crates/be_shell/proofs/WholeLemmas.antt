@@ -13,7 +13,7 @@ use Rattle.be_shell.specs.Bytes.{AreShort, IsHeardOf, IsWhole, Known, TakesLine,
 use Rattle.be_shell.specs.Conversation.{Event, Heard, short_line, long_line, ends, RepliedTo, exchange, IsTalk, Happens, TalkedTo}
 use Rattle.be_shell.proofs.TalkLemmas.{empty_more}
 
--- what known bytes are after a read, a write and nothing
+-- how known bytes change by a read, by a write, and by nothing
 consumed : (old new : Option (List ℕ)) (xs bytes : List ℕ) → old ≡ Some xs → Consumes old new bytes → (rest : List ℕ) × (new ≡ Some rest) × (xs ≡ bytes ++ rest)
 consumed old new xs bytes e h = by new (subst (λ (z : Option (List ℕ)). Consumes z new bytes) e h)
   where
@@ -42,7 +42,7 @@ heard_short : (bytes : List ℕ) (line : Heard) → length bytes ≤ 65536 → I
 heard_short bytes (short_line l) few h = ap short_line (sym h.0)
 heard_short bytes long_line few h = absurd (omega (arith, few, h))
 
--- where nothing is left no line comes
+-- if nothing is left, no line comes
 no_line : (old new : Option (List ℕ)) (line : Heard) → old ≡ Some [] → TakesLine old new line → ⊥
 no_line old new line e t = by t.taken
   where
@@ -54,7 +54,7 @@ no_line old new line e t = by t.taken
         let k = consumed old new [] t.bytes e c.1 in
         omega (arith, ap length k.2, length-append t.bytes k.0, c.0)
 
--- what a conversation to the end says, and the session that it leaves
+-- what a conversation says until its end, and the session that it leaves
 pub record Said (s : Session) (lines : List (List ℕ)) (told : List ℕ) (last : Session) (end : Known) : Type 0 where
   pub out : List ℕ
   pub said : end.told ≡ Some (told ++ out)
@@ -80,7 +80,7 @@ none_came (line ∷ lines) s last told talk p end l e h g =
     let x : Happens known_do p ((exchange line h.1 ++ h.2) ++ ends ∷ []) end = subst (λ (t : List Event). Happens known_do p (t ++ ends ∷ []) end) h.5 g in
     absurd (no_line p.left x.0.left line l x.1.0)
 
--- the lines of bytes are heard one after the other
+-- the lines of bytes are heard one after another
 pub whole : (lines : List Heard) (s last : Session) (script told : List ℕ) (talk : List Event) (p end : Known) → p.left ≡ Some script → p.told ≡ Some told → AreShort (lines_of script) →
     IsTalk s lines talk last → Happens known_do p (talk ++ ends ∷ []) end → Said s (lines_of script) told last end
 whole [] s last script told talk p end l e short h g =
@@ -99,7 +99,7 @@ whole (line ∷ lines) s last script told talk p end l e short h g = by x.1.0.ta
     left_now : (ys : List ℕ) → x.0.left ≡ Some ys → x.2.2.0.left ≡ Some ys
     left_now ys k = x.2.2.1.0 ∙ (x.2.1.0 ∙ k)
 
-    -- the line, where it stands at the front of what was left
+    -- the line, if it was at the front of what was left
     replied : (bytes : List ℕ) (more : List (List ℕ)) → lines_of script ≡ bytes ∷ more → IsHeardOf bytes line → RepliedTo s (short_line bytes) h.0 h.1
     replied bytes more k heard = subst (λ (z : Heard). RepliedTo s z h.0 h.1)
         (heard_short bytes line (All-head (λ line. length line ≤ 65536) bytes more (subst AreShort k short)) heard) h.3
