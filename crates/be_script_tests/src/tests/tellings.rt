@@ -1,4 +1,4 @@
-//! Runs that tell their journal, and the scripts that make the journal again, or its state alone.
+//! Runs that write their journal, and the scripts that rebuild the journal, or only its state.
 use super::LIMITS;
 use be_journal_text::{Finding, check, dump, dump_state, journal_told};
 use be_script_runner::{Limits, RunFault, run_and_tell};
@@ -26,13 +26,13 @@ const STATE_TOLD: &str =
     "ok\nqueued\nqueued\nqueued\nqueued\ncommit 1\nnode 1\nok\nnode 2\nok\njournal 1\n\
 1 by 0 new; set 1 \"k\" LONG 5; new; set 2 \"k\" LONG 6 -> node 1; ok; node 2; ok\nreplay ok\n";
 
-/// What a run of a line writes, and what it writes if the line is refused because memory ran out.
+/// What a run of one line writes; and what it writes if memory ran out and the line was refused.
 const OF_ONE: &str = "node 1\njournal 1\n1 by 0 new -> node 1\nreplay ok\n";
 
 const OF_NONE: &str = "refused 10 OutOfMemory\njournal 0\nreplay ok\n";
 
-/// Whether a run of a script that writes its journal writes this, at the second run if memory may
-/// have run out at the first. The run must report that the journal is legal.
+/// Whether a run of a script that writes its journal writes this. If memory may have run out in the
+/// first run, the second run decides. The run must report that the journal is legal.
 fn tells(alloc: Global, script: &str, told: &str) -> Result<bool, Fail> {
     Ok(tells_at_once(alloc, script, told)? || tells_at_once(alloc, script, told)?)
 }
@@ -42,7 +42,7 @@ fn tells_at_once(alloc: Global, script: &str, told: &str) -> Result<bool, Fail> 
     match run_and_tell(alloc, &mut script.as_bytes(), &mut written, LIMITS) {
         Ok(true) => Ok(written.as_slice() == told.as_bytes()),
         Ok(false) => Err(Fail::new("the journal isn't legal")),
-        // A vector that can't grow is a write that fails.
+        // If the vector can't grow, the write fails.
         Err(RunFault::Memory | RunFault::Write) => Ok(false),
         Err(fault) => Err(fault.into()),
     }
@@ -55,8 +55,8 @@ fn dump_told(alloc: Global, told: &str) -> Result<String, AllocError> {
     }
 }
 
-/// Whether this is the script of the state of the journal that was written, at the second try if
-/// memory may have run out at the first.
+/// Whether this is the script of the state of the written journal. If memory may have run out at
+/// the first try, the second one decides.
 fn has_state(alloc: Global, told: &str) -> bool {
     is_state(alloc, told) || is_state(alloc, told)
 }
@@ -72,7 +72,7 @@ fn is_right(alloc: Global, told: &str) -> Result<bool, AllocError> {
     Ok(matches!(&check(alloc, told.as_bytes())?, Finding::Right(_)))
 }
 
-/// A script's journal is written after its replies, and a run of the journal's script writes the
+/// A script's journal is written after its replies, and running the journal's script writes the
 /// same journal.
 #[test]
 fn journal_is_made_again(rt: HostRuntime) -> Result<(), Fail> {
@@ -81,7 +81,7 @@ fn journal_is_made_again(rt: HostRuntime) -> Result<(), Fail> {
     Ok(())
 }
 
-/// The script of the state makes it by one write, and has the same state.
+/// The state's script rebuilds the state by one write, and the result has the same state.
 #[test]
 fn state_is_made_again(rt: HostRuntime) -> Result<(), Fail> {
     let alloc = rt.alloc();
@@ -91,7 +91,7 @@ fn state_is_made_again(rt: HostRuntime) -> Result<(), Fail> {
     Ok(())
 }
 
-/// The journal that was written is checked as right, and this script makes it again.
+/// The written journal is found right, and this script rebuilds it.
 #[test]
 fn journal_is_read(rt: HostRuntime) -> Result<(), Fail> {
     let alloc = rt.alloc();
@@ -118,7 +118,7 @@ fn fills(alloc: Global, room: usize) -> bool {
     )
 }
 
-/// A writer that fails at each place: a front is written.
+/// If the writer fails at any place, a front is written.
 #[test]
 fn failing_writer_of_a_telling(rt: HostRuntime) -> Result<(), Fail> {
     for room in 0..=TOLD.len() {
@@ -130,8 +130,8 @@ fn failing_writer_of_a_telling(rt: HostRuntime) -> Result<(), Fail> {
     Ok(())
 }
 
-/// A request for memory that is refused is reported as Memory, or by the line, over a writer that
-/// needs none.
+/// Over a writer that needs no memory, a refused request for memory is reported as `Memory`, or by
+/// the line's reply.
 #[test]
 fn refused_memory_of_a_telling(rt: HostRuntime) -> Result<(), Fail> {
     let alloc = rt.alloc();
@@ -145,8 +145,8 @@ fn refused_memory_of_a_telling(rt: HostRuntime) -> Result<(), Fail> {
     Ok(())
 }
 
-/// Whether a run whose limits are out of range ends with that, and leaves nothing written, nor
-/// read.
+/// Whether a run with limits out of range ends with that error, and neither reads nor writes
+/// anything.
 fn leaves_all(alloc: Global, limits: Limits) -> bool {
     let mut script = SCRIPT.as_bytes();
     let mut written: Vec<u8> = Vec::new(alloc);
@@ -154,7 +154,7 @@ fn leaves_all(alloc: Global, limits: Limits) -> bool {
     matches!(ran, Err(RunFault::Limits)) && script == SCRIPT.as_bytes() && written.is_empty()
 }
 
-/// A limit that is out of its range leaves nothing written, nor read.
+/// If a limit is out of its range, nothing is read or written.
 #[test]
 fn limits_are_looked_at(rt: HostRuntime) -> Result<(), Fail> {
     let limits = Limits {
