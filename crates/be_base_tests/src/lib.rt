@@ -2,8 +2,8 @@
 //! printed texts, sizes at their bounds, counted reads, and calls after a refused request for
 //! memory.
 //!
-//! They are here, and not in the crates that they test, since a crate is proved once more with its
-//! own tests.
+//! They are here, and not in the crates that they test, because a crate is proved once more with
+//! its own tests.
 #![tactic(auto)]
 
 #[cfg(test)]

@@ -1,8 +1,8 @@
-//! A reader for tests, which sees the room as it was when its write began.
+//! A page reader for tests, which sees the pages as they were when the open write began.
 use be_pages::Look;
 
-/// A reader as it was when the open write began. What the write gave up can be read, and what it
-/// took can't.
+/// A page reader that sees the state from when the open write began. It can read pages that the
+/// write gave up, but not pages that it took.
 #[derive(Drop)]
 pub(crate) struct Before<L> {
     pub look: L,
