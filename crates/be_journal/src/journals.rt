@@ -158,9 +158,9 @@ impl Journal {
         Ok(volume)
     }
 
-    /// The journal's text. It has a line for each entry, numbered from 1: the pass, the operations
-    /// as script lines with quoted names, and their outcomes, as in `2 by 0 set 1 "size" LONG 5 ->
-    /// ok`. The only error is `OutOfMemory`.
+    /// The journal's text. It has a line for each entry, numbered from 1. A line has the pass, the
+    /// operations as script lines with quoted names, and their outcomes. An example is `2 by 0 set
+    /// 1 "size" LONG 5 -> ok`. The only error is `OutOfMemory`.
     pub fn text(&self) -> Result<String, Refusal>
         ensures { Answers string_bytes result (Ok (lines_from 1 self.now.entries)) }
     {

@@ -58,17 +58,17 @@ fn keep_page<S: Source>(
     Ok(more)
 }
 
-/// Puts a page of the answer into a list, replacing what that had: the first `most` nodes after the
-/// cursor that satisfy the query and have a pair in the order's index. It returns whether more come
-/// after them. The cursor is then the last node's key. If the page is empty, or after an error, the
-/// cursor is unchanged. The first page has no cursor.
+/// Puts a page of the answer into a list, replacing what that had. The page has the first `most`
+/// nodes after the cursor that satisfy the query and have a pair in the order's index. It returns
+/// whether more come after them. The cursor is then the last node's key. If the page is empty, or
+/// after an error, the cursor is unchanged. The first page has no cursor.
 ///
 /// If the name has no index, the error is `NoSuchIndex`. If no index answers the query, it is
 /// `NotCovered`. After an error the source still answers for the volume, and the list may have any
 /// numbers.
 ///
-/// The call answers the whole query (`answer_into`), then reads each node's value and checks that
-/// the index has it. It allocates memory for the keys after the cursor.
+/// The whole query is answered first (`answer_into`). Then each node's value is read, and the index
+/// is checked for it. Memory is allocated for the keys after the cursor.
 pub fn ordered_into<S: Source>(
     alloc: Global,
     query: &Query,

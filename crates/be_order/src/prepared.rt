@@ -220,8 +220,8 @@ fn rests_on_index<S: Source>(alloc: Global, query: &Query, source: &mut S) -> bo
 }
 
 /// A page of a query with a rest, by a walk over the keys of the order's own index. It returns
-/// `None` if another way has to be taken: the source can't walk in order, no index answers the
-/// query, or sorting the whole answer is cheaper.
+/// `None` if another way has to be taken. That is so if the source can't walk in order, no index
+/// answers the query, or sorting the whole answer is cheaper.
 fn find_page<S: OrderedSource>(
     alloc: Global,
     query: &Query,

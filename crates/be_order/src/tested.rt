@@ -95,9 +95,9 @@ pub(crate) fn text_page<S: OrderedSource>(
     test_page(source, walk, KeyTest::Text(&test), most, cursor, found)
 }
 
-/// A page of a query that an index answers, by a walk that looks each node up among `nodes`, which
-/// are all of which the rest is true. It returns `None` if they are few or far apart, if memory
-/// runs out, or if the source doesn't test keys in place.
+/// A page of a query that an index answers, by a walk that looks each node up among `nodes`. These
+/// are all nodes of which the rest is true. It returns `None` if they are few or far apart, if
+/// memory runs out, or if the source doesn't test keys in place.
 pub(crate) fn marked_page<S: OrderedSource>(
     alloc: Global,
     nodes: &[u64],

@@ -7,8 +7,8 @@
 //! writer.
 //!
 //! # What a write may do
-//! It may fill a page that it has taken as often as it likes (`Room::is_taken` returns whether it
-//! has taken a page). It never fills a page that was in use when the write began. It gives such a
+//! It may fill a page that it has taken as often as it likes. `Room::is_taken` returns whether it
+//! has taken a page. It never fills a page that was in use when the write began. It gives such a
 //! page up, and the page keeps its words until the write is kept. So the state before a write lasts
 //! until the write ends, and undoing the write changes no words.
 //!

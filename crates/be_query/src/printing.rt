@@ -12,7 +12,7 @@ use be_pattern::matching::split_first_char;
 use be_value::Refusal;
 use std::alloc::{AllocError, Global};
 
-/// Where a tree is printed, which decides whether it needs parentheses.
+/// The place at which a tree is printed, which decides whether it needs parentheses.
 #[derive(Clone, Copy, Debug, PartialEq, Eq)]
 pub(crate) enum Place {
     /// On its own, or to the left of `||`.

@@ -66,9 +66,11 @@ pub(crate) struct Stack {
 ///
 /// `BadRpn` has the index of an item that doesn't find what it needs on the stack, or of a text
 /// with a NUL. If the items leave anything but one query, it has the number of items. `BadPattern`
-/// has the index of the comparison's item. If one item has several errors, the first of these is
-/// returned: `BadRpn`, `BadPattern`, `TooMany` (the 257th comparison), `TooDeep` (more than 64
-/// things on the stack).
+/// has the index of the comparison's item.
+///
+/// If one item has several errors, the first of these is returned: `BadRpn`, `BadPattern`,
+/// `TooMany`, `TooDeep`. `TooMany` means that it is the 257th comparison, and `TooDeep` that there
+/// are more than 64 things on the stack.
 pub fn from_rpn(alloc: Global, items: &[Item]) -> Result<Query, Refusal>
     // The tree is the one that the items build.
     ensures ok { IfOk result (λ q. rpn (map item_of items.now) ≡ Ok q) }

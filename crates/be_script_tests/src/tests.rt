@@ -3,7 +3,7 @@
 //! Each table is run over the shared store, and over a plain volume with its journal. Both must
 //! give the rows' replies.
 //!
-//! Every test passes if any one request for memory is refused: a run that ran out of memory is
+//! Every test passes if any one request for memory is refused. A run that ran out of memory is
 //! checked as far as it came, and run again.
 ghost use Rattle.std.specs.Prelude.{◌<◌, ◌^◌};
 

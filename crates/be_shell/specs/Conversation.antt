@@ -21,8 +21,8 @@ abbrev pub line_heard : Line → Heard
 line_heard (Short bytes) = short_line bytes.items
 line_heard Long = long_line
 
--- what may happen between the shell and its peer: a line is heard, or that there are no more; bytes
--- are said; what was said is flushed; or something fails, and that says nothing
+-- What may happen between the shell and its peer. A line is heard, or that there are no more. Bytes
+-- are said, or what was said is flushed. Or something fails, and that says nothing.
 pub data Event : Type 0 where
   hears : Heard → Event
   ends : Event
@@ -94,8 +94,8 @@ IsDeaf TooLong = ⊥
 IsDeaf Write = ⊥
 IsDeaf Memory = Unit {0}
 
--- What a fault leaves of an exchange: no line was heard; or one was heard, and nothing was said
--- because memory ran out; or the line's reply was cut off.
+-- What a fault leaves of an exchange. No line was heard. Or one was heard, and nothing was said
+-- because memory ran out. Or the line's reply was cut off.
 abbrev pub IsBroken : RunFault → Session → List Event → Type 0
 IsBroken Limits s events = ⊥
 IsBroken Read s events = events ≡ fails ∷ []
@@ -114,7 +114,7 @@ abbrev pub BrokeAfter : {P : Type 0} → (P → Event → P → Type 0) → RunF
 BrokeAfter does e s line p q = (broken : List Event) × IsBroken e s (hears line ∷ broken)
     × Happens does p broken q
 
--- What ends a conversation after these lines: a fault broke off an exchange; or it is Read after
+-- What ends a conversation after these lines. A fault broke off an exchange; or it is Read after
 -- 2^64 - 1 lines, the most that can be counted.
 abbrev pub IsCutShort : RunFault → Session → List Heard → List Event → Type 0
 IsCutShort e s lines events = IsBroken e s events

@@ -24,8 +24,8 @@ pub fn talk_of_script_is_output()
         → IsOutputTo store script last.store (said talk) }
 {}
 
-/// If the bytes are a script without long lines, a conversation over them to their end says an
-/// output of that script, as `run` does for the same bytes.
+/// If the bytes are a script without long lines, a conversation over all of them says an output of
+/// that script. `run` writes an output of the same script.
 pub fn talk_of_bytes_is_output()
     ensures { (store : Store) (script told : List ℕ) (last : Session) (end : Known)
         → AreShort (lines_of script) →

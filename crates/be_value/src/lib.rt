@@ -1,8 +1,8 @@
 //! Names, values, their numbers and keys, and every crate's error type.
 //!
 //! # What an attribute has
-//! It has a name of 1 to 63 bytes and a value of one of seven kinds: a text, a MIME type, raw
-//! bytes, or an integer of 32 or 64 bits, signed or unsigned. A text, a MIME type and raw bytes
+//! It has a name of 1 to 63 bytes and a value of one of seven kinds. These are texts, MIME types,
+//! raw bytes, and integers of 32 or 64 bits, signed or unsigned. A text, a MIME type and raw bytes
 //! have at most 255 bytes. Names and values contain their bytes, so no call allocates memory.
 //!
 //! # How an index finds a value

@@ -3,8 +3,8 @@
 //! A request has a journal's limit and then its entries, with ` | ` between them. An entry is
 //! `OPERATIONS -> OUTCOMES`, in the words of scripts, with `;` between several.
 //!
-//! The reply has the journal's text, whether it is legal, whether it has room, the next node of its
-//! volume, and the attributes of node 1 there.
+//! The reply has the journal's text, whether it is legal, and whether it has room. Then come the
+//! next node of its volume, and the attributes of node 1 there.
 
 use super::lines::{first_number, replies};
 use be_journal::{Entry, Items, Journal};

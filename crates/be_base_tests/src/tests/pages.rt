@@ -1,5 +1,7 @@
-//! Counts the pages of a room. The room is made once more after `OutOfMemory`, so the tests also
-//! pass if any one request for memory is refused (`rt try --test --fail-alloc N`).
+//! Counts the pages of a room.
+//!
+//! The room is made once more after `OutOfMemory`. So the tests also pass if any one request for
+//! memory is refused (`rt try --test --fail-alloc N`).
 
 use super::counting_look::room_of;
 use be_pages::{Look, Room, VecRoom};
@@ -7,8 +9,8 @@ use be_value::Refusal;
 use std::alloc::Global;
 use std::test::Fail;
 
-/// How many pages are free: after one was taken and filled, with the word in it; after that write
-/// was kept and nothing undone; and after the next write was undone.
+/// How many pages are free after one was taken and filled, and the word in it. Then how many are
+/// free after that write was kept and nothing undone, and after the next write was undone.
 fn free_when_kept(alloc: Global) -> Result<[u64; 4], Refusal> {
     let mut room = room_of(alloc, 8)?;
     let page = room.take()?;

@@ -115,9 +115,9 @@ pub(crate) fn stored_by(alloc: Global, line: &str) -> Result<String, Refusal> {
     Ok(format!(in alloc; "{stores}")?)
 }
 
-/// A page that a write has taken is edited in place: if a list changes the same leaves again and
+/// A page that a write has taken is edited in place. If a list changes the same leaves again and
 /// again, most words are there already. The lines insert one key, and remove one and insert another
-/// beside it. Then they do so with 64 keys, next to each other or far apart.
+/// beside it. Then they insert or remove 64 keys, next to each other or far apart.
 #[test]
 fn stored_words(rt: HostRuntime) -> Result<(), Fail> {
     let lines = "stored put 1 1 => 65

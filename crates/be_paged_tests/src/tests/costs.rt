@@ -125,8 +125,7 @@ fn query_cost(alloc: Global, text: &str) -> Result<Cost, Fail> {
     }
 }
 
-/// What a prepared query costs when it is asked a second time, with the number of nodes found. That
-/// is 0 if a plan would be needed.
+/// What a prepared query costs when it is asked a second time. One range has to decide it.
 fn count_again(alloc: Global, both: Both, query: Query) -> Result<Cost, Refusal> {
     let Both { room, page, .. } = both;
     let mut look = Counted::new(room);
@@ -277,9 +276,9 @@ fn expect_rows(alloc: Global, rows: &str) -> Result<(), Fail> {
 /// its index's tree, or by reading the node. The size 1420 has the lowest key of its leaf. Its
 /// range begins at the end of the previous leaf, so it does take that second descent.
 ///
-/// A range and a front: by a descent for each key instead of a step along the leaves. The filter:
-/// by a descent of the catalog's tree, about 63 words, for each of the front's hundred nodes,
-/// instead of a walk over the range of sizes.
+/// A range and a front: by a descent for each key instead of a step along the leaves. The filter
+/// walks over the range of sizes. Its cost would grow by a descent of the catalog's tree, about 63
+/// words, for each of the front's hundred nodes.
 #[test]
 fn read_costs(rt: HostRuntime) -> Result<(), Fail> {
     let rows = r#"get 150 size => 1 found, 44 words read
@@ -329,13 +328,14 @@ row 302 kind name size => 0 found, 138 words read"#;
     expect_rows(rt.alloc(), rows)
 }
 
-/// A new node; a set with an index; two sets without one, the second of which sets the value that
-/// is already there; lists of sets on many nodes and on one; and a drop.
+/// The costs of a new node, of a set with an index, and of two sets without one. The second of
+/// these sets the value that is already there. Then the costs of lists of sets on many nodes and on
+/// one, and of a drop.
 ///
 /// How each cost could grow. In pages: by one that is copied twice in a list, such as the version
-/// page for each operation, or by one of a tree that doesn't change. In words stored: by a page
-/// that is written whole instead of edited, or by words that are already there. In words read: by
-/// one more descent, or by what is asked again for each set of a list.
+/// page, or by one of a tree that doesn't change. In words stored: by a page that is written whole
+/// instead of edited, or by words that are already there. In words read: by one more descent, or by
+/// what is asked again for each set of a list.
 #[test]
 fn write_costs(rt: HostRuntime) -> Result<(), Fail> {
     let rows =

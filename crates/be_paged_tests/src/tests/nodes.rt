@@ -1,4 +1,4 @@
-//! The nodes of a version from a number on, in volumes that fit into a leaf and in larger ones: a
+//! The nodes of a version from a number on, in volumes that fit into a leaf and in larger ones. A
 //! leaf has at most 12 pairs.
 //!
 //! A row is `FROM MOST => NODES`. If memory runs out, a request is made again, as elsewhere here.

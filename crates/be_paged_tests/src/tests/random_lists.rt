@@ -7,8 +7,8 @@ use be_volume::{Done, Op};
 use std::alloc::{AllocError, Global};
 use std::test::Fail;
 
-/// What lists are made of: how many of the youngest nodes and how many names are used, one in how
-/// many possible new nodes is made, and how many pages the room has.
+/// What lists are made of. `nodes` is how many of the youngest nodes are used, and `names` how many
+/// names. One in `news` possible new nodes is made. `pages` is the size of the room.
 #[derive(Drop)]
 struct Mix {
     nodes: u64,

@@ -1,11 +1,11 @@
 //! How many keys a walk asks for, and what else is asked about the nodes that it finds.
 //!
 //! A range with too many keys would lose no answer, so no contract forbids it. So these tests count
-//! each range: the keys that the range of one comparison has in an index of known keys, and one
-//! more for its end.
+//! each range. The range of one comparison should have exactly the known keys that it allows, and
+//! one more for its end.
 //!
-//! No answer would be lost either if a walk asked for a value that the key has given, or searched
-//! an index for a value of which the comparison is false. These are counted too.
+//! A walk might also read a value that the key has given, or search an index for a value of which
+//! the comparison is false. That would lose no answer either, so these are counted too.
 
 use crate::tests::{replies, replies_of, volume_of};
 use be_value::Refusal;

@@ -123,7 +123,7 @@ fn failing_reader(rt: HostRuntime) -> Result<(), Fail> {
 }
 
 /// Whether a run writes as many bytes of the replies as there is room for, and then ends with
-/// `Write`; or with success if there is room for all.
+/// `Write`. It has to succeed if there is room for all.
 fn fills(alloc: Global, room: usize, fails: bool) -> bool {
     let mut writer = Narrow::new(REPLIES.as_bytes(), room, fails);
     let end = end_of(run(alloc, &mut SCRIPT.as_bytes(), &mut writer, LIMITS));

@@ -111,7 +111,7 @@ fn words(rt: HostRuntime) -> Result<(), Fail> {
     )
 }
 
-/// Where a line's text begins, and which error is reported first.
+/// At which place of a line its text begins, and which error is reported first.
 #[test]
 fn refusals(rt: HostRuntime) -> Result<(), Fail> {
     check_after(

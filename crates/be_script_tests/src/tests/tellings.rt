@@ -107,7 +107,7 @@ fn journal_is_read(rt: HostRuntime) -> Result<(), Fail> {
 }
 
 /// Whether a run that writes its journal writes as many bytes as there is room for, and then ends
-/// with `Write`; or with success if there is room for all. It may return false if memory ran out,
+/// with `Write`. It has to succeed if there is room for all. It may return false if memory ran out,
 /// which isn't reported as `Write`.
 fn fills(alloc: Global, room: usize) -> bool {
     let mut writer = Narrow::new(TOLD.as_bytes(), room, true);
