@@ -1,5 +1,6 @@
-//! Cuts a query's text into tokens. The longest token is taken. A name or value is a word or a
-//! quoted text.
+//! Cuts a query's text into tokens.
+//!
+//! The longest token is taken. A name or value is a word or a quoted text.
 ghost use Rattle.std.specs.Prelude.{false, true, ◌||◌, ℕ, ◌≡◌, ◌≤◌, ◌<◌, ◌+◌, ◌==◌, length, take};
 ghost use Rattle.std.specs.Prelude.{drop, slice_get, slice_index, IfNone, IfSome};
 ghost use Rattle.std.specs.List.{list_any};

@@ -1,5 +1,6 @@
-//! A query's tree: comparisons under `&&` and `||`. It never contains a `!`, because the complement
-//! of a tree is also a tree.
+//! A query's tree: comparisons under `&&` and `||`.
+//!
+//! It never contains a `!`, because the complement of a tree is also a tree.
 ghost use Rattle.std.specs.Prelude.{◌≡◌, ◌<◌, true, false, IfOk};
 ghost use Rattle.be_query.specs.Grammar.{And, complement, opposite};
 ghost use Rattle.be_query.specs.Turning.{rounds, IsLeaf, BeginsWithLeaf};
