@@ -49,7 +49,7 @@ pub record HasFront (most : ℕ) (all found : List ℕ) : Type 0 where
   pub enough : (rest ≡ []) ⊎ (most < length found)
 
 -- These are a page's nodes, the cursor after it, and whether there are more. It is the page of any
--- query that an index answers and of which the keys from `low` to `high` leave this rest.
+-- query that an index covers and of which the keys from `low` to `high` leave this rest.
 abbrev pub IsPageOfRest : State → Formula → List ℕ → Kind → List ℕ → Option (List ℕ) → Bool → ℕ
     → Option (List ℕ) → List ℕ → Option (List ℕ) → Bool → Type 0
 IsPageOfRest s rest by kind low high descending most cursor nodes next more = (f : Formula)

@@ -229,7 +229,7 @@ fn copy_of(cursor: &Option<ArrayVec<u8, 264>>) -> Option<ArrayVec<u8, 264>>
     }
 }
 
-/// A page of a query that an index answers, by a walk that asks each node about the rest. It
+/// A page of a query that an index covers, by a walk that asks each node about the rest. It
 /// returns `None` if the source can't walk in order, or if the walk gave up.
 pub(crate) fn ask_page<S: OrderedSource>(
     alloc: Global,

@@ -30,7 +30,7 @@ fn keep_from(numbers: &mut Vec<u64>, first: u64, most: usize)
 /// order. It puts them into a list, replacing what that had. To continue, ask from the number after
 /// the last.
 ///
-/// If no index answers the query, the error is `NotCovered`. After an error the source still
+/// If no index covers the query, the error is `NotCovered`. After an error the source still
 /// answers for the volume, and the list may have any numbers. The call costs as much as the whole
 /// answer.
 pub fn first_by_number<S: Source>(

@@ -63,7 +63,7 @@ fn keep_page<S: Source>(
 /// whether more come after them. The cursor is then the last node's key. If the page is empty, or
 /// after an error, the cursor is unchanged. The first page has no cursor.
 ///
-/// If the name has no index, the error is `NoSuchIndex`. If no index answers the query, it is
+/// If the name has no index, the error is `NoSuchIndex`. If no index covers the query, it is
 /// `NotCovered`. After an error the source still answers for the volume, and the list may have any
 /// numbers.
 ///

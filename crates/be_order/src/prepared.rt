@@ -96,7 +96,7 @@ fn walk_page<S: OrderedSource>(
     Ok(Some(more))
 }
 
-/// A list of all nodes of which a part of a query is true. It returns `None` if no index answers
+/// A list of all nodes of which a part of a query is true. It returns `None` if no index covers
 /// the part, or if memory runs out.
 fn list_true<S: Source>(alloc: Global, tree: &Tree, source: &mut S) -> Option<Vec<u64>>
     ghost volume: { State }
@@ -113,7 +113,7 @@ fn list_true<S: Source>(alloc: Global, tree: &Tree, source: &mut S) -> Option<Ve
     }
 }
 
-/// A page of a query that an index answers, by a walk that looks up each node. It lists all nodes
+/// A page of a query that an index covers, by a walk that looks up each node. It lists all nodes
 /// of which the rest of the query is true, and looks nodes up by their marks or in that list. It
 /// returns `None` if these nodes can't be listed, or if the walk gave up.
 fn look_up_page<S: OrderedSource>(
@@ -208,7 +208,7 @@ fn asking_page<S: OrderedSource>(
     ask_page(alloc, left, source, walk, most, pace, cursor, found)
 }
 
-/// Whether an index answers the query. It is also false if memory ran out.
+/// Whether an index covers the query. It is also false if memory ran out.
 fn rests_on_index<S: Source>(alloc: Global, query: &Query, source: &mut S) -> bool
     ghost volume: { State }
     requires { S.answers_for source.old volume }
@@ -221,7 +221,7 @@ fn rests_on_index<S: Source>(alloc: Global, query: &Query, source: &mut S) -> bo
 
 /// A page of a query with a rest, by a walk over the keys of the order's own index. It returns
 /// `None` if another way has to be taken. That is so if the source can't walk in order, no index
-/// answers the query, or sorting the whole answer is cheaper.
+/// covers the query, or sorting the whole answer is cheaper.
 fn find_page<S: OrderedSource>(
     alloc: Global,
     query: &Query,

@@ -22,7 +22,7 @@ use be_query::Tree;
 use be_value::Refusal;
 use std::alloc::Global;
 
-/// A page of a query that an index answers, by a walk that tests each key for the rest of the
+/// A page of a query that an index covers, by a walk that tests each key for the rest of the
 /// query. It costs one test for each key passed until the page is full. It returns `None` if the
 /// source doesn't test keys in place.
 fn test_page<S: OrderedSource>(
@@ -63,7 +63,7 @@ fn test_page<S: OrderedSource>(
     Ok(Some(more))
 }
 
-/// A page of a query that an index answers and whose rest is one comparison with the texts of the
+/// A page of a query that an index covers and whose rest is one comparison with the texts of the
 /// order's own index. The walk tests these texts. It returns `None` if the rest is something else,
 /// or if the source doesn't test texts in place.
 pub(crate) fn text_page<S: OrderedSource>(
@@ -95,7 +95,7 @@ pub(crate) fn text_page<S: OrderedSource>(
     test_page(source, walk, KeyTest::Text(&test), most, cursor, found)
 }
 
-/// A page of a query that an index answers, by a walk that looks each node up among `nodes`. These
+/// A page of a query that an index covers, by a walk that looks each node up among `nodes`. These
 /// are all nodes of which the rest is true. It returns `None` if they are few or far apart, if
 /// memory runs out, or if the source doesn't test keys in place.
 pub(crate) fn marked_page<S: OrderedSource>(

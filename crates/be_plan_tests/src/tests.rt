@@ -305,8 +305,8 @@ query b==2 => nodes 1 2 asks bbb
     replies_of(rt.alloc(), lines, requests)
 }
 
-/// A query is covered if an index answers both sides of each `||` and one side of each `&&`.
-/// Otherwise it is refused.
+/// A comparison is covered if its name has an index, an `||` if both sides are, and an `&&` if one
+/// side is. A query that isn't covered is refused.
 #[test]
 fn coverage(rt: HostRuntime) -> Result<(), Fail> {
     let lines = "mkindex a LONG
@@ -574,7 +574,7 @@ ranges t==\"a*z\" => 0
 ranges t==\"[a]*\" => 0
 ranges t!=\"a*\" => 0";
 
-/// A pattern that only says how a text begins is answered by its range alone; every other pattern
+/// A pattern that only says how a text begins is answered by its range; every other pattern
 /// is tested against each key.
 #[test]
 fn patterns_by_range(rt: HostRuntime) -> Result<(), Fail> {

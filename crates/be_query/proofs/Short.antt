@@ -1,4 +1,4 @@
--- Texts whose length alone shows that they encode names.
+-- Texts whose length is enough to show that they encode names.
 use Rattle.std.proofs.Common.{◌≡◌, ℕ, ◌<◌, ◌≤◌, true, false, Ok, List, [], ◌∷◌, length, ap, ◌∙◌, arith}
 use Rattle.std.specs.Prelude.{nat_lt}
 use Rattle.std.specs.Bool.{◌==◌}

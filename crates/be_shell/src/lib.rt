@@ -1,4 +1,4 @@
-//! A store that stays open and has a conversation with someone, line by line.
+//! The shell: it keeps a store open and answers lines one by one.
 //!
 //! [`shell`] opens a store, and answers each line of a peer before it hears the next. A line's
 //! reply is what it would be in a script, by the same definition. [`Peer`] is a trait, so its
