@@ -27,7 +27,7 @@ use be_query::Tree;
 use be_value::{Kind, Refusal};
 use std::alloc::{AllocError, Global};
 
-/// The most parts that a walk has. They suffice for at least 2^26 nodes.
+/// The most parts that a walk has. Parts of 64 keys suffice for 2^26 keys.
 const PARTS: usize = 1 << 20;
 
 /// The keys that a walk passes in an index of this kind, in either direction.

@@ -2,8 +2,8 @@
 //!
 //! # Spared pages
 //! A write copies each page of a tree that it changes. Writes that change the same pages again and
-//! again copy each of them back and forth between two pages. A copy then needs most of the words
-//! that its page already has. So a page that was copied is spared once it is free, for the next
+//! again copy each of them back and forth between two pages. The page that takes the copy then has
+//! most of the words already. So a page that was copied is spared once it is free, for the next
 //! copy of its own copy. That copy stores only the words that differ. A spared page is taken for
 //! something else only if no other page is free.
 ghost use Rattle.std.specs.Prelude.{◌≡◌, ℕ, ◌+◌, ◌<◌, ◌≤◌, ◌==◌, if◌then◌else◌, Bool, true, false};

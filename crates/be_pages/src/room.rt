@@ -109,7 +109,7 @@ pub trait Room: Look {
         ensures kept { Self.kept self.new ≡ Self.kept self.old };
 
     /// Writes one word of a page in which this write has already filled a word. It does what `fill`
-    /// does, and costs less, because it doesn't look up the page's state.
+    /// does, and costs less, because it needn't look up where the page is.
     fn refill(&mut self, page: u64, i: usize, word: u64)
         requires open { IsTrue (Self.is_open (Self.kept self.old)) }
         requires filled { Self.standing self.old page ≡ Filled }

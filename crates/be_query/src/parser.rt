@@ -344,8 +344,8 @@ fn take_joint<'a>(
 }
 
 #[tactic(auto, using(crate::proofs::Short::short_name))]
-/// Whether a text without a NUL encodes a name. Resolving backslashes only shortens a text, so that
-/// is done only if it is longer than 63 bytes.
+/// Whether a text without a NUL encodes a name. Resolving backslashes only shortens a text, so a
+/// text of 1 to 63 bytes needn't be resolved.
 fn spells_name(alloc: Global, raw: &str) -> Result<bool, AllocError>
     requires { has_nul raw.now ≡ false }
     ensures { IfOk result (λ b. is_name raw.now ≡ b) }

@@ -23,8 +23,8 @@ fn next_byte<R: Read>(reader: &mut R) -> io::Result<Option<u8>>
     }
 }
 
-/// A reader that adds an LF after each byte 3 of the reader below. So Ctrl-C ends a line, as the
-/// line's last byte. It reads one byte at a time.
+/// A reader that adds an LF after each byte 3 of the reader below. So the byte that Ctrl-C types
+/// ends a line, and is the line's last byte. It reads one byte at a time.
 #[derive(Drop)]
 pub struct Breaking<R> {
     reader: R,
