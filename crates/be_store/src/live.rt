@@ -304,8 +304,7 @@ impl Live {
     /// - the version is older than that of the last refresh;
     /// - an index was made or removed since then;
     /// - many nodes were written: more than 64, or more than 4 plus one for each 32 nodes of the
-    ///   last
-    /// answer.
+    ///   last answer.
     pub fn refresh_changed(&mut self, store: &Store, pass: &mut Pass) -> Result<Updates, Refusal>
         requires pass { IsPassOf store.now pass.old }
         requires pinned { (n : ℕ) × IsPinnedTo pass.old.knows n }
