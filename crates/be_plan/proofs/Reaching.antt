@@ -27,8 +27,7 @@ pub on_ok : {A E : Type 0} {P Q : Type 0} (r : Result A E) → (P → Q) → OnO
 on_ok (Ok x) f h = f h
 on_ok (Err e) f h = h
 
--- a walk over a range of an index finds each node that satisfies the formula and whose value in the index has its key in the
--- range
+-- a walk over a range of an index finds each node that satisfies the formula and has its key in the range
 pub has_seen : (s : State) (f : Formula) (name : List ℕ) (kind : Kind) (low : List ℕ) (high : Option (List ℕ)) (found : List ℕ) →
     IsSound s → index_kind s name ≡ Some kind → HasWithin s f name low high found →
     (node : ℕ) (value : Value) → sees s node name ≡ Some value → (IsPair kind value node → Within low high (key value node)) → sat s f node ≡ true → Contains found node

@@ -94,8 +94,8 @@ KeepsTrueOf kind comparison = KeepsTrue kind comparison.op (literal comparison.l
 abbrev pub AllTrueOf : Kind → Comparison → Range → Type 0
 AllTrueOf kind comparison = AllTrue kind comparison.op (literal comparison.literal)
 
--- The value can replace the literal in an index of this kind: a comparison of an index value with
--- the literal is true exactly if the operator is true of the index value and this one.
+-- The value can replace the literal in an index of this kind. A comparison of an index value with
+-- the literal is true exactly if the operator is true of the two values.
 pub record StandsFor (literal : Literal) (kind : Kind) (bound : Value) : Type 0 where
   pub is_value : IsValue bound
   pub kind_is : kind_of bound ≡ kind
@@ -123,12 +123,12 @@ IsBetween least greatest (Cstr text) = ⊥
 IsBetween least greatest (Mims text) = ⊥
 IsBetween least greatest (Rawt bytes) = ⊥
 
--- what is left to ask is true of the node; if nothing is left, this is true
+-- whether what is left to ask is true of the node; true if nothing is left
 abbrev pub rest_true : State → Option Formula → ℕ → Bool
 rest_true s rest node = option_map_or (λ f. sat s f node) rest true
 
--- If a node has a key from `low` to `high` in the index of that name, it satisfies the formula
--- exactly if it satisfies what is left to ask. The volume may be any.
+-- A node with a key from `low` to `high` in that name's index satisfies the formula exactly if it
+-- satisfies what is left to ask. The volume may be any.
 abbrev pub LeavesRest : Formula → List ℕ → Kind → List ℕ → Option (List ℕ) → Option Formula → Type 0
 LeavesRest f name kind low high rest =
     (s : State) (value : Value) (node : ℕ) → IsPair kind value node

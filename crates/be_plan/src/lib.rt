@@ -2,10 +2,10 @@
 //!
 //! A query on a large volume must not look at every node. It is computed from a few of its
 //! comparisons, the picks. For each pick the index of its name is walked over the keys that can
-//! matter, and each node found there is tested against the whole query. Picks cover a query if
-//! these walks can't miss an answer: for an `&&` one side is enough, for an `||` both are needed.
-//! The answer doesn't depend on the plan. Any picks that cover the query give the ascending list of
-//! all nodes that match it.
+//! matter. Each node found there is tested against the whole query. Picks cover a query if these
+//! walks can't miss an answer: for an `&&` one side is enough, for an `||` both are needed. The
+//! answer doesn't depend on the plan. Any picks that cover the query give the ascending list of all
+//! nodes that match it.
 //!
 //! `choose_from` chooses picks, and `choose` does so from a list of indices. `run` makes the walks,
 //! `explain` says what was picked, and `answer` does all of it; `answer_into` does so for a

@@ -170,7 +170,7 @@ fn is_false_between(op: Cmp, number: Option<i128>, least: i128, greatest: i128) 
     }
 }
 
-/// Whether the comparison is false for all values of an integer kind, because its literal encodes
+/// Whether the comparison is false for all values of an integer kind. It is if its literal encodes
 /// no number, or one on the wrong side of them all.
 fn is_false_of_all(comparison: &Comparison, kind: Kind, number: Option<i128>) -> bool
     requires { number ≡ literal_number (literal comparison.now.literal) }

@@ -1,7 +1,7 @@
 //! Ranges of keys.
 //!
-//! A range is narrowed by bounds. A bound is given in two parts, a front and an end, such as the
-//! bytes of a literal and those of a node after it. So its bytes need not be joined to be compared.
+//! A range is narrowed by bounds. A bound is given in two parts, a front and an end, such as a
+//! literal's bytes and those of a node after it. So its bytes need not be joined to be compared.
 //! They are written directly to where they stay, and only if the range changes.
 ghost use Rattle.std.specs.Prelude.{◌≡◌, ◌+◌, ◌≤◌, true, false, List, [], ◌++◌, ℕ, length};
 ghost use Rattle.std.specs.Option.{option_copied};
@@ -148,8 +148,8 @@ impl Range {
         self.bounded && key.cmp(&self.high.as_slice()).is_gt()
     }
 
-    /// Whether no key of the range is below the front followed by the end. If false, the range has
-    /// all keys from there that it had. If the low end is empty, nothing is compared.
+    /// Whether no key of the range is below the front followed by the end. If false, no key from
+    /// there on is below the low end. If the low end is empty, nothing is compared.
     fn starts_at(&self, front: &[u8], end: &[u8]) -> bool
         ensures starts { result ≡ true → (k : List ℕ) → is_lt (name_cmp k self.now.low.items)
             ≡ false → is_lt (name_cmp k (front.now ++ end.now)) ≡ false }
@@ -161,7 +161,7 @@ impl Range {
     }
 
     /// Leaves out keys below the front followed by the end, unless these are too long for an end of
-    /// a range. Returns whether none is left.
+    /// a range. Returns whether no such key is left.
     pub(crate) fn raise_to(&mut self, front: &[u8], end: &[u8]) -> bool
         ensures within { (k : List ℕ) → IsIn self.new k → IsIn self.old k }
         ensures keeps { KeepsFrom (front.now ++ end.now) self.old self.new }
@@ -170,8 +170,8 @@ impl Range {
         self.starts_at(front, end) || put(&mut self.low, front, end)
     }
 
-    /// Whether no key of the range is above the front followed by the end. If false, the range has
-    /// all keys up to there that it had.
+    /// Whether no key of the range is above the front followed by the end. If false, no key up to
+    /// there is above the high end.
     fn ends_at(&self, front: &[u8], end: &[u8]) -> bool
         ensures ends { result ≡ true → (k : List ℕ) → is_above (high_of self.now) k ≡ false
             → is_gt (name_cmp k (front.now ++ end.now)) ≡ false }
@@ -182,7 +182,7 @@ impl Range {
     }
 
     /// Leaves out keys above the front followed by the end, unless these are too long for an end of
-    /// a range. Returns whether none is left.
+    /// a range. Returns whether no such key is left.
     pub(crate) fn lower_to(&mut self, front: &[u8], end: &[u8]) -> bool
         ensures within { (k : List ℕ) → IsIn self.new k → IsIn self.old k }
         ensures keeps { KeepsTo (front.now ++ end.now) self.old self.new }

@@ -127,9 +127,9 @@ pub trait Source {
 
     /// Whether the comparison is true of what it sees of the node. Each pair of an index is its
     /// node's attribute. So the index of the comparison's name has either the node's attribute or
-    /// nothing of the node, and whether it has the attribute's key shows which. Without an index
-    /// the comparison sees the attribute. A source that can compare a value in place has its own
-    /// body, which copies no value.
+    /// nothing of the node. Whether it has the attribute's key shows which. Without an index the
+    /// comparison sees the attribute. A source that can compare a value in place has its own body,
+    /// which copies no value.
     fn holds(&mut self, node: u64, comparison: &Comparison) -> bool
         requires { (volume : State) × answers_for self.old volume }
         ensures answer { (volume : State) → answers_for self.old volume →

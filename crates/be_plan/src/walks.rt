@@ -218,8 +218,8 @@ pub fn asked_of_texts<'t>(rest: &'t Tree, name: &Name, kind: Kind) -> Option<&'t
 }
 
 /// Adds the nodes of a walk's keys that satisfy its tree, given that this part is left to ask about
-/// them, from what the keys hold. It is a separate function so that a walk whose range decides the
-/// tree needs no room for keys.
+/// them. The keys' content is enough for that. It is a separate function so that a walk whose range
+/// decides the tree needs no room for keys.
 #[inline(never)]
 fn pass_keys<S: Source>(
     alloc: Global,

@@ -44,8 +44,8 @@ IsGiven was now (Unset changed name) node = node ≡ 0
 IsGiven was now (MkIndex name kind) node = node ≡ 0
 IsGiven was now (RmIndex name) node = node ≡ 0
 
--- If the change checks kinds and this sets an attribute, the value has the kind of the index of its
--- name, as the operations before it leave that index.
+-- If the change checks kinds and this sets an attribute, the value has the kind of its name's
+-- index, as the operations before it leave that index.
 abbrev pub SetsRightKind : Changing → Op → Type 0
 SetsRightKind c New = Unit {0}
 SetsRightKind c (Drop node) = Unit {0}

@@ -35,8 +35,9 @@ fault_code NoRoom = 79
 fault_code (WrongKind index) = 80
 fault_code (Refused e) = refusal_number e
 
--- the number that comes with an error: for a refusal the refusal's, for a conflict the journal's
--- length, for a value of the wrong kind the type code of the index's kind, and otherwise 0
+-- The number that comes with an error. For a refusal it is the refusal's; for a conflict it is the
+-- journal's length; for a value of the wrong kind it is the type code of the index's kind; and
+-- otherwise 0.
 abbrev pub fault_carried : Fault → ℕ
 fault_carried NotPinned = 0
 fault_carried AlreadyPinned = 0

@@ -5,7 +5,7 @@ use Rattle.be_query.specs.Grammar.{Formula}
 use Rattle.be_store.specs.Live.{LiveQuery, coded_live}
 
 -- the query with its answer at the last refresh, the nodes that came and went then, and those that
--- were found when it was last asked
+-- it found when last asked
 pub record PreparedQuery : Type 0 where
   pub live : LiveQuery
   pub found : List ℕ

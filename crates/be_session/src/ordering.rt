@@ -108,9 +108,9 @@ impl Session {
     /// Replaces a list's content with a page of a live query's answer, in the order of an index.
     /// Moves the cursor to the page's last node, and returns whether there are more.
     ///
-    /// Errors, in this order: NotPinned; NoRoom if no node is wanted; NoSuchIndex; BadCursor if the
-    /// cursor is of another kind than the index, or its key doesn't have 8 to 264 bytes; and those
-    /// of the query. They leave the cursor as it was, and the list is empty.
+    /// Errors, in this order: NotPinned; NoRoom if no node is wanted; NoSuchIndex; BadCursor; and
+    /// those of the query. It is BadCursor if the cursor is of another kind than the index, or its
+    /// key doesn't have 8 to 264 bytes. Errors leave the cursor as it was, and the list is empty.
     pub fn ordered(
         &mut self,
         live: &mut Live,

@@ -256,9 +256,9 @@ impl Session {
         }
     }
 
-    /// Releases the pin, and gives back the pass and the passes that wait here, so that `another`
-    /// can use them in each session of the store. A session that is dropped loses them. The store
-    /// is freed with its last session. It waits for nobody.
+    /// Releases the pin, and gives back the pass and the passes that wait here. `another` can then
+    /// use them in each session of the store. A session that is dropped loses them. The store is
+    /// freed with its last session. It waits for nobody.
     ///
     /// Returns a witness of all that the pass has seen of the journal, including its own writes. If
     /// the session that calls `finish` has joined the witness, they are in the journal that

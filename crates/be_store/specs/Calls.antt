@@ -20,8 +20,8 @@ use Rattle.be_store.specs.Views.{view_of, volume}
 
 -- A pass's call, given what it knew before (a) and knows after (c), is this step. Each call of a
 -- store has one of these forms, except a refresh by what changed, which has two. Learn is a refused
--- write, a look at the journal or at how full the store is, a meeting with another pass or with a
--- witness, and making a witness.
+-- write, or a look at the journal or at how full the store is. It is also a meeting with another
+-- pass or with a witness, and making a witness.
 abbrev pub Call : Knowledge → Step volume → Knowledge → Type 0
 Call a (Apply e n) c = (ops : List Op) × (dones : List Done) × (e ≡ entry_by a ops dones)
     × Accepts a c ops n dones
@@ -44,8 +44,8 @@ abbrev pub known_after : (a : Knowledge) (steps : List (Step volume)) (z : Knowl
 known_after a [] z calls = []
 known_after a (s ∷ steps) z calls = calls.0 ∷ known_after calls.0 steps z calls.2
 
--- The steps of all calls that a pass made, from its first, when it had made no move and seen
--- nothing, to its last.
+-- The steps of all calls of a pass, from the first to the last. Before the first it had made no
+-- move and seen nothing.
 pub record PassCalls : Type 0 where
   pub first : Knowledge
   pub steps : List (Step volume)
@@ -59,7 +59,7 @@ abbrev pub views_known : PassCalls → List (PassView volume)
 views_known p = map view_of (known_after p.first p.steps p.last p.made)
 
 -- If a write of the pass was accepted with the number n, the journal's n-th entry is by this pass,
--- with these operations and outcomes, whatever was called afterwards.
+-- with these operations and outcomes. It doesn't matter what was called afterwards.
 abbrev pub HasWrites : List Entry → Knowledge → Type 0
 HasWrites log z = (a c : Knowledge) (steps : List (Step volume)) (ops : List Op) (n : ℕ)
     (dones : List Done) →

@@ -28,9 +28,9 @@ held_pages c = count_below (has c.held) c.limits.pages
 abbrev pub AreFewFor : State → (pages : ℕ) → Type 0
 AreFewFor volume pages = 5 * pages ≤ items volume + 4 * map.len volume.indices + 9
 
--- This many pages are no more than a write may hold whose operations keep the volume within any
--- given number of items and indices: one for each five items, one for each index, two for each
--- level of a tree of that many items, and three.
+-- This many pages are no more than a write may hold: one for each five items, one for each index,
+-- two for each level of a tree of that many items, and three. The numbers of items and indices are
+-- any within which its operations keep the volume.
 abbrev pub AreFewToHold : State → List Op → (pages : ℕ) → Type 0
 AreFewToHold volume ops pages = (most indices high : ℕ) → StaysWithin most indices volume ops
     → most + 1 < 2 * 6 ^ suc high → 5 * pages ≤ most + 4 * indices + 10 * high + 15
@@ -54,8 +54,8 @@ IsAtCurrent c = IsBetweenCalls c.limits.passes c.phase
     × ((n : ℕ) → IsPinnedTo c n → n ≡ length c.seen)
 
 -- The pool is large enough for these operations. Before, between and after them the volume has at
--- most `most` items and `indices` indices, and a tree of that many items has at most this height.
--- The pool has more than two pages for each five items, two for each index, two for each level, and
+-- most `most` items and `indices` indices. A tree of that many items has at most this height. The
+-- pool has more than two pages for each five items, two for each index, two for each level, and
 -- five.
 pub record HasLargePool (c : Knowledge) (ops : List Op) : Type 0 where
   pub most : ℕ

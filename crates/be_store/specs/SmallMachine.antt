@@ -33,7 +33,7 @@ abbrev pub entries_by : (o : Object) → ℕ → List o.Entry → List o.Entry
 entries_by o k log = filter (λ e. nat_eq (o.by e) k) log
 
 -- What a pass knows: its number, the prefix of the journal that it has seen, its own entries, and
--- the number of entries to which it is pinned, if it is.
+-- how many entries it is pinned to, if it is.
 pub record PassView (o : Object) : Type 0 where
   pub number : ℕ
   pub seen : List o.Entry

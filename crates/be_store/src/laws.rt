@@ -68,8 +68,8 @@ pub fn told_order()
 {}
 
 /// A pin has each write that ended before it. Its number is at least that of each pin that ended
-/// before it. The passes may be any. One call ended before another if the other's history begins
-/// with its history. `close` has both in one list of moves.
+/// before it. This holds for any passes. One call ended before another if the other's history
+/// begins with its history. `close` has both in one list of moves.
 pub fn pins_have_earlier_writes()
     ensures writes { (a c b d : Knowledge) (ops : List Op) (n m : ℕ) (dones : List Done)
         → Accepts a c ops n dones → IsPin b d m → EndedBefore c d → n ≤ m }
@@ -119,7 +119,7 @@ pub fn alone_pins_seen()
     ensures { (a c : Knowledge) (n : ℕ) → IsAlone a → IsAlone c → IsPin a c n → c.seen ≡ a.seen }
 {}
 
-/// A pool that is large enough for a write never refuses it with Full while no pass is pinned to an
+/// If a pool is large enough for a write, no such write returns Full while no pass is pinned to an
 /// earlier version or about to pin one. It doesn't matter what the store has done before. Half of
 /// such a pool is for the current version, and half for a write that changes all of it.
 /// `be_volume::laws::stays_within` bounds what a volume has in it between its operations.
@@ -154,7 +154,7 @@ pub fn unpinned_is_out()
 
 /// In a store of several passes, a large pool refuses no write with Full if all passes are unpinned
 /// while it is made. They have to have met the writer before and after the write. Public calls
-/// ensure the premises: `meet` the lists of moves, and a refused write its reason.
+/// ensure the premises: `meet` ensures the lists of moves, and a refused write ensures its reason.
 pub fn large_enough_unpinned()
     ensures once { (limits : Limits) (a c : Knowledge) (ops : List Op) (least : ℕ)
         → c.limits ≡ limits → c.number ≡ a.number → IsOut limits a → OthersRest limits a c

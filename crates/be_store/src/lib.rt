@@ -5,14 +5,13 @@
 //! has seen of the journal, its own accepted writes, and its pin. A call takes the store and its
 //! caller's pass. It waits for nobody, and its clauses hold whatever other passes do meanwhile.
 //!
-//! # What is proved
-//! Whatever calls run on whatever threads, the journal is the history of one thread
-//! (`specs/History.antt`). Each accepted write returns what a sequential volume would return at
-//! that place. The journal has each pass's writes once, in their order. A pin names a prefix of the
-//! journal that contains all that its pass had seen. A query at the pin returns the answer of the
-//! volume after this prefix. If the volume refuses a write, it is the volume after all that the
-//! pass has then seen. `laws` says what follows about what a pass has seen, about the only pass of
-//! a store, and about how large a pool has to be.
+//! # What is proved Whatever calls run on whatever threads, the journal is the history of one
+//! thread (`specs/History.antt`). Each accepted write returns what a sequential volume would return
+//! at that place. The journal has each pass's writes once, in their order. A pin names a prefix of
+//! the journal that contains all that its pass had seen. A query at the pin returns the answer of
+//! the volume after this prefix. If the volume refuses a write, it is the volume after all that the
+//! pass has then seen. `laws` says what follows about what a pass has seen, about a store's only
+//! pass, and about how large a pool has to be.
 //!
 //! # What a program names
 //! Only this crate. It re-exports what programs need from the crates below: names, values,

@@ -33,8 +33,8 @@ const LEAST: usize = 96;
 
 /// A live query: it is refreshed again and again, and keeps the answer of its last refresh.
 ///
-/// It also keeps where that refresh was made, so that the next one can read what was written since
-/// then. So refresh it with passes of one store.
+/// It also keeps where that refresh was made, so that `refresh_changed` can read what was written
+/// since then. That call needs a pass of the same store; `refresh` works in any store.
 #[derive(Drop)]
 pub struct Live {
     alloc: Global,
@@ -408,7 +408,7 @@ fn changes(alloc: Global, last: &[u64], now: &[u64]) -> Result<Updates, Refusal>
     Ok(Updates { created, removed })
 }
 
-/// Adds the numbers from the index `from` up to, but without, `end` to a list.
+/// Adds the numbers from the index `from` to just before the index `end` to a list.
 #[inline(always)]
 fn push_part(list: &mut Vec<u64>, numbers: &[u64], from: usize, end: usize) -> Result<(), Refusal>
     requires range { (from ≤ end) × (end ≤ length numbers.now) }

@@ -121,9 +121,9 @@ pub fn close_is_step()
 {}
 
 /// The journal that `close` returns explains all runs of its passes. `given`: whatever runs end in
-/// what these passes know. `made`: the calls that each of them made from new on. These runs have
-/// the passes' numbers, their calls' steps, and the views that they had after each step and at the
-/// end.
+/// what these passes know. `made`: the calls that each of them has made since it was new. These
+/// runs have the passes' numbers, their calls' steps, and the views that they had after each step
+/// and at the end.
 pub fn one_history()
     ensures given { (count : ℕ) (log : List Entry) (passes : List Knowledge)
         (runs : List (PassRun volume)) → IsClosed count log passes

@@ -133,8 +133,8 @@ impl Store {
     /// It costs as much as the cheapest of three ways, or up to about twice that:
     /// - A walk over the page's keys and one more, if all comparisons are on the order's name and
     ///   their range decides the query. Memory is allocated only for the list.
-    /// - Otherwise a walk over the order's index from the cursor, which asks the query about each
-    ///   node that it passes until the page is full.
+    /// - Otherwise a walk over the order's index from the cursor. It asks the query about each node
+    ///   that it passes until the page is full.
     /// - If that costs more than the whole answer: what `query_prepared` costs, two descents for
     ///   each node that is found, and a sort. It allocates memory for the keys after the cursor.
     pub fn ordered(

@@ -113,9 +113,9 @@ impl Store {
     ///
     /// It costs one compare-exchange to begin, new pages on the path to each change, one store to
     /// publish and one to unlock. Each word that it reads is a load, and each that it changes is a
-    /// store. It scans if no page is free, or if a page was retired since the last scan (32 pages,
-    /// if that had to leave pages to readers). A scan reads each reader slot, and works on each
-    /// page that this frees. It allocates memory only for its entry. Busy costs the
+    /// store. It scans if no page is free, or if enough pages were retired since the last scan:
+    /// one, or 32 if that scan had to leave pages to readers. A scan reads each reader slot, and
+    /// works on each page that this frees. It allocates memory only for its entry. Busy costs the
     /// compare-exchange.
     ///
     /// The list is filled in place, because returning one by value costs its whole capacity at each
@@ -311,8 +311,8 @@ impl Store {
     /// Does what `query_into` does, for a prepared query. The first call computes what depends only
     /// on the query. If all comparisons are on one name and none is under `||`, that is the range
     /// of keys in the name's index. Such a query costs one descent and a walk over the range. The
-    /// index is looked up again only if another index has taken its place, and the range is
-    /// computed again only if the index has another kind. Any other query costs what `query` costs.
+    /// index is looked up again only if another index has taken its place. The range is computed
+    /// again only if the index has another kind. Any other query costs what `query` costs.
     #[inline(always)]
     pub fn query_prepared(
         &self,

@@ -7,9 +7,9 @@ use be_value::Refusal;
 use be_volume::Done;
 use std::thread;
 
-/// How often a pass yields to other threads at most before it tries again. If two passes take turns
-/// at the lock for each write, each processor has to fetch what the other has just written. So a
-/// pass that doesn't get the lock lets the other go on writing for a while, twice as long each
+/// The most times that a pass yields to other threads before it tries again. If two passes take
+/// turns at the lock for each write, each processor has to fetch what the other has just written.
+/// So a pass that doesn't get the lock lets the other go on writing for a while, twice as long each
 /// time.
 const MOST_TURNS: u64 = 1024;
 

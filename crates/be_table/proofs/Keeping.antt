@@ -70,8 +70,8 @@ kept_once r e is once given_new = (refl, λ z. cc)
 kept_once r e is once (stays_old {b} {a} same) = (omega (arith, once), λ z. cc)
 kept_once r e is once (stays_new {b} {a}) = (omega (arith, once), λ z. cc)
 
--- If the pages of the current version have become those of another, the write keeps exactly these, and each page that it has
--- taken is filled.
+-- If the pages of the current version have become those of another, the write keeps exactly these. Each page that it has taken is
+-- filled.
 pub kept_exactly : {S K : Type 0} (kept_of : S → K) (standing_of : S → ℕ → Standing) (words_of : S → ℕ → ℕ → ℕ) (pages before now : List ℕ) (old new : S)
     → Swaps kept_of standing_of words_of before now old new → ((q : ℕ) → standing_of old q ≡ at_start (has pages q)) → ((q : ℕ) → times q before ≡ bit (has pages q)) → ((q : ℕ) → times q now ≤ 1)
     → (q : ℕ) → (times q now ≡ bit (stands_kept (standing_of new q))) × (standing_of new q ≢ Taken)

@@ -112,7 +112,7 @@ abbrev pub pages_from : (Place → Bool) → ℕ → List Place → List ℕ
 pages_from f p [] = []
 pages_from f p (x ∷ xs) = if f x then p ∷ pages_from f (suc p) xs else pages_from f (suc p) xs
 
--- a scan reads one reader slot, and its last one
+-- a scan reads one reader slot; and a scan reads its last one
 abbrev pub scans_on : Knowledge → ℕ → Knowledge
 scans_on a n = record a { scanned = suc a.scanned; least = least_then a n; steps = a.steps + 1 }
 
@@ -412,7 +412,7 @@ Published e v st m n r = let a = pass_of m.0 in (r ≡ (alone (publishes a e v),
 
 -- ## The moves of the steps
 
--- A step makes this move: the pass's history ends with it, the machine is then as the pass knows
+-- A step makes this move. The pass's history ends with it, the machine is then as the pass knows
 -- it, and the other facts hold for the pass with this history.
 abbrev pub Moving : Move → (World → Type 0)
     → (Me (Option Ledger) View → Me (Option Ledger) View → Type 0) → Me (Option Ledger) View
@@ -453,8 +453,8 @@ abbrev pub CompareMoves : Step (Option Ledger) → Me (Option Ledger) View → �
 CompareMoves st m n r = let a = pass_of m.0 in let c = second_of m.0 in Compared st m n r
     × HasTrace a.limits (a ∷ c ∷ [])
 
--- the number found is in the reader slot of the pass whose turn it is, and just before that the
--- machine was as the pass knew it
+-- The number found is in the reader slot of the pass whose turn it is. Just before that the machine
+-- was as the pass knew it.
 abbrev pub ScanMoves : Step (Option Ledger) → Me (Option Ledger) View → ℕ → Me (Option Ledger) View
     → Type 0
 ScanMoves st m n r =

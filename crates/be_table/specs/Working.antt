@@ -15,7 +15,7 @@ pub record HasNoneFree (limits : Limits) (moves : List Move) : Type 0 where
   pub runs : RunsTo limits words moves world
   pub none : (p : ℕ) → IsFalse (world.free p)
 
--- A whole scan, which begins with the reader slot of the pass 0, is made when the machine has no
+-- A whole scan begins with the reader slot of the pass 0, and its reason is that the machine has no
 -- free page. Other moves need no reason.
 abbrev pub HasReason : Limits → List Move → Move → Type 0
 HasReason limits before (Look j) = Unit {0}

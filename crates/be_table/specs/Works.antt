@@ -161,7 +161,7 @@ abbrev pub HoldsUnreached : Knowledge → ℕ → Type 0
 HoldsUnreached a least = (p : ℕ) → p < a.limits.pages → NoCommitReaches a.seen least p
     → IsTrue (has a.held p)
 
--- in the machine after some prefix of the pass's history that goes beyond the lock, the pass j had
+-- in the machine after some prefix of the pass's history that includes the lock, the pass j had
 -- announced this number
 pub record HadAnnounced (a : Knowledge) (j number : ℕ) : Type 0 where
   pub upto : List Move

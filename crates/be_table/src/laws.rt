@@ -158,8 +158,8 @@ pub fn runs()
     ensures fronts { FrontsRun }
 {}
 
-/// Among the first 528 words, those that are neither the lock, nor the current version, nor a
-/// pass's reader slot are 0 between any two steps. So no call can have its own lock there.
+/// Each of the first 528 words is 0 between any two steps, except the lock, the current version and
+/// the passes' reader slots. So no call can have its own lock there.
 pub fn unused_words()
     ensures zero { UnusedAreZero }
     ensures stay { UnusedStayZero }

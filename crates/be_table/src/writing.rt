@@ -40,7 +40,7 @@ use be_volume::{Done, Op};
 use std::marker::{Brand, Model};
 
 /// A retired page is only reused once a scan has freed it. A write that first lets the pool run
-/// empty goes through the memory of every page. The pages that were given up last are still in the
+/// empty goes through the memory of every page, although those given up last are still in the
 /// cache. A write gives up 6 to 16, all of which use the same few lines of the cache. So those of
 /// two or three writes are still in its nearest levels. While readers hold pages, scanning at every
 /// write frees nothing more and costs one load for each pass.
