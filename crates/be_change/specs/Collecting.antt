@@ -8,16 +8,16 @@ use Rattle.be_change.specs.declared.errors.CollectError.{CollectError}
 use Rattle.be_change.specs.declared.errors.CollectError.TheVariants.{TooMany, WrongKind}
 use Rattle.be_change.specs.declared.errors.CollectError.TheVariants.{OutOfMemory}
 
--- The change has 64 operations, or it has fewer and memory ran out.
+-- Either the change has 64 operations, or it has fewer and memory ran out.
 abbrev pub HasNoRoom : Changing → CollectError → Type 0
 HasNoRoom c e = ((e ≡ TooMany) × (length c.ops ≡ 64))
     ⊎ ((e ≡ OutOfMemory) × (length c.ops < 64))
 
--- an index of that name, if there is one, takes values of this kind
+-- the index of that name, if there is one, takes values of this kind
 abbrev pub TakesKind : State → List ℕ → Kind → Type 0
 TakesKind s name kind = (indexed : Kind) → index_kind s name ≡ Some indexed → indexed ≡ kind
 
--- the kind is that of the index of this name, if there is one, as the collected operations leave it
+-- the index of this name, if there is one, has this kind, as the collected operations leave it
 abbrev pub IsOfRightKind : Changing → List ℕ → Kind → Type 0
 IsOfRightKind c name kind = (base : State) → Reads c base
     → After c base (λ s. TakesKind s name kind)

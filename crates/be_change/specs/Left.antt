@@ -1,4 +1,4 @@
--- What one operation says of one attribute, and of the index of one name.
+-- What one operation does to one attribute, and to the index of one name.
 use Rattle.std.specs.Prelude.{ℕ, ◌&&◌, Bool, true, false, List, Some, None, nat_eq}
 use Rattle.std.specs.Prelude.{if◌then◌else◌}
 use Rattle.std.specs.Cmp.Lexicographic.{pointwise}
@@ -17,7 +17,8 @@ is_new (Unset node name) = false
 is_new (MkIndex name kind) = false
 is_new (RmIndex name) = false
 
--- what the operation leaves of this attribute, if it touches that; it makes the node `next`
+-- what the operation leaves of this attribute, if it touches it; a node that it makes has the
+-- number `next`
 abbrev pub left_by : Op → ℕ → ℕ → List ℕ → Option (Option Value)
 left_by New next node name = if nat_eq node next then Some None else None
 left_by (Drop dropped) next node name = if nat_eq node dropped then Some None else None
@@ -28,7 +29,7 @@ left_by (Unset changed unset) next node name =
 left_by (MkIndex made kind) next node name = None
 left_by (RmIndex removed) next node name = None
 
--- what the operation leaves of the index of this name, if it touches that
+-- what the operation leaves of the index of this name, if it touches it
 abbrev pub index_left_by : Op → List ℕ → Option (Option Kind)
 index_left_by New name = None
 index_left_by (Drop node) name = None

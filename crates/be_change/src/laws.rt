@@ -1,6 +1,6 @@
 //! What a pass may do while it has a change.
 //!
-//! The law does nothing; its contract is the law, for the crates above.
+//! The law does nothing: its contract is the law, for the crates above.
 ghost use Rattle.std.specs.Prelude.{ℕ, List};
 ghost use Rattle.be_table.specs.Steps.{IsPass};
 ghost use Rattle.be_table.specs.declared.pass.Knowledge.{Knowledge};
@@ -11,8 +11,8 @@ ghost use Rattle.be_store.specs.Passes.{HasRead};
 ghost use Rattle.be_change.specs.Changing.{Changing};
 ghost use Rattle.be_change.specs.Ending.{IsChangeOf};
 
-/// A change stays one of its pass, and reads the same volume, while the pass reads, is refused a
-/// write, or writes: none of these moves its pin.
+/// A change still belongs to its pass, and reads the same volume, while the pass reads, is refused
+/// a write, or writes: none of these moves its pin.
 pub fn stays()
     ensures read { (change : Changing) (a c : Knowledge) → HasRead a c → IsChangeOf change a
         → IsChangeOf change c }

@@ -1,4 +1,4 @@
--- The characters that fold to one, as the members of a set.
+-- The characters that fold to one character, as the members of a set.
 use Rattle.std.proofs.Common.{◌≡◌, ◌⊎◌, ℕ, zero, suc, Bool, true, false, ◌||◌, ◌&&◌, nat_le, List, [], ◌∷◌, map, filter, Contains, inl, inr, refl, sym, ap, ◌∙◌, arith}
 use Rattle.std.specs.Prelude.{not}
 use Rattle.std.specs.Bool.{◌==◌}
@@ -35,7 +35,7 @@ within_twin c d h =
 pub twin_within : (c : ℕ) → is_within c (twin c) ≡ true
 twin_within c = and_from (nat_le c c) (nat_le c c) (le-leb c c (omega arith)) (le-leb c c (omega arith))
 
--- c is among the characters
+-- c is one of the characters
 abbrev pub is_member : ℕ → List ℕ → Bool
 is_member c ds = list_any (is_within c) (map twin ds)
 
@@ -70,7 +70,7 @@ to_member f c (p ∷ ps) (suc k, lt, at) =
     let rest = to_member f c ps (k, omega arith, at) in
     cond_both (p.0 == f) (p ∷ filter (λ q. q.0 == f) ps) (filter (λ q. q.0 == f) ps) (λ l. is_member c (map (λ q. q.1) l) ≡ true) (λ w. right_or _ _ rest) (λ w. rest)
 
--- what folds to a character that folds to itself: the character, and the others
+-- what folds to a character that folds to itself is that character or one of the others
 pub fold_member : (f c : ℕ) → IsFoldPairs fold_pairs → simple_fold f ≡ f → is_member c (f ∷ others f) ≡ true → simple_fold c ≡ f
 fold_member f c pairs idem h = ⊎_elim
     (λ v. ap simple_fold (sym (within_twin c f v)) ∙ idem)
@@ -95,7 +95,7 @@ pub pairs_plain : are_plain_pairs fold_pairs ≡ true
 unfolding fold_pairs fold_other_rows
 pairs_plain = refl
 
--- each other character is plain, and so is the first if there are others
+-- each of the others is plain, and so is the first character if there are others
 pub others_plain : (f : ℕ) (ps : List (ℕ × ℕ)) → are_plain_pairs ps ≡ true → list_all is_plain_char (others_among f ps) ≡ true
 others_plain f [] h = refl
 others_plain f (p ∷ ps) h =
@@ -122,7 +122,7 @@ contained_plain a b (p ∷ ps) h (zero, lt, at) =
 contained_plain a b (p ∷ ps) h (suc k, lt, at) =
     contained_plain a b ps (and_parts (is_plain_char p.0 && is_plain_char p.1) (are_plain_pairs ps) h).1 (k, omega arith, at)
 
--- a character is its folding, or that is plain
+-- a character is its own folding, or its folding is plain
 pub folded_plain : (c : ℕ) → IsFoldPairs fold_pairs → simple_fold (simple_fold c) ≡ simple_fold c → (simple_fold c ≡ c) ⊎ (is_plain_char (simple_fold c) ≡ true)
 folded_plain c pairs idem = ⊎_elim
     (λ v. inl (sym (eqb-true c (simple_fold c) v)))

@@ -24,7 +24,7 @@ use Rattle.be_query_text.proofs.Passing.{Passes, none_passes, both_pass, char_pa
 use Rattle.be_query_text.proofs.Escapes.{special_ascii, plain_bare, char_read, char_ends, char_scalars}
 use Rattle.be_query_text.proofs.Folds.{twin, is_member, fold_member, member_fold, is_plain_char, pairs_plain, others_plain, first_plain, folded_plain}
 
--- What a plain character is not.
+-- What a plain character isn't.
 
 record IsPlain (c : ℕ) : Type 0 where
   special : is_special c ≡ false
@@ -98,7 +98,7 @@ none_falls (d ∷ ds) = ap (λ b. b || falls (map twin ds)) (le-ltb d d (omega a
 twins_are_members : (d : ℕ) (ds : List ℕ) → are_members (map twin (d ∷ ds)) ≡ true
 twins_are_members d ds = ap not (none_falls (d ∷ ds))
 
--- the token of a set, or of a character alone
+-- the token of a set, or of a single character
 abbrev case_part : ℕ → List ℕ → Part
 case_part f [] = Only f
 case_part f (d ∷ ds) = Among false (map twin (f ∷ d ∷ ds))
@@ -188,7 +188,7 @@ folds_from (c ∷ cs) (o ∷ os) pairs h =
 
 -- The text of all characters.
 
--- what stands for one character, in a form that goes over the others
+-- the text of one character, in a form that allows for what comes after it
 record StandsFor (f : ℕ) (ds : List ℕ) : Type 0 where
   read : (at : ℕ) (more : List ℕ) → (next : ℕ) × (parts_after 0 (letters false at (set_text f ds ++ more)) ≡ and_then (case_part f ds) (parts_after 0 (letters false next more)))
   ends : (at : ℕ) (more : List ℕ) → (next : ℕ) × (ending_backslash false at (set_text f ds ++ more) ≡ ending_backslash false next more)

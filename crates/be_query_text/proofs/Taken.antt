@@ -13,7 +13,7 @@ use Rattle.be_query_text.specs.Steps.{SignIs, left, GoesOn, token_of}
 use Rattle.be_query_text.specs.declared.places.Piece as code
 use Rattle.be_query_text.specs.declared.places.Sign.{Sign}
 
--- the pieces of what is left are these before those of what lies beyond
+-- the pieces of the rest are these, followed by the pieces beyond
 abbrev pub Leaves : ℕ → List ℕ → List code.Piece → List ℕ → Type 0
 Leaves total rest taken beyond = (pieces (left total rest) ≡ taken ++ pieces (left total beyond)) × GoesOn total rest beyond
 
@@ -31,7 +31,7 @@ separator_passed total rest beyond l s d k =
     let e = separated rest beyond total b k in
     (ap pieces e, (ap all_whole e, separated_shorter rest beyond b))
 
--- a name or a value that breaks off, or no token, is nothing that a query has
+-- a query has no name or value that breaks off, and nothing that isn't a token
 pub breaks_off : (total : ℕ) (rest : List ℕ) (n width : ℕ) → HasLexeme rest (Broken n) width 0 → all_whole (left total rest) ≡ false
 breaks_off total rest n width h = ap all_whole (stands rest (total - length rest) width 0 (Broken n) h).1
 

@@ -1,4 +1,4 @@
--- Comparisons as other languages have them.
+-- Comparisons as other languages get them.
 use Rattle.std.specs.Prelude.{ℕ, ◌+◌, List, [], ◌∷◌, ◌++◌, length}
 use Rattle.std.specs.List.{flat_map}
 use Rattle.be_query.specs.declared.tree.Cmp.{Cmp}
@@ -52,6 +52,6 @@ spelled_from at (d ∷ ds) = spelled_as at (at + length d.name)
     (at + length d.name + length d.words) d
     ∷ spelled_from (at + length d.name + length d.words) ds
 
--- their plain names and values, one after the other
+-- their plain names and values, end to end
 abbrev pub bytes_of : List Description → List ℕ
 bytes_of = flat_map (λ d. d.name ++ d.words)

@@ -31,24 +31,24 @@ pub enum Form {
 #[derive(Debug, Drop)]
 pub struct Compared {
     pub name: Name,
-    /// As the tree has it: turned by each `!` round the comparison.
+    /// The operator in the tree: each `!` around the comparison inverts it.
     pub op: Cmp,
     pub form: Form,
-    /// The number, if it is one.
+    /// The number, if it encodes one.
     pub number: Option<i128>,
-    /// What is compared with, without quotes and backslashes; of a pattern its canonical text.
+    /// What is compared with, without quotes and backslashes; for a pattern its canonical text.
     pub words: String,
-    /// The place of the comparison, and its operator there.
+    /// The place of the comparison, and its operator in the text.
     pub place: Place,
 }
 
-/// The comparisons of a query's text, from left to right, or the refusal of `parse`. It takes what
-/// `parse` takes, and memory for the comparisons.
+/// The comparisons of a query's text, from left to right, or the error of `parse`. It costs what
+/// `parse` costs, and memory for the comparisons.
 pub fn comparisons(alloc: Global, text: &str) -> Result<Vec<Compared>, Refusal>
     // They are the comparisons of the tree that the text encodes, each with its place in the text.
     ensures ok { IfOk result (λ v. (fault text.now ≡ None) × (tree : Formula)
         × IsTextOf text.now tree × (map told v.items ≡ described (leaves tree) (places text.now))) }
-    // A text that isn't a query is refused as `parse` refuses it.
+    // For a text that isn't a query, the error is that of `parse`.
     ensures err { IfErr result (λ e. IsMemory e (fault text.now ≡ Some e)) }
 {
     let query = parse(alloc, text)?;
@@ -58,8 +58,8 @@ pub fn comparisons(alloc: Global, text: &str) -> Result<Vec<Compared>, Refusal>
     Ok(compared)
 }
 
-/// Appends the comparisons of a part of a query, which are at the first places, and returns the
-/// places of those after it.
+/// Appends the comparisons of a part of a query, which are at the first places. Returns the places
+/// after those.
 fn push_each<'a>(
     alloc: Global,
     tree: &Tree,
@@ -89,7 +89,7 @@ fn push_each<'a>(
     }
 }
 
-/// What is said of a comparison at a place.
+/// What is reported about a comparison at a place.
 fn describe(alloc: Global, comparison: &Comparison, place: Place) -> Result<Compared, Refusal>
     ensures ok { IfOk result (λ c. told c ≡ description (record {
       name = comparison.now.name;
@@ -109,7 +109,7 @@ fn describe(alloc: Global, comparison: &Comparison, place: Place) -> Result<Comp
     })
 }
 
-/// The form of a literal that encodes this number, or none.
+/// The form of a literal, given the number that it encodes, if any.
 fn form_of(literal: &Literal, number: Option<i128>) -> Form
     ensures { result ≡ form_of (literal_of literal.now) number }
 {

@@ -1,9 +1,9 @@
-//! What a query's text compares, and what is put into one.
+//! What a query's text compares, and how to put a text into a query.
 //!
-//! `comparisons` reads a text by be_query's parser, and returns the comparisons of its tree with
-//! their places in the text. `escaped` makes a name or a value of any text, and `any_case` a
-//! pattern that matches a text in upper and lower case. The libraries of all languages call these,
-//! so a text has one reading everywhere.
+//! `comparisons` reads a text with be_query's parser, and returns the comparisons of its tree with
+//! their places in the text. `escaped` makes a name or a value from any text, and `any_case` makes
+//! a pattern that matches a text in upper and lower case. The libraries of all languages call
+//! these, so a text has the same reading everywhere.
 #![tactic(auto)]
 
 mod cases;

@@ -1,4 +1,4 @@
-//! Comparisons as other languages have them.
+//! Comparisons as other languages get them.
 ghost use Rattle.std.specs.Prelude.{◌≡◌, IfOk, map};
 ghost use Rattle.be_query_text.specs.Described.{told};
 ghost use Rattle.be_query_text.specs.Spelled.{bytes_of, form_number, op_number, spelled_as};
@@ -10,30 +10,30 @@ use be_query::Cmp;
 use be_value::Kind;
 use std::alloc::{AllocError, Global};
 
-/// A comparison of a query's text as other languages have it. Offsets are in bytes of the text; the
-/// plain ones are in one string of bytes that goes with all comparisons.
+/// A comparison of a query's text as other languages get it. Offsets are in bytes of the text; the
+/// `plain` ones are in one byte string for all comparisons.
 #[repr(C)]
 #[derive(Clone, Copy)]
 pub struct SpelledComparison {
     /// The comparison, from its name to its value.
     pub at: u64,
     pub end: u64,
-    /// The name and the value without quotes, and with their backslashes.
+    /// The name and the value without quotes, but with their backslashes.
     pub name_at: u64,
     pub name_end: u64,
     pub value_at: u64,
     pub value_end: u64,
-    /// The name without backslashes, and after it the value; of a pattern its canonical text.
+    /// The name without backslashes, followed by the value; for a pattern its canonical text.
     pub plain_name_at: u64,
     pub plain_value_at: u64,
     pub plain_end: u64,
-    /// 4 to 9 for `==`, `!=`, `<`, `<=`, `>` and `>=`, as each `!` turns it.
+    /// 4 to 9 for `==`, `!=`, `<`, `<=`, `>` and `>=`, inverted by each `!`.
     pub kind: u32,
-    /// The same as the text has it.
+    /// The same for the operator in the text.
     pub kind_in_text: u32,
     /// 0 for a text, 1 for a whole number and 2 for a pattern with a wildcard.
     pub form: u32,
-    /// Whether it is true of no value of the kind.
+    /// Whether the comparison is true of no value of the kind.
     pub is_never_int32: bool,
     pub is_never_int64: bool,
     pub is_never_uint32: bool,
@@ -47,7 +47,7 @@ pub struct Spelling {
     pub bytes: Vec<u8>,
 }
 
-/// The comparisons as other languages have them.
+/// The comparisons as other languages get them.
 pub fn spelled(alloc: Global, compared: &[Compared]) -> Result<Spelling, AllocError>
     ensures comparisons { IfOk result (λ s. s.comparisons.items
         ≡ spelled_from 0 (map told compared.now)) }
@@ -67,7 +67,7 @@ pub fn spelled(alloc: Global, compared: &[Compared]) -> Result<Spelling, AllocEr
     Ok(Spelling { comparisons, bytes })
 }
 
-/// A comparison whose plain name and value are there in the bytes.
+/// A comparison whose plain name and value are at these offsets.
 fn spell(compared: &Compared, name_at: usize, value_at: usize, end: usize) -> SpelledComparison
     ensures { result ≡ spelled_as name_at value_at end (told compared.now) }
 {

@@ -1,4 +1,4 @@
--- What is said of the cover that is chosen for a query.
+-- What holds for the cover that is chosen for a query.
 use Rattle.std.proofs.Common.{◌≡◌, ◌⊎◌, ℕ, Bool, List, Result, Ok, Err, IfOk, IfErr, inl, inr, ap, sym, ◌∙◌}
 use Rattle.std.specs.Result.{result_map_both}
 use Rattle.be_plan.specs.Cover.{chosen}

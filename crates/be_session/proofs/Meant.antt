@@ -1,4 +1,4 @@
--- One operation more, or one that means none.
+-- One more operation, or one that is invalid.
 use Rattle.std.proofs.Common.{◌≡◌, ℕ, List, [], ◌∷◌, ◌++◌, ◌<◌, ◌+◌, take, length, get_or, inl, inr, subst, sym}
 use Rattle.std.proofs.lemmas.List.{take_more}
 use Rattle.be_volume.specs.declared.ops.Op.{Op}
@@ -13,7 +13,7 @@ pub meant_next : (os : List Operation) (i : ℕ) (d : Operation) (bytes : List �
 meant_next os i d bytes ops op low are within is =
     subst (λ xs. AreMeant xs bytes (ops ++ op ∷ [])) (sym (take_more os i d low)) (are_meant_more (take i os) (get_or os i d) bytes ops op are within is)
 
--- those before it mean some, and it means none: its place is told
+-- the operations before it are valid and it isn't: its place is reported
 pub misspelt_here : (os : List Operation) (i : ℕ) (d : Operation) (bytes : List ℕ) (ops : List Op) (e : Fault) (place : ℕ) → place ≡ i → IsWriteCount (length os) → i < length os
     → AreMeant (take i os) bytes ops → IsMisspeltAt (get_or os i d) bytes e → IsMisspelt os bytes e place
 misspelt_here os i d bytes ops e place is fits low are why =

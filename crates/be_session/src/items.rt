@@ -1,4 +1,4 @@
-//! Predicates in reverse Polish order as other languages encode them.
+//! Predicates in reverse Polish order, as other languages encode them.
 ghost use Rattle.std.specs.Prelude.{◌≡◌, ◌<◌, ℕ, List, IfOk, IfErr, map};
 ghost use Rattle.be_query.specs.Rpn.{item_of};
 ghost use Rattle.be_session.specs.Items.{AreItemsMeant, AreItemsMisspelt, IsBuilt, IsItemMeant};
@@ -12,14 +12,13 @@ use crate::{Fault, ListFault};
 use be_store::{Item, Query, from_rpn};
 use std::alloc::Global;
 
-/// An item of a predicate as C encodes it. Its bytes are a part of one string of bytes that goes
-/// with all items.
+/// A predicate's item as C encodes it. Its bytes are a part of one byte string for all items.
 #[repr(C)]
 #[derive(Clone, Copy)]
 pub struct PredicateItem {
-    /// 0 is an attribute and 1 a text, by their bytes; 2 is a signed number and 3 another; 4 to 9
-    /// compare by ==, !=, <, <=, > and >=; 10 to 12 ask whether the attribute contains the text,
-    /// begins or ends with it; 13 is and, 14 or, 15 not.
+    /// 0 is an attribute and 1 a text, by their bytes; 2 is a signed number and 3 an unsigned one.
+    /// 4 to 9 compare with ==, !=, <, <=, > and >=. 10 to 12 ask whether the attribute contains the
+    /// text, begins with it or ends with it. 13 is and, 14 or, 15 not.
     pub kind: u32,
     pub at: u32,
     pub length: u32,
@@ -74,7 +73,7 @@ fn one_item(alloc: Global, spelled: &PredicateItem, bytes: &[u8]) -> Result<Item
     }
 }
 
-/// The place that is reported with the error of the item at this place.
+/// The place that is reported with an error of the item at this place.
 fn told(fault: &Fault, place: usize) -> u64
     ensures { result ≡ item_told fault.now place }
 {
@@ -84,8 +83,8 @@ fn told(fault: &Fault, place: usize) -> u64
     place as u64
 }
 
-/// The item that is encoded here. Its error says that its part isn't within the bytes, or that it
-/// means no item.
+/// The items that are encoded here. An error says that an item's part isn't within the bytes, or
+/// that it is no valid item.
 fn items(alloc: Global, spelled: &[PredicateItem], bytes: &[u8]) -> Result<Vec<Item>, ListFault>
     ensures ok { IfOk result (λ items. AreItemsMeant spelled.now bytes.now
         (map item_of items.items)) }
@@ -104,8 +103,8 @@ fn items(alloc: Global, spelled: &[PredicateItem], bytes: &[u8]) -> Result<Vec<I
     Ok(items)
 }
 
-/// The query that items in reverse Polish order build. The first invalid item gives the error and
-/// its place. Otherwise an error is that of `be_query::from_rpn`, with the item that it names.
+/// The query that items in reverse Polish order build. The first invalid item determines the error
+/// and its place. Otherwise an error is that of `be_query::from_rpn`, with the item that it names.
 pub fn query_of_items(
     alloc: Global,
     spelled: &[PredicateItem],

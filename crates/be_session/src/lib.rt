@@ -1,8 +1,10 @@
 //! A pass with its share of the store: what one user outside Rattle holds.
 //!
-//! A session tests for itself what the store's calls ask of their callers, so each of its calls may
-//! be made at any time. A witness that it joins has to be of its store. It may move to another
-//! thread between two calls. The store goes with its last session.
+//! A session checks for itself what the store's calls require of their callers, so each of its
+//! calls may be made at any time. Two requirements are not checked. The witness for `join` has to
+//! be of this store, and before `refresh_changed` the query's last refresh has to be in this store.
+//! A session may move to another thread between two calls. The store is freed with its last
+//! session.
 #![tactic(auto)]
 
 mod changing;

@@ -9,15 +9,15 @@ use crate::{Fault, ListFault};
 use be_store::Op;
 use std::alloc::Global;
 
-/// An operation as C encodes it. Its name, and the bytes of its value, are parts of one string of
-/// bytes that goes with all operations of a write.
+/// An operation as C encodes it. Its name and its value's bytes are parts of one byte string for
+/// all operations of a write.
 #[repr(C)]
 #[derive(Clone, Copy)]
 pub struct Operation {
     /// 0 makes a node, 1 removes it, 2 sets an attribute and 3 removes it, 4 makes an index and 5
     /// removes it.
     pub kind: u32,
-    /// The type code of the value or of the index.
+    /// The type code of the value or the index.
     pub code: u32,
     pub node: u64,
     /// The value, if it is a number.
@@ -28,7 +28,7 @@ pub struct Operation {
     pub value_length: u32,
 }
 
-/// A part of the bytes, if it is within them.
+/// A part of the bytes, if it lies within them.
 pub(crate) fn part(bytes: &[u8], at: u32, len: u32) -> Option<&[u8]>
     ensures some { IfSome result (λ found. (at + len ≤ length bytes.now)
         × (found.now ≡ part bytes.now at len)) }
@@ -65,9 +65,9 @@ pub(crate) fn one(spelled: &Operation, bytes: &[u8]) -> Result<Op, Fault>
     )
 }
 
-/// The 1 to 64 operations that are encoded here, in their order. BadCount if there are more or
-/// none: then it takes no memory and reads nothing. Otherwise an error is that of the first invalid
-/// operation, with its place, or OutOfMemory.
+/// The 1 to 64 operations that are encoded here, in order. BadCount if there are none or more than
+/// 64: then it allocates no memory and reads nothing. Otherwise an error is that of the first
+/// invalid operation, with its place, or OutOfMemory.
 pub fn operations(alloc: Global, spelled: &[Operation], bytes: &[u8]) -> Result<Vec<Op>, ListFault>
     ensures count { IfOk result (λ _. IsWriteCount (length spelled.now)) }
     ensures ok { IfOk result (λ ops. AreMeant spelled.now bytes.now ops.items) }

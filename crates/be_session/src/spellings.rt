@@ -1,5 +1,5 @@
 //! Attributes, indices and operations as other languages get them: as operations, with the bytes
-//! that their parts are in.
+//! that contain their parts.
 ghost use Rattle.std.specs.Prelude.{◌≡◌, ◌++◌, IfOk, IfErr, IfSome, length, map};
 ghost use Rattle.be_value.specs.declared.refusals.Refusal.TheVariants.{OutOfMemory};
 ghost use Rattle.be_session.specs.Operations.{AreSpelled, IsMeantBy, ArePartsWithin, TellNodes};
@@ -11,14 +11,14 @@ use crate::{Fault, Operation, spelled};
 use be_store::{Done, Kind, Name, Op, Refusal, Value};
 use std::alloc::Global;
 
-/// Encoded operations, with the bytes that their parts are in.
+/// Encoded operations, with the bytes that contain their parts.
 #[derive(Drop)]
 pub struct Spelling {
     pub operations: Vec<Operation>,
     pub bytes: Vec<u8>,
 }
 
-/// Appends bytes, and returns their offset and length. OutOfMemory also at 4 GiB.
+/// Appends bytes, and returns their offset and length. OutOfMemory, also at 4 GiB.
 fn append(bytes: &mut Vec<u8>, more: &[u8]) -> Result<(u32, u32), Fault>
     ensures ok { IfOk result (λ r. (r.0 ≡ length bytes.old.items) × (r.1 ≡ length more.now)
         × (bytes.new.items ≡ bytes.old.items ++ more.now)) }
@@ -155,7 +155,8 @@ pub fn operations_spelled(alloc: Global, list: &[Op]) -> Result<Spelling, Fault>
     Ok(Spelling { operations, bytes })
 }
 
-/// Encodes an operation of an entry as `spell` does; one that made a node has that node.
+/// Encodes an operation of an entry as `spell` does. If it made a node, the encoding has that
+/// node's number.
 fn spell_done(bytes: &mut Vec<u8>, op: &Op, done: Option<&Done>) -> Result<Operation, Fault>
     ensures more { IfOk result (λ o. bytes.new.items ≡ bytes.old.items
         ++ both_parts o bytes.new.items) }
@@ -171,7 +172,7 @@ fn spell_done(bytes: &mut Vec<u8>, op: &Op, done: Option<&Done>) -> Result<Opera
     Ok(operation)
 }
 
-/// Encodes the operations of an entry in their order; each that made a node has that node.
+/// Encodes an entry's operations in order. Each one that made a node has that node's number.
 /// OutOfMemory.
 pub fn entry_spelled(alloc: Global, ops: &[Op], dones: &[Done]) -> Result<Spelling, Fault>
     ensures ok { IfOk result (λ s. AreSpelled s.operations.items s.bytes.items ops.now) }

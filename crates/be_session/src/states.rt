@@ -9,7 +9,8 @@ use crate::{Fault, Spelling};
 use be_store::{Op, Place};
 use std::alloc::Global;
 
-/// How far the operations that rebuild a version were returned: what was read of them and is ready.
+/// How far the operations that rebuild a version have been returned, with those that were read and
+/// are ready.
 #[derive(Drop)]
 pub struct StatePlace {
     pub(crate) place: Place,
@@ -26,7 +27,7 @@ impl StatePlace {
     ghost use Rattle.be_session.specs.States.{WaitAfter, unread, untold, waiting};
     ghost use Rattle.be_session.specs.declared.faults.Fault.TheVariants.{Refused};
 
-    /// Before the first operation. It takes no memory.
+    /// The place before the first operation. No memory is allocated.
     pub fn new(alloc: Global) -> StatePlace
         ensures { (volume : State) → untold volume result ≡ state_ops volume }
     {
@@ -37,7 +38,7 @@ impl StatePlace {
     }
 
     /// Encodes the operations that are ready. If they fit into this many operations and bytes, they
-    /// count as returned; otherwise they stay ready. OutOfMemory: they stay ready.
+    /// count as returned; otherwise they stay ready. After OutOfMemory they stay ready, too.
     pub fn tell(
         &mut self,
         alloc: Global,

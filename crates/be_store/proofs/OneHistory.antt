@@ -1,4 +1,4 @@
--- What the journal says in the end of each step of the small machine.
+-- What the journal says at the end about each step of the small machine.
 use Rattle.std.proofs.Common.{◌≡◌, ◌≤◌, ℕ, suc, inl, inr, List, [], ◌∷◌, ◌++◌, length, take, Option, Some, None, refl, sym, ap, ◌∙◌, subst, arith, length-append}
 use Rattle.std.specs.Prelude.{◌≢◌, All, AllPairs, IfSome, map}
 use Rattle.std.proofs.lemmas.List.{append_assoc, append-nil, take-append-le, take_all}
@@ -93,7 +93,7 @@ module _ (o : Object) where
       run_mine x.1 rest z h.1
       ∙ (ap (λ k. k ++ written o rest) (step_mine a x.0 x.1 h.0) ∙ append_assoc a.mine (written_by o x.0) (written o rest))
 
-  -- the runs are of different passes, since their last views are
+  -- the runs are of different passes, because their last views are
   run_numbers : (runs : List (PassRun o)) → map (λ (z : PassView o). z.number) (map (λ (r : PassRun o). r.last) runs) ≡ map (λ (r : PassRun o). r.number) runs
   run_numbers [] = refl
   run_numbers (r ∷ runs) = λ j. run_number o (first_view o r.number) r.steps r.last r.run j ∷ run_numbers runs j

@@ -13,7 +13,7 @@ use Rattle.be_store.specs.History.{Accepts, IsHeldThrough, Learns, LocksOnly, Is
 use Rattle.be_store.specs.Passes.{volume_seen}
 use Rattle.be_store.proofs.Refusals.{steps_refuse}
 
--- what is not of the variant Busy
+-- a refusal that isn't Busy
 pub no_busy : (e : Refusal) → ((b : ℕ) → e ≡ Busy b → ⊥) → is_busy e ≡ false
 no_busy (Busy b) other = absurd (other b refl)
 no_busy e other = refl
@@ -23,7 +23,7 @@ busy_with : (e : Refusal) → is_busy e ≡ true → (b : ℕ) × (e ≡ Busy b)
 busy_with (Busy b) h = (b, refl)
 busy_with e h = absurd (false≢true h)
 
--- Busy comes of the lock alone
+-- Busy comes only from the lock
 busy_by_lock : (a c : Knowledge) (ops : List Op) (b : ℕ) → IsReason a c ops (Busy b) → FoundHeld (Busy b) a c
 busy_by_lock a c ops b (inl h) = h.0
 busy_by_lock a c ops b (inr (inl h, locks)) = absurd (let few = (steps_refuse (volume_seen c) ops (Busy b) h).0 in omega (arith, few))
@@ -38,9 +38,9 @@ busy_by_lock a c ops b (inr (inr (inr h), locks)) = absurd (let e = h.2.1 in cc)
 pub untried : (a : Knowledge) → a ≡ tried a []
 untried a = let same : a.steps ≡ a.steps + 0 = omega arith in ap (λ (n : ℕ). record a { steps = n }) same
 
--- what was found by so many tries, the last of which led from m to c
+-- the state after a number of failed tries, the last of which led from m to c
 module _ (a : Knowledge) (holders : List ℕ) (m c : Knowledge) (is : m ≡ tried a holders) where
-  -- one try more
+  -- one more try
   tried_again : (b : ℕ) → c ≡ finds_held m b → c ≡ tried a (b ∷ holders)
   tried_again b next =
       let steps : a.steps + length holders + 1 ≡ a.steps + length (b ∷ holders) = omega arith in
@@ -80,7 +80,7 @@ module _ (a : Knowledge) (holders : List ℕ) (m c : Knowledge) (is : m ≡ trie
           moved (inl none) = inl none
           moved (inr l) = inr (record { locked = l.locked; lock = l.lock; worked = l.worked; work = l.work; unlock = l.unlock })
 
-  -- the last try found a holder too
+  -- the last try also found the lock held
   pub held_at_last : (e : Refusal) → FoundHeld e m c → IsHeldThrough (length holders + 1) a c e
   held_at_last e late =
       (late.0, holders, late.1, subst (λ (k : Knowledge). late.0 < k.limits.passes) is late.2, subst (λ (k : Knowledge). late.0 ≢ k.number) is late.3, refl, tried_again late.0 late.4)
@@ -90,19 +90,19 @@ module _ (a : Knowledge) (holders : List ℕ) (m c : Knowledge) (is : m ≡ trie
   reason_at_last ops e (inl h) = inl (held_at_last e h.0)
   reason_at_last ops e (inr h) = inr (h.0, locks_at_last h.1)
 
-  -- the reason of a try that was not the last
+  -- the reason of a try that wasn't the last
   reason_else : (tries : ℕ) (ops : List Op) (e : Refusal) → is_busy e ≡ false → IsReason m c ops e → IsLastReason tries a c ops e
   reason_else tries ops e free (inl h) = absurd (false≢true (sym free ∙ ap is_busy h.0.1))
   reason_else tries ops e free (inr h) = inr (h.0, locks_at_last h.1)
 
-  -- a try that is refused by Busy found a holder
+  -- a try that is refused with Busy found the lock held
   pub held_by : (ops : List Op) (e : Refusal) → is_busy e ≡ true → IsReason m c ops e → (b : ℕ) × (c ≡ tried a (b ∷ holders))
   held_by ops e held h =
       let busy = busy_with e held in
       let late = busy_by_lock m c ops busy.0 (subst (λ (x : Refusal). IsReason m c ops x) busy.1 h) in
       (late.0, tried_again late.0 late.4)
 
-  -- the try found a holder
+  -- the try found the lock held
   pub held_again : {X : Type 0} (ops : List Op) (r : Result X Refusal) → was_busy r ≡ true → IfErr r (λ e. Learns m c × IsReason m c ops e) → (b : ℕ) × (c ≡ tried a (b ∷ holders))
   held_again ops (Ok x) held h = absurd (false≢true held)
   held_again ops (Err e) held h = held_by ops e held h.1

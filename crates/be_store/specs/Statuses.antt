@@ -1,4 +1,4 @@
--- What a pass learns of how full the store is.
+-- What a pass learns about how full the store is.
 use Rattle.std.specs.Prelude.{List, [], ◌∷◌}
 use Rattle.be_table.specs.declared.pass.Knowledge.{Knowledge}
 use Rattle.be_table.specs.declared.pass.Move.{Move}
@@ -9,9 +9,9 @@ use Rattle.be_table.specs.Statuses.{FindsOldest, LieAt, Tells}
 use Rattle.be_table.specs.Steps.{scans_of}
 use Rattle.be_table.specs.Trace.{Makes}
 
--- The pass takes the lock, reads each announcement, and gives the lock back. The numbers are those
+-- The pass takes the lock, reads each reader slot, and gives the lock back. The numbers are those
 -- of what it has then seen, and of the pages as the machine has them after the scan. The status has
--- the oldest of the announcements that the scan found.
+-- the oldest of the versions that the scan found published.
 pub record TellsStatus (a c : Knowledge) (s : Status) : Type 0 where
   pub tells : Tells c s
   pub locked : List Move

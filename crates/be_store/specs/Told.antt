@@ -1,4 +1,4 @@
--- What a pass does after it has learned of commits.
+-- What a pass does after it has learned of other passes' commits.
 use Rattle.std.specs.Prelude.{ℕ, ◌<◌, ◌≤◌, List, length}
 use Rattle.be_table.specs.History.{StartsWith}
 use Rattle.be_table.specs.declared.pass.Commit.{Commit}
@@ -15,8 +15,8 @@ use Rattle.be_store.specs.Views.{volume}
 abbrev pub EndedBefore : Knowledge → Knowledge → Type 0
 EndedBefore c d = StartsWith d.history c.history
 
--- All that the pass does from here on comes after these commits: each pin is at a prefix of the
--- journal that has them, and each accepted write has a later number.
+-- Everything that the pass does from here on comes after these commits. Each pin is at a prefix of
+-- the journal that has them, and each accepted write has a later number.
 pub record ComesAfter (told : List Commit) (d : Knowledge) : Type 0 where
   pub pins : (a z : Knowledge) (steps : List (Step volume)) (n : ℕ) → Calls d steps a → Pins a z n
       → StartsWith z.seen told × (length told ≤ n)

@@ -1,4 +1,4 @@
-//! The operations that rebuild a version, over any reader of its pages.
+//! The operations that rebuild a version, read through any page reader.
 ghost use Rattle.std.specs.Prelude.{◌≡◌, ◌<◌, ◌≤◌, ◌++◌, [], IfNone, IfOk, IfSome, length};
 ghost use Rattle.be_volume.specs.Volume.{State};
 ghost use Rattle.be_volume_state.specs.Places.{given, left};

@@ -21,8 +21,8 @@ use be_table::Writing;
 use be_value::Refusal;
 use be_volume::{Done, Op};
 
-/// Applies the operations to a version, in an open write, whose place for contents it takes and
-/// puts back.
+/// Applies the operations to a version in an open write. It borrows the write's buffer for the
+/// version's contents, and returns it.
 fn apply_to(
     writing: &mut Writing<'_>,
     version_page: u64,
@@ -49,7 +49,7 @@ fn apply_to(
     answer
 }
 
-/// Applies the operations with a place for the version's contents, if there is one.
+/// Applies the operations with a buffer for the version's contents, if there is one.
 fn apply_in(
     writing: &mut Writing<'_>,
     space: &mut Option<Box<Version>>,
@@ -77,8 +77,8 @@ fn apply_in(
     }
 }
 
-/// Applies the operations with a place of its own. It is a function apart, since a function clears
-/// all its places as it begins.
+/// Applies the operations with a buffer of its own. It is a separate function because a function
+/// clears all its local variables when it begins.
 #[inline(never)]
 fn apply_apart(
     writing: &mut Writing<'_>,
@@ -104,7 +104,7 @@ fn apply_apart(
     apply_into(writing, &mut version, version_page, ops, dones)
 }
 
-/// Scans if a scan is due, and only then, so that the write takes pages that were given up lately.
+/// Scans only if a scan is due, so that the write can take pages that were retired lately.
 fn scan_early(writing: &mut Writing<'_>)
     requires begins { Begins writing.old.knows }
     requires first { upto_lock writing.old.knows.number writing.old.knows.history
@@ -119,9 +119,9 @@ fn scan_early(writing: &mut Writing<'_>)
     }
 }
 
-/// Applies the operations to the current version, and publishes the result. Their outcomes enter an
-/// empty list, which is filled in place. A refusal by the volume is returned at once; a lack of
-/// room in the journal comes before a lack of pages.
+/// Applies the operations to the current version, and publishes the result. The outcomes are added
+/// to an empty list in place. If the volume refuses, it returns that at once. An error for lack of
+/// room in the journal comes before Full.
 fn write_current(
     writing: &mut Writing<'_>,
     ops: &[Op],
@@ -149,7 +149,7 @@ fn write_current(
     }
 }
 
-/// Writes to the current version, and scans before that if a scan is due.
+/// Writes to the current version, after a scan if one is due.
 pub(crate) fn write(
     writing: &mut Writing<'_>,
     ops: &[Op],
@@ -168,7 +168,7 @@ pub(crate) fn write(
     write_current(writing, ops, dones)
 }
 
-/// Writes as `write` does if the journal has this many entries, and otherwise nothing.
+/// Writes as `write` does if the journal has `number` entries, and otherwise writes nothing.
 pub(crate) fn write_if(
     writing: &mut Writing<'_>,
     number: u64,

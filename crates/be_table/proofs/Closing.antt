@@ -1,4 +1,4 @@
--- All passes come back to one seat, and the slot has the journal.
+-- All passes return to one seat, and the slot has the journal.
 use Rattle.std.proofs.Common.{◌≡◌, ℕ, ◌<◌, eq-eqb, List, [], ◌∷◌, ◌++◌, map, length, false, true≢false, Option, Some, None, refl, sym, ap, ◌∙◌, subst, inl, inr, ⊎_elim}
 use Rattle.be_table.specs.declared.pass.View.{View}
 use mathlib.Core.Option.{some, none, some-injective}
@@ -24,7 +24,7 @@ use Rattle.be_table.proofs.Deals.{at_snoc_place}
 use Rattle.be_table.proofs.Histories.{is_legal}
 use Rattle.be_table.proofs.Frames.{entries-start, log_spelt}
 
--- a pass of these that is not the holder
+-- one of these passes, which isn't the writer
 not_held : (limits : Limits) (b : Board) (i : ℕ) (v : List Knowledge) (h : ℕ) → AllFit limits b i v → AllIdle v → Has v h → is_holder b.world.holder h ≡ false
 not_held limits b i [] h f idle has = absurd has
 not_held limits b i (a ∷ v) h f idle has = ⊎_elim (λ e. ap (is_holder b.world.holder) (sym e) ∙ (sym f.0.writes ∙ idle.0)) (λ more. not_held limits b i v h f.2 idle.1 more) has
@@ -57,7 +57,7 @@ ends limits i v words slots idle all f =
       record { trace = t.0; runs = (t.1.words, b.world, t.1.runs); rests = t.1.rests i v f.1.1 },
     )
 
--- what a joined seat has of each
+-- what a joined seat has of each seat
 has_counted : (v : List Knowledge) (k : ℕ) → Has v k → Has (map one_step_on v) k
 has_counted [] k h = h
 has_counted (a ∷ v) k h = ⊎_elim inl (λ m. inr (has_counted v k m)) h
@@ -117,7 +117,7 @@ pub record Closes (limits : Limits) (known : List Knowledge) (journal : Log) : T
   pub limit : journal.limit ≡ limits.commits
   pub traced : HasTrace limits known
 
--- the ledger that was found in the slot has the journal
+-- the writer state that was found in the slot has the journal
 pub closes : (limits : Limits) (known : List Knowledge) (i : ℕ) (v : View) (words : List ℕ) (slots : List (Option Ledger)) (ledger : Ledger) (journal : Log) → Gathered known v.passes → ((k : ℕ) → k < limits.passes → Has known k)
     → Final (Seen (Shows limits) i v) words slots → get_elem? slots 0 ≡ some (Some ledger) → journal ≡ ledger.journal → Closes limits known journal
 closes limits known i v words slots ledger journal g all f at is =
@@ -126,7 +126,7 @@ closes limits known i v words slots ledger journal g all f at is =
     let it : e.0 ≡ ledger = cc in
     subst (Closes limits known) (ap (λ (l : Ledger). l.journal) it ∙ sym is) record { legal = e.2; by_passes = e.3; keeps = g.keeps e.0.journal.entries e.4; volumes = e.5; limit = e.6; traced = record { trace = e.7.trace; runs = e.7.runs; rests = g.rests e.7.trace e.7.rests } }
 
--- a seat with no pass may arrive
+-- a seat without a pass may arrive
 pub arrive_by : (limits : Limits) → ArrivalIsNoEvent limits
 arrive_by limits s b h = (
   b,

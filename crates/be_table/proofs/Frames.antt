@@ -1,4 +1,4 @@
--- What a step leaves: other seats, other words, other versions.
+-- What a step leaves unchanged: other seats, other words, other versions.
 use Rattle.std.proofs.Common.{◌≡◌, ◌≢◌, ℕ, zero, suc, ◌+◌, ◌*◌, ◌<◌, ◌≤◌, eqb, ne_eqb, List, [], ◌∷◌, ◌++◌, length, set, true, false, Option, Some, None, refl, sym, ap, ◌∙◌, subst, ⊎_elim, inl, inr, arith, length-append, append_assoc, take, IsTrue, slice_index}
 use Rattle.be_table.specs.declared.pass.View.{View}
 use Rattle.std.specs.Prelude.{slice_index_or}
@@ -36,7 +36,7 @@ pub all_fit : (limits : Limits) (b d : Board) (seat : ℕ) (v : List Knowledge) 
 all_fit limits b d seat [] f h = tt
 all_fit limits b d seat (a ∷ v) f h = (f a h.0, h.1, all_fit limits b d seat v f h.2)
 
--- a journal that has grown begins with what it began with
+-- a journal that has grown begins with what it began with before
 pub starts_before : {A : Type 0} (log mid seen : List A) → StartsWith log mid → StartsWith mid seen → StartsWith log seen
 starts_before log mid seen s t = (t.0 ++ s.0, s.1 ∙ ap (λ l. l ++ s.0) t.1 ∙ append_assoc seen t.0 s.0)
 
@@ -48,7 +48,7 @@ fronts_grow log more (f ∷ fs) grows h = (starts_before more log f grows h.0, f
 pub apart : (limits : Limits) (b : Board) (i j : ℕ) (a x : Knowledge) → j ≢ i → Fits limits b i a → Fits limits b j x → x.number ≢ a.number
 apart limits b i j a x ne fa fx e = ne (sym fx.seat_is ∙ (ap b.seat_of e ∙ fa.seat_is))
 
--- one seat's view goes from v to w, while the board goes from b to d
+-- one seat's view changes from v to w, while the board changes from b to d
 pub views_change : (limits : Limits) (b d : Board) (views : List View) (i : ℕ) (v w : View) → ViewsFit limits b views → get_elem? views i ≡ some v → StartsWith d.log b.log
     → ((j : ℕ) (x : Knowledge) → j ≢ i → Fits limits b j x → Fits limits d j x) → (ViewFits limits b i v → ViewFits limits d i w) → ViewsFit limits d (set views i w)
 views_change limits b d views i v w h at grows others mine j u e =
@@ -57,7 +57,7 @@ views_change limits b d views i v w h at grows others mine j u e =
     (λ (t : (j ≢ i) × (get_elem? views j ≡ some u)). (all_fit limits b d j u.passes (λ x fx. others j x t.0 fx) (h j u t.1).0, fronts_grow b.log d.log u.fronts grows (h j u t.1).1))
     (at_set views i j w u e)
 
--- one seat's pass goes from a to c
+-- one seat's pass changes from a to c
 pub views_step : (limits : Limits) (b d : Board) (views : List View) (i : ℕ) (a c : Knowledge) → ViewsFit limits b views → get_elem? views i ≡ some (alone a) → StartsWith d.log b.log
     → ((j : ℕ) (x : Knowledge) → x.number ≢ a.number → Fits limits b j x → Fits limits d j x) → Fits limits d i c → ViewsFit limits d (set views i (alone c))
 views_step limits b d views i a c h at grows others mine =
@@ -103,7 +103,7 @@ page-front log seen s n le = ap (λ l. page_at l n) s.1 ∙ page-append seen s.0
 inside-front : (pages : ℕ) (log seen : List Commit) → StartsWith log seen → AreInside pages log → AreInside pages seen
 inside-front pages log seen s h n p le r = h n p (let l = longer_seen log seen s in omega arith) (subst (λ l. IsTrue (has l p)) (sym (reach-front log seen s n le)) r)
 
--- what is so of the journal at a version that the pass has seen
+-- what holds for the journal also holds at a version that the pass has seen
 spelt_front : (log seen : List Commit) (words : ℕ → ℕ → ℕ) → StartsWith log seen → (n : ℕ) → n ≤ length seen → SpellsVolume (reach_at log n) words (page_at log n) (replay (take n (entries log)))
     → SpellsVolume (reach_at seen n) words (page_at seen n) (replay (take n (entries seen)))
 spelt_front log seen words s n le h =
@@ -111,7 +111,7 @@ spelt_front log seen words s n le h =
     let front : take n (entries log) ≡ take n (entries seen) = ap (take n) more.1 ∙ take_front (entries seen) more.0 n (let l = length-map seen (λ (c : Commit). c.entry) in omega (arith, l, le)) in
     subst (λ (q : List ℕ × ℕ × List Entry). SpellsVolume q.0 words q.1 (replay q.2)) (λ k. (reach-front log seen s n le k, page-front log seen s n le k, front k)) h
 
--- the image of a pinned version spells the volume
+-- the image of a pinned version encodes the volume
 pinned_spelt : (limits : Limits) (b : Board) (i : ℕ) (a : Knowledge) → IsSoundBoard limits b → Fits limits b i a → (x n : ℕ) → a.phase ≡ Pinned x n → SpellsVolume (reach_at a.seen n) (word_of_page a.image) (page_at a.seen n) (replay (take n (entries a.seen)))
 pinned_spelt limits b i a s f x n e =
     let low : (x ≤ n) × (n ≤ length a.seen) = subst (InTime (length a.seen)) e f.pin in
@@ -122,7 +122,7 @@ pinned_spelt limits b i a s f x n e =
     (λ q r. clipped (λ j. slice_index a.image (word_place q j)) (b.world.image n q) (λ j lt. f.image x n q j e (subst IsTrue (sym (s.reaches n q late.1)) r) lt))
     (s.spelt n (omega (arith, low.1, l))))
 
--- the pages can spell the volume after each entry, and so after each of a beginning of the journal
+-- the pages can encode the volume after each entry, and so after each entry of a prefix of the journal
 pub log_spelt : (limits : Limits) (b : Board) → IsSoundBoard limits b → CanSpellEach limits.pages (entries b.log)
 unfolding CanSpellEach
 log_spelt limits b s = λ n lt.
@@ -162,7 +162,7 @@ in_time_later c d (Looked a) le h = omega arith
 in_time_later c d (Announced a) le h = omega arith
 in_time_later c d (Pinned a n) le h = (h.0, omega (arith, h.1))
 
--- ## The words follow the machine
+-- ## The words agree with the machine
 
 pub pages_else : (pages : ℕ) (words : ℕ → ℕ → ℕ) (ws : List ℕ) (k n : ℕ) → k < 528 → PagesAgree pages words ws → PagesAgree pages words (set ws k n)
 pages_else pages words ws k n low h p i a b = get_or-set_other ws k (word_place p i) n 0 (λ e. absurd (omega arith)) ∙ h p i a b
@@ -181,11 +181,11 @@ pages_fill pages words ws p i x size lp li h q j b c = elim (eqb_tells q p) [
 ]
 
 module _ (w : World) (page : ℕ) (ws : List ℕ) (h : WordsAgree w page ws) where
-  -- a load leaves the words
+  -- a load leaves the words unchanged
   pub words_load : (i : ℕ) → WordsAgree w page (set ws i (slice_index ws i))
   words_load i = subst (WordsAgree w page) (sym (set-get_or ws i 0)) h
 
-  -- a phase changes, but no announcement
+  -- a phase changes, but no reader slot
   pub words_phase : (k : ℕ) (p : Phase) → announce_word p ≡ announce_word (w.phases k) → WordsAgree (to w k p) page ws
   words_phase k p e = record {
     size = h.size;
@@ -196,7 +196,7 @@ module _ (w : World) (page : ℕ) (ws : List ℕ) (h : WordsAgree w page ws) whe
     unused = h.unused;
   }
 
-  -- an announcement is stored
+  -- a reader slot is stored
   pub words_announce : (k n : ℕ) (p : Phase) → k < w.passes → w.passes ≤ 64 → n ≡ announce_word p → WordsAgree (to w k p) page (set ws (16 + 8 * k) n)
   words_announce k n p lt few is = record {
     size = length-set ws (16 + 8 * k) n ∙ h.size;
@@ -234,7 +234,7 @@ module _ (w : World) (page : ℕ) (ws : List ℕ) (h : WordsAgree w page ws) whe
 
 -- ## What the other passes know
 
--- a pass other than the holder does not hold
+-- a pass other than the writer doesn't hold the lock
 pub not_holder : (b : Board) (a x : Knowledge) → x.number ≢ a.number → b.world.holder ≡ Some (known_holder a) → Holds b x → ⊥
 not_holder b a x ne is h = let same : known_holder a ≡ known_holder x = (let e : Some (known_holder a) ≡ Some (known_holder x) = sym is ∙ h.holder in some_same (known_holder a) (known_holder x) e) in ne (sym (ap (λ (g : Holder). g.pass) same))
   where
@@ -272,7 +272,7 @@ holds_phases b phases x h = record { log = h.log; holder = h.holder; turn = h.tu
 
 -- ## A reader steps
 
--- the pass a goes to the phase q, and has then seen `seen`
+-- the pass a changes to the phase q, and has then seen `seen`
 pub stands_phase : (limits : Limits) (s : Table) (b : Board) (i : ℕ) (a : Knowledge) (p q : Phase) (seen : List Commit) (image : List ℕ) (ws : List ℕ) → p ≡ q → Stands limits s b → get_elem? s.views i ≡ some (alone a)
     → Sound (to b.world a.number p) → WordsAgree (to b.world a.number p) (page_at b.log (length b.log)) ws → InTime (length seen) q
     → StartsWith b.log seen → by_pass a.number (entries seen) ≡ a.mine → (a.writes ≡ true → seen ≡ b.log) → ImageIs b.world q image

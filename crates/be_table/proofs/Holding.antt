@@ -1,4 +1,4 @@
--- Each step of the holder is its event of the machine, and keeps the rule.
+-- Each step of the writer is its event of the machine, and keeps the rule.
 use Rattle.std.proofs.Common.{◌≡◌, ℕ, suc, MatchBool, ◌+◌, ◌*◌, ◌<◌, ◌≤◌, ◌==◌, if◌then◌else◌, List, [], ◌∷◌, length, set, slice_set, Bool, true, false, ◌||◌, Option, Some, None, refl, sym, ap, ◌∙◌, subst, inl, inr, arith, slice_index, map, length-set, IsTrue}
 use Rattle.std.proofs.lemmas.Bool.Decides.{eqb_tells}
 use Rattle.std.proofs.lemmas.List.{length-map, set-get_or}
@@ -29,7 +29,7 @@ use Rattle.be_table.proofs.Traces.{IsOne, moving, moving_from, resting, retold, 
 use Rattle.be_table.proofs.Locks.{at_work, held_by, same_some, unheld_by}
 use Rattle.be_table.proofs.Ledgers.{shows-fill, shows-take, shows-return, shows-place, shows-sweep}
 
--- the holder, with other numbers, places and words
+-- the writer, with other numbers, places and words
 abbrev works : Knowledge → ℕ → ℕ → List Place → List ℕ → List ℕ → Knowledge
 works a scanned least places words held = record a { scanned = scanned; least = least; places = places; words = words; held = held; steps = a.steps + 1 }
 
@@ -37,7 +37,7 @@ module _ (limits : Limits) (s : Table) (b0 : Board) (i : ℕ) (a : Knowledge) wh
   abbrev b : Board
   b = held_by b0 (Some (known_holder a))
 
-  -- the machine's holder, sets and words change
+  -- the machine's writer, sets and words change
   pub stands_held : Stands limits s b → get_elem? s.views i ≡ some (alone a) → (scanned least : ℕ) (places : List Place) (known held : List ℕ) (free taken : ℕ → Bool) (retired : ℕ → Option ℕ) (words : ℕ → ℕ → ℕ) (ws : List ℕ)
       → let c = works a scanned least places known held in let w : World = record b.world { holder = Some (known_holder c); free = free; taken = taken; retired = retired; words = words } in
       WordsAgree w (page_at b.log (length b.log)) ws → Sound w → Holds (record b { world = w }) c
@@ -53,7 +53,7 @@ module _ (limits : Limits) (s : Table) (b0 : Board) (i : ℕ) (a : Knowledge) wh
         views = views_step limits b (record b { world = w }) s.views i a c h.views at (starts_itself b.log) (λ j y ne f. fits_world limits b w j y refl refl (λ z. absurd (not_holder b a y ne refl z)) (λ g. g) f) fc;
       }
 
--- a scan leaves the phases
+-- a scan leaves the phases unchanged
 scan_phases : (v : World) (o : Option Holder) (j : ℕ) → (scanned_by v o j).phases ≡ v.phases
 scan_phases v None j = refl
 scan_phases v (Some h) j = by (suc j == v.passes)
@@ -80,7 +80,7 @@ least-plain : (b : Bool) (c c' l m m' : ℕ) → c ≡ c' → m ≡ m' → least
 least-plain b c c' l m m' e g = cc
 
 module _ (limits : Limits) (slots i : ℕ) (a : Knowledge) (carried : List (ℕ × Option Ledger)) where
-  -- a load by the holder finds the word that it knows
+  -- a load by the writer finds the word that it knows
   pub own_by : (p j : ℕ) → a.writes ≡ true → p < a.limits.pages → j < 512 → AllowsBy limits slots i (alone a, carried) (word_place p j) (λ n. n) NoEvent (OwnRead (step slots (word_place p j) 0 0 none) (alone a, carried))
   own_by p j writes lp lj s b h sized at fits =
       let t = h.table in
@@ -136,7 +136,7 @@ module _ (limits : Limits) (slots i : ℕ) (a : Knowledge) (carried : List (ℕ 
         (λ q k e lk. let z = same_place p j q k lj lk e in ap (λ (y : ℕ × ℕ). (alone (fills a y.0 y.1 x), carried)) (λ o. (z.0 o, z.1 o))),
       )
 
-  -- a load that finds a word is the fill of that word
+  -- a load that finds a word is the fill with that word
   pub found_by : (p j : ℕ) → a.writes ≡ true → a.published ≡ false → MayBeFilled a.places p → j < 512
       → AllowsBy limits slots i (alone a, carried) (word_place p j) (λ n. n) (λ n. IsFill a.number p j n n) (FilledFound (step slots (word_place p j) 0 0 none) (alone a, carried))
   found_by p j writes unpublished may lj s b0 h0 sized at fits =
@@ -147,7 +147,7 @@ module _ (limits : Limits) (slots i : ℕ) (a : Knowledge) (carried : List (ℕ 
       let lp : p < b.world.pages = omega (arith, may.0, m.count) in
       (y.0, y.1, y.2, y.3, (y.4, work.0.table.words.pages p j lp lj ∙ sym (m.words p j lp lj)))
 
-  -- a load by the holder, before which a page goes to another place that is the same for the machine
+  -- a load by the writer, at which a page moves to another place that is the same for the machine
   note_by : (p : ℕ) (x : Place) → a.writes ≡ true → p < length a.places → shows_free x ≡ shows_free (place_of a.places p) → shows_taken x ≡ shows_taken (place_of a.places p) → retired_with x ≡ retired_with (place_of a.places p)
       → let c : Knowledge = record a { places = slice_set a.places p x; steps = a.steps + 1 } in AllowsBy limits slots i (alone a, carried) (word_place p 0) (λ n. n) NoEvent (λ n r. r ≡ (alone c, carried))
   note_by p x writes lp free taken retired s b0 h0 sized at fits =
@@ -178,7 +178,7 @@ module _ (limits : Limits) (slots i : ℕ) (a : Knowledge) (carried : List (ℕ 
         refl,
       )
 
-  -- a load by the holder, before which a page that it had taken goes back to the free ones
+  -- a load by the writer, at which a page that it had taken goes back to the free ones
   back_by : (p : ℕ) (y : Place) → a.writes ≡ true → p < length a.places → place_of a.places p ≡ y → shows_taken y ≡ true → retired_with y ≡ None
       → let c : Knowledge = record a { places = slice_set a.places p Free; steps = a.steps + 1 } in AllowsBy limits slots i (alone a, carried) (word_place p 0) (λ n. n) (IsReturn a.number p) (λ n r. r ≡ (alone c, carried))
   back_by p y writes lp is taken unretired s b0 h0 sized at fits =
@@ -212,7 +212,7 @@ module _ (limits : Limits) (slots i : ℕ) (a : Knowledge) (carried : List (ℕ 
         refl,
       )
 
-  -- the page at whose first word the step was
+  -- the page whose first word the step was on
   at_page : (p : ℕ) (x : Place) (c : ℕ → Knowledge) → c p ≡ record a { places = slice_set a.places p x; steps = a.steps + 1 } → (event : ℕ → World → World → Type 0)
       → AllowsBy limits slots i (alone a, carried) (word_place p 0) (λ n. n) event (λ n r. r ≡ (alone (record a { places = slice_set a.places p x; steps = a.steps + 1 }), carried))
       → AllowsBy limits slots i (alone a, carried) (word_place p 0) (λ n. n) event (λ n r. (q : ℕ) → word_place p 0 ≡ word_place q 0 → r ≡ (alone (c q), carried))
@@ -220,7 +220,7 @@ module _ (limits : Limits) (slots i : ℕ) (a : Knowledge) (carried : List (ℕ 
       let y = by s b h sized at fits in
       (y.0, y.1, y.2, y.3, λ q f. let z = same_place p 0 q 0 (omega arith) (omega arith) f in y.4 ∙ ap (λ (k : Knowledge). (alone k, carried)) (sym is ∙ ap c z.0))
 
-  -- a load by the holder that takes a page is the fill of the word that is there
+  -- a load by the writer that takes a page is the fill with the word that is there
   pub take_by : (p : ℕ) → a.writes ≡ true → a.published ≡ false → p < length a.places → place_of a.places p ≡ Free
       → AllowsBy limits slots i (alone a, carried) (word_place p 0) (λ n. n) (λ n. IsFill a.number p 0 n n) (PageTaken (step slots (word_place p 0) 0 0 none) (alone a, carried))
   take_by p writes unpublished lp is s b0 h0 sized at fits =
@@ -276,7 +276,7 @@ module _ (limits : Limits) (slots i : ℕ) (a : Knowledge) (carried : List (ℕ 
       by_place GivenUp e h = absurd (cc)
       by_place (Retired r) e h = absurd (cc)
 
-  -- a load of the announcement whose turn it is
+  -- a load of the reader slot whose turn it is
   pub scan_by : a.writes ≡ true → a.published ≡ false → AllowsBy limits slots i (alone a, carried) (16 + 8 * a.scanned) (λ n. n) (IsScan a.number a.scanned) (Scanned (step slots (16 + 8 * a.scanned) 0 0 none) (alone a, carried))
   scan_by writes unpublished s b0 h0 sized at fits =
       let work = at_work limits s b0 i a h0 at writes in
@@ -365,7 +365,7 @@ module _ (limits : Limits) (slots i : ℕ) (a : Knowledge) (carried : List (ℕ 
       chosen_on p e n = ap (λ (x : Bool). if x then scans_out a n else scans_on a n) (ap (λ q. suc a.scanned == q) p ∙ e)
 
 module _ (limits : Limits) (slots i : ℕ) (a : Knowledge) (carried : List (ℕ × Option Ledger)) where
-  -- the word that was filled is that of the step
+  -- the word that was filled is the step's word
   at_word : (p j x : ℕ) → j < 512 → (h : List Move) → Makes a.number a.history (Fill a.number p j x ∷ []) h → (r : Me1) → ((q k : ℕ) → word_place p j ≡ word_place q k → k < 512 → r ≡ (alone (fills (with_history a h) q k x), carried))
       → (q k : ℕ) → word_place p j ≡ word_place q k → k < 512 → (h : List Move) × Makes a.number a.history (Fill a.number q k x ∷ []) h × (r ≡ (alone (fills (with_history a h) q k x), carried))
   at_word p j x lj h makes r told q k e lk =
@@ -390,7 +390,7 @@ module _ (limits : Limits) (slots i : ℕ) (a : Knowledge) (carried : List (ℕ 
       (moving limits slots i a carried (word_place p j) (λ n. n) (λ n. Fill a.number p j n) (λ n. IsFill a.number p j n n) (λ h. FilledFound (step slots (word_place p j) 0 0 none) (alone (with_history a h), carried)) (λ n w. Unit {0}) (λ n. refl)
       (λ h. found_by limits slots i (with_history a h) carried p j writes un may lj) (λ n v w g. (g, tt)) (λ h n r t. one_of a (fills (with_history a h) p j n) h carried r (t.0 p j refl lj) refl refl))
 
-  -- the page that was taken is that of the step
+  -- the page that was taken is the step's page
   at_taken : (p n : ℕ) (h : List Move) → Makes a.number a.history (Fill a.number p 0 n ∷ []) h → (r : Me1) → ((q : ℕ) → word_place p 0 ≡ word_place q 0 → r ≡ (alone (takes_page (with_history a h) q), carried))
       → (q : ℕ) → word_place p 0 ≡ word_place q 0 → (h : List Move) × Makes a.number a.history (Fill a.number q 0 n ∷ []) h × (r ≡ (alone (takes_page (with_history a h) q), carried))
   at_taken p n h makes r told q e = let z = same_place p 0 q 0 (omega arith) (omega arith) e in (h, subst (λ (y : ℕ). Makes a.number a.history (Fill a.number y 0 n ∷ []) h) z.0 makes, told q e)
@@ -404,7 +404,7 @@ module _ (limits : Limits) (slots i : ℕ) (a : Knowledge) (carried : List (ℕ 
       (moving limits slots i a carried (word_place p 0) (λ n. n) (λ n. Fill a.number p 0 n) (λ n. IsFill a.number p 0 n n) (λ h. PageTaken (step slots (word_place p 0) 0 0 none) (alone (with_history a h), carried)) (λ n w. Unit {0}) (λ n. refl)
       (λ h. take_by limits slots i (with_history a h) carried p writes un lp is) (λ n v w g. (g, tt)) (λ h n r t. one_of a (takes_page (with_history a h) p) h carried r (t.0 p refl) refl refl))
 
-  -- the page that was given up is that of the step
+  -- the page that was given up is the step's page
   at_given : (p : ℕ) (h : List Move) → Makes a.number a.history (given_moves a p) h → (r : Me1) → ((q : ℕ) → word_place p 0 ≡ word_place q 0 → r ≡ (alone (gives_up (with_history a h) q), carried))
       → (q : ℕ) → word_place p 0 ≡ word_place q 0 → (h : List Move) × Makes a.number a.history (given_moves a q) h × (r ≡ (alone (gives_up (with_history a h) q), carried))
   at_given p h makes r told q e = let z = same_place p 0 q 0 (omega arith) (omega arith) e in (h, subst (λ y. Makes a.number a.history (given_moves a y) h) z.0 makes, told q e)

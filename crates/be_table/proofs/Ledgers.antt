@@ -1,4 +1,4 @@
--- What a write to the ledger shows is the event's effect.
+-- What a change of the writer state shows is the event's effect.
 use Rattle.std.proofs.Common.{◌≡◌, ℕ, zero, suc, ◌<◌, ◌≤◌, Bool, true, false, cond, nat_lt, if◌then◌else◌, ◌||◌, List, [], ◌∷◌, map, length, slice_set, count_by, Some, None, refl, sym, ap, ◌∙◌, subst, inl, inr, get_or-set_same, get_or-set_other, arith, IsTrue}
 use Rattle.std.proofs.lemmas.Bool.Decides.{eqb_tells}
 use Rattle.std.proofs.lemmas.List.{length-map}
@@ -57,7 +57,7 @@ left-set left places new p x is inside unretired le =
     let none : one_where (is_retired (place_of places p)) ≡ 0 = ap one_where unretired in
     subst (λ ps. left ≤ count_by is_retired ps) (sym is) (omega (arith, counted, none, le))
 
--- the same, where the places are those that the pass knows
+-- the same, if the places are those that the pass knows
 pub left-fill : (left : ℕ) (places known new : List Place) (p : ℕ) (x : Place) → places ≡ known → new ≡ slice_set places p x → p < length known → IsTrue (is_in_hand (place_of known p)) → left ≤ count_by is_retired places → left ≤ count_by is_retired new
 left-fill left places known new p x same is inside hand le =
     left-set left places new p x is (subst (λ ps. p < length ps) (sym same) inside) (subst (λ ps. is_retired (place_of ps p) ≡ false) (sym same) (unretired_in_hand (place_of known p) hand)) le
@@ -71,7 +71,7 @@ one_more true y h = subst (λ b. 1 ≤ cond b 1 0) (sym (h refl)) (omega arith)
 one_more false true h = omega arith
 one_more false false h = omega arith
 
--- each page gets another place, and what is retired stays so
+-- each page gets another place, and what is retired stays retired
 retired_more : (f : Place → Place) → ((x : Place) → is_retired x ≡ true → is_retired (f x) ≡ true) → (places : List Place) → count_by is_retired places ≤ count_by is_retired (map f places)
 retired_more f h [] = omega arith
 retired_more f h (x ∷ xs) =
@@ -121,7 +121,7 @@ shows-take places w s p i word inside unretired = record {
   retired = λ q. elim (eqb_tells q p) [ inl y ↦ rw (y.1, get_or-set_same places p Reserved Current inside) (s.retired p ∙ unretired) | inr n ↦ rw (get_or-set_other places p q Reserved Current n.1) (s.retired q) ];
 }
 
--- a place changes, and the sets stay
+-- a place changes, and the sets stay the same
 pub shows-place : (places : List Place) (w : World) → ShowsPlaces places w → (p : ℕ) (x : Place) → p < length places → shows_free x ≡ shows_free (place_of places p) → shows_taken x ≡ shows_taken (place_of places p) → retired_with x ≡ retired_with (place_of places p)
     → ShowsPlaces (slice_set places p x) w
 shows-place places w s p x inside f t r = record {
@@ -213,6 +213,6 @@ by_places [] (y ∷ ys) e h = absurd (omega arith)
 by_places (x ∷ xs) [] e h = absurd (omega arith)
 by_places (x ∷ xs) (y ∷ ys) e h = λ k. h 0 (omega arith) k ∷ by_places xs ys (omega arith) (λ q lt. h (suc q) (omega arith)) k
 
--- a list whose places are those of another under f
+-- a list whose places are those of another list under f
 pub mapped : (f : Place → Place) → f Current ≡ Current → (xs ys : List Place) → length xs ≡ length ys → ((q : ℕ) → q < length xs → place_of xs q ≡ f (place_of ys q)) → xs ≡ map f ys
 mapped f e xs ys same h = by_places xs (map f ys) (same ∙ sym (length-map ys f)) (λ q lt. h q lt ∙ sym (place-map f e ys q))

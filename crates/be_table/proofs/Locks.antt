@@ -38,22 +38,22 @@ no_lock : (o : Option Holder) → lock_word o ≡ 0 → o ≡ None
 no_lock None e = refl
 no_lock (Some x) e = absurd (omega arith)
 
--- the board with this holder
+-- the board with this writer
 abbrev pub held_by : Board → Option Holder → Board
 held_by b o = record { log = b.log; world = record b.world { holder = o }; seat_of = b.seat_of }
 
--- what is so of the board with its holder spelt out is so of the board
+-- what holds for the board with its writer written out holds for the board
 pub unheld_by : (w : World) (h : Holder) (P : World → Type 0) → w.holder ≡ Some h → P (record w { holder = Some h }) → P w
 unheld_by w h P e p = subst P (ap (λ (o : Option Holder). record w { holder = o }) (sym e)) p
 
--- a pass that holds the lock is the machine's holder, and has seen the journal
+-- a pass that holds the lock is the machine's writer, and has seen the journal
 pub at_work : (limits : Limits) (s : Table) (b : Board) (i : ℕ) (a : Knowledge) → Stands limits s b → get_elem? s.views i ≡ some (alone a) → a.writes ≡ true
     → Stands limits s (held_by b (Some (known_holder a))) × Holds (held_by b (Some (known_holder a))) a
 at_work limits s b i a h at writes =
     let f = (h.views i (alone a) at).0.0 in let r = f.whole writes in
     subst (λ (o : Option Holder). Stands limits s (held_by b o) × Holds (held_by b o) a) r.holder (h, r)
 
--- the table's words spell the volume after the journal
+-- the table's words encode the volume after the journal
 now_spelt : (limits : Limits) (s : Table) (b : Board) → Stands limits s b → SpellsVolume (reach_at b.log (length b.log)) (word_of_page s.words) (page_at b.log (length b.log)) (replay (entries b.log))
 now_spelt limits s b h =
     let n = length b.log in let w = b.world in let version = h.table.version in
@@ -203,7 +203,7 @@ module _ (limits : Limits) (slots i : ℕ) (a : Knowledge) (ledger : Ledger) whe
       )
 
 module _ (limits : Limits) (slots i : ℕ) (a : Knowledge) (carried : List (ℕ × Option Ledger)) where
-  -- a try is the move Lock where it finds the lock free, and else none
+  -- a try is the move Lock if it finds the lock free, and otherwise no move
   pub locking : a.writes ≡ false → Allows (Shows limits) slots i (alone a, carried) 0 (λ n. either (eqb n 0) (a.number + 1) n) (LockMoves (step slots 0 0 (a.number + 1) none) (alone a, carried))
   locking idle s h sized at fits =
       let n = slice_index s.words 0 in
@@ -250,6 +250,6 @@ gained m n r k l e = subst (λ (b : Bool). MatchBool b (Moving (Lock k) (λ w. U
 pub late : (m : Me1) (n : ℕ) (r : Me1) (k : ℕ) → MatchBool (eqb n 0) (Moving (Lock k) (λ w. Unit {0}) Gets m r) (LockIsHeld m n r) → n ≢ 0 → LockIsHeld m n r
 late m n r k l ne = subst (λ (b : Bool). MatchBool b (Moving (Lock k) (λ w. Unit {0}) Gets m r) (LockIsHeld m n r)) (ne_eqb n 0 ne) l
 
--- the slot taken last is the first of the list
+-- the slot that was taken last is the first in the list
 pub is_out : (l rest : List (ℕ × Option Ledger)) (x : ℕ × Option Ledger) → l ≡ x ∷ rest → l ≡ x ∷ Rattle.atomic_table.specs.Table.rest l
 is_out l rest x e = e ∙ ap (λ y. x ∷ y) (sym (ap Rattle.atomic_table.specs.Table.rest e))

@@ -24,7 +24,7 @@ use Rattle.be_table.proofs.Traces.{resting}
 use Rattle.be_table.proofs.PinMarks.{pin_stays}
 use Rattle.be_table.proofs.Told.{told_as, stepped_pass}
 
--- two beginnings of one journal
+-- two prefixes of one journal
 two_fronts : (p r q z : List Commit) → p ++ r ≡ q ++ z → length p ≤ length q → StartsWith q p
 two_fronts [] r q z e le = (q, refl)
 two_fronts (x ∷ p) r [] z e le = absurd (omega arith)
@@ -86,7 +86,7 @@ module _ (limits : Limits) (slots i : ℕ) (a c : Knowledge) (carried : List (�
 pub joined_pair : (a c : Knowledge) (m n r : Me1) → m ≡ (alone a, []) → n ≡ (alone c, []) → r ≡ (seats_together m.0 n.0, m.1) → r ≡ (beside (one_step_on a) (one_step_on c), [])
 joined_pair a c m n r e f g = g ∙ (λ k. (seats_together ((e k).0) ((f k).0), (e k).1))
 
--- a comparison is no move, and tells that both histories are fronts of the trace
+-- a comparison is no move, and shows that both histories are prefixes of the trace
 comparing : (limits : Limits) (slots i : ℕ) (a c : Knowledge) → a.writes ≡ false → c.writes ≡ false → Allows (Shows limits) slots i (beside a c, []) 0 (λ n. n) (CompareMoves (step slots 0 0 0 none) (beside a c, []))
 comparing limits slots i a c idle idle' s h sized at fits =
     let y = resting limits slots i (beside a c) [] 0 (λ n. n) NoEvent (Compared (step slots 0 0 0 none) (beside a c, [])) (compare_by limits slots i a c [] idle idle')
@@ -107,7 +107,7 @@ pub compares_as : (limits : Limits) (slots i : ℕ) (a c : Knowledge) (me : Me1)
 compares_as limits slots i a c me e idle idle' =
     subst (λ (m : Me1). Allows (Shows limits) slots i m 0 (λ n. n) (CompareMoves (step slots 0 0 0 none) m)) (sym e) (comparing limits slots i a c idle idle')
 
--- what the two had done before they met lies in one trace
+-- what the two passes had done before they met lies in one trace
 pub traced : (a c : Knowledge) (m n j l : Me1) → m ≡ (alone a, []) → n ≡ (alone c, []) → j ≡ (seats_together m.0 n.0, m.1) → CompareMoves (step 0 0 0 0 none) j 0 l → HasTrace a.limits (a ∷ c ∷ [])
 traced a c m n j l left right pair compared =
     let t : HasTrace a.limits (one_step_on a ∷ one_step_on c ∷ []) =
@@ -117,7 +117,7 @@ traced a c m n j l left right pair compared =
 pub deals_as : (limits : Limits) (i : ℕ) (a c : Knowledge) (u : View) → u ≡ beside a c → Splits (Shows limits) i u (other_seats u) (first_seat u)
 deals_as limits i a c u e = subst (λ (w : View). Splits (Shows limits) i w (other_seats w) (first_seat w)) (sym e) (deals limits i a (c ∷ []) [])
 
--- what a comparison tells, at the two passes
+-- what a comparison says, for the two passes
 pub told : (a c : Knowledge) (m r : Me1) (st : Step (Option Ledger)) (n : ℕ) → m ≡ (beside a c, []) → Compared st m n r → Compared st (beside a c, []) n r
 told a c m r st n e t = subst (λ (x : Me1). Compared st x n r) e t
 
@@ -131,7 +131,7 @@ right_longer p q lt = rw (lt-ltb (length p) (length q) lt) refl
 pub left_longer : (p q : List Commit) → length q ≤ length p → length (longer p q) ≡ length p
 left_longer p q le = rw (le-ltb (length p) (length q) le) refl
 
--- what the seats tell once they are cut apart
+-- what the seats say after they are split
 module _ (a c : Knowledge) (m n j l f : Me1) (number seen both : ℕ) (left : m ≡ (alone a, [])) (right : n ≡ (alone c, [])) (pair : j ≡ (seats_together m.0 n.0, m.1)) (compared : Compared (step 0 0 0 0 none) j 0 l) (long : length (longer a.seen c.seen) ≡ both) where
   after_all : Compared (step 0 0 0 0 none) (beside (one_step_on a) (one_step_on c), []) 0 l
   after_all = told (one_step_on a) (one_step_on c) j l (step 0 0 0 0 none) 0 (joined_pair a c m n j left right pair) compared

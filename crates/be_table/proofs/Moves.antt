@@ -119,7 +119,7 @@ module _ (limits : Limits) (slots i : ℕ) (a : Knowledge) (carried : List (ℕ 
       (alone (unpins a), keeps, tt, (record b { world = after_unpin b.world k }, r.0, ((below, (x, n, fa.phase ∙ is)), refl)), refl)
 
 module _ (limits : Limits) (slots i : ℕ) (a : Knowledge) (carried : List (ℕ × Option Ledger)) where
-  -- a load of a word of a pinned version finds the word of its image
+  -- a load of a word of a pinned version finds the word in its image
   pub pinned_by : (x n p j : ℕ) → a.phase ≡ Pinned x n → IsTrue (has (reach_at a.seen n) p) → j < 512 → AllowsBy limits slots i (alone a, carried) (word_place p j) (λ n. n) (IsRead a.number n p j) (PinnedRead (step slots (word_place p j) 0 0 none) (alone a, carried))
   pinned_by x n p j is reached lt s b h sized at fits =
       let t = h.table in

@@ -1,4 +1,4 @@
--- The pin that a seat tells stays while its pass sees more.
+-- The pin in a seat stays while its pass sees more.
 use Rattle.std.proofs.Common.{◌≡◌, ℕ, List, [], length, Option, Some, refl, sym, ap, ◌∙◌, subst}
 use mathlib.Core.Option.{none}
 use Rattle.atomic_table.specs.Table.{Step, step}
@@ -16,7 +16,7 @@ use Rattle.be_table.specs.Steps.{IsPass, Gets, Moving, LookMoves}
 use Rattle.be_table.specs.declared.pass.Move.TheVariants.{Lock}
 use Rattle.be_table.proofs.Frames.{Me1, page-front}
 
--- what a step tells reads nothing of the step but its word
+-- what a step says depends on nothing of the step except its word
 abbrev pub any : Step (Option Ledger)
 any = step 0 0 0 0 none
 
@@ -35,7 +35,7 @@ pin_looks (Looked a) seen log c t s = refl
 pin_looks (Announced a) seen log c t s = refl
 pin_looks (Pinned a n) seen log c t s = ap (λ q. pinned n q) (page-front log seen s n t.1)
 
--- the pin of the pass of a seat
+-- the pin of a seat's pass
 abbrev pub pin_in : Me1 → Option PinnedVersion
 pin_in m = pin_of (pass_of m.0).phase (pass_of m.0).seen
 

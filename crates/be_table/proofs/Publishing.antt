@@ -128,7 +128,7 @@ module _ (xs : List Place) (w : World) (s : Sound w) (shown : ShowsPlaces xs w) 
     | inr le ↦ absurd (let e : has (pages_from is_of_next 0 xs) q ≡ false = listed is_of_next xs q ∙ untested is_of_next xs q le in cc)
   ]
 
--- what an older version spells
+-- what an older version encodes
 older_spelt : (log : List Commit) (c : Commit) (words : ℕ → ℕ → ℕ) (n : ℕ) → n ≤ length log → SpellsVolume (reach_at log n) (in_pages words) (page_at log n) (replay (take n (entries log)))
     → SpellsVolume (reach_at (log ++ c ∷ []) n) (in_pages words) (page_at (log ++ c ∷ []) n) (replay (take n (entries (log ++ c ∷ []))))
 older_spelt log c words n le h =

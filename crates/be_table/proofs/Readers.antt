@@ -12,11 +12,11 @@ use Rattle.be_table.specs.Steps.{IsPass}
 use Rattle.be_table.proofs.Pins.{page_inside, readable_pin}
 use Rattle.be_table.proofs.Told.{told_as, stepped_pass}
 
--- a page that can be read is one of the table
+-- a readable page is one of the table
 pub readable_inside : (a : Knowledge) (q : ℕ) → IsPass a → IsTrue (is_readable (pinned_standing a q)) → q < a.limits.pages
 readable_inside a q h r = let p = readable_pin a q r in page_inside a p.0 p.1 q h p.2 p.3
 
--- a reader goes on after a read
+-- a reader continues after a read
 pub read_on : (w v : Inside) → IsReader w → v.table.now ≡ w.table.now → v.marks ≡ w.marks → v.base.table_id ≡ w.base.table_id → v.base.me ≡ (alone (one_step_on (pass_of w.base.me.0)), []) → IsReader v
 read_on w v i table marks id me =
     let a : Knowledge = pass_of w.base.me.0 in

@@ -1,4 +1,4 @@
--- A scan, announcement by announcement.
+-- A scan, one reader slot after the other.
 use Rattle.std.proofs.Common.{◌≡◌, ◌≢◌, ℕ, suc, Bool, map, ◌+◌, ◌<◌, ◌≤◌, eq-eqb, ne_eqb, List, [], ◌∷◌, ◌++◌, length, cond, refl, sym, ap, ◌∙◌, subst, arith}
 use Rattle.be_table.specs.declared.pass.View.{View}
 use Rattle.std.proofs.Common.{zero, true, false, inl, inr, ⊎_elim, ◌==◌, if◌then◌else◌, slice_index, length-append, append_assoc}
@@ -29,11 +29,11 @@ scans_all-push a (m ∷ ns) n = scans_all-push (scans a m) ns n
 pub part_none : (passes : ℕ) (a : Knowledge) (l : ℕ) → 0 < passes → a.scanned ≡ 0 → l ≡ length a.seen → IsPart passes a a 0 l
 part_none passes a l some none is = record { same = refl; turn = λ _. none; waits = λ _. refl; whole = λ e. absurd (omega arith); begins = λ _. is; so_far = λ h. absurd (omega arith) }
 
--- the least of no announcement
+-- the lowest number without a reader slot
 pub least_none : (current : ℕ) → IsLeastAnnounced current [] current
 least_none current = record { at_most = le_refl current; below = λ a h. absurd (let lt = h.1 in omega arith); one = inl refl }
 
--- the least of one announcement more
+-- the lowest number with one more reader slot
 pub least_more : (current : ℕ) (words : List ℕ) (least word : ℕ) → IsLeastAnnounced current words least → IsLeastAnnounced current (words ++ word ∷ []) (least_found least word)
 least_more current words least zero h = record {
   at_most = h.at_most;
@@ -53,7 +53,7 @@ least_more current words least (suc a) h = elim (leb_tells least a) [
   })
 ]
 
--- an announcement more makes the least no greater, and keeps the order of two
+-- one more reader slot makes the lowest number no greater, and keeps the order of two
 least_lower : (l n : ℕ) → least_found l n ≤ l
 least_lower l zero = le_refl l
 least_lower l (suc n) = omega arith
@@ -62,18 +62,18 @@ least_mono : (l c n : ℕ) → l ≤ c → least_found l n ≤ least_found c n
 least_mono l c zero h = h
 least_mono l c (suc n) h = omega arith
 
--- what the first j announcements say of the least of the current number and the pass's own
+-- what the first j reader slots say about the lowest of the current number and the pass's own
 pub record IsOwnPart (a : Knowledge) (j least : ℕ) : Type 0 where
   pub current : least ≤ length a.seen
   pub none : j ≡ 0 → least ≡ length a.seen
   pub own : a.number < j → least ≤ own_least a
   pub first : j ≡ 1 → a.number ≡ 0 → least ≡ own_least a
 
--- what no announcement says of the pass's own
+-- what no reader slot says about the pass's own
 pub own_none : (a : Knowledge) (l : ℕ) → l ≡ length a.seen → IsOwnPart a 0 l
 own_none a l is = record { current = omega arith; none = λ _. is; own = λ lt. absurd (omega arith); first = λ e. absurd (omega arith) }
 
--- one announcement more
+-- one more reader slot
 pub own_step : (a : Knowledge) (j l n : ℕ) → IsOwnPart a j l → (j ≡ a.number → n ≡ announce_word a.phase) → IsOwnPart a (j + 1) (least_found l n)
 own_step a j l n h mine = record {
   current = (let low = least_lower l n in let top = h.current in omega arith);
@@ -84,12 +84,12 @@ own_step a j l n h mine = record {
   first = λ one zero. let start : j ≡ 0 = omega arith in let same : j ≡ a.number = omega arith in ap (λ x. least_found x n) (h.none start) ∙ ap (least_found (length a.seen)) (mine same);
 }
 
--- the announcement of the pass's own turn is its own
+-- at its own turn the pass finds what it has announced
 pub found_own : (passes : ℕ) (a s : Knowledge) (j l n : ℕ) → j < passes → IsPart passes a s j l → (s.scanned ≡ s.number → n ≡ announce_word s.phase) → j ≡ a.number → n ≡ announce_word a.phase
 found_own passes a s j l n lt h own mine =
     own (h.turn lt ∙ (mine ∙ sym (ap (λ (k : Knowledge). k.number) h.same))) ∙ ap (λ (k : Knowledge). announce_word k.phase) h.same
 
--- what all say of it
+-- what all reader slots say about it
 pub own_all : (a : Knowledge) (passes l : ℕ) → a.limits.passes ≡ passes → a.number < passes → IsOwnPart a passes l → IsOwnLeast a l
 own_all a passes l limits below h = (h.own below, λ one. h.first (omega arith) (omega arith))
 
@@ -125,7 +125,7 @@ part_next passes a s j l n lt limits h leaves =
       so_far = λ _. least;
     }))
 
--- the same of a pass with another history
+-- the same for a pass with another history
 part_history : (passes : ℕ) (a s : Knowledge) (j l : ℕ) (h : List Move) → IsPart passes a s j l → IsPart passes a (with_history s h) j l
 part_history passes a s j l h p = record { same = λ k. record (p.same k) { history = h }; turn = p.turn; waits = p.waits; whole = λ e. let w = p.whole e in (w.0, w.1, w.2, w.3); begins = p.begins; so_far = p.so_far }
 
@@ -146,7 +146,7 @@ scans_history a n h = by (suc a.scanned == a.limits.passes)
 abbrev pub Me3 : Type 0
 Me3 = Me (Option Ledger) View
 
--- the seat has read the announcements ns, and reads n
+-- the seat has read the reader slots ns, and then reads n
 pub me_next : (a : Knowledge) (ns : List ℕ) (n : ℕ) (m r b : Me3) → m ≡ (alone (with_history (scans_all a ns) (pass_of m.0).history), b.1) → r ≡ (alone (scans (with_history (pass_of m.0) (pass_of r.0).history) n), m.1)
     → r ≡ (alone (with_history (scans_all a (ns ++ n ∷ [])) (pass_of r.0).history), b.1)
 me_next a ns n m r b e f =
@@ -162,14 +162,14 @@ part_step passes a m r j l n lt limits h f leaves =
     let s = with_history (pass_of m.0) (pass_of r.0).history in
     subst (λ (x : Knowledge). IsPart passes a x (j + 1) (least_found l n)) (sym (ap (λ (x : Me3). pass_of x.0) f)) (part_next passes a s j l n lt limits (part_history passes a (pass_of m.0) j l (pass_of r.0).history h) leaves)
 
--- what the scans so far have found is found still
+-- what the scans so far have found stays found
 found_on : (limits : Limits) (k : ℕ) (before after more : List Move) (j word : ℕ) → StartsWith more after → FoundAt limits k before after j word → FoundAt limits k before more j word
 found_on limits k before after more j word s f = record { upto = f.upto; front = starts_all f.upto after more f.front s; scans = f.scans; words = f.words; world = f.world; runs = f.runs; found = f.found }
   where
     starts_all : (x y z : List Move) → StartsWith y x → StartsWith z y → StartsWith z x
     starts_all x y z p q = (p.0 ++ q.0, q.1 ∙ ap (λ l. l ++ q.0) p.1 ∙ append_assoc x p.0 q.0)
 
--- one more is found by the scan whose turn it is
+-- one more is found, by the scan whose turn it is
 pub found_more : (limits : Limits) (k j : ℕ) (before mid after : List Move) (ns : List ℕ) (n : ℕ) → length ns ≡ j → AreFound limits k before mid ns → StartsWith after mid → FoundAt limits k before after j n → AreFound limits k before after (ns ++ n ∷ [])
 found_more limits k j before mid after ns n long all s new i lt = dite (ℕ_discrete i j)
     (λ e. subst (λ (p : ℕ × ℕ). FoundAt limits k before after p.0 p.1) (λ q. (sym e q, sym (ap (slice_index (ns ++ n ∷ [])) (e ∙ sym long) ∙ at_end ns n) q)) new)
@@ -198,7 +198,7 @@ found_now limits k j n before mid c same scans one r = record {
   found = r.so;
 }
 
--- a history goes on from what it was
+-- a history extends what it was before
 pub makes_starts : (k : ℕ) (old own new : List Move) → Makes k old own new → StartsWith new old
 makes_starts k old [] new m = subst (λ (l : List Move). StartsWith l old) (sym m) (starts_itself old)
 makes_starts k old (x ∷ own) new m =

@@ -1,4 +1,4 @@
--- Where the pages of a ledger stand.
+-- The states of the pages in a writer state.
 use Rattle.std.proofs.Common.{◌≡◌, ◌≢◌, ℕ, zero, suc, [], ◌∷◌, Ok, Err, ◌+◌, ◌<◌, ◌≤◌, List, length, map, Bool, true, false, nat_lt, if◌then◌else◌, refl, sym, ap, ◌∙◌, inl, inr, arith}
 use Rattle.std.specs.Prelude.{Result, IfErr, OnErr, IsTrue, slice_index_or}
 use Rattle.std.proofs.lemmas.Bool.{cases_lt}
@@ -20,7 +20,7 @@ use Rattle.be_table.specs.Works.{FindsNone}
 use Rattle.be_value.specs.declared.refusals.Refusal.{Refusal}
 use Rattle.be_table.proofs.Ledgers.{place-map}
 
--- the sets of a page that has this place
+-- the sets of a page with this place
 one_place : (x : Place) (r : Bool) → bit (shows_free x) + bit (shows_taken x) + bit (Rattle.std.specs.Prelude.is_some (retired_with x)) + bit r ≡ 1 → r ≡ is_current x
 one_place Free true e = absurd (omega (arith, e))
 one_place Free false e = refl
@@ -40,7 +40,7 @@ no_place f t o false e = refl
 no_place f t o true e = absurd (omega (arith, e))
 
 module _ (xs : List Place) (w : World) (s : Sound w) (shown : ShowsPlaces xs w) (count : length xs ≡ w.pages) where
-  -- the current version has the pages that the ledger says
+  -- the current version has the pages that the writer state says
   pub reach_shown : (q : ℕ) → q < length xs → w.reach w.current q ≡ is_current (place_of xs q)
   reach_shown q lt =
       let p : set_count w q ≡ bit (nat_lt q w.pages) = s.partition q in
@@ -76,7 +76,7 @@ module _ (xs : List Place) (w : World) (s : Sound w) (shown : ShowsPlaces xs w) 
       nowhere true = refl
       nowhere false = refl
 
--- a page that stands filled is one of the table
+-- a page whose state is filled is one of the table
 pub filled_place : (xs : List Place) (q : ℕ) → standing_among xs q ≡ Full → (q < length xs) × (place_of xs q ≡ Filled)
 filled_place xs q is = elim (cases_lt q (length xs)) [
   | inl lt ↦ (lt, by_place (place_of xs q) (nat_lt q 16384) (ap (λ x. if nat_lt q 16384 then standing_at x else Nowhere) (sym (get_or_default xs q Free Current lt)) ∙ is))
@@ -100,14 +100,14 @@ filled_place xs q is = elim (cases_lt q (length xs)) [
     by_place GivenUp false e = absurd (cc)
     by_place (Retired r) false e = absurd (cc)
 
--- where no page of the table is free, no page is
+-- if no page of the table is free, no page is
 pub none_past : (xs : List Place) → ((p : ℕ) → p < length xs → place_of xs p ≢ Free) → (p : ℕ) → place_of xs p ≢ Free
 none_past xs none p is = elim (cases_lt p (length xs)) [
   | inl lt ↦ none p lt is
   | inr le ↦ absurd (let past : place_of xs p ≡ Current = get_or_past xs p Current le in let e : Current ≡ Free = sym past ∙ is in cc)
 ]
 
--- where no page stands taken, none is reserved
+-- if no page's state is taken, none is reserved
 pub unreserved : (xs : List Place) (q : ℕ) → standing_among xs q ≢ Taken → length xs ≤ 16384 → place_of xs q ≢ Reserved
 unreserved xs q none few is = elim (cases_lt q (length xs)) [
   | inl lt ↦
@@ -117,7 +117,7 @@ unreserved xs q none few is = elim (cases_lt q (length xs)) [
   | inr le ↦ absurd (let past : place_of xs q ≡ Current = get_or_past xs q Current le in let e : Current ≡ Reserved = sym past ∙ is in cc)
 ]
 
--- a page that a scan frees stood nowhere before, and stands nowhere then
+-- a scan doesn't change the states of the pages that it frees
 swept_standing : (l : ℕ) (x : Place) → standing_at (swept_place l x) ≡ standing_at x
 swept_standing l Free = refl
 swept_standing l Reserved = refl
@@ -138,13 +138,13 @@ swept_in l xs q = ap (λ s. if nat_lt q 16384 then s else Nowhere) (by xs q)
     by (x ∷ xs) zero = swept_standing l x
     by (x ∷ xs) (suc k) = by xs k
 
--- where no page was found, each stands where it stood
+-- if no page was found, the states stay the same
 pub full_stands : {X : Type 0} (r : Result X Refusal) (old new : Work) → IfErr r (IsFullOf (FindsNone old new)) → OnErr r (standing_in_work new ≡ standing_in_work old)
 full_stands (Ok x) old new h = tt
 full_stands (Err e) old new h =
     let stands : (q : ℕ) → standing_in_work new q ≡ standing_in_work old q = λ q. ap (λ ps. standing_among ps q) h.2.scan.places ∙ swept_in h.0 old.knows.places q in λ k q. stands q k
 
--- a page that can be read is one of the table, and its place says whether the write has taken it
+-- a readable page is one of the table, and its place says whether the write has taken it
 pub readable_inside : (xs : List Place) (q : ℕ) → IsTrue (is_readable (standing_among xs q)) → q < length xs
 readable_inside xs q read = elim (cases_lt q (length xs)) [
   | inl lt ↦ lt

@@ -1,4 +1,4 @@
--- What a seat tells of its pass after a step of its own.
+-- What a seat says about its pass after the pass's own step.
 use Rattle.std.proofs.Common.{◌≡◌, ℕ, ◌+◌, ◌-◌, ◌≤◌, [], length, sym, ap, ◌∙◌, subst}
 use Rattle.be_core.specs.declared.event.Phase.{Phase}
 use Rattle.be_core.specs.declared.event.Phase.TheVariants.{Idle, Looked, Announced, Pinned}
@@ -25,11 +25,11 @@ late_pass a n h = record { within = h.within; legal = h.legal; number_below = h.
 pub left_pass : (a : Knowledge) → IsPass a → IsPass (without_lock a)
 left_pass a h = record { within = h.within; legal = h.legal; number_below = h.number_below; by_passes = h.by_passes; room = h.room; inside = h.inside; own_pages = h.own_pages; volumes = h.volumes; pin = h.pin; mine = h.mine; spelt = h.spelt }
 
--- the seat has one pass, of which this is known
+-- the seat has one pass, about which this is known
 pub told_as : (c : Knowledge) (r : Me1) (number seen : ℕ) → pass_of r.0 ≡ c → IsTold c number seen → IsTold (pass_of r.0) number seen
 told_as c r number seen e t = subst (λ x. IsTold x number seen) (sym e) t
 
--- after an announcement
+-- after the store to the reader slot
 pub announced_told : (me r : Me1) (a : Knowledge) (n x number seen : ℕ) → me ≡ (alone a, []) → a.phase ≡ Looked x → n - 1 ≡ x → AnnounceMoves any me n r → IsTold a number seen → IsTold (pass_of r.0) number seen
 announced_told me r a0 n x number seen e phase back moves before =
     let h = moves.0 in let a = with_history a0 h in let t = told_history a0 h number seen before in
@@ -37,7 +37,7 @@ announced_told me r a0 n x number seen e phase back moves before =
     told_as (announces a (n - 1)) r number seen (ap (λ (m : Me1). pass_of m.0) moves.3 ∙ ap (λ (m : Me1). announces (with_history (pass_of m.0) h) (n - 1)) e)
     (record { number_is = t.number_is; seen_is = t.seen_is; writes = t.writes; pass = phased a (Announced (n - 1)) (a.steps + 1) t.pass (subst (λ k. k ≤ length a.seen) (sym back) low) (λ y m z. cc) })
 
--- after the announcement was taken back
+-- after the reader slot was cleared
 pub unpinned_told : (me r : Me1) (a : Knowledge) (number seen : ℕ) → me ≡ (alone a, []) → UnpinMoves any me 0 r → IsTold a number seen → IsTold (pass_of r.0) number seen
 unpinned_told me r a0 number seen e moves before =
     let h = moves.0 in let a = with_history a0 h in let t = told_history a0 h number seen before in

@@ -1,4 +1,4 @@
--- The trace goes on by the move of a step.
+-- A step's move extends the trace.
 use Rattle.std.proofs.Common.{◌≡◌, ◌≢◌, ℕ, zero, suc, List, [], ◌∷◌, ◌++◌, map, set, Option, refl, sym, ap, ◌∙◌, subst, ⊎_elim, arith, append_assoc, slice_index}
 use Rattle.be_table.specs.declared.pass.View.{View}
 use Rattle.std.proofs.lemmas.List.{append-nil, set-set}
@@ -38,7 +38,7 @@ rests_now k t = ([], tt, sym (append-nil t))
 makes_one : (k : ℕ) (h t : List Move) (m : Move) → Rests k h t → Makes k h (m ∷ []) (t ++ m ∷ [])
 makes_one k h t m r = (r.0, r.1, ap (λ l. l ++ m ∷ []) r.2)
 
--- one after the other
+-- moves, one list after the other
 pub makes_more : (k : ℕ) (old own mid more new : List Move) → Makes k old own mid → Makes k mid more new → Makes k old (own ++ more) new
 makes_more k old [] mid more new a b = subst (λ (l : List Move). Makes k l more new) a b
 makes_more k old (m ∷ own) mid more new a b = (a.0, a.1, makes_more k ((old ++ a.0) ++ m ∷ []) own mid more new a.2 b)
@@ -72,7 +72,7 @@ told_history a h number seen t = record { number_is = t.number_is; seen_is = t.s
 fits_history : (limits : Limits) (b : Board) (i : ℕ) (a : Knowledge) (h : List Move) → Fits limits b i a → Fits limits b i (with_history a h)
 fits_history limits b i a h f = record { number = f.number; limits_are = f.limits_are; seat_is = f.seat_is; seen = f.seen; mine = f.mine; own = f.own; writes = f.writes; whole = λ t. let x = f.whole t in record { log = x.log; holder = x.holder; turn = x.turn; count = x.count; shown = x.shown; size = x.size; words = x.words }; phase = f.phase; pin = f.pin; image = f.image }
 
--- the table where the pass of a seat has this history
+-- the table in which a seat's pass has this history
 abbrev pub dated : Table → ℕ → Knowledge → List Move → Table
 dated s i a h = record { words = s.words; homes = s.homes; views = set s.views i (alone (with_history a h)) }
 
@@ -83,15 +83,15 @@ stands_dated limits s b i a h st at = record {
   views = views_step limits b b s.views i a (with_history a h) st.views at (starts_itself b.log) (λ j x _ f. f) (fits_history limits b i a h (st.views i (alone a) at).0.0);
 }
 
--- what the machine is to a pass that fits
+-- what the machine is for a pass that fits
 is_at : (limits : Limits) (s : Table) (d : Board) (i : ℕ) (c : Knowledge) → Stands limits s d → Fits limits d i c → IsAt c d.world
 is_at limits s d i c st f = record { phase = f.phase; writes = f.writes; holds = λ t. (f.whole t).holder; seen = let long = longer_seen d.log c.seen f.seen in let version = st.table.version in omega arith; shown = λ t. (f.whole t).shown; image = f.image }
 
--- what a step owes
+-- what a step has to show
 abbrev pub Goes : Limits → Table → Board → ℕ → ℕ → ℕ → List (ℕ × Option Ledger) → (World → World → Type 0) → (Me1 → Type 0) → Type 0
 Goes limits s b word n i carried event then = (w : View) × (x : Act (Option Ledger)) × Valid s.homes carried x × ((d : Board) × Stands limits (stepped s word n i carried w x) d × event b.world d.world) × then (w, carried_after carried x)
 
--- what a step owes with its trace
+-- what a step has to show, with its trace
 abbrev pub Follows : Limits → Table → ℕ → ℕ → ℕ → List (ℕ × Option Ledger) → (Me1 → Type 0) → Type 0
 Follows limits s word n i carried then = (w : View) × (x : Act (Option Ledger)) × Valid s.homes carried x × Shows limits (stepped s word n i carried w x) × then (w, carried_after carried x)
 
@@ -166,7 +166,7 @@ module _ (limits : Limits) (s : Table) (h : Shows limits s) (word n i : ℕ) (a 
         ),
       )
 
--- the same of each table
+-- the same for every table
 pub moving : (limits : Limits) (slots i : ℕ) (a : Knowledge) (carried : List (ℕ × Option Ledger)) (word : ℕ) (f : ℕ → ℕ) (move : ℕ → Move) (event : ℕ → World → World → Type 0) (then : List Move → ℕ → Me1 → Type 0) (so : ℕ → World → Type 0)
     → ((n : ℕ) → mover (move n) ≡ a.number) → ((hist : List Move) → AllowsBy limits slots i (alone (with_history a hist), carried) word f event (then hist))
     → ((n : ℕ) (v w : World) → event n v w → Run v (move n ∷ []) w × so n w) → ((hist : List Move) (n : ℕ) (r : Me1) → then hist n r → IsOne a hist r)
@@ -189,7 +189,7 @@ moving_from limits slots i a carried word f move event then so is by goes shape 
     moved limits s h word (f n) i a carried at (move n) (is n) (event n) (λ hist r. then hist n r × StoodBefore a (move n) hist) (so n)
     (y.0, y.1, y.2, y.3, (y.4, stood limits s h word (f n) i a carried at (move n) (is n))) (goes n) (λ r t. shape hist n r t.0)
 
--- a step that is none
+-- a step that is no move
 pub rested : (limits : Limits) (s : Table) (h : Shows limits s) (word n i : ℕ) (v : View) (carried : List (ℕ × Option Ledger)) → get_elem? s.views i ≡ some v → (event : World → World → Type 0) (then : Me1 → Type 0) → Goes limits s h.0 word n i carried event then
     → ((x w : World) → event x w → w ≡ x) → ((r : Me1) → then r → (t : List Move) → AllRest t v.passes → AllRest t r.0.passes) → Follows limits s word n i carried then
 rested limits s h word n i v carried at event then y same rest =
@@ -221,7 +221,7 @@ pub resting : (limits : Limits) (slots i : ℕ) (v : View) (carried : List (ℕ 
 resting limits slots i v carried word f event then by same rest s h sized at fits =
     let n = slice_index s.words word in rested limits s h word (f n) i v carried at (event n) (then n) (by s h.0 h.1 sized at fits) (same n) (rest n)
 
--- what is told may be said otherwise
+-- what is said may be said in another way
 pub retold : (limits : Limits) (slots i : ℕ) (me : Me1) (word : ℕ) (f : ℕ → ℕ) (then more : ℕ → Me1 → Type 0) → ((n : ℕ) (r : Me1) → then n r → more n r) → Allows (Shows limits) slots i me word f then → Allows (Shows limits) slots i me word f more
 retold limits slots i me word f then more g x s h sized at fits = let r = x s h sized at fits in (r.0, r.1, r.2, r.3, g (slice_index s.words word) _ r.4)
 
@@ -229,6 +229,6 @@ retold limits slots i me word f then more g x s h sized at fits = let r = x s h 
 pub as_me : (limits : Limits) (slots i : ℕ) (a : Knowledge) (carried : List (ℕ × Option Ledger)) (me : Me1) (word : ℕ) (f : ℕ → ℕ) (then : Me1 → ℕ → Me1 → Type 0) → me ≡ (alone a, carried) → Allows (Shows limits) slots i (alone a, carried) word f (then (alone a, carried)) → Allows (Shows limits) slots i me word f (then me)
 as_me limits slots i a carried me word f then e x = subst (λ (m : Me1). Allows (Shows limits) slots i m word f (then m)) (sym e) x
 
--- the pass of a seat that was told
+-- the pass of a seat that is known
 pub one_of : (a c : Knowledge) (h : List Move) (l : List (ℕ × Option Ledger)) (r : Me1) → r ≡ (alone c, l) → c.number ≡ a.number → c.history ≡ h → IsOne a h r
 one_of a c h l r e number history = (c, ap (λ (m : Me1). m.0) e, number, history)

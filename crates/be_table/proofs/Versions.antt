@@ -1,4 +1,4 @@
--- What a version spells stays while its pages keep their words.
+-- What a version encodes stays the same while its pages keep their words.
 use Rattle.std.proofs.Common.{◌≡◌, ℕ, zero, suc, ◌+◌, ne_eqb, slice_index, false, ◌<◌, ◌≤◌, List, [], ◌∷◌, ◌++◌, length, take, Bool, true, nat_lt, if◌then◌else◌, refl, sym, ap, ◌∙◌, inl, inr, arith, IsTrue}
 use Rattle.std.proofs.lemmas.Bool.{cases_lt}
 use Rattle.std.proofs.Math.ListN.{get_or-eq_default}
@@ -51,7 +51,7 @@ clipped f g same = λ k i. at i k
       | inr le ↦ rw (le-ltb i 512 le) refl
     ]
 
--- the first of a longer list
+-- the first elements of a longer list
 pub take_front : {A : Type 0} (xs ys : List A) (n : ℕ) → n ≤ length xs → take n (xs ++ ys) ≡ take n xs
 take_front xs ys zero le = refl
 take_front [] ys (suc n) le = absurd (omega arith)
@@ -65,7 +65,7 @@ zero_page : (q : ℕ) → IsTrue (has (0 ∷ []) q) → q ≡ 0
 zero_page zero h = refl
 zero_page (suc q) h = absurd (let e : has (0 ∷ []) (suc q) ≡ false = rw (ne_eqb 0 (suc q) (λ z. absurd (omega arith))) refl in cc)
 
--- a list of 512 words has none past its end
+-- a list of 512 words has nothing beyond its end
 unclipped : (first : List ℕ) (f : ℕ → ℕ) → length first ≡ 512 → ((i : ℕ) → i < 512 → f i ≡ slice_index first i) → ◌≡◌ {A = ℕ → ℕ} (λ (i : ℕ). if nat_lt i 512 then f i else 0) (λ (i : ℕ). slice_index first i)
 unclipped first f long same = λ k i. at i k
   where
@@ -75,7 +75,7 @@ unclipped first f long same = λ k i. at i k
       | inr le ↦ rw (le-ltb i 512 le) (sym (get_or-eq_default first 0 (omega (arith, long, le))))
     ]
 
--- version 0 has its page alone
+-- version 0 has only its page
 first_alone : (w : ℕ → ℕ → ℕ) (volume : State) → IsVersion (λ q. at_start (has (0 ∷ []) q)) w 0 volume → SpellsVolume (0 ∷ []) w 0 volume
 first_alone w volume h = record {
   version = h;
@@ -90,7 +90,7 @@ first_alone w volume h = record {
     once zero = refl
     once (suc q) = rw (ne_eqb 0 (suc q) (λ z. absurd (omega arith))) refl
 
--- the first page lies at page 0
+-- the first page is at page 0
 pub first_spelt : (first words : List ℕ) → length first ≡ 512 → ((i : ℕ) → i < 512 → slice_index words (528 + i) ≡ slice_index first i)
     → IsVersion (λ q. at_start (has (0 ∷ []) q)) (λ q i. slice_index first i) 0 empty → SpellsVolume (0 ∷ []) (in_pages (λ p i. slice_index words (word_place p i))) 0 empty
 first_spelt first words long same h = spells_same (0 ∷ []) (λ q i. slice_index first i) (in_pages (λ p i. slice_index words (word_place p i))) 0 empty

@@ -1,4 +1,4 @@
--- A witness is made of what a pass has seen, and a pass takes in what a witness has seen.
+-- A witness is made from what a pass has seen, and a pass takes in what a witness has seen.
 use Rattle.std.proofs.Common.{◌≡◌, ℕ, List, [], length, false, Option, refl, sym, ap, ◌∙◌, subst}
 use mathlib.Core.Option.{none}
 use Rattle.atomic_table.specs.Table.{keeps, step, Allows, Splits}
@@ -50,11 +50,11 @@ learns_as limits slots i a front me e idle =
 pub attests_as : (limits : Limits) (i : ℕ) (a : Knowledge) (u : View) → u ≡ alone a → Splits (Shows limits) i u (kept_seat u) (front_seat u)
 attests_as limits i a u e = subst (λ (w : View). Splits (Shows limits) i w (kept_seat w) (front_seat w)) (sym e) (attests limits i a)
 
--- a pass has taken in the seat of a witness
+-- a pass has taken in a witness's seat
 pub joined_front : (a : Knowledge) (front : List Commit) (m n r : Me1) → m ≡ (alone a, []) → n ≡ (witnessing front, []) → r ≡ (seats_together m.0 n.0, m.1) → r ≡ (informed (one_step_on a) front, [])
 joined_front a front m n r e f g = g ∙ (λ k. (seats_together ((e k).0) ((f k).0), (e k).1))
 
--- what the seat and the witness tell once they are cut apart
+-- what the seat and the witness say after they are split
 module _ (a : Knowledge) (front : List Commit) (m n j l : Me1) (number seen : ℕ) (left : m ≡ (alone a, [])) (right : n ≡ (witnessing front, [])) (pair : j ≡ (seats_together m.0 n.0, m.1)) (learned : Learned (step 0 0 0 0 none) j 0 l) where
   pub learnt : Learned (step 0 0 0 0 none) (informed (one_step_on a) front, []) 0 l
   learnt = subst (λ (x : Me1). Learned (step 0 0 0 0 none) x 0 l) (joined_front a front m n j left right pair) learned
@@ -64,7 +64,7 @@ module _ (a : Knowledge) (front : List Commit) (m n j l : Me1) (number seen : �
       told_as (one_step_on (having_seen (one_step_on a) (longer a.seen front))) r number both (ap (λ (x : Me1). pass_of x.0) e ∙ ap (λ (x : Me1). pass_of (kept_seat x.0)) learnt.0)
       (record { number_is = t.number_is; seen_is = long; writes = t.writes; pass = stepped_pass (having_seen (one_step_on a) (longer a.seen front)) _ learnt.3 })
 
--- what a seat tells of which a witness was made
+-- what a seat says from which a witness was made
 pub told_attested : (a : Knowledge) (m r : Me1) (number seen : ℕ) → m ≡ (alone a, []) → r ≡ (kept_seat m.0, m.1) → IsTold a number seen → IsTold (pass_of r.0) number seen
 told_attested a m r number seen is e t =
     told_as (one_step_on a) r number seen (ap (λ (x : Me1). pass_of x.0) e ∙ ap (λ (x : Me1). pass_of (kept_seat x.0)) is)

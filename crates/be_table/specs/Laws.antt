@@ -1,4 +1,4 @@
--- What a step on a word is allowed to do, with the event that it is.
+-- What a step on a word may do, and which event it is.
 use Rattle.std.specs.Prelude.{◌≡◌, ℕ, ◌+◌, ◌*◌, ◌<◌, ◌==◌, List, [], ◌∷◌, ◌++◌, length, map}
 use Rattle.std.specs.Prelude.{slice_index, slice_set, Option, Some, true, false, IsTrue, MatchBool}
 use prog.Atomic.{either}
@@ -48,21 +48,21 @@ IsAnnounce k n v w = MayAnnounce v k × (w ≡ after_announce v k)
 abbrev pub IsLookAgain : ℕ → ℕ → World → World → Type 0
 IsLookAgain k n v w = MayLookAgain v k × (w ≡ after_look_again v k) × HasCurrent n v
 
--- a read of a page of the pinned version m finds the word of its image
+-- a read of a page of the pinned version m finds the word in its image
 abbrev pub IsRead : (k m p i : ℕ) → ℕ → World → World → Type 0
 IsRead k m p i n v w = MayRead v k p i × (w ≡ v) × (n ≡ v.image m p i)
 
 abbrev pub IsUnpin : ℕ → ℕ → World → World → Type 0
 IsUnpin k n v w = MayUnpin v k × (w ≡ after_unpin v k)
 
--- if the word was 0
+-- it is a Lock only if the word was 0
 abbrev pub IsLock : ℕ → ℕ → World → World → Type 0
 IsLock k n v w = MatchBool (n == 0) (MayLock v k × (w ≡ after_lock v k)) (w ≡ v)
 
 abbrev pub IsUnlock : ℕ → ℕ → World → World → Type 0
 IsUnlock k n v w = MayUnlock v k × (w ≡ after_unlock v)
 
--- a scan finds the announcement of the pass whose turn it is
+-- a scan finds the word of the pass whose turn it is
 abbrev pub IsScan : (k j : ℕ) → ℕ → World → World → Type 0
 IsScan k j n v w = MayScan v k j × (w ≡ after_scan v j) × (n ≡ announce_word (v.phases j))
 
@@ -78,8 +78,8 @@ IsPublish k page given n v w = MayPublishAt v k page given × (w ≡ after_publi
 
 -- ## What a step does
 
--- As `Allows`: whatever the table is, the seat can step, and keep the rule. And the machine that it
--- shows goes by the event, which may read the number found
+-- As in `Allows`: whatever the table is, the seat can step and keep the rule. The machine that the
+-- table shows then makes the event, which may depend on the number found.
 abbrev pub AllowsBy : Limits → ℕ → ℕ → Me (Option Ledger) View → ℕ → (ℕ → ℕ)
     → (ℕ → World → World → Type 0) → (ℕ → Me (Option Ledger) View → Type 0) → Type 0
 AllowsBy limits slots id me i f event then =
@@ -120,7 +120,7 @@ module _ (limits : Limits) (slots id : ℕ) (a : Knowledge) (carried : List (ℕ
       (IsRead a.number n p i) (PinnedRead (step slots (word_place p i) 0 0 none)
       (alone a, carried))
 
-  -- a compare-exchange that finds 0 is Lock, and one that doesn't is no event
+  -- a compare-exchange that finds 0 is Lock, and any other is no event
   abbrev pub LockIsItsEvent : Type 0
   LockIsItsEvent = a.writes ≡ false
       → AllowsBy limits slots id (alone a, carried) 0 (λ n. either (n == 0) (a.number + 1) n)
@@ -139,7 +139,7 @@ module _ (limits : Limits) (slots id : ℕ) (a : Knowledge) (carried : List (ℕ
       (IsFill a.number p i x) (λ _. FilledAt (step slots (word_place p i) x 0 none)
       (alone a, carried) x)
 
-  -- a load of a word of a page in hand fills it with the word that is there
+  -- a load of a word of a page that the write holds fills it with the word that is there
   abbrev pub FoundFillIsItsEvent : Type 0
   FoundFillIsItsEvent = (p i : ℕ) → a.writes ≡ true → a.published ≡ false → MayBeFilled a.places p
       → i < 512
@@ -160,7 +160,7 @@ module _ (limits : Limits) (slots id : ℕ) (a : Knowledge) (carried : List (ℕ
       (λ n. IsFill a.number p 0 n n) (PageTaken (step slots (word_place p 0) 0 0 none)
       (alone a, carried))
 
-  -- the return of a page that the write had taken; of another page no event
+  -- the return of a page that the write had taken; no event for any other page
   abbrev pub GiveUpIsNoEvent : Type 0
   GiveUpIsNoEvent = (p : ℕ) → a.writes ≡ true → p < length a.places
       → IsTrue (is_held_page (place_of a.places p))
@@ -189,7 +189,7 @@ CompareIsNoEvent limits slots id a c carried = a.writes ≡ false → c.writes �
     → AllowsBy limits slots id (beside a c, carried) 0 (λ n. n) NoEvent
     (Compared (step slots 0 0 0 none) (beside a c, carried))
 
--- a pass takes in the front that its seat has
+-- a pass takes in its seat's front
 abbrev pub LearnIsNoEvent : Limits → ℕ → ℕ → Knowledge → List Commit → List (ℕ × Option Ledger)
     → Type 0
 LearnIsNoEvent limits slots id a front carried = a.writes ≡ false
@@ -202,7 +202,7 @@ LearnIsNoEvent limits slots id a front carried = a.writes ≡ false
 abbrev pub with_views : State (Option Ledger) View → List View → State (Option Ledger) View
 with_views s views = record { words = s.words; homes = s.homes; views = views }
 
--- the rule holds of the table, which shows the same machine and the same journal as before
+-- the rule holds for the table, which shows the same machine and the same journal as before
 abbrev pub StaysShown : Limits → Board → State (Option Ledger) View → Type 0
 StaysShown limits b s = (d : Board) × Stands limits s d × (d.world ≡ b.world) × (d.log ≡ b.log)
 
@@ -215,7 +215,7 @@ SplitIsNoEvent limits id a v fronts =
     → StaysShown limits b (with_views s
     (slice_set s.views id (other_seats all) ++ first_seat all ∷ []))
 
--- what the pass of a seat has seen gets a new seat with no pass, and the seat keeps what it has
+-- what a seat's pass has seen gets a new seat without a pass, and the seat keeps what it has
 abbrev pub AttestIsNoEvent : Limits → ℕ → Knowledge → Type 0
 AttestIsNoEvent limits id a =
     (s : State (Option Ledger) View) (b : Board) → Stands limits s b → get_elem? s.views id
@@ -231,14 +231,14 @@ JoinIsNoEvent limits id v other w =
     → StaysShown limits b (with_views s
     (slice_set (slice_set s.views id (seats_together v w)) other empty_view))
 
--- there is one seat more, with no pass
+-- there is one more seat, without a pass
 abbrev pub ArrivalIsNoEvent : Limits → Type 0
 ArrivalIsNoEvent limits = (s : State (Option Ledger) View) (b : Board) → Stands limits s b
     → StaysShown limits b (with_views s (s.views ++ empty_view ∷ []))
 
 -- ## The moves
 
--- an event as moves: a read changes nothing, and is none
+-- an event as moves; a read changes nothing and is no move
 abbrev pub moves_of : Event → List Move
 moves_of (events.Look k) = moves.Look k ∷ []
 moves_of (events.Announce k) = moves.Announce k ∷ []
@@ -251,7 +251,7 @@ moves_of (events.Fill k p i word) = moves.Fill k p i word ∷ []
 moves_of (events.Publish k page given) = moves.Publish k page given.items ∷ []
 moves_of (events.Unlock k) = moves.Unlock k ∷ []
 
--- an event that is allowed leads where its moves lead
+-- an allowed event leads where its moves lead
 abbrev pub EventsAreMoves : Type 0
 EventsAreMoves = (w : World) (e : Event) → Allowed w e → Run w (moves_of e) (after_event w e)
 
@@ -261,20 +261,20 @@ abbrev pub RunsAreSound : Type 0
 RunsAreSound = (limits : Limits) (words : ℕ → ℕ → ℕ) (ms : List Move) (w : World) → IsWithin limits
     → RunsTo limits words ms w → Sound w × Protected w
 
--- each beginning of a run is a run
+-- each prefix of a run is a run
 abbrev pub FrontsRun : Type 0
 FrontsRun = (limits : Limits) (words : ℕ → ℕ → ℕ) (front rest : List Move) (w : World)
     → RunsTo limits words (front ++ rest) w → (mid : World) × RunsTo limits words front mid
     × Run mid rest w
 
--- ## The words for which the table has no use
+-- ## The words that the table doesn't use
 
 -- between any two steps they are 0
 abbrev pub UnusedAreZero : Type 0
 UnusedAreZero = (limits : Limits) (s : State (Option Ledger) View) (k : ℕ) → Shows limits s
     → IsUnused limits.passes k → slice_index s.words k ≡ 0
 
--- So a step stores nothing but 0 there, whatever it makes of its seat: there is no word for a lock
+-- So a step stores nothing but 0 there, whatever it does to its seat: no word can serve as a lock
 -- of another kind.
 abbrev pub UnusedStayZero : Type 0
 UnusedStayZero = (limits : Limits) (s : State (Option Ledger) View) (k n id : ℕ)

@@ -1,4 +1,4 @@
--- What a reader of pages sees of an open write, and of a pinned version.
+-- What a page reader sees of an open write, and of a pinned version.
 use Rattle.std.specs.Prelude.{◌≢◌, ℕ, ◌<◌, ◌^◌, ◌&&◌, Bool, nat_lt, if◌then◌else◌, List, []}
 use Rattle.std.specs.Prelude.{slice_index, slice_index_or}
 use Rattle.std.proofs.Common.{inl, inr, arith, refl}
@@ -77,7 +77,7 @@ reach_of (Pinned a n) seen = reach_at seen n
 abbrev pub pinned_standing : Knowledge → ℕ → Standing
 pinned_standing a q = if nat_lt q 16384 && has (reach_of a.phase a.seen) q then Old else Nowhere
 
--- the pass but for the count of its steps
+-- the pass without its count of steps
 abbrev pub steady : Knowledge → Knowledge
 steady a = record a { steps = 0 }
 

@@ -1,4 +1,4 @@
--- The fact that holds of the table between any two steps.
+-- The rule that holds for the table between any two steps.
 use Rattle.std.specs.Prelude.{◌≡◌, ◌≢◌, ℕ, zero, suc, ◌+◌, ◌*◌, ◌<◌, ◌≤◌, ◌==◌, Bool, true, false}
 use Rattle.std.specs.Prelude.{List, [], ◌∷◌, ◌++◌, length, take, drop, map, Option, Some, None}
 use Rattle.std.specs.Prelude.{slice_index, slice_index_or, IsTrue, count_by}
@@ -36,7 +36,7 @@ entries log = map (λ c. c.entry) log
 abbrev pub nothing : Commit
 nothing = record { entry = record { by = 0; ops = []; dones = [] }; page = 0; reach = [] }
 
--- the pages of version n. Version 0 has the page 0 alone
+-- the pages of version n; version 0 has only the page 0
 abbrev pub reach_at : List Commit → ℕ → List ℕ
 reach_at log zero = 0 ∷ []
 reach_at log (suc n) = (slice_index_or log n nothing).reach
@@ -67,7 +67,7 @@ HasCurrent n w = (page : ℕ) × (n ≡ current_word w.current page) × (page < 
 abbrev pub word_place : ℕ → ℕ → ℕ
 word_place p i = 528 + 512 * p + i
 
--- on any one page and place, the list has the word
+-- at each place of each page, the list has the word
 abbrev pub PagesAgree : ℕ → (ℕ → ℕ → ℕ) → List ℕ → Type 0
 PagesAgree pages words ws = (p i : ℕ) → p < pages → i < 512 → slice_index ws (word_place p i)
     ≡ words p i
@@ -76,7 +76,7 @@ PagesAgree pages words ws = (p i : ℕ) → p < pages → i < 512 → slice_inde
 abbrev pub ledger_places : Ledger → List Place
 ledger_places ledger = places ledger.pool
 
--- as many pages as the last whole scan left retired are retired still
+-- at least as many pages as the last whole scan left retired are still retired
 abbrev pub LeftAreRetired : Ledger → Type 0
 LeftAreRetired ledger = ledger.left ≤ count_by is_retired (ledger_places ledger)
 
@@ -84,7 +84,7 @@ abbrev pub is_holder : Option Holder → ℕ → Bool
 is_holder None k = false
 is_holder (Some h) k = h.pass == k
 
--- a writer state that fits the table: the journal, the version page, and where each page is
+-- a writer state that agrees with the table: the journal, the version page, and where each page is
 pub record AtHome (w : World) (log : List Commit) (ledger : Ledger) : Type 0 where
   pub journal : ledger.journal.entries ≡ entries log
   pub limit : ledger.journal.limit ≡ w.commits
@@ -94,7 +94,7 @@ pub record AtHome (w : World) (log : List Commit) (ledger : Ledger) : Type 0 whe
   pub idle : map undone_place (ledger_places ledger) ≡ (ledger_places ledger)
   pub left : LeftAreRetired ledger
 
--- the writer state lies in its slot while nobody holds the lock, and fits the table
+-- while nobody holds the lock, the writer state lies in its slot and agrees with the table
 abbrev pub IsHome : Option Holder → World → List Commit → List (Maybe (Option Ledger)) → Type 0
 IsHome None w log homes = (ledger : Ledger) × (homes ≡ some (Some ledger) ∷ [])
     × AtHome w log ledger
@@ -102,8 +102,8 @@ IsHome (Some h) w log homes = homes ≡ none ∷ []
 
 -- ## The first part: the table shows the state
 
--- a word before the pages that is neither the lock, nor the current version, nor the announcement
--- of one of so many passes
+-- a word before the pages that is neither the lock, nor the current version, nor the reader slot of
+-- one of this many passes
 abbrev pub IsUnused : (passes k : ℕ) → Type 0
 IsUnused passes k = (k < 528) × (k ≢ 0) × (k ≢ 8) × ((j : ℕ) → j < passes → k ≢ 16 + 8 * j)
 
@@ -122,7 +122,7 @@ pub record ShowsBoard (b : Board) (s : State (Option Ledger) View) : Type 0 wher
   pub home : IsHome b.world.holder b.world b.log s.homes
   pub version : b.world.current ≡ length b.log
 
--- ## The second part: the journal's and the machine's invariants, and what each version encodes
+-- ## The second part: the invariants of the journal and the machine, and what each version encodes
 
 -- limits that a table may have
 abbrev pub IsWithin : Limits → Type 0
@@ -162,9 +162,9 @@ pub record IsSoundBoard (limits : Limits) (b : Board) : Type 0 where
       → SpellsVolume (reach_at b.log n) (in_pages (b.world.image n)) (page_at b.log n)
       (replay (take n (entries b.log)))
 
--- ## The third part: what each pass knows is so
+-- ## The third part: what each pass knows is true
 
--- the machine's holder, as a pass that holds the lock knows it
+-- the machine's writer, as the pass that holds the lock knows it
 abbrev pub known_holder : Knowledge → Holder
 known_holder a = record {
   pass = a.number;
@@ -173,7 +173,7 @@ known_holder a = record {
   published = a.published;
 }
 
--- what the holder knows
+-- what the writer knows
 pub record Holds (b : Board) (a : Knowledge) : Type 0 where
   pub log : a.seen ≡ b.log
   pub holder : b.world.holder ≡ Some (known_holder a)
@@ -206,7 +206,7 @@ abbrev pub IsAbsent : ℕ → List Knowledge → Type 0
 IsAbsent k [] = Unit {0}
 IsAbsent k (a ∷ v) = (a.number ≢ k) × IsAbsent k v
 
--- each pass of a seat's view, and no pass twice
+-- what each pass in a seat's view knows is true, and no pass is there twice
 abbrev pub AllFit : Limits → Board → ℕ → List Knowledge → Type 0
 AllFit limits b seat [] = Unit {0}
 AllFit limits b seat (a ∷ v) = Fits limits b seat a × IsAbsent a.number v × AllFit limits b seat v
@@ -216,7 +216,7 @@ abbrev pub AreFronts : List Commit → List (List Commit) → Type 0
 AreFronts log [] = Unit {0}
 AreFronts log (front ∷ fronts) = StartsWith log front × AreFronts log fronts
 
--- what a seat knows is so
+-- what a seat knows is true
 abbrev pub ViewFits : Limits → Board → ℕ → View → Type 0
 ViewFits limits b seat v = AllFit limits b seat v.passes × AreFronts b.log v.fronts
 
@@ -226,7 +226,7 @@ ViewsFit limits b views = (seat : ℕ) (v : View) → get_elem? views seat ≡ s
 
 -- ## The fourth part: the trace
 
--- The moves lead from the first state to this one, and none after the history of a pass is by it.
+-- The moves lead from the first state to this one. No move after a pass's history is by that pass.
 pub record IsTrace (limits : Limits) (w : World) (views : List View) (trace : List Move) : Type 0
   where
     pub words : ℕ → ℕ → ℕ
@@ -253,7 +253,7 @@ pub record IsAt (a : Knowledge) (w : World) : Type 0 where
   pub shown : a.writes ≡ true → ShowsPlaces a.places w
   pub image : ImageIs w a.phase a.image
 
--- the machine after the history of the pass is as the pass knows it, and P is so of it
+-- after the pass's history the machine is as the pass knows it, and P holds for it
 pub record Reaches (a : Knowledge) (P : World → Type 0) : Type 0 where
   pub words : ℕ → ℕ → ℕ
   pub world : World
@@ -261,7 +261,7 @@ pub record Reaches (a : Knowledge) (P : World → Type 0) : Type 0 where
   pub known : IsAt a world
   pub so : P world
 
--- just before the move that ends this history, the machine was as the pass knew it
+-- just before the last move of this history, the machine was as the pass knew it
 pub record StoodBefore (a : Knowledge) (move : Move) (history : List Move) : Type 0 where
   pub others : List Move
   pub none : NoneBy a.number others
@@ -292,12 +292,12 @@ newcomer limits steps k = record {
   history = [];
 }
 
--- the passes from k on, so many
+-- `n` passes from k on
 unfoldable pub newcomers : Limits → ℕ → ℕ → ℕ → List Knowledge
 newcomers limits steps k zero = []
 newcomers limits steps k (suc n) = newcomer limits steps k ∷ newcomers limits steps (suc k) n
 
--- the view of a seat with this pass, with these two, with none
+-- the view of a seat with this pass, with these two, or with none
 abbrev pub alone : Knowledge → View
 alone a = record { passes = a ∷ []; fronts = [] }
 
@@ -307,7 +307,7 @@ beside a c = record { passes = a ∷ c ∷ []; fronts = [] }
 abbrev pub empty_view : View
 empty_view = record { passes = []; fronts = [] }
 
--- that of the seat which has the passes from k on, so many, before they are dealt
+-- the view of the seat that has `n` passes from k on, before they are dealt
 abbrev pub undealt : Limits → ℕ → ℕ → ℕ → View
 undealt limits steps k n = record { passes = newcomers limits steps k n; fronts = [] }
 
@@ -317,7 +317,7 @@ everyone limits = undealt limits 0 0 limits.passes
 abbrev pub one_step_on : Knowledge → Knowledge
 one_step_on a = record a { steps = a.steps + 1 }
 
--- the first pass gets a seat of its own
+-- the first pass gets its own seat
 abbrev pub first_seat : View → View
 first_seat v = record { passes = map one_step_on (take 1 v.passes); fronts = [] }
 
@@ -339,7 +339,7 @@ abbrev pub first_of : List Knowledge → Knowledge
 first_of [] = nobody
 first_of (a ∷ v) = a
 
--- the pass of a seat that has one, and the second if it has two
+-- the pass of a seat that has one, and the second pass if it has two
 abbrev pub pass_of : View → Knowledge
 pass_of v = first_of v.passes
 
@@ -348,11 +348,11 @@ second_of v = first_of (drop 1 v.passes)
 
 -- ## Witnesses
 
--- the view of a witness that the journal began so
+-- the view of a witness that the journal began with this front
 abbrev pub witnessing : List Commit → View
 witnessing front = record { passes = []; fronts = front ∷ [] }
 
--- that of a pass that has taken in a witness's seat
+-- the view of a pass that has taken in a witness's seat
 abbrev pub informed : Knowledge → List Commit → View
 informed a front = record { passes = a ∷ []; fronts = front ∷ [] }
 
@@ -360,7 +360,7 @@ informed a front = record { passes = a ∷ []; fronts = front ∷ [] }
 abbrev pub front_of : View → List Commit
 front_of v = slice_index_or v.fronts 0 []
 
--- a seat keeps its passes, and a new one has what the first of them has seen
+-- a seat keeps its passes, and a new seat has what the first of them has seen
 abbrev pub kept_seat : View → View
 kept_seat v = record v { passes = map one_step_on v.passes }
 

@@ -1,4 +1,4 @@
--- What is true of each seat.
+-- What holds for each seat.
 use Rattle.std.specs.Prelude.{◌≡◌, ℕ, ◌<◌, Bool, true, false, List, [], ◌∷◌, length, Option, Some}
 use Rattle.std.specs.Prelude.{None}
 use Rattle.be_core.specs.declared.event.Phase.{Phase}

@@ -1,4 +1,4 @@
--- What the pass that makes a step knows by it.
+-- What a pass knows after its own step.
 use Rattle.std.specs.Prelude.{◌≡◌, ◌≢◌, ◌⊎◌, ℕ, zero, suc, ◌+◌, ◌*◌, ◌<◌, ◌≤◌, ◌==◌, true, false}
 use Rattle.std.specs.Prelude.{Bool, List, [], ◌∷◌, ◌++◌, length, map, MatchBool, Option, Some, take}
 use Rattle.std.specs.Prelude.{min, ◌-◌, if◌then◌else◌, slice_index, slice_set, IsTrue, IsFalse}
@@ -33,7 +33,7 @@ use Rattle.be_table.specs.Rule.{LeftAreRetired, IsWithin, AreInside, OwnPages, a
 use Rattle.be_table.specs.Rule.{empty_view, front_of, pass_of, second_of, one_step_on, current_word}
 use Rattle.be_table.specs.Rule.{page_at, reach_at, entries, word_place}
 
--- what is always so of a pass
+-- what always holds for a pass
 pub record IsPass (a : Knowledge) : Type 0 where
   pub within : IsWithin a.limits
   pub legal : IsHistory (entries a.seen)
@@ -58,7 +58,7 @@ looks a log = record a {
       + 1;
 }
 
--- a pass that has the lock now, with the places of the writer state and the table's words
+-- a pass that has just taken the lock, with the places in the writer state and the table's words
 abbrev pub takes_lock : Knowledge → List Commit → List Place → List ℕ → Knowledge
 takes_lock a log places words = record a {
   seen = log;
@@ -90,7 +90,7 @@ unpins a = record a { phase = Idle; steps = a.steps + 1 }
 abbrev pub with_history : Knowledge → List Move → Knowledge
 with_history a history = record a { history = history }
 
--- the least, after an announcement was found
+-- the lowest number, after a reader slot was read
 abbrev pub least_found : ℕ → ℕ → ℕ
 least_found l zero = l
 least_found l (suc n) = min l n
@@ -101,18 +101,18 @@ scan_from a = if a.scanned == 0 then length a.seen else a.least
 abbrev pub least_then : Knowledge → ℕ → ℕ
 least_then a n = least_found (scan_from a) n
 
--- of the current number and the announced numbers, of which a word has one more, the least
+-- the lowest of the current number and the announced numbers; a word is one more than its number
 pub record IsLeastAnnounced (current : ℕ) (words : List ℕ) (least : ℕ) : Type 0 where
   pub at_most : least ≤ current
   pub below : (a : ℕ) → Contains words (suc a) → least ≤ a
   pub one : (least ≡ current) ⊎ Contains words (suc least)
 
--- the pages of which f holds, from the page p on
+-- the pages from the page p on for which f holds
 abbrev pub pages_from : (Place → Bool) → ℕ → List Place → List ℕ
 pages_from f p [] = []
 pages_from f p (x ∷ xs) = if f x then p ∷ pages_from f (suc p) xs else pages_from f (suc p) xs
 
--- one announcement of a scan, and the last of it
+-- a scan reads one reader slot; and a scan reads its last one
 abbrev pub scans_on : Knowledge → ℕ → Knowledge
 scans_on a n = record a { scanned = suc a.scanned; least = least_then a n; steps = a.steps + 1 }
 
@@ -125,11 +125,11 @@ scans_out a n = record a {
   steps = a.steps + 1;
 }
 
--- the page is in no version from l to the last that was seen
+-- no version from l to the last that was seen has the page
 abbrev pub NoCommitReaches : List Commit → ℕ → ℕ → Type 0
 NoCommitReaches seen l p = (n : ℕ) → l ≤ n → n ≤ length seen → IsFalse (has (reach_at seen n) p)
 
--- each page that no version from the least on reaches is free or taken
+-- each page that no version from `least` on has is free or taken
 abbrev pub UnreachedAreFree : Knowledge → Type 0
 UnreachedAreFree a = (p : ℕ) → p < length a.places → NoCommitReaches a.seen a.least p
     → IsTrue (shows_free (place_of a.places p) || shows_taken (place_of a.places p))
@@ -137,7 +137,7 @@ UnreachedAreFree a = (p : ℕ) → p < length a.places → NoCommitReaches a.see
 abbrev pub scans : Knowledge → ℕ → Knowledge
 scans a n = if suc a.scanned == a.limits.passes then scans_out a n else scans_on a n
 
--- a whole scan, or a part of one, by the words that it found
+-- a whole scan, or a part of one, given the words that it found
 abbrev pub scans_all : Knowledge → List ℕ → Knowledge
 scans_all a [] = a
 scans_all a (n ∷ ns) = scans_all (scans a n) ns
@@ -162,14 +162,14 @@ fills_word a p i x = record (fills a p i x) { steps = a.steps + fill_steps a p i
 abbrev pub takes_page : Knowledge → ℕ → Knowledge
 takes_page a p = record a { places = slice_set a.places p Reserved; steps = a.steps + 1 }
 
--- a page is given up. One that the write has taken is free at once
+-- a page is given up; one that the write has taken is free at once
 abbrev pub gives_up : Knowledge → ℕ → Knowledge
 gives_up a p = record a {
   places = slice_set a.places p (given_place (place_of a.places p));
   steps = a.steps + 1;
 }
 
--- a write by this pass
+-- an entry by this pass
 abbrev pub entry_by : Knowledge → List Op → List Done → Entry
 entry_by a ops dones = record { by = a.number; ops = ops; dones = dones }
 
@@ -203,7 +203,7 @@ pub record MayPublish (limits : Limits) (a : Knowledge) (e : Entry) (v : ℕ) : 
   pub spelt : SpellsVolume (pages_from is_of_next 0 a.places) (word_of_page a.words) v
       (replay (entries a.seen ++ e ∷ []))
 
--- a pass that holds the lock may read the announcement of the pass j
+-- a pass that holds the lock may read the reader slot of the pass j
 abbrev pub MayReadAnnouncement : Limits → Me (Option Ledger) View → ℕ → Type 0
 MayReadAnnouncement limits m j = let a = pass_of m.0 in (m.0 ≡ alone a) × (a.writes ≡ true)
     × (a.published ≡ false) × (a.scanned ≡ j) × (j < limits.passes)
@@ -236,7 +236,7 @@ pub record IsFound (ledger : Ledger) (c : Knowledge) : Type 0 where
   pub spelt : SpellsVolume (reach_at c.seen (length c.seen)) (word_of_page c.words)
       (page_at c.seen (length c.seen)) (replay (entries c.seen))
 
--- the lock was free: the slot is out with the pass, which has seen the journal in it
+-- The lock was free. The pass has taken the writer state out of the slot, and has seen its journal.
 abbrev pub Gets : Me (Option Ledger) View → Me (Option Ledger) View → Type 0
 Gets m r =
     (ledger : Ledger) × (log : List Commit) × (words : List ℕ) × let a = pass_of m.0
@@ -247,7 +247,7 @@ Gets m r =
 abbrev pub finds_held : Knowledge → ℕ → Knowledge
 finds_held a b = record a { holders = b ∷ a.holders; steps = a.steps + 1 }
 
--- another pass holds the lock, of whose number the word has one more
+-- another pass holds the lock; the word is that pass's number plus 1
 abbrev pub LockIsHeld : Me (Option Ledger) View → ℕ → Me (Option Ledger) View → Type 0
 LockIsHeld m n r = let a = pass_of m.0 in (r ≡ (alone (finds_held a (n - 1)), m.1))
     × (n ≢ a.number + 1) × (n < a.limits.passes + 1)
@@ -264,7 +264,7 @@ without_lock a = record a { writes = false; steps = a.steps + 1 }
 abbrev pub having_seen : Knowledge → List Commit → Knowledge
 having_seen a log = record a { seen = log; steps = a.steps + 1 }
 
--- the same after three steps: a join, a comparison and a cut
+-- the same after three steps: a join, a comparison and a split
 abbrev pub met : Knowledge → List Commit → Knowledge
 met a log = record a { seen = log; steps = a.steps + 3 }
 
@@ -279,8 +279,8 @@ Compared st m n r =
     (r ≡ (beside (having_seen a log) (having_seen c log), m.1)) × StartsWith log a.seen
     × StartsWith log c.seen × IsPass (having_seen a log) × IsPass (having_seen c log)
 
--- the pass of a seat has seen the longer of what it had seen and the front of its seat, which
--- contains the other; the seat has no front any more
+-- The pass of a seat has seen the longer of what it had seen and its seat's front, which contains
+-- the other. The seat then has no front.
 abbrev pub Learned : Step (Option Ledger) → Me (Option Ledger) View → ℕ → Me (Option Ledger) View
     → Type 0
 Learned st m n r =
@@ -303,7 +303,7 @@ abbrev pub AllIdle : List Knowledge → Type 0
 AllIdle [] = Unit {0}
 AllIdle (a ∷ v) = (a.writes ≡ false) × AllIdle v
 
--- the journal contains what each has seen, and has of each the entries that it knows
+-- the journal contains what each pass has seen, and has exactly each pass's entries
 abbrev pub KeepsSeen : List Entry → List Knowledge → Type 0
 KeepsSeen log [] = Unit {0}
 KeepsSeen log (a ∷ v) = StartsWith log (entries a.seen) × (by_pass a.number log ≡ a.mine)
@@ -314,12 +314,12 @@ abbrev pub Unlocked : Step (Option Ledger) → Me (Option Ledger) View → ℕ �
     → Type 0
 Unlocked st m n r = let a = pass_of m.0 in r ≡ (alone (without_lock a), [])
 
--- the announcement is made
+-- the number was announced
 abbrev pub Told : Step (Option Ledger) → Me (Option Ledger) View → ℕ → Me (Option Ledger) View
     → Type 0
 Told st m n r = let a = pass_of m.0 in r ≡ (alone (announces a (n - 1)), m.1)
 
--- the pass is pinned at the current number, and has seen the journal up to there
+-- the pass is pinned to the current number, and has seen the journal up to there
 abbrev pub PinnedAt : Step (Option Ledger) → Me (Option Ledger) View → ℕ → Me (Option Ledger) View
     → Type 0
 PinnedAt st m n r =
@@ -333,7 +333,7 @@ abbrev pub Unpinned : Step (Option Ledger) → Me (Option Ledger) View → ℕ �
     → Type 0
 Unpinned st m n r = let a = pass_of m.0 in r ≡ (alone (unpins a), m.1)
 
--- one announcement was found, and of its own the pass finds what it has announced
+-- one reader slot was read; in its own slot the pass finds what it has announced
 abbrev pub Scanned : Step (Option Ledger) → Me (Option Ledger) View → ℕ → Me (Option Ledger) View
     → Type 0
 Scanned st m n r = let a = pass_of m.0 in (r ≡ (alone (scans a n), m.1))
@@ -346,7 +346,7 @@ abbrev pub PinnedRead : Step (Option Ledger) → Me (Option Ledger) View → ℕ
 PinnedRead st m n r = let a = pass_of m.0 in (r ≡ (alone (one_step_on a), m.1))
     × (n ≡ slice_index a.image st.word)
 
--- a word of a page was found by the holder
+-- the writer found a word of a page
 abbrev pub OwnRead : Step (Option Ledger) → Me (Option Ledger) View → ℕ → Me (Option Ledger) View
     → Type 0
 OwnRead st m n r = let a = pass_of m.0 in (r ≡ (alone (one_step_on a), m.1))
@@ -376,7 +376,7 @@ abbrev pub PageGivenUp : Step (Option Ledger) → Me (Option Ledger) View → �
 PageGivenUp st m n r = let a = pass_of m.0 in (p : ℕ) → st.word ≡ word_place p 0 → r
     ≡ (alone (gives_up a p), m.1)
 
--- the pass s is what a became by j announcements of a scan, of which this is the least
+-- the pass s is the pass a after j reader slots of a scan, in which `least` is the lowest number
 pub record IsPart (passes : ℕ) (a s : Knowledge) (j least : ℕ) : Type 0 where
   pub same : s ≡ record a {
     scanned = s.scanned;
@@ -393,15 +393,15 @@ pub record IsPart (passes : ℕ) (a s : Knowledge) (j least : ℕ) : Type 0 wher
   pub begins : j ≡ 0 → least ≡ length a.seen
   pub so_far : 0 < j → s.least ≡ least
 
--- of the current number and what the pass itself has announced, the least
+-- the lowest of the current number and what the pass itself has announced
 abbrev pub own_least : Knowledge → ℕ
 own_least a = least_found (length a.seen) (announce_word a.phase)
 
--- no more than that, and just that in a table of one pass
+-- at most that number, and exactly that number in a table of one pass
 abbrev pub IsOwnLeast : Knowledge → ℕ → Type 0
 IsOwnLeast a least = (least ≤ own_least a) × (a.limits.passes ≡ 1 → least ≡ own_least a)
 
--- no page was retired with a number above that of the current version
+-- no page was retired with a number above the current version's
 abbrev pub NoneRetiredLater : Knowledge → Type 0
 NoneRetiredLater a = (q : ℕ) → retired_at a.places q ≤ length a.seen
 
@@ -412,8 +412,8 @@ Published e v st m n r = let a = pass_of m.0 in (r ≡ (alone (publishes a e v),
 
 -- ## The moves of the steps
 
--- A step makes this move: the history of the pass ends with it, the machine is then as the pass
--- knows it, and the other facts hold of the pass with this history
+-- A step makes this move. The pass's history ends with it, the machine is then as the pass knows
+-- it, and the other facts hold for the pass with this history.
 abbrev pub Moving : Move → (World → Type 0)
     → (Me (Option Ledger) View → Me (Option Ledger) View → Type 0) → Me (Option Ledger) View
     → Me (Option Ledger) View → Type 0
@@ -447,14 +447,14 @@ abbrev pub LockMoves : Step (Option Ledger) → Me (Option Ledger) View → ℕ 
 LockMoves st m n r = MatchBool (n == 0)
     (Moving (Lock (pass_of m.0).number) (λ w. Unit {0}) Gets m r) (LockIsHeld m n r)
 
--- two passes of one seat compare what they have seen, and their histories are fronts of one trace
+-- two passes of one seat compare what they have seen, and their histories are prefixes of one trace
 abbrev pub CompareMoves : Step (Option Ledger) → Me (Option Ledger) View → ℕ
     → Me (Option Ledger) View → Type 0
 CompareMoves st m n r = let a = pass_of m.0 in let c = second_of m.0 in Compared st m n r
     × HasTrace a.limits (a ∷ c ∷ [])
 
--- the number found is the announcement of the pass whose turn it is, and just before the machine
--- was as the pass knew it
+-- The number found is in the reader slot of the pass whose turn it is. Just before that the machine
+-- was as the pass knew it.
 abbrev pub ScanMoves : Step (Option Ledger) → Me (Option Ledger) View → ℕ → Me (Option Ledger) View
     → Type 0
 ScanMoves st m n r =
@@ -474,7 +474,7 @@ abbrev pub FoundFillMoves : Step (Option Ledger) → Me (Option Ledger) View →
     → Me (Option Ledger) View → Type 0
 FoundFillMoves st m n r = FillMoves st m n r × (n ≡ slice_index (pass_of m.0).words st.word)
 
--- a page is taken by a load of its first word, which is the fill of the word that is there
+-- a page is taken by a load of its first word, which is a fill with the word that is there
 abbrev pub take_moves : Knowledge → ℕ → List Move
 take_moves a p = Fill a.number p 0 (slice_index a.words (word_place p 0)) ∷ []
 
@@ -486,13 +486,13 @@ TakeMoves st m n r =
     × (r ≡ (alone (takes_page (with_history a h) p), m.1)))
     × (n ≡ slice_index a.words st.word)
 
--- a word of a page is filled with what is there, and then with x if that is another
+-- a word of a page is filled with what is there, and then with x if that is different
 abbrev pub fill_moves : Knowledge → ℕ → ℕ → ℕ → List Move
 fill_moves a p i x = let found = slice_index a.words (word_place p i) in Fill a.number p i found
     ∷ (if found == x then [] else Fill a.number p i x ∷ [])
 
--- a page that the write had taken goes back to the free ones, and of another that is given up the
--- machine knows nothing yet
+-- A page that the write had taken goes back to the free ones. The machine learns of any other
+-- given-up page only later.
 abbrev pub given_moves : Knowledge → ℕ → List Move
 given_moves a p = if shows_taken (place_of a.places p) then Return a.number p ∷ [] else []
 
@@ -517,13 +517,13 @@ abbrev pub UnlockMoves : Step (Option Ledger) → Me (Option Ledger) View → �
 UnlockMoves st m n r = Moving (Unlock (pass_of m.0).number) (λ w. Unit {0})
     (λ m r. Unlocked st m n r) m r
 
--- the scans of the pass k, up to the announcement before the j-th
+-- the scans by the pass k of the reader slots before the j-th
 abbrev pub scans_of : ℕ → ℕ → List Move
 scans_of k zero = []
 scans_of k (suc j) = scans_of k j ++ Scan k j ∷ []
 
--- The j-th of the scans that the pass k made after `before` finds this word: it is the announcement
--- of the pass j in the machine after the moves up to that scan.
+-- The j-th scan that the pass k made after `before` finds this word: it is the announcement of the
+-- pass j in the machine after the moves up to that scan.
 pub record FoundAt (limits : Limits) (k : ℕ) (before after : List Move) (j word : ℕ) : Type 0 where
   pub upto : List Move
   pub front : StartsWith after upto

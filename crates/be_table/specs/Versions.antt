@@ -11,7 +11,7 @@ use Rattle.be_journal.specs.Journal.{replay}
 use Rattle.be_journal.specs.declared.entries.Entry.{Entry}
 use Rattle.be_volume.specs.Volume.{State}
 
--- when a write begins: a page of the current version, and any other
+-- the state of a page when a write begins: a page of the current version, or any other page
 abbrev pub at_start : Bool → Standing
 at_start true = Old
 at_start false = Nowhere
@@ -20,14 +20,14 @@ at_start false = Nowhere
 abbrev pub in_pages : (ℕ → ℕ → ℕ) → ℕ → ℕ → ℕ
 in_pages words q i = if nat_lt i 512 then words q i else 0
 
--- The version of these pages, with these words, encodes the volume from its version page, and has
--- exactly the pages that it reaches from there.
+-- The version with these pages and words encodes the volume from its version page, and has exactly
+-- the pages that are reached from there.
 pub record SpellsVolume (pages : List ℕ) (words : ℕ → ℕ → ℕ) (page : ℕ) (volume : State) : Type 0
   where
     pub version : IsVersion (λ q. at_start (has pages q)) words page volume
     pub exact : (q : ℕ) → times q (reach words page) ≡ bit (has pages q)
 
--- So many pages can encode the volume: some of them do, with some words, 512 each.
+-- This many pages can encode the volume: some of them do, with some words, 512 each.
 pub record CanSpell (pages : ℕ) (volume : State) : Type 0 where
   pub used : List ℕ
   pub words : ℕ → ℕ → ℕ
@@ -35,7 +35,7 @@ pub record CanSpell (pages : ℕ) (volume : State) : Type 0 where
   pub spelt : SpellsVolume used (in_pages words) page volume
   pub inside : (p : ℕ) → IsTrue (has used p) → p < pages
 
--- so many pages can encode the volume after each entry of the journal
+-- this many pages can encode the volume after each entry of the journal
 unfoldable pub CanSpellEach : ℕ → List Entry → Type 0
 CanSpellEach pages journal = (n : ℕ) → n < length journal
     → CanSpell pages (replay (take (suc n) journal))

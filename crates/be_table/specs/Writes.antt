@@ -1,4 +1,4 @@
--- What is true of each open write.
+-- What holds for each open write.
 use Rattle.std.specs.Prelude.{◌≡◌, ◌+◌, ◌*◌, ◌<◌, true, false, [], ◌∷◌, None, length}
 use Rattle.be_table.specs.declared.writing.Writing.TheInside.{Inside}
 use Rattle.be_table.specs.Place.{Work}
@@ -15,8 +15,8 @@ work_of w = record {
   left = w.ledger.left;
 }
 
--- the seat is at the table with the slot, the writer state has what the pass has seen, and until it
--- publishes, the pass has only worked
+-- The seat is at the table with the slot. The writer state has what the pass has seen. Until it
+-- publishes, the pass has only worked.
 pub record IsOpen (w : Inside) : Type 0 where
   pub table_is : w.base.table_id ≡ w.table.now.id
   pub me_is : w.base.me ≡ (alone (pass_of w.base.me.0), (0, None) ∷ [])

@@ -1,4 +1,4 @@
-//! How a pool is shared among the versions and an open write, if no page is left.
+//! How the versions and an open write share the pool, if no page is left.
 ghost use Rattle.std.specs.FinMap as map;
 ghost use Rattle.std.specs.Prelude.{ℕ, ◌+◌, ◌*◌, ◌≤◌, List, length};
 ghost use Rattle.be_core.specs.Machine.{has};
@@ -14,8 +14,8 @@ ghost use Rattle.be_volume.specs.Volume.{State};
 
 use be_paged::version_pages;
 
-/// If a write was refused since no page was left, the versions from the least on and the pages
-/// that it had in hand were the whole pool.
+/// If a write was refused because no page was left, the whole pool consisted of two parts: the
+/// pages of the versions from `least` on, and the pages that the write held.
 pub fn full_counts()
     ensures all { (a : Knowledge) (least : ℕ) → IsSpent a least
         → a.limits.pages ≤ reached a.seen least a.limits.pages
@@ -25,8 +25,8 @@ pub fn full_counts()
         + count_below (has a.held) a.limits.pages }
 {}
 
-/// A version that encodes a volume has one page for each five of its items, one for each index, and
-/// one more, at most.
+/// A version that encodes a volume has at most one page for each five of its items, one for each
+/// index, and one more.
 pub fn spelt_counts()
     ensures { (pages : List ℕ) (words : ℕ → ℕ → ℕ) (page n : ℕ) (volume : State)
         → SpellsVolume pages words page volume
@@ -35,8 +35,7 @@ pub fn spelt_counts()
     version_pages();
 }
 
-/// Right after that, the pages that the write had in hand at the scan are among those that it has
-/// in hand.
+/// Right after that, the pages that the write held at the scan are among those that it holds.
 pub fn held_counts()
     ensures { (a : Knowledge) (n : ℕ) → HoldsStill a → n ≤ 16384
         → count_below (has a.held) n ≤ in_hand n (standing_among a.places) }

@@ -1,11 +1,12 @@
 //! What each step on a word does to the reclamation machine.
 //!
 //! The rule of the table says that the words, the writer state and what the passes know show one
-//! state of be_core's machine. The machine's invariant holds in it. The functions here do nothing:
-//! their contracts say, over the definitions alone, which event of the machine each step is. In
-//! every state of the table, a pass that may step can step. The state that the table shows before
-//! the step allows the event, and the state that it shows afterwards is the event's. A step whose
-//! word has no event leaves the machine as it was. The calls of the table are proved from the same
+//! state of be_core's machine. The machine's invariant holds in it. The functions here do nothing.
+//! Their contracts say, in terms of definitions only, which event of the machine each step is.
+//!
+//! In every state of the table, a pass that may step can step. The state that the table shows
+//! before the step allows the event, and the state that it shows afterwards is the event's. A step
+//! whose word has no event leaves the machine as it was. The table's calls are proved from the same
 //! lemmas.
 ghost use Rattle.std.specs.Prelude.{ℕ, List, Option};
 ghost use Rattle.be_table.specs.Laws.{GiveUpIsNoEvent, PublishIsItsEvent, UnlockIsItsEvent};
@@ -29,7 +30,7 @@ pub fn look()
         → LookIsItsEvent limits slots id a carried }
 {}
 
-/// The store of an announcement is Announce.
+/// The store to a reader slot is Announce.
 pub fn announce()
     ensures { (limits : Limits) (slots id : ℕ) (a : Knowledge) (carried : List (ℕ × Option Ledger))
         → AnnounceIsItsEvent limits slots id a carried }
@@ -41,7 +42,7 @@ pub fn look_again()
         → LookAgainIsItsEvent limits slots id a carried }
 {}
 
-/// The store that takes an announcement back is Unpin.
+/// The store that clears a reader slot is Unpin.
 pub fn unpin()
     ensures { (limits : Limits) (slots id : ℕ) (a : Knowledge) (carried : List (ℕ × Option Ledger))
         → UnpinIsItsEvent limits slots id a carried }
@@ -54,51 +55,50 @@ pub fn pinned_read()
         → PinnedReadIsItsEvent limits slots id a carried }
 {}
 
-/// A compare-exchange of the lock that finds it free is Lock, and one that finds it held is no
-/// event.
+/// A compare-exchange of the lock that finds it free is Lock; one that finds it held is no event.
 pub fn lock()
     ensures { (limits : Limits) (slots id : ℕ) (a : Knowledge) (carried : List (ℕ × Option Ledger))
         → LockIsItsEvent limits slots id a carried }
 {}
 
-/// A load of an announcement by the holder is Scan.
+/// The writer's load of a reader slot is Scan.
 pub fn scan()
     ensures { (limits : Limits) (slots id : ℕ) (a : Knowledge) (carried : List (ℕ × Option Ledger))
         → ScanIsItsEvent limits slots id a carried }
 {}
 
-/// The store of a page word is Fill.
+/// The store of a page's word is Fill.
 pub fn fill()
     ensures { (limits : Limits) (slots id : ℕ) (a : Knowledge) (carried : List (ℕ × Option Ledger))
         → FillIsItsEvent limits slots id a carried }
 {}
 
-/// A load of a word of a page that the holder has in hand is Fill, of the word that is there.
+/// A load of a word of a page that the writer holds is Fill, with the word that is there.
 pub fn found_fill()
     ensures { (limits : Limits) (slots id : ℕ) (a : Knowledge) (carried : List (ℕ × Option Ledger))
         → FoundFillIsItsEvent limits slots id a carried }
 {}
 
-/// A load of a page word by the holder is no event.
+/// The writer's load of a page's word is no event.
 pub fn own_read()
     ensures { (limits : Limits) (slots id : ℕ) (a : Knowledge) (carried : List (ℕ × Option Ledger))
         → OwnReadIsNoEvent limits slots id a carried }
 {}
 
-/// The load by which a page is taken is Fill, of the word that is there.
+/// The load that takes a page is Fill, with the word that is there.
 pub fn take()
     ensures { (limits : Limits) (slots id : ℕ) (a : Knowledge) (carried : List (ℕ × Option Ledger))
         → TakeIsItsEvent limits slots id a carried }
 {}
 
-/// The load by which a page is given up is no event: a page that the write had taken goes back to
-/// the free ones, which is the holder's bookkeeping.
+/// The load that gives up a page is no event. A page that the write had taken goes back to the free
+/// ones, which is the writer's bookkeeping.
 pub fn give_up()
     ensures { (limits : Limits) (slots id : ℕ) (a : Knowledge) (carried : List (ℕ × Option Ledger))
         → GiveUpIsNoEvent limits slots id a carried }
 {}
 
-/// The store of the current number is Publish, of the pages that the write has given up.
+/// The store of the current number is Publish, with the pages that the write has given up.
 pub fn publish()
     ensures { (limits : Limits) (slots id : ℕ) (a : Knowledge) (carried : List (ℕ × Option Ledger))
         → PublishIsItsEvent limits slots id a carried }
@@ -116,7 +116,7 @@ pub fn compare()
         (carried : List (ℕ × Option Ledger)) → CompareIsNoEvent limits slots id a c carried }
 {}
 
-/// The load by which a witness is made is no event: what a pass has seen gets a seat with no pass.
+/// The load that makes a witness is no event: what a pass has seen gets a seat without a pass.
 pub fn attest()
     ensures { (limits : Limits) (id : ℕ) (a : Knowledge) → AttestIsNoEvent limits id a }
 {}
@@ -127,39 +127,39 @@ pub fn learn()
         (carried : List (ℕ × Option Ledger)) → LearnIsNoEvent limits slots id a front carried }
 {}
 
-/// The load by which a seat is cut in two is no event: its first pass gets a new seat.
+/// The load that splits a seat is no event: its first pass gets a new seat.
 pub fn split()
     ensures { (limits : Limits) (id : ℕ) (a : Knowledge) (v : List Knowledge)
         (fronts : List (List Commit)) → SplitIsNoEvent limits id a v fronts }
 {}
 
-/// The load by which two seats are joined is no event: one has what both had, and the other has
+/// The load that joins two seats is no event: one seat has what both had, and the other has
 /// nothing.
 pub fn join()
     ensures { (limits : Limits) (id : ℕ) (v : View) (other : ℕ) (w : View)
         → JoinIsNoEvent limits id v other w }
 {}
 
-/// The load by which a seat with no pass is made is no event.
+/// The load that makes a seat without a pass is no event.
 pub fn arrive()
     ensures { (limits : Limits) → ArrivalIsNoEvent limits }
 {}
 
-/// The moves of a trace are the events of the machine, but for a read, which changes nothing and
-/// isn't among them.
+/// The moves of a trace are the machine's events, except a read, which changes nothing and isn't a
+/// move.
 pub fn events_are_moves()
     ensures { EventsAreMoves }
 {}
 
-/// Wherever the moves of a trace lead, no page of a pinned version is free, taken or changed; and
-/// each beginning of them led somewhere.
+/// Wherever a trace's moves lead, no page of a pinned version is free, taken or changed. Each
+/// prefix of them led somewhere.
 pub fn runs()
     ensures sound { RunsAreSound }
     ensures fronts { FrontsRun }
 {}
 
-/// The words of the first 528 that are neither the lock, nor the current version, nor a pass's
-/// announcement are 0 between any two steps. So no call can have a lock of its own there.
+/// Each of the first 528 words is 0 between any two steps, except the lock, the current version and
+/// the passes' reader slots. So no call can have its own lock there.
 pub fn unused_words()
     ensures zero { UnusedAreZero }
     ensures stay { UnusedStayZero }

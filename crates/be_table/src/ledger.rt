@@ -1,6 +1,6 @@
 //! The writer state, which lies in the slot while nobody holds the lock.
 //!
-//! The pass that holds the lock has the writer state and changes it as plain data. It keeps no
+//! The pass that holds the lock has the writer state and changes it as plain data. It contains no
 //! volume: the pages are the volume.
 ghost use Rattle.std.specs.Prelude.{◌≡◌, ◌≤◌, ℕ, count_by, map, length};
 ghost use Rattle.be_pages.specs.PagePool.{places};
@@ -25,11 +25,11 @@ pub struct Ledger {
     pub pool: PagePool,
     /// How many pages the last whole scan left retired.
     pub left: usize,
-    /// A place for a version's contents, which a write takes out and puts back.
+    /// A buffer for a version's contents, which a write takes out and puts back.
     pub space: Option<Box<Version>>,
 }
 
-/// A place for a version's contents.
+/// A buffer for a version's contents.
 pub(crate) fn first_space(alloc: Global) -> Result<Box<Version>, AllocError> {
     match Box::new(alloc, Version::new()) {
         Ok(space) => Ok(space),
@@ -38,7 +38,7 @@ pub(crate) fn first_space(alloc: Global) -> Result<Box<Version>, AllocError> {
 }
 
 impl Ledger {
-    /// Makes room for one entry of so many operations.
+    /// Makes room for one entry of `count` operations.
     pub fn reserve(&mut self, count: usize) -> Result<(), Refusal>
         requires { (1 ≤ count) × (count ≤ 64) }
         ensures journal { Grows self.old.journal (with_room self.old.journal count) result
@@ -49,7 +49,7 @@ impl Ledger {
         self.journal.reserve(count)
     }
 
-    /// What the write has taken is free, and what it has given up stays.
+    /// Frees what the write has taken, and keeps what it has given up.
     pub fn rest(&mut self)
         ensures { (self.new.journal ≡ self.old.journal) × (self.new.page ≡ self.old.page)
             × (places self.new.pool ≡ map undone_place (places self.old.pool))
@@ -58,7 +58,7 @@ impl Ledger {
         self.pool.undo();
     }
 
-    /// The pages that were retired with a number below the least are free.
+    /// Frees the pages that were retired with a number below `least`.
     pub fn sweep(&mut self, least: u64)
         ensures kept { (self.new.journal ≡ self.old.journal) × (self.new.page ≡ self.old.page)
             × (places self.new.pool ≡ map (swept_place least) (places self.old.pool)) }
@@ -68,8 +68,8 @@ impl Ledger {
         self.left = self.pool.retired();
     }
 
-    /// The entry comes last, with this version page. What was filled is of the current version, and
-    /// what was given up is retired. There is room for the entry.
+    /// Appends the entry, with this version page. The filled pages become pages of the current
+    /// version, and those given up are retired. There has to be room for the entry.
     pub fn append(&mut self, by: u64, ops: &[Op], dones: &[Done], page: u64)
         requires some { (1 ≤ length ops.now) × (length ops.now ≤ 64) }
         requires room { (length ops.now ≡ self.old.journal.reserved)
@@ -89,7 +89,7 @@ impl Ledger {
         self.page = page;
     }
 
-    /// The journal alone; the pool and the version page are dropped.
+    /// The journal; the pool and the version page are dropped.
     pub fn into_journal(self) -> Journal
         ensures { result ≡ self.journal }
     {

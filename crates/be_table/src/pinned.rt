@@ -1,7 +1,7 @@
-//! A reader of the version that a pass is pinned to.
+//! A reader of the version to which a pass is pinned.
 //!
-//! Its readable pages are those of the version, with the words that they had when it was published.
-//! Each read is one load, and no other call is a step.
+//! Its readable pages are the version's, with the words that they had when it was published. Each
+//! read is one load, and no other call is a step.
 ghost use Rattle.std.specs.Prelude.{◌≡◌, ◌<◌, IsTrue, slice_index};
 ghost use Rattle.be_pages.specs.Pages.{is_readable};
 ghost use Rattle.be_table.specs.Reading.{pinned_standing};
@@ -56,7 +56,7 @@ impl<'a> PinnedLook<'a> {
         table.table.shared.load::<PinnedWord>(&mut self.base, word)
     }
 
-    /// Gives the seat back.
+    /// Returns the seat.
     pub fn into_seat(self) -> Seat
         ensures { IsSeatOf self.entry.table result × (result.knows ≡ self.entry.knows) }
     {

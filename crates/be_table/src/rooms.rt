@@ -1,9 +1,9 @@
-//! An open write as a reader and a room of pages.
+//! An open write as a page reader and a page writer.
 //!
-//! Trees are built over the traits of be_pages. What an open write has in common with a room in
-//! memory is stated here: the state of each page, its words, and what no call changes. No call
-//! changes the table, the pass with its limits, its phase, what it has seen, that it isn't
-//! published, and the history up to its lock.
+//! Trees are built on the traits of be_pages. This module states what an open write has in common
+//! with a page writer in memory: the state of each page, its words, and what no call changes. No
+//! call changes the table or the pass's number, limits, phase and what it has seen. The write stays
+//! unpublished, and the history up to its lock stays.
 
 use crate::writing::Writing;
 use be_pages::{Look, Room};

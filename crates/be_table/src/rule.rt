@@ -42,7 +42,7 @@ impl Play<Option<Ledger>, View> for Unlock {
     ghost then = { UnlockMoves };
 }
 
-/// The first pass of the view gets a seat of its own.
+/// The first pass of the view gets its own seat.
 pub(crate) struct Deal;
 
 impl Split<View> for Deal {
@@ -57,14 +57,14 @@ impl Join<View> for Deal {
     ghost spent = { empty_view };
 }
 
-/// Two passes of one seat compare what they have seen.
+/// Two passes in one seat compare what they have seen.
 pub(crate) struct Compare;
 
 impl Play<Option<Ledger>, View> for Compare {
     ghost then = { CompareMoves };
 }
 
-/// What the pass of the view has seen gets a seat of its own, with no pass.
+/// What the pass of the view has seen gets its own seat, without a pass.
 pub(crate) struct Attest;
 
 impl Split<View> for Attest {
@@ -80,7 +80,7 @@ impl Play<Option<Ledger>, View> for Learn {
     ghost then = { Learned };
 }
 
-/// A seat with no pass.
+/// A new seat without a pass.
 pub(crate) struct Arrive;
 
 impl Play<Option<Ledger>, View> for Arrive {
@@ -148,7 +148,7 @@ impl Play<Option<Ledger>, View> for GiveUp {
     ghost then = { GiveUpMoves };
 }
 
-/// The entry and the version page of a publishing step. Each call picks them.
+/// The entry and the version page of a publishing step. Each call chooses them.
 pub(crate) trait NextVersion {
     ghost use Rattle.std.specs.Prelude.{ℕ};
     ghost use Rattle.be_journal.specs.declared.entries.Entry.{Entry};

@@ -1,8 +1,8 @@
 //! A pass's seat at the table.
 //!
-//! A seat is the right to step for one pass: no two seats have the same pass, so only one holder
-//! has what a pass knows. Beside that right it carries three numbers from its steps: the number of
-//! the pass, how much of the journal the pass has seen, and its pin.
+//! A seat is the right to step for one pass. No two seats have the same pass, so only its owner has
+//! what the pass knows. Besides that right it carries three things from its steps: the pass's
+//! number, how much of the journal the pass has seen, and its pin.
 ghost use Rattle.std.specs.Prelude.{◌≡◌, ℕ, ◌<◌, true, false, [], length, IsTrue};
 ghost use Rattle.be_core.specs.Machine.{has};
 ghost use Rattle.be_core.specs.declared.event.Phase.TheVariants.{Pinned};
@@ -17,7 +17,7 @@ use std::mem;
 
 pub(crate) type Base = atomic_table::Seat<Option<Ledger>, View>;
 
-/// What a pass steps with. A seat that was moved out is blank, and steps no more.
+/// What a pass steps with. A seat that was moved out is blank, and can't step.
 #[derive(Drop)]
 pub struct Seat {
     badge: Badge<View>,
@@ -59,7 +59,7 @@ impl Seat {
         }
     }
 
-    /// The base's seat, with the marks of the pass.
+    /// The underlying seat, with the pass's marks.
     pub(crate) fn into_base(self) -> (Base, Marks)
         requires { self.blank ≡ false }
         ensures pass { (result.0.table_id ≡ self.table) × (result.0.me ≡ (alone self.knows, [])) }
@@ -70,7 +70,7 @@ impl Seat {
         (badge.into_seat(), marks)
     }
 
-    /// The number of the pass, counted from 0.
+    /// The pass's number, counted from 0.
     pub fn number(&self) -> u64
         requires { self.now.blank ≡ false }
         ensures { result ≡ self.now.knows.number }
@@ -97,9 +97,9 @@ impl Seat {
         }
     }
 
-    /// The version page of the version to which the pass is pinned. From there the version's pages,
-    /// with the words that they had when it was published, encode the volume after so many entries
-    /// as its number says.
+    /// The version page of the version to which the pass is pinned. The version's pages, with the
+    /// words that they had when it was published, encode the volume from there: the one after as
+    /// many entries as the version's number says.
     pub fn version_page(&self) -> u64
         requires seat { self.now.blank ≡ false }
         requires pinned { (x : ℕ) × (n : ℕ) × (self.now.knows.phase ≡ Pinned x n) }
@@ -119,8 +119,8 @@ impl Seat {
         }
     }
 
-    /// A law of one seat: what is always so of a pass is so of this one, as a contract can't tell
-    /// of a seat that it is lent. It does nothing.
+    /// A law of one seat: what always holds for a pass holds for this one, because a contract can't
+    /// say so about a seat that it borrows. It does nothing.
     pub fn is_pass(&self)
         requires { self.now.blank ≡ false }
         ensures { IsPass self.now.knows }
@@ -128,7 +128,7 @@ impl Seat {
         let _ = &self.badge;
     }
 
-    /// The seat, of which a blank one is left. No step.
+    /// Moves the seat out, and leaves a blank one. No step.
     pub fn move_out(&mut self) -> Seat
         ensures { (result ≡ self.old) × (self.new.blank ≡ true) }
     {

@@ -1,7 +1,7 @@
 //! An open write: the pass holds the lock and has the writer state.
 //!
 //! A write takes pages, fills them, gives pages up, and publishes. Until it publishes, others see
-//! nothing of it, and `unlock` undoes it. It has no `Drop`, so it can end by `unlock` alone, and
+//! nothing of it, and `unlock` undoes it. It has no `Drop`, so it can only end with `unlock`, and
 //! the writer state always comes back.
 ghost use Rattle.std.specs.Prelude.{map, get_or, slice_index, IsTrue, List, IfOk, IfErr, IfSome};
 ghost use Rattle.std.specs.Prelude.{IfNone, ◌≢◌, Ok, string_bytes, ◌≡◌, ◌≤◌, All, suc, ◌+◌, ◌*◌};
@@ -39,23 +39,23 @@ use be_value::Refusal;
 use be_volume::{Done, Op};
 use std::marker::{Brand, Model};
 
-/// A retired page is used again only once a scan has freed it. A write that lets the pool run empty
-/// first goes through the memory of every page, where those that were given up last are still near.
-/// A write gives up 6 to 16, all of which use the same few lines of the cache. So those of two or
-/// three writes are still in its nearest levels. While readers keep pages, a scan a write would
-/// find no more of them there, and costs a load for each pass.
+/// A retired page is only reused once a scan has freed it. A write that first lets the pool run
+/// empty goes through the memory of every page, although those given up last are still in the
+/// cache. A write gives up 6 to 16, all of which use the same few lines of the cache. So those of
+/// two or three writes are still in its nearest levels. While readers hold pages, scanning at every
+/// write frees nothing more and costs one load for each pass.
 const EARLY: usize = 32;
 
-/// How many more pages are retired than the last whole scan left, if a scan pays. If it left none,
-/// no reader keeps pages, and each write scans: then what the last write gave up is free, and each
-/// copy of a page can go to the page that it was copied from.
+/// How many more pages have to be retired than the last whole scan left, before a scan pays. If
+/// that scan left none, no reader holds pages, and each write scans. Then what the last write gave
+/// up is free, and each copy of a page can go to the page that it was copied from.
 fn due_after(left: usize) -> usize
     ensures { result ≡ due_after left }
 {
     if left == 0 { 1 } else { EARLY }
 }
 
-/// The lock is held by this pass. It has no `Drop`, so it ends in `unlock`.
+/// The lock is held by this pass. It has no `Drop`, so it ends with `unlock`.
 pub struct Writing<'a> {
     table: &'a VersionTable,
     base: Base,
@@ -122,8 +122,8 @@ impl<'a> Writing<'a> {
         }
     }
 
-    /// The length of the journal, and the version page. The volume has 64 node numbers left,
-    /// however long the journal is. No step.
+    /// The length of the journal, and the version page. However long the journal is, the volume has
+    /// 64 node numbers left. No step.
     pub fn current(&self) -> (u64, u64)
         ensures version { (result.0 ≡ length self.now.knows.seen)
             × (result.1 ≡ page_at self.now.knows.seen (length self.now.knows.seen)) }
@@ -132,7 +132,7 @@ impl<'a> Writing<'a> {
         (self.ledger.journal.len(), self.ledger.page)
     }
 
-    /// Takes out the place for a version's contents, which the next write finds if it is put back.
+    /// Takes out the buffer for a version's contents. The next write finds it if it is put back.
     pub fn take_space(&mut self) -> Option<Box<Version>>
         ensures { self.new ≡ self.old }
     {
@@ -153,7 +153,7 @@ impl<'a> Writing<'a> {
         self.ledger.journal.text()
     }
 
-    /// The journal's entry with this index, from 0, an entry of its own. OutOfMemory. No step.
+    /// The journal's entry with this index, from 0, as a copy. OutOfMemory. No step.
     pub fn entry(&self, i: u64) -> Result<Entry, Refusal>
         requires { i < length self.now.knows.seen }
         ensures ok { IfOk result (λ entry. entry ≡ get_or (entries self.now.knows.seen) i entry) }
@@ -181,8 +181,8 @@ impl<'a> Writing<'a> {
         self.ledger.pool.is_in_hand(page)
     }
 
-    /// Writes word i of a page that was taken in this write. One load, and one store if the word
-    /// isn't there yet: a page that is used again has many of its words, and a store costs far more
+    /// Writes word i of a page that this write took. One load, and one store if the word isn't
+    /// there yet. A page that is reused has many of its words already, and a store costs far more
     /// than a load.
     pub fn fill(&mut self, page: u64, i: usize, word: u64)
         requires open { self.old.knows.published ≡ false }
@@ -201,8 +201,8 @@ impl<'a> Writing<'a> {
         self.ledger.pool.fill(page);
     }
 
-    /// Writes word i of a page that has a word filled in this write, as `fill` does. Where the page
-    /// is needn't be looked up.
+    /// Writes word i of a page in which this write has filled a word, as `fill` does. The page's
+    /// place need not be looked up.
     pub fn refill(&mut self, page: u64, i: usize, word: u64)
         requires open { self.old.knows.published ≡ false }
         requires filled { (page < length self.old.knows.places)
@@ -219,8 +219,8 @@ impl<'a> Writing<'a> {
         fill_word(self.table, &mut self.base, page, i, word);
     }
 
-    /// Gives a page up. One that was taken in this write is free at once; one of the current
-    /// version keeps its words until a scan frees it. One load.
+    /// Gives a page up. A page that this write took is free at once; a page of the current version
+    /// keeps its words until a scan frees it. One load.
     pub fn give_up(&mut self, page: u64)
         requires open { self.old.knows.published ≡ false }
         requires held { (page < length self.old.knows.places)
@@ -239,8 +239,8 @@ impl<'a> Writing<'a> {
         self.ledger.pool.give_up(page);
     }
 
-    /// Takes the page that was freed last, if one is free; one that is spared for a copy only if
-    /// there is no other.
+    /// Takes the page that was freed last, if one is free. It takes a page that is spared for a
+    /// copy only if there is no other.
     fn take_free(&mut self) -> Option<u64>
         requires open { self.old.knows.published ≡ false }
         ensures some { IfSome result (λ page. (page < length self.old.knows.places)
@@ -264,8 +264,8 @@ impl<'a> Writing<'a> {
     }
 
     /// Takes a free page for a copy of a page: the one that this page was copied from, if that is
-    /// free and spared. While readers keep pages, what a write gives up isn't free at the next one,
-    /// so then it takes the page that `take_free` does.
+    /// free and spared. While readers hold pages, what a write gives up isn't free at the next
+    /// write. Then it takes the page that `take_free` would take.
     fn take_free_like(&mut self, page: u64) -> Option<u64>
         requires open { self.old.knows.published ≡ false }
         ensures some { IfSome result (λ page. (page < length self.old.knows.places)
@@ -288,10 +288,10 @@ impl<'a> Writing<'a> {
         Some(copy)
     }
 
-    /// Takes a free page, the one that was freed last; one that is spared for a copy only if there
-    /// is no other. If none is free, it scans. If none is free after the scan either, the error is
-    /// Full with the least number that the scan found: this write then holds each page that no
-    /// version from that number on has. One load; with a scan, the scan's loads too.
+    /// Takes the free page that was freed last. It takes a page that is spared for a copy only if
+    /// there is no other. If none is free, it scans. If none is free after the scan either, the
+    /// error is Full with the lowest number that the scan found. This write then holds each page
+    /// that no version from that number on has. One load; with a scan, also the scan's loads.
     pub fn take(&mut self) -> Result<u64, Refusal>
         requires open { self.old.knows.published ≡ false }
         ensures ok { IfOk result (λ page. TakesPage self.old self.new page) }
@@ -307,9 +307,10 @@ impl<'a> Writing<'a> {
         }
     }
 
-    /// Takes a free page for a copy of a page: the one that this page was copied from, if that is
-    /// free and spared, since it has most of the words already, and if the last whole scan left no
-    /// page to readers. Otherwise it takes the page that `take` does, at the same cost.
+    /// Takes a free page for a copy of a page: the one that this page was copied from, which has
+    /// most of the words already. That one has to be free and spared, and the last whole scan must
+    /// have left no page to readers. Otherwise it takes the page that `take` would take, at the
+    /// same cost.
     pub fn take_like(&mut self, page: u64) -> Result<u64, Refusal>
         requires open { self.old.knows.published ≡ false }
         ensures ok { IfOk result (λ page. TakesPage self.old self.new page) }
@@ -321,9 +322,9 @@ impl<'a> Writing<'a> {
         self.take()
     }
 
-    /// Whether a scan pays though pages may be free: more pages are retired than the last whole
-    /// scan had to leave for readers, one if it left none and 32 otherwise. Those that it left are
-    /// no more than are retired now. No step.
+    /// Whether a scan pays even if pages are free. More pages have to be retired than the last
+    /// whole scan had to leave for readers: one more if it left none, and otherwise 32 more. Those
+    /// that it left are no more than are retired now. No step.
     pub fn is_scan_due(&self) -> bool
         ensures due { result ≡ true → self.now.left + due_after self.now.left
             ≤ count_by is_retired self.now.knows.places }
@@ -335,9 +336,10 @@ impl<'a> Writing<'a> {
         self.ledger.pool.retired().saturating_sub(left) >= due_after(left)
     }
 
-    /// Reads every announcement once. Returns the least of them and of the current number; the
-    /// pages that were retired with a smaller number are then free. A load for each pass, and work
-    /// for each page that becomes free. It is called right after the lock, or if no page is free.
+    /// Reads every reader slot once. Returns the lowest of the numbers there and the current
+    /// number; the pages that were retired with a smaller number are then free. One load for each
+    /// pass, and work for each page that becomes free. It may be called right after the lock, or if
+    /// no page is free.
     pub fn scan(&mut self) -> u64
         requires open { self.old.knows.published ≡ false }
         requires reason { HasReasonToScan self.old }
@@ -346,7 +348,7 @@ impl<'a> Writing<'a> {
         self.survey().least
     }
 
-    /// Scans, and finds the oldest announcement too.
+    /// Scans, and also finds the oldest announcement.
     fn survey(&mut self) -> Found
         requires open { self.old.knows.published ≡ false }
         requires reason { HasReasonToScan self.old }
@@ -378,7 +380,7 @@ impl<'a> Writing<'a> {
     }
 
     /// Scans, and returns how full the table is then, and the oldest of the announcements that the
-    /// scan found. It costs what `scan` does.
+    /// scan found. It costs what `scan` costs.
     pub fn status(&mut self) -> Status
         requires open { self.old.knows.published ≡ false }
         requires reason { HasReasonToScan self.old }
@@ -392,8 +394,8 @@ impl<'a> Writing<'a> {
         self.count(found.oldest)
     }
 
-    /// Makes room for one entry of so many operations. CommitsSpent if the journal is as long as
-    /// the limit, and OutOfMemory if a growth was refused; either leaves the write as it was.
+    /// Makes room for one entry of `count` operations. CommitsSpent if the journal is at its limit;
+    /// OutOfMemory. Both leave the write as it was.
     #[tactic(auto, using(crate::proofs::Opened::no_room, crate::proofs::Opened::has_room))]
     pub fn reserve(&mut self, count: usize) -> Result<(), Refusal>
         requires open { self.old.knows.published ≡ false }
@@ -408,7 +410,7 @@ impl<'a> Writing<'a> {
         Ok(())
     }
 
-    /// A page whose state is filled is one of the table. It does nothing.
+    /// A page whose state is filled is a page of the table. It does nothing.
     fn is_filled(&self, page: u64)
         requires { standing_among self.now.knows.places page ≡ Full }
         ensures { (page < length self.now.knows.places)
@@ -416,9 +418,9 @@ impl<'a> Writing<'a> {
     {}
 
     /// Enters a write into the journal, with the version of the pages that the write keeps. The
-    /// version encodes the volume after the entry and reaches exactly these pages. Returns the
-    /// journal's length, which is the new version's number. One store, which takes no memory, and
-    /// work for each page that the write took or gave up.
+    /// version has to encode the volume after the entry, and to reach exactly these pages. Returns
+    /// the journal's length, which is the new version's number. One store, and work for each page
+    /// that the write took or gave up; no memory is allocated.
     pub fn publish(&mut self, page: u64, ops: &[Op], dones: &[Done]) -> u64
         requires open { self.old.knows.published ≡ false }
         requires count { (1 ≤ length ops.now) × (length ops.now ≤ 64) }
@@ -482,7 +484,7 @@ impl<'a> Writing<'a> {
     }
 }
 
-/// The operations are such of the program, as their types have it.
+/// The operations are valid operations of the program, as their types guarantee.
 fn all_valid(ops: &[Op])
     ensures { All IsOperation ops.now }
 {
@@ -491,7 +493,7 @@ fn all_valid(ops: &[Op])
     }
 }
 
-/// The store to CURRENT, the one step at which the write takes effect.
+/// The store to CURRENT, which is the one step at which the write takes effect.
 fn store_version<E: NextVersion>(
     table: &VersionTable,
     base: &mut Base,
@@ -522,7 +524,7 @@ fn store_version<E: NextVersion>(
     table.table.shared.store::<Publish<E>>(base, CURRENT, word)
 }
 
-/// The load by which a page is taken.
+/// The load that takes a page.
 fn tell_taken(table: &VersionTable, base: &mut Base, page: u64)
     requires seat { base.old.table_id ≡ table.now.id }
     requires pass { (base.old.me.0 ≡ alone (pass_of base.old.me.0))
@@ -543,7 +545,7 @@ fn tell_taken(table: &VersionTable, base: &mut Base, page: u64)
     table.table.shared.load::<TakePage>(base, at);
 }
 
-/// Stores a word of a page in hand, if it isn't there already.
+/// Stores a word of a page that the write holds, if it isn't there already.
 fn fill_word(table: &VersionTable, base: &mut Base, page: u64, i: usize, word: u64)
     requires seat { base.old.table_id ≡ table.now.id }
     requires pass { (base.old.me.0 ≡ alone (pass_of base.old.me.0))
@@ -570,7 +572,7 @@ fn fill_word(table: &VersionTable, base: &mut Base, page: u64, i: usize, word: u
     }
 }
 
-/// One announcement, of the pass whose turn it is.
+/// Loads the reader slot of the pass whose turn it is.
 fn read_announcement(table: &VersionTable, base: &mut Base, pass: u64) -> u64
     requires seat { base.old.table_id ≡ table.now.id }
     requires pass { MayReadAnnouncement table.now.limits base.old.me pass }
