@@ -47,8 +47,9 @@ impl Model for Pattern {
 
 impl Pattern {
     /// Reads a pattern. If the text is invalid, the error has the place in bytes: of an ending
-    /// backslash, or else of the `[` of the first invalid set. A set is invalid if it has no `]`,
-    /// no members, or a descending range. It allocates memory at most a few times for each token.
+    /// backslash, which is looked for first, or of the `[` of the first invalid set. A set is
+    /// invalid if it has no `]`, no members, or a descending range. It allocates memory at most a
+    /// few times for each token.
     pub fn parse(alloc: Global, text: &str) -> Result<Pattern, Refusal>
         // The tokens are those that the text encodes.
         ensures ok { IfOk result (λ p. pattern (chars text.now) ≡ Ok p) }
