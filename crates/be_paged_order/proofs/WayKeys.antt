@@ -53,7 +53,7 @@ le_gt Greater e = cc
 flip : (a b : List ℕ) (o : Ordering) → name_cmp a b ≡ o → name_cmp b a ≡ ordering_reverse o
 flip a b o e = nat_list_cmp_total.antisymm b a ∙ ap ordering_reverse e
 
--- below what is at most c
+-- what is at most b is less than c, if b is
 below : (a b c : List ℕ) → name_cmp a b ≡ Less → is_le (name_cmp b c) ≡ true → name_cmp a c ≡ Less
 below a b c lt le = by (name_cmp b c) refl le
   where
@@ -62,7 +62,7 @@ below a b c lt le = by (name_cmp b c) refl le
     by Equal e h = ap (name_cmp a) (sym (key_apart false b c e)) ∙ lt
     by Greater e h = cc
 
--- what is at most b, and b below c
+-- what is less than b is less than c, if b is at most c
 at_most : (a b c : List ℕ) → is_le (name_cmp a b) ≡ true → name_cmp b c ≡ Less → name_cmp a c ≡ Less
 at_most a b c le lt = by (name_cmp a b) refl le
   where
@@ -83,7 +83,7 @@ both : (a b : Bool) → a ≡ true → b ≡ true → (a && b) ≡ true
 both true b h k = k
 both false b h k = cc
 
--- both crates mean the same bounds
+-- both crates mean the same by their bounds
 until_above : (high : Option (List ℕ)) (k : List ℕ) → is_until high false k ≡ true → is_above high k ≡ false
 unfolding key_cmp
 until_above None k h = refl
@@ -102,7 +102,7 @@ low_from : (low k : List ℕ) → is_lt (name_cmp k low) ≡ false → is_from l
 unfolding key_cmp
 low_from low k h = ge_lt (name_cmp k low) h
 
--- without a cursor the keys of the range lie on the way
+-- without a cursor, the keys of the range lie on the way
 pub plain_only : (back : Bool) (low : List ℕ) (high : Option (List ℕ)) (k : List ℕ) → lies_on back false low high k ≡ true → Within low high k
 plain_only false low high k h = record { from_low = from_low low k (and_first _ _ h); to_high = until_above high k (and_second _ _ h) }
 plain_only true low high k h = record { from_low = from_low low k (and_second _ _ h); to_high = until_above high k (and_first _ _ h) }
