@@ -1,4 +1,4 @@
--- How hexadecimal digits are read on.
+-- Reading hexadecimal digits, byte by byte.
 use Rattle.std.proofs.Common.{◌≡◌, ℕ, List, [], ◌∷◌, ◌++◌, refl, sym, ap, ◌∙◌, append_assoc, Some, None}
 use Rattle.std.specs.declared.option.Option.{Option}
 use Rattle.std.specs.Option.{option_map, option_and_then}
@@ -24,7 +24,7 @@ before_both : (bytes : List ℕ) (byte : ℕ) (more : Option (List ℕ)) →
 before_both bytes byte None = refl
 before_both bytes byte (Some ys) = ap Some (sym (append_assoc bytes (byte ∷ []) ys))
 
--- a byte more
+-- one more byte
 pub more_bytes : (word rest rest' bytes bytes' : List ℕ) (byte : ℕ) → hex_in word ≡ option_map (λ more. bytes ++ more) (hex_in rest) →
     first_byte_in rest ≡ Some (byte, rest') → bytes' ≡ bytes ++ byte ∷ [] → hex_in word ≡ option_map (λ more. bytes' ++ more) (hex_in rest')
 more_bytes word rest rest' bytes bytes' byte h e b =
