@@ -111,8 +111,8 @@ pub record Reaches (words : ℕ → ℕ → ℕ) (after : Contents) (volume : St
   pub spells : Spells words after made
   pub sound : IsSound made
 
--- the contents encode the volume without some of a node's attributes: at least `gone` have been
--- removed
+-- the contents encode the volume without some of a node's attributes, of which at most 64 - `gone`
+-- remain
 pub record IsThinned (words : ℕ → ℕ → ℕ) (c : Contents) (volume : State) (node gone : ℕ) : Type 0
   where
     pub left : State

@@ -103,9 +103,8 @@ StopsList kept_of standing_of words_of ops before old new =
     → IsOk (steps volume ops) → StaysWithin most indices volume ops
     → Stops kept_of standing_of words_of (most + 1) indices before old new
 
--- A list of operations takes few pages, if nothing was in hand before it. In `few_at_stop`, the
--- bound is one page for each five of at most `most` items, one for each index, two for each level
--- of a tree of that size, and three more.
+-- A list of operations takes few pages, if nothing was in hand before it: at most one for each five
+-- items, one for each index, two for each level of a tree of that size, and three more.
 abbrev pub TakesFew : State → List Op → (old new : ℕ → Standing) → Type 0
 TakesFew volume ops old new = (most indices high : ℕ) → StaysWithin most indices volume ops
     → most + 1 < 2 * 6 ^ suc high → HasInHand old [] → (n : ℕ)

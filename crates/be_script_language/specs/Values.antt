@@ -40,7 +40,7 @@ unsigned_part (c ∷ word) = if nat_eq c 45 then word else c ∷ word
 abbrev pub signed_in : List ℕ → Option ℤ
 signed_in word = if nat_le (length (unsigned_part word)) 19 then number_in word else None
 
--- a signed number within bounds; `half` is 2 to the power of its bits less one
+-- a signed number, if it fits: `half` is 2 to the power of one less than its bits
 abbrev pub within : ℕ → ℤ → Option ℤ
 within half (pos n) = if nat_lt n half then Some (pos n) else None
 within half (negsuc n) = if nat_lt n half then Some (negsuc n) else None
