@@ -92,7 +92,7 @@ unlike test c d h g = by (nat_eq c d) refl
     by false e = refl
     by true e = absurd (true≢false (sym h ∙ (ap test (same_byte c d e) ∙ g)))
 
--- a word's byte differs from any other byte
+-- a byte of words differs from one that isn't
 pub is_other : (c d : ℕ) → is_word_byte c ≡ true → is_word_byte d ≡ false → nat_eq c d ≡ false
 is_other c d h g = unlike is_word_byte c d h g
 

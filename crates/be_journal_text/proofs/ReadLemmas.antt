@@ -37,7 +37,7 @@ IsLeft {X} P text_of text read rest =
 pub all_left : {X : Type 0} (P : X → Type 0) (text_of : X → List ℕ) (text : List ℕ) → IsLeft P text_of text [] text
 all_left P text_of text xs are is = (xs, refl, is)
 
--- The first element's text and that of the others, where what is joined by `; ` is cut at its first end.
+-- The text of the first element and that of the others, if a text joined by `; ` is cut at its first end.
 pub joined_cut : {X : Type 0} (P : X → Type 0) (text_of : X → List ℕ) (rest part beyond : List ℕ) → ((y : X) → P y → IsLinePart 59 (text_of y)) →
     ((xs more : List ℕ) → IsLinePart 59 xs → rest ≡ xs ++ 59 ∷ more → (part ≡ xs) × (beyond ≡ more)) → (IsLinePart 59 rest → (part ≡ rest) × (beyond ≡ [])) →
     (y : X) (more : List X) → P y → rest ≡ join_by text_of (codes "; ") (y ∷ more) → (part ≡ text_of y) × (drop 1 beyond ≡ join_by text_of (codes "; ") more)
