@@ -61,7 +61,7 @@ is_pinned test (Pinned a n) = by_test (test n) refl
     by_test true t = inl (a, n, refl, t)
     by_test false t = inr (λ x. let same : n ≡ x.1 = (let e = x.2 in cc) in let yes : IsTrue (test n) = rw same x.3 in cc)
 
--- the lock is held, and P holds of its holder
+-- the lock is held, and P holds for the writer
 held_by : (o : Option Holder) (P : Holder → Type 0) → ((h : Holder) → Decided (P h)) → Decided ((h : Holder) × (o ≡ Some h) × P h)
 held_by None P d = inr (λ x. let e = x.1 in cc)
 held_by (Some h) P d = like (λ p. (h, refl, p)) (λ x. let same : x.0 ≡ h = (let e = x.1 in cc) in rw (← same) x.2) (d h)

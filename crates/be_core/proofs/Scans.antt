@@ -44,7 +44,7 @@ module _ (w : World) (s : Sound w) (h : Holder) (k j : ℕ) (writes : HasOpenWri
   least-in_time : least_after w h j ≤ w.current
   least-in_time = let a = least-falls (if j == 0 then w.current else h.least) (w.phases j) in let b = start-in_time in omega arith
 
-  -- once the j-th slot is read, the minimum is at most what each pass up to j announced, if it is pinned to an old version
+  -- once the j-th slot is read, the minimum is at most what a pass up to j announced, if it is pinned to an old version
   least-counts : (i a n : ℕ) → i < suc j → w.phases i ≡ Pinned a n → n < w.current → least_after w h j ≤ a
   least-counts i a n b e l = elim (eqb_tells i j) [
     | inl y ↦ rw (rw y.1 at e) (omega arith)

@@ -310,8 +310,8 @@ InTime c (Looked a) = a ≤ c
 InTime c (Announced a) = a ≤ c
 InTime c (Pinned a n) = (a ≤ n) × (n ≤ c)
 
--- what a pin to version n guarantees for page p: it is neither free nor taken, it isn't retired
--- with a number below n, and its words stay
+-- what a pin to version n guarantees for page p: it is neither free nor taken, its words stay, and
+-- it isn't retired with a number below n
 abbrev pub KeepsPinned : World → ℕ → ℕ → Type 0
 KeepsPinned w n p = IsFalse (w.free p) × IsFalse (w.taken p)
     × ((r : ℕ) → w.retired p ≡ Some r → n ≤ r) × ((i : ℕ) → w.words p i ≡ w.image n p i)
