@@ -17,7 +17,7 @@ pub fn canonical()
 
 /// A law: which characters a pattern and its canonical text have, for any test of characters.
 pub fn characters()
-    // The tokens that a text encodes have no characters that the text lacks.
+    // The tokens that a text encodes have only characters of that text.
     ensures named { (test : ℕ → Bool) (cs : List ℕ) (ps : List Part) → pattern cs ≡ Ok ps
         → list_all test cs ≡ true → list_all (has_only test) ps ≡ true }
     // The canonical text has only its tokens' characters and those of the notation.

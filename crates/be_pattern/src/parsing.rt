@@ -16,7 +16,7 @@ use crate::token::Token;
 use be_value::Refusal;
 use std::alloc::{AllocError, Global};
 
-/// The most tokens for which memory is reserved before they are read.
+/// The maximum number of tokens for which memory is reserved before they are read.
 const MAX_ROOM: usize = 64;
 
 /// A character of a pattern's text.
@@ -213,8 +213,7 @@ fn read_members(
     Ok(None)
 }
 
-/// If the text goes on with `-` and a character, as a range does: that character, and the text
-/// after it.
+/// If `-` and a character come next, as in a range: that character, and the text after it.
 fn split_range(text: &str) -> Option<(char, &str)>
     ensures none { IfNone result ((total : ℕ) → length text.now ≤ total
         → dashed (letters_in total text.now) ≡ None) }

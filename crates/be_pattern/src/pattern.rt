@@ -46,8 +46,8 @@ impl Model for Pattern {
 }
 
 impl Pattern {
-    /// Reads a pattern. If the text is invalid, the error has the place in bytes: of an ending
-    /// backslash, which is looked for first, or of the `[` of the first invalid set. A set is
+    /// Reads a pattern. If the text is invalid, the error has the place in bytes. It is that of an
+    /// ending backslash, which is looked for first, or of the first invalid set's `[`. A set is
     /// invalid if it has no `]`, no members, or a descending range. It allocates memory at most a
     /// few times for each token.
     pub fn parse(alloc: Global, text: &str) -> Result<Pattern, Refusal>
