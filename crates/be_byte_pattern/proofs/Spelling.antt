@@ -125,7 +125,7 @@ star_leaves text rest c is split ps e =
     let q = star_first ps w.0 (w.1 ∙ ap (λ x. x ∷ w.0) is) in
     record { after = q.0; bytes = ap byte_parts q.1.0; alone = ap has_runs_alone q.1.0; text = sym w.2 ∙ ap encode_utf8_all q.1.1 }
 
--- How reading goes on.
+-- Reading on.
 
 pub leaves_all : (text : List ℕ) (ps : List Part) → text ≡ encode_utf8_all (canonical ps) → Leaves ps [] text
 leaves_all text ps e = record { after = ps; bytes = refl; alone = refl; text = e }
