@@ -20,14 +20,14 @@ use Rattle.be_paged_reading.specs.Version.{Spells}
 abbrev pub pair_count : (words : ℕ → ℕ → ℕ) → Contents → ℕ
 pair_count words c = length (pairs_of_all words (roots c))
 
--- the contents afterwards have at most `more` pairs more than before, and as many trees
+-- contents have gained at most `more` pairs, and have as many trees as before
 abbrev pub Gains : (more : ℕ) → (old_words new_words : ℕ → ℕ → ℕ) → (before after : Contents)
     → Type 0
 Gains more old_words new_words before after =
     (pair_count new_words after ≤ pair_count old_words before + more)
     × (length after.entries ≡ length before.entries)
 
--- a tree has become one with at most `more` pairs more
+-- a tree has become one that has gained at most `more` pairs
 abbrev pub GrowsTree : {S K : Type 0} → (S → K) → (S → ℕ → Standing) → (S → ℕ → ℕ → ℕ)
     → (more root now : ℕ) → (old new : S) → Type 0
 GrowsTree kept_of standing_of words_of more root now old new =
@@ -36,15 +36,15 @@ GrowsTree kept_of standing_of words_of more root now old new =
     (pages (words_of new) now) old new
     × (length (pairs (words_of new) now) ≤ length (pairs (words_of old) root) + more)
 
--- contents have become others with at most `more` pairs more, and as many trees
+-- contents have become others that have gained at most `more` pairs, and have as many trees
 abbrev pub Grows : {S K : Type 0} → (S → K) → (S → ℕ → Standing) → (S → ℕ → ℕ → ℕ) → (more : ℕ)
     → (before after : Contents) → (old new : S) → Type 0
 Grows kept_of standing_of words_of more before after old new =
     Changes kept_of standing_of words_of before after old new
     × Gains more (words_of old) (words_of new) before after
 
--- If a write is refused: no page was free, undoing it restores what was there when it began, and
--- `stop` holds of the point where it stopped.
+-- If a write is refused, no page was free, and undoing it restores what was there when it began.
+-- `stop` says where it stopped.
 abbrev pub RefusesAt : {S K A : Type 0} → (S → K) → (S → ℕ → Standing) → (S → ℕ → ℕ → ℕ)
     → (full : S → ℕ → Type 0) → (stop : S → S → Type 0) → Result A Refusal → (old new : S) → Type 0
 RefusesAt kept_of standing_of words_of full stop result old new =
@@ -64,7 +64,7 @@ pub record StopsTree {S K : Type 0} (kept_of : S → K) (standing_of : S → ℕ
   pub takes : TakesFewer (most_taken (level_of_root (words_of between) now))
       (standing_of between) (standing_of new)
 
--- A change to contents stops: they had become others with at most `most` pairs and `indices`
+-- A change to contents stops. They had become others with at most `most` pairs and `indices`
 -- indices, and a change to one of their trees was refused. That tree's level is one that `most`
 -- pairs allow.
 pub record Stops {S K : Type 0} (kept_of : S → K) (standing_of : S → ℕ → Standing)
@@ -94,8 +94,8 @@ RefusesNear kept_of standing_of words_of full more before result old new =
     result old new
 
 -- A list of operations that the volume accepts stops: the contents had become others with at most
--- `most` + 1 pairs, where the volume never has more than `most` items before, between and after the
--- operations.
+-- `most` + 1 pairs. Here `most` is the maximum number of items that the volume has before, between
+-- and after the operations.
 abbrev pub StopsList : {S K : Type 0} → (S → K) → (S → ℕ → Standing) → (S → ℕ → ℕ → ℕ)
     → (ops : List Op) (before : Contents) → (old new : S) → Type 0
 StopsList kept_of standing_of words_of ops before old new =
@@ -103,8 +103,8 @@ StopsList kept_of standing_of words_of ops before old new =
     → IsOk (steps volume ops) → StaysWithin most indices volume ops
     → Stops kept_of standing_of words_of (most + 1) indices before old new
 
--- A list of operations takes few pages, if nothing was in hand before it: at most one for each five
--- items, one for each index, two for each level of a tree of that size, and three more.
+-- A list of operations takes few pages, if nothing was in hand before it. It takes at most one per
+-- five items, one per index, two per level of a tree of that size, and three more.
 abbrev pub TakesFew : State → List Op → (old new : ℕ → Standing) → Type 0
 TakesFew volume ops old new = (most indices high : ℕ) → StaysWithin most indices volume ops
     → most + 1 < 2 * 6 ^ suc high → HasInHand old [] → (n : ℕ)

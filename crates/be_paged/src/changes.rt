@@ -109,10 +109,10 @@ fn turn_key<R: Room>(
     }
 }
 
-/// Changes the node's pair in an index's tree: removes the old value's pair and inserts the new
-/// value's, each only if it is of the index's kind. If the tree already has the new pair, the root
-/// and the page writer are unchanged. The tree is searched for it only if the old value has the
-/// same pair, since an index has no pair of any other value.
+/// Changes the node's pair in an index's tree: it removes the old value's pair and inserts the new
+/// value's, if they are of the index's kind. If the tree already has the new pair, the root and the
+/// page writer are unchanged. The tree is searched for it only if the old value has the same pair,
+/// since an index has no pair of any other value.
 fn change_root<R: Room>(
     room: &mut R,
     root: u64,

@@ -186,8 +186,7 @@ fn drop_node<R: Room>(room: &mut R, version: &mut Version, node: u64) -> Result<
     Ok(Done::Unit)
 }
 
-/// Performs one operation. `asked` has what is remembered about an attribute, perhaps another
-/// one's.
+/// Performs one operation. `asked` is what is known about some attribute, perhaps another one.
 fn edit<R: Room>(
     room: &mut R,
     version: &mut Version,
@@ -230,7 +229,7 @@ fn edit<R: Room>(
 
 /// Performs a list of operations that the volume accepts, one after the other. Their outcomes are
 /// added to an empty list. The list is filled in place, since passing it by value costs its whole
-/// capacity. What is remembered about an attribute serves only the first operation, since the trees
+/// capacity. What `asked` knows about an attribute serves only the first operation, since the trees
 /// change after it.
 pub(crate) fn edit_all<R: Room>(
     room: &mut R,
