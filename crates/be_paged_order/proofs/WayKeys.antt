@@ -53,7 +53,7 @@ le_gt Greater e = cc
 flip : (a b : List ℕ) (o : Ordering) → name_cmp a b ≡ o → name_cmp b a ≡ ordering_reverse o
 flip a b o e = nat_list_cmp_total.antisymm b a ∙ ap ordering_reverse e
 
--- what is at most b is less than c, if b is
+-- if a < b and b ≤ c, then a < c
 below : (a b c : List ℕ) → name_cmp a b ≡ Less → is_le (name_cmp b c) ≡ true → name_cmp a c ≡ Less
 below a b c lt le = by (name_cmp b c) refl le
   where
@@ -62,7 +62,7 @@ below a b c lt le = by (name_cmp b c) refl le
     by Equal e h = ap (name_cmp a) (sym (key_apart false b c e)) ∙ lt
     by Greater e h = cc
 
--- what is less than b is less than c, if b is at most c
+-- if a ≤ b and b < c, then a < c
 at_most : (a b c : List ℕ) → is_le (name_cmp a b) ≡ true → name_cmp b c ≡ Less → name_cmp a c ≡ Less
 at_most a b c le lt = by (name_cmp a b) refl le
   where

@@ -13,7 +13,7 @@ use be_query::Comparison;
 use be_value::{Kind, Name, Refusal, Value};
 
 /// Reads one version, and also walks its indices in their order. It has the version's page and a
-/// page reader, and takes no memory besides its own.
+/// page reader, and takes no other memory.
 #[derive(Drop)]
 pub struct OrderedPages<L> {
     reader: PagedSource<L>,
