@@ -2,8 +2,8 @@
 //!
 //! A script is a text with one command per line. Each line has a reply, except blank lines and
 //! comments. [`read_line`] reads what a line requests, and [`reply_text`] writes a reply. Neither
-//! knows what runs the script. The modules, from the bottom up: a line's words, the values that
-//! they encode, commands, what a line `page` requests, requests, and replies with their texts.
+//! knows what runs the script. The modules, from the bottom up, are about words, the values that
+//! they encode, commands, lines `page`, requests, and replies.
 #![tactic(auto)]
 
 mod commands;

@@ -1,8 +1,8 @@
 //! What a line requests.
 //!
-//! A line is checked in a fixed order: is it valid UTF-8, does it have a reply at all, then its
-//! command word and the words after it. Anything that doesn't fit makes it a bad line. If a name or
-//! value fits but no store takes it, the request has its error.
+//! The order of checks is fixed: whether the line is valid UTF-8, whether it has a reply at all,
+//! its command word, and the words after that. Anything that doesn't fit makes it a bad line. If a
+//! name or value fits but no store takes it, the request has its error.
 ghost use Rattle.std.specs.List.{list_all};
 ghost use Rattle.std.specs.Option.{option_map};
 ghost use Rattle.std.specs.Prelude.{◌≡◌, IfOk, string_bytes};

@@ -1,8 +1,8 @@
 //! The words of a line.
 //!
 //! Here a line is a list of characters. Blanks (spaces and tabs) separate its words. A word that
-//! begins with a quote goes to the next quote without a backslash, which a blank or the end of the
-//! line must follow. Inside it, a backslash may come only before `"`, `\`, `n` (LF) and `r` (CR).
+//! begins with a quote ends at the next quote that has no backslash. After it comes a blank or the
+//! end of the line. Inside it, a backslash may come only before `"`, `\`, `n` (LF) and `r` (CR).
 //! Any other word is taken as it is. A word is returned as the text it stands for, so code that
 //! reads numbers, names and values doesn't see how the word was written.
 ghost use Rattle.std.specs.Option.{option_map};
