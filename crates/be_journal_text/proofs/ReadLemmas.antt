@@ -27,7 +27,7 @@ all_right : {X : Type 0} (P : X → Type 0) (xs ys : List X) → All P (xs ++ ys
 all_right P [] ys h = h
 all_right P (x ∷ xs) ys h = all_right P xs ys (All-tail P x (xs ++ ys) h)
 
--- What remains of a list while its text is read: for any list that was printed as this text, these elements were read, and `rest`
+-- What remains of a list while its text is read. For any list that was printed as this text, these elements were read, and `rest`
 -- is the text of the others.
 abbrev pub IsLeft : {X : Type 0} → (X → Type 0) → (X → List ℕ) → List ℕ → List X → List ℕ → Type 0
 IsLeft {X} P text_of text read rest =

@@ -48,7 +48,7 @@ pub record CanBeEntry (entry : Entry) : Type 0 where
   pub ops : All CanBeOp entry.ops
   pub dones : All CanBeDone entry.dones
 
--- the entries of a journal, of which there are fewer than 2^32
+-- the entries of a journal: fewer than 2^32
 abbrev pub CanBeJournal : List Entry → Type 0
 CanBeJournal entries = All CanBeEntry entries × (length entries < 2 ^ 32)
 

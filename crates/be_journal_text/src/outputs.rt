@@ -73,7 +73,7 @@ fn read_result(alloc: Global, text: &[u8]) -> Result<Option<Vec<Entry>>, AllocEr
     }
 }
 
-/// The journal in a text, which may be the output of a race, that of a run that prints its journal,
+/// The journal in a text. The text may be the output of a race or of a run that prints its journal,
 /// or just the journal's text. `None` if the text has no journal. The only error is out of memory.
 ///
 /// It is exact: the journal that it returns is the text's, and it returns any journal that a text

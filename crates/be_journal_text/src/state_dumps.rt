@@ -77,9 +77,9 @@ fn entries_text(alloc: Global, entries: &[Entry]) -> Result<String, AllocError>
     volume_text(alloc, &volume)
 }
 
-/// The script that makes the volume of a text's journal, but not its history: nodes with their
-/// numbers, attributes, and indices with their pairs, in batches of 64 operations. `None` if the
-/// text has no journal. The only error is out of memory.
+/// The script that makes the volume of a text's journal, but not its history. It makes nodes with
+/// their numbers, attributes, and indices with their pairs, in batches of 64 operations. `None` if
+/// the text has no journal. The only error is out of memory.
 ///
 /// If the volume refuses an entry, which happens only in a wrong journal, that entry changes
 /// nothing. be_script_runner's law `state_dump_makes_volume` says what the script makes. It costs
