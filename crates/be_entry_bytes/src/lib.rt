@@ -1,8 +1,8 @@
 //! The bytes of a journal's entry, and reading them back.
 //!
-//! An entry takes few bytes. A number takes one byte if it is small, a name or a text its own
-//! length, and an outcome takes bytes only if it is a node. `set 1 "size" LONG 5`, written by pass
-//! 0, takes eleven bytes.
+//! An entry takes few bytes. A number takes one byte if it is small, and a name or a text its own
+//! length. An outcome takes bytes only if it is a node. `set 1 "size" LONG 5`, written by pass 0,
+//! takes eleven bytes.
 //!
 //! # What is proved
 //! What is appended is `entry_bytes`, which depends only on the entry (`specs/Encoding.antt`). What

@@ -1,7 +1,7 @@
 //! Reads an entry from its bytes.
 //!
-//! Each function reads one thing at the start of the bytes, and returns it with the bytes after it,
-//! or `None` if there is no such thing.
+//! Each function reads one thing at the start of the bytes, and returns it with the bytes after it.
+//! If there is no such thing, it returns `None`.
 ghost use Rattle.std.specs.Prelude.{◌≡◌, ◌<◌, ◌^◌, ◌++◌, ℕ, List, IfOk, IfSome, negsuc};
 ghost use Rattle.std.specs.Int.{w16, w32, w64};
 ghost use Rattle.std.specs.Option.{option_map};
@@ -288,7 +288,7 @@ fn answered_of(form: u8, bytes: &[u8]) -> Option<(Op, Done, &[u8])>
 }
 
 /// The operation at the start of the bytes, its outcome, and the bytes after them. `None` if there
-/// is none. It takes no memory, and costs as much as the operation is long.
+/// is none. It takes no memory, and its cost grows with the operation's length.
 #[tactic(auto, unfolding(crate::specs::Decoding::step_at))]
 pub fn read_step(bytes: &[u8]) -> Option<(Op, Done, &[u8])>
     ensures { option_map (λ x. (x.0, x.1, x.2.now)) result ≡ spec.step_at bytes.now }
@@ -302,7 +302,7 @@ pub fn read_step(bytes: &[u8]) -> Option<(Op, Done, &[u8])>
 }
 
 /// The first `count` operations, the outcome of each, and the bytes after them. `None` if there are
-/// fewer. It takes memory only for the two lists, and costs as much as they are long.
+/// fewer. It takes memory only for the two lists, and its cost grows with their length.
 pub fn read_steps(
     alloc: Global,
     count: u64,
@@ -356,7 +356,7 @@ fn entry_of(
 
 /// The entry at the start of the bytes (its pass, operations and outcomes), and the bytes after it.
 /// `None` if there is none. What `write_entry` appended is read back, whatever follows it. It takes
-/// memory only for the two lists, and costs as much as the entry is long.
+/// memory only for the two lists, and its cost grows with the entry's length.
 pub fn read_entry(
     alloc: Global,
     bytes: &[u8],
@@ -386,7 +386,7 @@ fn after_steps(count: u64, bytes: &[u8]) -> Option<&[u8]>
 }
 
 /// The bytes after the entry at their start. `None` if there is no entry. It takes no memory, and
-/// costs as much as the entry is long.
+/// its cost grows with the entry's length.
 #[tactic(auto, unfolding(crate::specs::Decoding::entry_at))]
 pub fn skip_entry(bytes: &[u8]) -> Option<&[u8]>
     ensures { option_map (λ x. x.now) result ≡ option_map (λ x. x.3) (spec.entry_at bytes.now) }

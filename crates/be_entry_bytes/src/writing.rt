@@ -217,7 +217,7 @@ pub fn most_bytes(count: usize) -> usize
 }
 
 /// Appends an entry to a vector that has capacity for the longest entry with as many operations. It
-/// takes no memory, and costs as much as the entry is long. `read_entry` reads back what it
+/// takes no memory, and its cost grows with the entry's length. `read_entry` reads back what it
 /// appends.
 pub fn write_entry(bytes: &mut Vec<u8>, by: u64, ops: &[Op], dones: &[Done])
     requires few { length ops.now ≤ 64 }
