@@ -1,7 +1,7 @@
 //! The operations that rebuild a volume from the empty one.
 //!
-//! A long-running process can drop its history: it reads the operations that make the present
-//! volume, applies them to a new store, and goes on with a short journal.
+//! A long-running process can drop its history. It reads the operations that make the present
+//! volume, applies them to a new store, and continues with a short journal.
 #![tactic(auto)]
 
 mod laws;

@@ -1,7 +1,7 @@
 //! A volume's operations, read list by list.
 //!
-//! The operations are never all in memory: apart from the list that is returned, there are only
-//! those of one number, or those of the indices.
+//! The operations are never all in memory. Apart from the list that is returned, only those of one
+//! number, or those of the indices, are.
 ghost use Rattle.std.specs.Prelude.{◌≡◌, ◌<◌, ◌≤◌, ◌++◌, ◌⊎◌, [], IfOk, IfSome, IfNone, OnOk};
 ghost use Rattle.std.specs.Prelude.{length, true, false};
 ghost use Rattle.be_volume.specs.Volume.{State};
@@ -53,7 +53,7 @@ const FULL: usize = 64;
 
 /// The next list of a volume's operations, which has 1 to 64, or `None` after the last. The lists
 /// end to end are `state_ops`, and each but the last has 64. If memory runs out, nothing is lost:
-/// the next call goes on.
+/// the next call continues.
 ///
 /// All calls together read each number twice, once for the attributes that no index has and once
 /// for the rest. For each attribute they ask twice whether an index has it.

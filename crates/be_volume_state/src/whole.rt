@@ -1,8 +1,8 @@
 //! The trait through which a whole volume is read.
 //!
 //! A volume is read by four calls, and each may change the reader itself, as a cursor moves. `kept`
-//! is what no call changes. `answers_for` relates the reader to the volume that it reads: a reader
-//! of pages has pages that encode a volume, but it can't compute the volume.
+//! is what no call changes. `answers_for` relates the reader to the volume that it reads. It is
+//! needed because a reader of pages can't compute the volume that its pages encode.
 ghost use Rattle.std.specs.FinMap as map;
 ghost use Rattle.std.specs.Option.{option_map};
 ghost use Rattle.std.specs.Prelude.{◌≡◌, IfOk};
