@@ -211,9 +211,9 @@ fn task_by<'a>(
     }
 }
 
-/// Reads the words of a command line, the first of which is the program's name. An error is
-/// `clap`'s, and its kind says what it is: a request for help or for the version, an invalid
-/// command line, or out of memory.
+/// Reads the words of a command line, which begin with the program's name. An error is `clap`'s.
+/// Its kind says whether it is a request for help or the version, an invalid command line, or out
+/// of memory.
 pub fn task<'a>(alloc: Global, words: &'a [&'a str]) -> Result<Task, Error>
     ensures { IfOk result IsTask }
 {
