@@ -3,12 +3,12 @@
 //! lines of standard input as they come. It also checks a printed journal, and writes the script
 //! that makes it again, or only its last state.
 //!
-//! The exit status is 0 if a run, a race or a shell reaches its end, if a journal is right, and for
+//! The exit status is 0 if a run, a race or a shell reaches its end, for a right journal, and for
 //! help or the version. It is 2 for an invalid command line. It is 1, with one line on standard
-//! error, if the program stopped before its end, as a strict run does at the first line that is
-//! refused. It is also 1 if a journal is wrong; the first wrong line is then written to standard
-//! output. Replies go through a buffer, which is written before the program ends; a shell writes
-//! each reply immediately.
+//! error, if the program stops early, as a strict run does at the first refused line. It is also 1
+//! if a journal is wrong; the first wrong line is then written to standard output. Replies go
+//! through a buffer, which is written before the program ends; a shell writes each reply
+//! immediately.
 #![tactic(auto)]
 
 ghost use Rattle.std.specs.Prelude.{◌≡◌, IfOk, IfSome};
