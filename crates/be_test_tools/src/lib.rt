@@ -1,6 +1,8 @@
-//! What the tests of several crates share: worked examples as texts, the loop over their lines, the
-//! texts of replies, pages that count accesses, a writer that fails, a list with spare capacity,
-//! and the second try of a call.
+//! What the tests of several crates share.
+//!
+//! There are worked examples as texts, the loop over their lines, and the texts of replies. There
+//! are also pages that count accesses, a writer that fails, a list with spare capacity, and the
+//! second try of a call.
 //!
 //! As a library it is proved only once. A test checks results and needs no contract, so most
 //! functions here have none.

@@ -20,9 +20,9 @@ fn list_with_script(alloc: Global) -> Result<(String, String), AllocError> {
     Ok((script, replies))
 }
 
-/// A script that lists 64 attributes with the longest names and values, in which each LF is printed
-/// as two characters; and its replies, the last of which has 41,289 bytes. Both are made again
-/// after running out of memory.
+/// A script that lists 64 attributes with the longest names and values, and its replies, the last
+/// of which has 41,289 bytes. Each LF in a name or value is printed as two characters. Both are
+/// made again after running out of memory.
 pub fn longest_list(alloc: Global) -> Result<(String, String), AllocError> {
     match list_with_script(alloc) {
         Err(_) => list_with_script(alloc),

@@ -23,8 +23,8 @@ impl Narrow<'_> {
         }
     }
 
-    /// Whether writing may end like this: well, once everything expected is written, or with a
-    /// failed write, once a prefix of it has filled the room.
+    /// Whether writing may end like this. It ends well once everything expected is written, or with
+    /// a failed write once a prefix of it has filled the room.
     pub fn may_end(&self, well: bool, by_write: bool) -> bool {
         let has_all = self.expected.is_empty();
         let is_so = if has_all {
