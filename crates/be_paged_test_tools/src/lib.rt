@@ -1,5 +1,5 @@
-//! What the tests of volumes in pages share: a plain volume and an equal one in pages, which get
-//! the same writes and the same queries.
+//! What the tests of volumes in pages share: a plain volume and an equal one in pages, with the
+//! same writes and queries.
 //!
 //! As a library it is proved only once.
 #![tactic(auto)]
