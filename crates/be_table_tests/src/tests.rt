@@ -63,8 +63,8 @@ fn reading_under_held_lock(rt: HostRuntime) -> Result<(), Fail> {
     check_lines(rt.alloc(), &mut opened(rt.alloc(), 64)?, lines)
 }
 
-/// A pinned version is the volume after the entries up to it, both for the page reader and for
-/// queries, while a later write changes the current version.
+/// A pinned version is the volume after the entries up to it, while a later write changes the
+/// current version. This holds for the page reader and for queries.
 #[test]
 fn pinned_volume(rt: HostRuntime) -> Result<(), Fail> {
     let lines = "0 mkindex size LONG;new;set 1 size LONG 5 / 1 pin => 1 / pin 1
@@ -98,8 +98,8 @@ fn enter_until_due(room: &mut Room) -> Result<u64, Refusal> {
     Err(Refusal::BadLimits)
 }
 
-/// The number of writes after which a scan is due, and the number of further writes after which the
-/// next one is, while a pass is pinned.
+/// The number of writes until a scan is due, and of further writes until the next one is, while a
+/// pass is pinned.
 fn count_until_due(alloc: Global, room: &mut Room) -> Result<(u64, u64), Fail> {
     check_lines(alloc, room, "1 pin => pin 0")?;
     let before = enter_until_due(room)?;
@@ -124,7 +124,7 @@ fn scans_early(alloc: Global, room: &mut Room) -> Result<bool, Fail> {
 }
 
 /// A scan is due once a page is retired. If a pin keeps that page, the next scan is due after 32
-/// more. The first write of a node retires one page; later ones retire two while the catalog is one
+/// more. The first write of a node retires one page. Later ones retire two while the catalog is one
 /// page, and three once it has an inner page.
 #[test]
 fn scan_due(rt: HostRuntime) -> Result<(), Fail> {
