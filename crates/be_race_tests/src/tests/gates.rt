@@ -81,7 +81,7 @@ impl Gate for Around {
     }
 }
 
-/// Holds pass 0 before its first line until pass 1 has run both its lines, and pass 1 after these
+/// Holds pass 0 before its first line until pass 1 has run both its lines. Then it holds pass 1
 /// until pass 0 has run that line. The stages: pass 0 is before its first line; pass 1 has run its
 /// lines; pass 0 is before its second line.
 #[derive(Drop)]

@@ -257,8 +257,8 @@ fn both_threads_run(rt: HostRuntime) -> Result<(), Fail> {
     )
 }
 
-/// Whether a gate is called for this many lines of a script, and for none of an empty script beside
-/// it. `None` if memory ran out.
+/// Whether a gate is called for this many lines of a script, and for none of an empty second
+/// script. `None` if memory ran out.
 fn tells_lines<R: Threads + Wait>(
     rt: &R,
     alloc: Global,
@@ -444,8 +444,8 @@ fn limits_of_a_race(rt: HostRuntime) -> Result<(), Fail> {
     check_limits(&rt, rt.alloc(), 16385)
 }
 
-/// The number of nodes that the second script of a race made, and the number of its lines that were
-/// refused with Full and this number of entries.
+/// The number of nodes that the second script of a race made, and the number of lines refused with
+/// Full and this number of entries.
 fn count_fulls(alloc: Global, written: &str) -> Result<(usize, usize), AllocError> {
     let entries = written.matches(" by 1 new -> node ").count();
     let full = format!(in alloc; "refused 11 Full {entries}")?;
