@@ -29,8 +29,8 @@ fn next_number(store: &Store, alloc: Global, pass: &mut Pass) -> Result<u64, Ref
     collected(next)
 }
 
-/// For a change that makes this many nodes on an empty store: its commit number, the next node's
-/// number after it, and the last number that it returned.
+/// Makes this many nodes with a change on an empty store. Returns the change's commit number, the
+/// next node's number after it, and the last number that it returned.
 pub(crate) fn written_of(alloc: Global, count: u64) -> Result<(u64, u64, u64), Refusal> {
     let (store, mut pass) = open_for_one(alloc, 100)?;
     let mut change = Change::begin(alloc, &store, &mut pass, Kinds::Checked)?;
@@ -42,8 +42,8 @@ pub(crate) fn written_of(alloc: Global, count: u64) -> Result<(u64, u64, u64), R
     Ok((number, next, last))
 }
 
-/// Whether a change has to be repeated, if another pass wrote a 7 since it began; the number then,
-/// and after the next attempt, which writes an 8.
+/// Whether a change has to be repeated, if another pass wrote a 7 since it began. Also the number
+/// then, and after the next attempt, which writes an 8.
 fn against(
     store: &Store,
     alloc: Global,

@@ -47,8 +47,8 @@ fn reads_of_new(
     Ok((before, set))
 }
 
-/// Three reads around a change that removes node 1: the number at node 2 in the store afterwards;
-/// the number at node 1 in the change, once it is removed; and the same before that.
+/// Three reads around a change that removes node 1. They are the number at node 2 in the store
+/// afterwards, and at node 1 in the change, after and before the removal.
 fn removes(
     mut change: Change,
     store: &Store,
@@ -106,8 +106,8 @@ fn taken_by_snapshot(change: &mut Change) -> Result<(bool, bool, bool), Refusal>
     Ok((number, text, other))
 }
 
-/// Whether a change accepts a number once it has removed the index; and then, once it has made an
-/// index of numbers, a text and a number.
+/// Whether a change accepts a number once it has removed the index. Then, whether it accepts a text
+/// and a number once it has made an index of numbers.
 fn taken_by_change(change: &mut Change) -> Result<(bool, bool, bool), Refusal> {
     collected(change.remove_index(Name::new("a")?))?;
     let removed = is_taken(change.set(1, Name::new("a")?, Value::int64(1)))?;

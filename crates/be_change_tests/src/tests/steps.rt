@@ -1,4 +1,4 @@
-//! Calls on a change with a pass of which only its store is known. Each call checks whether the
+//! Calls on a change with a pass about which only its store is known. Each call checks whether the
 //! pass is pinned, and returns BadLimits if it isn't.
 ghost use Rattle.std.specs.Prelude.{IfOk};
 ghost use Rattle.be_store.specs.Passes.{IsPassOf};
