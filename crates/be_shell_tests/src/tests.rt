@@ -134,7 +134,7 @@ fn talk(alloc: Global, peer: &mut Strict) -> Result<(), RunFault> {
 const CALLS: usize = 3 * ROWS + 1;
 
 /// Whether a conversation that fails at this call ends there with the call's error, with all calls
-/// before it in order; or reaches its end, if none fails.
+/// before it in order. If no call fails, whether it reaches its end.
 fn ends_at(alloc: Global, call: usize) -> bool {
     let mut peer = Strict::new(call);
     let ended = talk(alloc, &mut peer);
@@ -306,8 +306,8 @@ impl Write for Sending {
     }
 }
 
-/// Whether a conversation of three lines, over a writer that sends only `most` replies, ends with
-/// `Write` after them, or with success if it sends each.
+/// Whether a conversation of three lines ends with `Write` after `most` replies, if the writer
+/// sends only that many. If it sends each, whether the conversation succeeds.
 fn sends(alloc: Global, most: u64) -> bool {
     let mut early: Vec<u8> = Vec::new(alloc);
     let mut late = Sending {
