@@ -163,9 +163,9 @@ fn values_have_bytes(rt: HostRuntime) -> Result<(), Fail> {
     check_lines(rt.alloc(), &mut Encoder, lines)
 }
 
-/// Bytes that aren't an entry: an unknown form or kind, a name with a zero byte or that isn't valid
-/// UTF-8, a number too large for its kind, and fewer operations than the entry says. A number with
-/// more bytes than it needs is accepted.
+/// Bytes that aren't an entry, since they have an unknown form or kind, an invalid name, a number
+/// too large for its kind, or too few operations. A name is invalid with a zero byte, or if it
+/// isn't valid UTF-8. A number with more bytes than it needs is accepted.
 #[test]
 fn other_bytes_are_no_entry(rt: HostRuntime) -> Result<(), Fail> {
     let lines = r#"bytes 0 1 6 => none
