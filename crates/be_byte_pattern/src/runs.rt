@@ -56,7 +56,6 @@ fn after_run<'a>(bytes: &'a [u8], run: &[u8]) -> Option<&'a [u8]>
     Some(&bytes[run.len()..])
 }
 
-/// Whether the bytes end with a run.
 #[inline(always)]
 fn ends_with(bytes: &[u8], run: &[u8]) -> bool
     ensures { result ≡ ends_with nat_eq bytes.now run.now }

@@ -1,8 +1,8 @@
 //! Operations on a version that is being written.
 //!
-//! Refusals by the volume are found before. So each operation only does its work, and the only
-//! error is that no page is free. The write is then undone, so the contracts say only one thing
-//! about what such an error leaves: few pages are in hand (`Stops`).
+//! The volume's refusals have been found beforehand. So each operation only does its work, and the
+//! only error is that no page is free. The write is then undone, so the contracts say only one
+//! thing about what such an error leaves: few pages are in hand (`Stops`).
 ghost use Rattle.std.specs.Prelude.{◌≡◌, [], ◌+◌, ◌≤◌, ◌<◌, ◌^◌, All, length, IsTrue, IfOk};
 ghost use Rattle.std.specs.Prelude.{OnOk, IsOk};
 ghost use Rattle.be_volume.specs.Sound.{IsSound};
@@ -186,7 +186,7 @@ fn drop_node<R: Room>(room: &mut R, version: &mut Version, node: u64) -> Result<
     Ok(Done::Unit)
 }
 
-/// Performs one operation. `asked` is what is known about some attribute, perhaps another one.
+/// Performs one operation. `asked` is what is known about some attribute, perhaps not its own.
 fn edit<R: Room>(
     room: &mut R,
     version: &mut Version,

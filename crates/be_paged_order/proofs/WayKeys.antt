@@ -111,7 +111,7 @@ pub plain_all : (back : Bool) (low : List ℕ) (high : Option (List ℕ)) (k : L
 plain_all false low high k w = both _ _ (low_from low k w.from_low) (above_until high k w.to_high)
 plain_all true low high k w = both _ _ (above_until high k w.to_high) (low_from low k w.from_low)
 
--- up from the cursor, or from the low end if that comes after it
+-- up from the cursor, or from the low end if that is above the cursor
 module _ (low : List ℕ) (high : Option (List ℕ)) (cursor k : List ℕ) where
   pub up_only : is_ge (name_cmp cursor low) ≡ true → lies_on false true cursor high k ≡ true → Within low high k × (is_after false (Some cursor) k ≡ true)
   unfolding key_cmp
@@ -133,7 +133,7 @@ module _ (low : List ℕ) (high : Option (List ℕ)) (cursor k : List ℕ) where
       let le : is_le (name_cmp low k) ≡ true = le_flip k low (ge_lt _ w.from_low) in
       (w, ap is_lt (below cursor low k (less _ (lt_not_ge _ e)) le))
 
--- down from the cursor, or from the high end if that comes after it
+-- down from the cursor, or from the high end if that is below the cursor
 module _ (low cursor k : List ℕ) where
   pub down_only : (high : Option (List ℕ)) → is_up_to high cursor ≡ true → lies_on true true low (Some cursor) k ≡ true → Within low high k × (is_after true (Some cursor) k ≡ true)
   unfolding key_cmp

@@ -142,7 +142,6 @@ fn literal_pattern(alloc: Global, text: &str) -> Result<Pattern, AllocError>
     })
 }
 
-/// The pattern of these tokens.
 fn pattern_of(alloc: Global, tokens: Vec<Token>) -> Result<Pattern, AllocError>
     ensures { IfOk result (λ p. p ≡ parts_of tokens.items) }
 {

@@ -10,7 +10,6 @@ ghost use Rattle.be_pattern.specs.Canonical.{member_char, class_opening, part_te
 use crate::token::Token;
 use std::alloc::{AllocError, Global};
 
-/// Whether the token is a literal character.
 fn is_literal(token: &Token) -> bool
     ensures { result ≡ is_literal (part_of token.now) }
 {
@@ -143,7 +142,6 @@ fn push_marked(text: &mut String, c: char, backslash: bool) -> Result<(), AllocE
     text.push(c)
 }
 
-/// Appends a set.
 fn push_set(text: &mut String, negated: bool, members: &[(char, char)]) -> Result<(), AllocError>
     ensures { IfOk result (λ _. string_bytes text.new
         ≡ string_bytes text.old ++ encode_utf8_all
@@ -170,7 +168,6 @@ fn push_opening(text: &mut String, negated: bool) -> Result<(), AllocError>
     text.push('[')
 }
 
-/// Appends a member of a set.
 fn push_member(text: &mut String, range: (char, char)) -> Result<(), AllocError>
     ensures { IfOk result (λ _. string_bytes text.new ≡ string_bytes text.old
         ++ encode_utf8_all (member range)) }
