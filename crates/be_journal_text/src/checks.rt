@@ -14,8 +14,7 @@ pub enum Finding {
     /// The journal has this many entries. Each has the outcomes of a volume that has run the
     /// entries before it.
     Right(u64),
-    /// The line of the first entry that hasn't, with its LF, and the number of the journal's
-    /// entries.
+    /// The line of the first wrong entry, with its LF, and the number of the journal's entries.
     Wrong(String, u64),
 }
 

@@ -139,9 +139,9 @@ SetsWhatStands volume (Unset node name) = ⊥
 SetsWhatStands volume (RmIndex name) = ⊥
 
 -- The result of a list of operations on a version. The new version page encodes the volume after
--- the steps. The pages of the old version are exchanged for exactly those of the new one, and this
--- write has taken the new version page. If all operations set what is already set, each index keeps
--- its root.
+-- the steps. The pages of the old version are exchanged for exactly those of the new one, each of
+-- which is old or filled. This write has taken the new version page. If all operations set what is
+-- already set, each index keeps its root.
 pub record Applies {S K : Type 0} (kept_of : S → K) (standing_of : S → ℕ → Standing)
     (words_of : S → ℕ → ℕ → ℕ)
     (page new_page : ℕ) (volume : State) (ops : List Op) (dones : List Done) (old new : S) : Type 0
