@@ -1,4 +1,4 @@
--- A pattern matches the bytes of characters exactly where it matches the characters.
+-- A pattern matches the bytes of characters exactly if it matches the characters.
 use Rattle.std.proofs.Common.{◌≡◌, ℕ, ◌+◌, ◌/◌, ◌%◌, ◌<◌, ◌≤◌, Bool, true, false, List, [], ◌∷◌, ◌++◌, map, length, ◌&&◌, ◌||◌, refl, sym, ap, ◌∙◌, subst, arith}
 use Rattle.std.specs.Cmp.{both_ways}
 use Rattle.std.specs.Char.{encode_utf8}
@@ -21,7 +21,7 @@ abbrev pub AreInside : List ℕ → Type 0
 AreInside [] = Unit {0}
 AreInside (b ∷ bs) = IsInside b × AreInside bs
 
--- the bytes of a character: the first, which is never inside one, and the others
+-- a character's bytes: the first, which never occurs inside a character, and the others
 record Spelled (c : ℕ) : Type 0 where
   pub lead : ℕ
   pub more : List ℕ
@@ -45,7 +45,7 @@ spelled c = ⊎_elim
     (cases_Bool (nat_lt c 2048)))
     (cases_Bool (nat_lt c 128))
 
--- What is matched from inside a character is matched from its end too.
+-- What matches from inside a character also matches from its end.
 
 tails_in : (p : List ℕ → Bool) → ((b : ℕ) (k ds : List ℕ) → AreInside (b ∷ k) → p (b ∷ (k ++ ds)) ≡ true → p ds ≡ true)
     → (k ds : List ℕ) → AreInside k → some_tail p (k ++ ds) ≡ true → some_tail p ds ≡ true
@@ -109,7 +109,7 @@ matches_bytes (One ∷ ps) alone cs = absurd (true≢false (sym alone))
 matches_bytes (Among n ms ∷ ps) alone cs = absurd (true≢false (sym alone))
 matches_bytes (Only d ∷ ps) alone cs = literal_bytes d ps (matches_bytes ps alone) cs
 
--- The runs of a pattern match a text as the pattern does.
+-- A pattern's runs match a text if and only if the pattern does.
 pub runs_match : (ps : List Part) (runs : Runs) (text : List ℕ) → IsOfRuns ps runs → IsUtf8 text → matches (parts_of_runs runs) text ≡ matches ps (chars text)
 runs_match ps runs text of utf8 =
     ap (λ l. matches l text) (sym of.bytes) ∙ ap (matches (byte_parts ps)) (sym (encodes-chars text utf8)) ∙ matches_bytes ps of.alone (chars text)

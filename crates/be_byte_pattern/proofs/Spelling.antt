@@ -1,4 +1,4 @@
--- What begins a canonical text.
+-- How a canonical text begins.
 use Rattle.std.proofs.Common.{◌≡◌, ℕ, true, false, List, [], ◌∷◌, ◌++◌, map, ◌||◌, ◌==◌, refl, sym, ap, ◌∙◌, arith, append_assoc, append-nil}
 use Rattle.std.specs.Prelude.{encode_utf8, encode_utf8_all}
 use Rattle.std.proofs.Math.Logic.{⊎_elim}
@@ -26,7 +26,7 @@ plain_text d ps h = ap (λ l. l ++ canonical ps) (cond-false (is_special d) (92 
 not_special : (d e : ℕ) → d ≡ e → is_special e ≡ true → is_special d ≡ false → ⊥
 not_special d e same h k = both_ways (is_special d) k (ap is_special same ∙ h)
 
--- a canonical text that begins with no character of the notation begins with a literal one
+-- a canonical text that begins with no character of the notation begins with a literal character
 plain_first : (ps : List Part) (c : ℕ) (es : List ℕ) → canonical ps ≡ c ∷ es → (c ≡ 42 → ⊥) → (c ≡ 63 → ⊥) → (c ≡ 91 → ⊥) → (c ≡ 92 → ⊥)
     → (qs : List Part) × ((ps ≡ Only c ∷ qs) × (es ≡ canonical qs))
 plain_first [] c es e star one set mark = absurd (nil_first c es e)
@@ -39,7 +39,7 @@ plain_first (Only d ∷ ps) c es e star one set mark = ⊎_elim
     (λ h. let f = sym (plain_text d ps h) ∙ e in (ps, (ap (λ x. Only x ∷ ps) (same_first d c _ es f), sym (same_rest d c _ es f))))
     (cases_Bool (is_special d))
 
--- one that begins with a backslash begins with the literal character after it
+-- a canonical text that begins with a backslash begins with the literal character after it
 marked_first : (ps : List Part) (c : ℕ) (es : List ℕ) → canonical ps ≡ 92 ∷ c ∷ es → (qs : List Part) × ((ps ≡ Only c ∷ qs) × (es ≡ canonical qs))
 marked_first [] c es e = absurd (nil_first 92 (c ∷ es) e)
 marked_first (Run ∷ ps) c es e = absurd (other 42 refl (same_first 42 92 _ _ e))
@@ -63,7 +63,7 @@ marked_first (Only d ∷ ps) c es e = ⊎_elim
     (λ h. absurd (not_special d 92 (same_first d 92 _ _ (sym (plain_text d ps h) ∙ e)) refl h))
     (cases_Bool (is_special d))
 
--- one that begins with a `*` begins with any run
+-- a canonical text that begins with `*` begins with any run
 star_first : (ps : List Part) (es : List ℕ) → canonical ps ≡ 42 ∷ es → (qs : List Part) × ((ps ≡ Run ∷ qs) × (es ≡ canonical qs))
 star_first [] es e = absurd (nil_first 42 es e)
 star_first (Run ∷ ps) es e = (ps, (refl, sym (same_rest 42 42 _ es e)))
@@ -87,7 +87,7 @@ star_first (Only d ∷ ps) es e = ⊎_elim
     other : (x : ℕ) → x ≡ 92 → x ≡ 42 → ⊥
     other x a b = omega arith
 
--- only no parts have an empty canonical text
+-- only an empty list of parts has an empty canonical text
 no_text : (ps : List Part) → canonical ps ≡ [] → ps ≡ []
 no_text [] e = refl
 no_text (Run ∷ ps) e = absurd (nil_first _ _ (sym e))
@@ -99,7 +99,7 @@ no_text (Only d ∷ ps) e = ⊎_elim
     (λ h. absurd (nil_first _ _ (sym e ∙ plain_text d ps h)))
     (cases_Bool (is_special d))
 
--- The same of the text's bytes.
+-- The same for the text's bytes.
 
 pub plain_begins : (text rest : List ℕ) (c : ℕ) → text ≡ encode_utf8 c ++ rest → begins_wildcard c ≡ false → (c ≡ 92 → ⊥)
     → (ps : List Part) → text ≡ encode_utf8_all (canonical ps) → BeginsWith ps c rest
@@ -125,7 +125,7 @@ star_leaves text rest c is split ps e =
     let q = star_first ps w.0 (w.1 ∙ ap (λ x. x ∷ w.0) is) in
     record { after = q.0; bytes = ap byte_parts q.1.0; alone = ap has_runs_alone q.1.0; text = sym w.2 ∙ ap encode_utf8_all q.1.1 }
 
--- Reading goes on.
+-- Reading on.
 
 pub leaves_all : (text : List ℕ) (ps : List Part) → text ≡ encode_utf8_all (canonical ps) → Leaves ps [] text
 leaves_all text ps e = record { after = ps; bytes = refl; alone = refl; text = e }
@@ -134,7 +134,7 @@ map_append : (xs ys : List ℕ) → map Only (xs ++ ys) ≡ map Only xs ++ map O
 map_append [] ys = refl
 map_append (x ∷ xs) ys = ap (λ l. Only x ∷ l) (map_append xs ys)
 
--- one character more
+-- one more character is read
 pub leaves_further : (ps : List Part) (old new rest shorter : List ℕ) (c : ℕ) → new ≡ old ++ encode_utf8 c
     → ((qs : List Part) → rest ≡ encode_utf8_all (canonical qs) → BeginsWith qs c shorter)
     → Leaves ps (map Only old) rest → Leaves ps (map Only new) shorter
@@ -152,7 +152,7 @@ stars_append : (rs : List (List ℕ)) (r : List ℕ) → after_stars (rs ++ r �
 stars_append [] r = ap (λ l. Run ∷ l) (append-nil (map Only r))
 stars_append (s ∷ rs) r = ap (λ l. Run ∷ (map Only s ++ l)) (stars_append rs r) ∙ ap (λ l. Run ∷ l) (sym (append_assoc (map Only s) (after_stars rs) (Run ∷ map Only r)))
 
--- one run more
+-- one more run is read
 pub leaves_run : (ps front : List Part) (rs new : List (List ℕ)) (rest middle shorter r : List ℕ) → new ≡ rs ++ r ∷ []
     → ((qs : List Part) → rest ≡ encode_utf8_all (canonical qs) → Leaves qs (Run ∷ []) middle)
     → ((qs : List Part) → middle ≡ encode_utf8_all (canonical qs) → Leaves qs (map Only r) shorter)
@@ -171,7 +171,7 @@ leaves_run ps front rs new rest middle shorter r grown star run leaves =
       text = t.text;
     }
 
--- all was read
+-- everything is read
 pub leaves_none : (ps read : List Part) (rest : List ℕ) → rest ≡ [] → Leaves ps read rest → (byte_parts ps ≡ read) × (has_runs_alone ps ≡ true)
 leaves_none ps read rest none leaves =
     let e : leaves.after ≡ [] = no_text leaves.after (encodes_same (canonical leaves.after) [] (sym leaves.text ∙ none)) in

@@ -1,4 +1,4 @@
--- What a command line may ask for.
+-- What a command line can request.
 use Rattle.std.specs.Prelude.{◌≡◌, ◌≤◌, ⊤, vec_len}
 use Rattle.be_table.specs.declared.limits.Limits.{Limits}
 use Rattle.be_table.specs.Rule.{IsWithin}
@@ -8,16 +8,16 @@ use Rattle.be_command_line.specs.declared.tasks.Task.TheVariants.{RunStrictlyAnd
 use Rattle.be_command_line.specs.declared.tasks.Task.TheVariants.{ShellAndTell, Check, Dump}
 use Rattle.be_command_line.specs.declared.tasks.Task.TheVariants.{DumpState}
 
--- the limits with one pass, whatever their own number of passes
+-- the limits with one pass, whatever their own number of passes is
 abbrev pub for_one : Limits → Limits
 for_one limits = record limits { passes = 1 }
 
--- limits in range, of a store of one pass
+-- limits within range, for a store with one pass
 abbrev pub AreForOne : Limits → Type 0
 AreForOne limits = IsWithin limits × (limits.passes ≡ 1)
 
--- The pages and commits are within their ranges. A run and a shell have one pass; a race has a
--- script, and each of its scripts a pass. What is read from a file alone has no store.
+-- Pages and commits are within their ranges. A run and a shell have one pass. A race has at least
+-- one script, and as many passes as scripts. Tasks that only read a file have no limits.
 abbrev pub IsTask : Task → Type 0
 IsTask (Run file limits) = AreForOne limits
 IsTask (RunAndTell file limits) = AreForOne limits

@@ -50,7 +50,7 @@ is_announced (Looked a) = inr (λ x. let e = x.1 in cc)
 is_announced (Announced a) = inl (a, refl)
 is_announced (Pinned a n) = inr (λ x. let e = x.1 in cc)
 
--- pinned to a version of which a test holds
+-- the phase is pinned to a version that passes the test
 is_pinned : (test : ℕ → Bool) (ph : Phase) → Decided ((a : ℕ) × (n : ℕ) × (ph ≡ Pinned a n) × IsTrue (test n))
 is_pinned test Idle = inr (λ x. let e = x.2 in cc)
 is_pinned test (Looked a) = inr (λ x. let e = x.2 in cc)
@@ -61,12 +61,12 @@ is_pinned test (Pinned a n) = by_test (test n) refl
     by_test true t = inl (a, n, refl, t)
     by_test false t = inr (λ x. let same : n ≡ x.1 = (let e = x.2 in cc) in let yes : IsTrue (test n) = rw same x.3 in cc)
 
--- the lock is held by one of whom P holds
+-- the lock is held, and P holds for the writer
 held_by : (o : Option Holder) (P : Holder → Type 0) → ((h : Holder) → Decided (P h)) → Decided ((h : Holder) × (o ≡ Some h) × P h)
 held_by None P d = inr (λ x. let e = x.1 in cc)
 held_by (Some h) P d = like (λ p. (h, refl, p)) (λ x. let same : x.0 ≡ h = (let e = x.1 in cc) in rw (← same) x.2) (d h)
 
--- each number passes the test
+-- every number passes the test
 each_passes : (test : ℕ → Bool) (xs : List ℕ) → Decided (All (λ p. IsTrue (test p)) xs)
 each_passes test [] = inl (λ k d b. absurd (omega arith))
 each_passes test (x ∷ xs) = like {A = IsTrue (test x) × All (λ p. IsTrue (test p)) xs} to_all from_all (both (is_true (test x)) (each_passes test xs))

@@ -1,4 +1,4 @@
--- The invariant is kept by a scan, and after a whole scan no page that no version reaches is left out.
+-- A scan keeps the invariant, and a whole scan leaves no unreached page retired.
 use Rattle.std.proofs.Common.{◌≡◌, ℕ, suc, ◌<◌, ◌≤◌, Bool, true, false, ◌||◌, ◌==◌, Option, Some, None, is_some, IsTrue, IsFalse, arith, refl, inl, inr, le_refl, if◌then◌else◌, eq-eqb}
 use Rattle.std.proofs.lemmas.Bool.Decides.{eqb_tells, leb_tells}
 use Rattle.be_core.specs.declared.event.Phase.{Phase}
@@ -8,14 +8,14 @@ use Rattle.be_core.specs.Laws.{LeavesNone}
 use Rattle.be_core.specs.Machine.{World, Holder, HasOpenWrite, Sound, MayScan, after_scan, scanned_by, least_after, least_with, is_below, swept, Unreached}
 use Rattle.be_core.proofs.Places.{swept_now, or_false, current-alone, only, test-other, left_over, lt-test}
 
--- the least after one more phase is no more than before, and no more than what a pinned pass announced
+-- the minimum after one more phase is at most the minimum before, and at most what a pinned pass announced
 least-falls : (l : ℕ) (phase : Phase) → least_with l phase ≤ l
 least-falls l Idle = omega arith
 least-falls l (Looked a) = omega arith
 least-falls l (Announced a) = omega arith
 least-falls l (Pinned a n) = omega arith
 
--- a retired page whose number is not below l
+-- a retired page whose number isn't below l
 not_below : (o : Option ℕ) (l : ℕ) → ((r : ℕ) → o ≡ Some r → l ≤ r) → IsFalse (is_below l o)
 not_below None l h = refl
 not_below (Some r) l h = let above : l ≤ r = h r refl in elim (leb_tells (suc r) l) [ inl y ↦ absurd (omega arith) | inr n ↦ n.0 ]
@@ -24,12 +24,12 @@ never : (o : Option ℕ) (l : ℕ) → IsFalse (is_some o) → IsFalse (is_below
 never None l h = refl
 never (Some r) l h = absurd (cc)
 
--- what is still retired was so before
+-- a page that is still retired was retired before
 still : (b : Bool) (o : Option ℕ) (r : ℕ) → (if b then None else o) ≡ Some r → o ≡ Some r
 still true o r e = absurd (cc)
 still false o r e = e
 
--- what a sweep leaves retired has a number from l on
+-- a page that stays retired after a sweep has at least the number l
 pub left_late : (o : Option ℕ) (l r : ℕ) → (if is_below l o then None else o) ≡ Some r → l ≤ r
 left_late None l r e = absurd (cc)
 left_late (Some q) l r e = elim (leb_tells (suc q) l) [
@@ -44,7 +44,7 @@ module _ (w : World) (s : Sound w) (h : Holder) (k j : ℕ) (writes : HasOpenWri
   least-in_time : least_after w h j ≤ w.current
   least-in_time = let a = least-falls (if j == 0 then w.current else h.least) (w.phases j) in let b = start-in_time in omega arith
 
-  -- once the j-th is read, the least is no more than what any pass up to the j-th announced before it was pinned to an old version
+  -- once the j-th slot is read, the minimum is at most what a pass up to j announced, if it is pinned to an old version
   least-counts : (i a n : ℕ) → i < suc j → w.phases i ≡ Pinned a n → n < w.current → least_after w h j ≤ a
   least-counts i a n b e l = elim (eqb_tells i j) [
     | inl y ↦ rw (rw y.1 at e) (omega arith)
@@ -74,7 +74,7 @@ module _ (w : World) (s : Sound w) (h : Holder) (k j : ℕ) (writes : HasOpenWri
   pinned-inside i a n e = elim (leb_tells (suc i) w.passes) [ inl y ↦ y.1 | inr m ↦ absurd (let idle : w.phases i ≡ Idle = s.outside i (omega (arith, m.1)) in cc) ]
 
   module _ (last : suc j ≡ w.passes) where
-    -- no page of a pinned version is swept
+    -- no sweep frees a page of a pinned version
     unswept : (i a n p : ℕ) → w.phases i ≡ Pinned a n → IsTrue (w.reach n p) → IsFalse (is_below (least_after w h j) (w.retired p))
     unswept i a n p e r = elim (leb_tells (suc n) w.current) [
       | inl y ↦ not_below (w.retired p) (least_after w h j) (λ q f.
@@ -102,7 +102,7 @@ module _ (w : World) (s : Sound w) (h : Holder) (k j : ℕ) (writes : HasOpenWri
       holder_inside = λ g is. only _ g (λ g. g.pass < w.passes) is (s.holder_inside h writes.0);
     }
 
-    -- a page that no version from the least on reaches is free or taken
+    -- a page that no version from the minimum on reaches is free or taken
     pub all_swept : (p : ℕ) → p < w.pages → Unreached w (least_after w h j) w.current p → IsTrue ((w.free p || is_below (least_after w h j) (w.retired p)) || w.taken p)
     all_swept p inside un = left_over _ _ _ _ (w.retired p) (least_after w h j) (s.partition p) (lt-test p w.pages inside) (un w.current least-in_time (le_refl w.current))
         (λ r e. elim (leb_tells (suc r) (least_after w h j)) [

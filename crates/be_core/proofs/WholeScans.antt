@@ -1,4 +1,4 @@
--- The scans of one write find the least.
+-- A write's scans find the minimum.
 use Rattle.std.proofs.Common.{◌≡◌, ◌≢◌, ℕ, zero, suc, ◌<◌, min, List, [], ◌∷◌, Contains, Option, Some, None, IsTrue, IsFalse, refl, sym, ◌∙◌, inl, inr, ◌⊎◌, arith, subst}
 use Rattle.std.proofs.lemmas.Bool.Decides.{eqb_tells, leb_tells}
 use Rattle.be_core.specs.declared.event.Event.{Event}
@@ -9,7 +9,7 @@ use Rattle.be_core.specs.Machine.{World, Holder, Move, happens, returns, Moves, 
 use Rattle.be_core.specs.Least.{announced, IsLeast, NoScan, ScansFrom, FindsLeast}
 use Rattle.be_core.proofs.Places.{only, test-other}
 
--- ## The least of a list
+-- ## The minimum of a list
 
 abbrev least_from : ℕ → List (Option ℕ) → ℕ
 least_from l [] = l
@@ -51,7 +51,7 @@ least_with-found l (Pinned a n) read = refl
 
 -- ## Between two scans
 
--- a holder that has begun a scan has this count and least, and the current number is c
+-- a writer that has begun a scan has read j slots and found the minimum l, and the current number is c
 abbrev Midway : ℕ → ℕ → ℕ → World → Type 0
 Midway c j l w = (h : Holder) → w.holder ≡ Some h → IsFalse h.published → 0 < h.scanned → (h.scanned ≡ j) × (h.least ≡ l) × (w.current ≡ c)
 
@@ -83,7 +83,7 @@ module _ (c j l : ℕ) where
 
 -- ## Over the scans
 
--- the holder has the least l, and until its next scan it keeps it while it writes
+-- the writer has the minimum l, and keeps it while it writes until its next scan
 abbrev Found : ℕ → ℕ → ℕ → World → Type 0
 Found c j l w = Midway c j l w × ((h : Holder) × (w.holder ≡ Some h) × (h.least ≡ l))
 

@@ -1,4 +1,4 @@
--- The invariant is kept by the holder's events, but for a scan.
+-- The writer's events other than scans keep the invariant.
 use Rattle.std.proofs.Common.{◌≡◌, ℕ, suc, ◌<◌, ◌≤◌, false, not, ◌&&◌, ◌||◌, ◌==◌, List, Some, None, IsTrue, IsFalse, arith, refl, sym, ◌∙◌, inl, inr, le_refl}
 use Rattle.std.proofs.lemmas.Bool.Decides.{eqb_tells}
 use Rattle.be_core.specs.declared.event.Phase.{Phase}
@@ -38,7 +38,7 @@ module _ (w : World) (s : Sound w) where
   }
 
   module _ (p : ℕ) (in_hand : IsTrue (w.taken p || w.free p)) where
-    -- a page that is neither free nor taken is another
+    -- a page that is neither free nor taken is a different page
     elsewhere : (q : ℕ) → IsFalse (w.free q) → IsFalse (w.taken q) → (q == p) ≡ false
     elsewhere q u v = test-other q p (λ e. neither (w.free q) (w.taken q) (rw (← e) at in_hand) u v)
 
@@ -78,7 +78,7 @@ module _ (w : World) (s : Sound w) where
     holder_inside = s.holder_inside;
   }
 
-  -- what is in time is so later
+  -- a phase in time for one number is in time for the next
   later : (c : ℕ) (phase : Phase) → InTime c phase → InTime (suc c) phase
   later c Idle h = tt
   later c (Looked a) h = omega arith

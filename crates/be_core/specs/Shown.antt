@@ -1,4 +1,4 @@
--- The state of the machine that a `State` shows, and what a step of it returns.
+-- The machine's state that a `State` represents, and what a step on it returns.
 use Rattle.std.specs.Prelude.{◌≡◌, ℕ, Bool, true, false, Option, Some, None, slice_get, slice_index}
 use Rattle.std.specs.Prelude.{slice_index_or, vec_len, Vec, []}
 use Rattle.std.specs.declared.alloc.Global.{Global}
@@ -8,11 +8,11 @@ use Rattle.be_core.specs.declared.state.State.{State}
 use Rattle.be_core.specs.Machine.{World, Sound}
 use Rattle.be_core.specs.Machine as machine
 
--- the words of each version, of which a `State` keeps none
+-- the words of each version, which a `State` doesn't keep
 abbrev pub Images : Type 0
 Images = ℕ → ℕ → ℕ → ℕ
 
--- what an event asks reads no images
+-- whether an event is allowed doesn't depend on the images, so these serve for that
 abbrev pub blank : Images
 blank n p i = 0
 
@@ -49,8 +49,8 @@ shown s image =
       phases = λ k. slice_index_or s.phases.items k Idle;
     }
 
--- The result says whether the event may happen. If so, the new state shows what it makes of the old
--- one; otherwise nothing changed
+-- The result says whether the event is allowed. If it is, the new state represents the result of
+-- the event; otherwise nothing changes
 abbrev pub MakesStep : State → (World → Type 0) → (World → World) → Bool → State → Type 0
 MakesStep old may next true new = (image : Images) → may (shown old image)
     × (shown new (next (shown old image)).image ≡ next (shown old image))
@@ -63,6 +63,6 @@ IsUnchanged old new = (image : Images) → shown new image ≡ shown old image
 abbrev pub page_count : State → ℕ
 page_count s = vec_len s.words
 
--- with some words of its versions, the state shows one in which the invariant holds
+-- for some words of its versions, the state represents one in which the invariant holds
 abbrev pub ShowsSound : State → Type 0
 ShowsSound s = (image : Images) × Sound (shown s image)

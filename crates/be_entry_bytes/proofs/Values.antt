@@ -26,7 +26,7 @@ name_short name is = grind (arith, nat_tests)
 pub text_short : (text : List ℕ) → text_from text ≡ Ok text → length text ≤ 255
 text_short text is = grind (arith, nat_tests)
 
--- the text that bytes spell, or none
+-- the text that bytes encode, if they are valid UTF-8
 pub spells : (bytes text : List ℕ) → text ≡ bytes → IsUtf8 bytes → Some text ≡ text_in bytes
 spells bytes text same is = rw (is_utf8-from_IsUtf8 bytes is) (ap (λ (t : List ℕ). Some t) same)
 

@@ -1,4 +1,4 @@
--- A printed operation is read as a script's line that asks for it.
+-- A printed operation, read as a script's line, requests that operation.
 use Rattle.std.proofs.Common.{◌≡◌, ℕ, suc, ◌-◌, ◌^◌, ◌<◌, ◌≤◌, Bool, true, false, ◌&&◌, ◌||◌, List, [], ◌∷◌, ◌++◌, length, length-append, get_or, take, drop, nat_eq, nat_lt, cond, Some, None, Ok, codes, if◌then◌else◌, refl, sym, ap, ◌∙◌, subst, append_assoc, arith, pos, negsuc}
 use Rattle.std.proofs.Math.Seq.{get_or-append_seam}
 use Rattle.std.proofs.lemmas.Bool.Decides.{nat_tests}
@@ -54,7 +54,7 @@ escaped_chars c =
 abbrev IsRead : List ℕ → ℕ → Type 0
 IsRead text d = quoted_in (escaped_chars d ++ text) ≡ beyond (encode_utf8 d) (quoted_in text)
 
--- one character is read on
+-- one more character is read
 char_read : (c : ℕ) (text : List ℕ) → quoted_in (escaped_chars c ++ text) ≡ beyond (encode_utf8 c) (quoted_in text)
 char_read c text = by34 (nat_eq c 34) refl
   where
@@ -172,14 +172,14 @@ spelled_quoted text u = spelled_in_quotes (flat_map escaped_chars (chars text)) 
 spelled_then : {cs text : List ℕ} (head : List ℕ) → list_all is_low head ≡ true → Spells cs text → Spells (head ++ cs) (head ++ text)
 spelled_then {cs} {text} head low h = spelled_both head head cs text (spelled_low head low) h
 
--- the last byte is no CR
+-- the last byte isn't a CR
 abbrev Ends : List ℕ → Type 0
 Ends text = (front : List ℕ) × (c : ℕ) × (text ≡ front ++ c ∷ []) × (nat_eq c 13 ≡ false)
 
 ends_after : (xs ys : List ℕ) → Ends ys → Ends (xs ++ ys)
 ends_after xs ys h = (xs ++ h.0, h.1, ap (λ l. xs ++ l) h.2 ∙ sym (append_assoc xs h.0 (h.1 ∷ [])), h.3)
 
--- so it is kept
+-- so no CR is removed
 kept : (text : List ℕ) → Ends text → strip_carriage_return text ≡ text
 kept text h = by h.0 h.1 h.2 h.3
   where
@@ -190,7 +190,7 @@ kept text h = by h.0 h.1 h.2 h.3
         ap (λ l. get_or l (length l - 1) 0) is ∙ (ap (λ n. get_or (front ++ c ∷ []) n 0) place ∙ get_or-append_seam front c [] 0) in
         rw last (rw other refl)
 
--- what a line of these characters asks for
+-- what a line of these characters requests
 asked_of : (text cs : List ℕ) → Spells cs text → Ends text → (list_all is_blank text || is_comment text) ≡ false → asked text ≡ command_of (skip cs)
 asked_of text cs h ends some = ap request_in (kept text ends) ∙ rw (is_utf8-from_IsUtf8 text h.utf8) (rw some (ap (λ l. command_of (skip l)) h.are))
 
@@ -305,7 +305,7 @@ last_name name u = ap (λ l. first_word (32 ∷ l)) (sym (append-nil (quoted_cha
 abbrev run : List ℕ → List ℕ → Request
 run word more = unwrap_or (option_and_then (λ command. command_in command more) (command_named word)) malformed
 
--- a command's word, and what follows it
+-- a command's word, and the text after it
 command_read : (w rest : List ℕ) (command : Command) → list_all is_plain w ≡ true → ends_word rest ≡ true → command_named w ≡ Some command →
     command_of (w ++ rest) ≡ unwrap_or (command_in command rest) malformed
 command_read w rest command h e named =
@@ -343,7 +343,7 @@ kind_long kinds.Rawt = omega arith
 kind_long kinds.Ulng = omega arith
 kind_long kinds.Ullg = omega arith
 
--- A printed value: its characters, its end, and the word that is read of it.
+-- A printed value: its characters, its last byte, and the word that is read from it.
 record IsValueText (text word : List ℕ) : Type 0 where
   characters : List ℕ
   spelled : Spells characters text
@@ -383,7 +383,7 @@ value_printed (Rawt raw) is bytes = raw_value (hex raw) (hex_words raw bytes)
 value_printed (Ulng n) is bytes = number_value n (omega (arith, is))
 value_printed (Ullg n) is bytes = number_value n is
 
--- The operation that each line asks for.
+-- The operation that each line requests.
 
 abbrev answer : Option Request → Request
 answer o = unwrap_or o malformed
@@ -448,7 +448,7 @@ rmindex_asked name is u =
     ∙ (ap (λ (o : Option (List ℕ)). answer (option_map (λ m. write (named RmIndex m)) o)) (one_read (32 ∷ quoted_chars name) name (last_name name u))
     ∙ ap (λ r. write (result_map_both RmIndex (λ e. e) r)) is))
 
--- what the words of `set` ask for
+-- what the words of `set` request
 set_made : (node : ℕ) (name : List ℕ) (v : Value) → node < 2 ^ 64 → name_from name ≡ Ok name → IsValue v → HasBytes v →
     answer (set_from (decimal node) name (kind_name (kind_of v)) (value_word v)) ≡ write (Ok (Set node name v))
 set_made node name v h named_is is bytes =
@@ -499,7 +499,7 @@ set_asked node name v h named_is u is bytes =
     ∙ (command_read (codes "set") rest commands.Set refl refl refl
     ∙ (ap answer (set_read node name v p.characters h u p.read) ∙ set_made node name v h named_is is bytes))
 
--- what is printed of an operation is a script's line that asks for it
+-- a printed operation, read as a script's line, requests that operation
 pub op_asked : (op : Op) → CanBeOp op → asked (op_text op) ≡ write (Ok op)
 op_asked New h = new_asked
 op_asked (Drop node) h = drop_asked node h.1

@@ -1,4 +1,4 @@
--- Where the journal stands in what was printed.
+-- Where the journal is in what was printed.
 use Rattle.std.proofs.Common.{◌≡◌, ◌⊎◌, inl, inr, ⊎_elim, ℕ, ◌+◌, ◌-◌, ◌^◌, ◌<◌, ◌≤◌, Bool, true, false, not, ◌&&◌, List, [], ◌∷◌, ◌++◌, length, length-append, take, drop, nat_eq, All, IfOk, IfSome, Some, None, if◌then◌else◌, codes, refl, sym, ap, ◌∙◌, append_assoc, arith}
 use Rattle.std.proofs.lemmas.Bool.{and_parts}
 use Rattle.std.proofs.lemmas.Fmt.{decimal_nonempty}
@@ -25,12 +25,12 @@ use Rattle.be_journal_text.proofs.PartLemmas.{both_parts, in_line, part_line, sa
 use Rattle.be_journal_text.proofs.ReadLemmas.{inside, never_some}
 use Rattle.be_journal_text.proofs.SameLemmas.{same_lines}
 
--- the first of the two that is some
+-- the first of the two that isn't None
 abbrev pub or_else : Option (List ℕ) → Option (List ℕ) → Option (List ℕ)
 or_else (Some text) other = Some text
 or_else None other = other
 
--- the text from its last line on that begins with `j`; whether a line starts at its front
+-- the text from its last line on that begins with `j`; the flag says whether a line starts at the front
 abbrev pub from_last_j : Bool → List ℕ → Option (List ℕ)
 from_last_j start [] = None
 from_last_j start (c ∷ text) = or_else (from_last_j (nat_eq c 10) text) (if start && nat_eq c 106 then Some (c ∷ text) else None)
@@ -43,7 +43,7 @@ not_so : (b : Bool) → not b ≡ true → b ≡ false
 not_so false h = refl
 not_so true h = cc
 
--- nothing begins within a line
+-- no line starts within a line
 along : (w rest : List ℕ) → list_all in_line w ≡ true → from_last_j false (w ++ rest) ≡ from_last_j false rest
 along [] rest h = refl
 along (c ∷ w) rest h =
@@ -85,7 +85,7 @@ lines_passed n (e ∷ es) rest h few =
 pub none_in_lines : (es : List Entry) → CanBeJournal es → from_last_j true (lines_from 1 es) ≡ None
 none_in_lines es are = ap (from_last_j true) (sym (append-nil (lines_from 1 es))) ∙ lines_passed 1 es [] are.0 (omega (arith, are.1))
 
--- the result of a race begins with its last such line
+-- a race's result begins with the last such line
 result_is_last : (es : List Entry) → CanBeJournal es → from_last_j true (result_text es) ≡ Some (result_text es)
 result_is_last es are =
     let n = length es in
@@ -126,7 +126,7 @@ are_lines : (front : List ℕ) → start_beyond true front ≡ true → AreLines
 are_lines [] h = inl refl
 are_lines (c ∷ text) h = inr (last_byte true c text h)
 
--- where it was found
+-- where the line was found
 abbrev IsBeyond : Bool → List ℕ → List ℕ → Type 0
 IsBeyond start text result = (front : List ℕ) × (more : List ℕ) × (start_beyond start front ≡ true) × (text ≡ front ++ result) × (result ≡ 106 ∷ more)
 
@@ -151,7 +151,7 @@ found_after start (c ∷ text) result h = found_in start c text result (from_las
 found_from_j : (text result : List ℕ) → from_last_j true text ≡ Some result → IsFromJ text result
 found_from_j text result h = let found = found_after true text result h in (found.0, found.1, are_lines found.0 found.2, found.3, found.4)
 
--- a line that begins so is found, or one after it
+-- if a line begins with `j`, it is found, or a later one is
 found_from : (more : List ℕ) → (result : List ℕ) × (from_last_j true (106 ∷ more) ≡ Some result) × (length result ≤ length (106 ∷ more))
 found_from more = by (from_last_j false more) refl
   where
@@ -173,7 +173,7 @@ found_at text rest h =
       omega (arith, found.2, ap length h.4),
     )
 
--- what the function gives is from the last such line, and nothing else is
+-- the result is the text from the last such line on, and nothing else is
 pub is_from_last_j : (text : List ℕ) (o : Option (List ℕ)) → from_last_j true text ≡ o → IsFromLastJ text o
 is_from_last_j text None e = λ rest h. let found = found_at text rest h in never_some found.0 (sym e ∙ found.1)
 is_from_last_j text (Some last) e = (
@@ -182,7 +182,7 @@ is_from_last_j text (Some last) e = (
       let same : last ≡ found.0 = inside last found.0 (sym e ∙ found.1) in omega (arith, found.2, ap length same),
 )
 
--- ends of a text that are as long as one another are the same
+-- ends of one text that have the same length are equal
 same_ends : (f g r s : List ℕ) → f ++ r ≡ g ++ s → length r ≡ length s → r ≡ s
 same_ends f g r s h long =
     let place : length f ≡ length g = omega (arith, long, ap length h, length-append f r, length-append g s) in
@@ -200,13 +200,13 @@ one_from_last_j text (Some last) h =
     let long : length last ≡ length found.0 = omega (arith, found.2, h.1 found.0 other) in
     found.1 ∙ ap (λ l. Some l) (same_ends other.0 h.0.0 found.0 last (sym other.3 ∙ h.0.3) (sym long))
 
--- what begins with the last such line is the end of the text
+-- if the text from the last such line on is a result, it is the end of the text
 pub tells_result : (text result : List ℕ) (es : List Entry) → from_last_j true text ≡ Some result → result ≡ result_text es → TextTells text es
 tells_result text result es h is =
     let found = found_from_j text result h in
     inr (found.0, found.2, found.3 ∙ ap (λ l. found.0 ++ l) is)
 
--- and where a text tells entries it is their result, or there is none and the text is theirs
+-- a text that has these entries either ends with their result, or has no such line and is their text
 tells_last : (text : List ℕ) (es : List Entry) → CanBeJournal es → TextTells text es →
     ((from_last_j true text ≡ None) × (text ≡ lines_from 1 es)) ⊎ (from_last_j true text ≡ Some (result_text es))
 tells_last text es are (inl is) = inl (ap (from_last_j true) is ∙ none_in_lines es are, is)
@@ -222,7 +222,7 @@ some_told text result es are tells h =
 pub none_told : (text : List ℕ) (es : List Entry) → CanBeJournal es → TextTells text es → from_last_j true text ≡ None → text ≡ lines_from 1 es
 none_told text es are tells h = ⊎_elim (λ none. none.1) (λ is. never_some (result_text es) (sym h ∙ is)) (tells_last text es are tells)
 
--- What is read of the text from its last such line on, and of a text that has none: the entries that the text tells.
+-- What is read of a text from its last such line on, or of a text without one: the entries that the text has.
 module _ {X E : Type 0} (r : Result (Option X) E) (items : X → List Entry) (text : List ℕ) where
   pub some_reads : (last : List ℕ) → from_last_j true text ≡ Some last →
       IfOk r (λ read. IfSome read (λ x. CanBeJournal (items x) × (last ≡ result_text (items x)))) →
@@ -257,7 +257,7 @@ module _ {X E : Type 0} (r : Result (Option X) E) (items : X → List Entry) (te
 
 -- The lines of a race's result.
 
--- its first line, and what follows that, where a text is cut at its first LF
+-- the result's first line and the text after it, if the text is cut at its first LF
 pub result_cut : (text first beyond : List ℕ) →
     ((line more : List ℕ) → IsLinePart 10 line → text ≡ line ++ 10 ∷ more → (first ≡ line ++ 10 ∷ []) × (beyond ≡ more)) → (es : List Entry) → CanBeJournal es →
     text ≡ result_text es → (first ≡ head (length es)) × (beyond ≡ lines_from 1 es ++ codes "replay ok\n")
@@ -284,11 +284,11 @@ same_front rest lines is =
     let place : length rest - 10 ≡ length lines = omega (arith, long) in
     ap (λ n. take n rest) place ∙ (ap (take (length lines)) is ∙ take_front lines (codes "replay ok\n"))
 
--- one text stands before the last line
+-- the text before the last line is determined
 pub one_front : (rest lines others : List ℕ) → rest ≡ lines ++ codes "replay ok\n" → rest ≡ others ++ codes "replay ok\n" → lines ≡ others
 one_front rest lines others h g = sym (same_front rest lines h) ∙ same_front rest others g
 
--- No text tells two journals.
+-- No text has two journals.
 
 one_text : (es os : List Entry) → CanBeJournal es → CanBeJournal os → lines_from 1 es ≡ lines_from 1 os → es ≡ os
 one_text es os are were same = same_lines 1 es os are.0 were.0 (omega (arith, are.1)) same

@@ -1,4 +1,4 @@
--- A version stands where its pages do, with their words.
+-- A version stays while its pages and their words stay.
 use Rattle.std.proofs.Common.{◌≡◌, ℕ, zero, suc, ◌≤◌, List, [], ◌∷◌, ◌++◌, map, refl, sym, ap, ◌∙◌, subst, inl, inr, arith, IsTrue}
 use Rattle.std.proofs.lemmas.Bool.{cases_eq}
 use Rattle.std.specs.Prelude.{All, slice_index_or}
@@ -68,7 +68,7 @@ module _ (start undone : ℕ → Standing) (v w : ℕ → ℕ → ℕ) (clean : 
         let t = subst Tells (sym same_page) tells in
         record { in_use = subst (λ (s : Standing). IsTrue (is_kept s)) (sym (was.standing page ∙ ap after_undo old)) refl; is_page = t.0; apart = t.1; in_hand = t.2; spells = t.3; sound = h.sound }
 
-    -- and its pages are the same
+    -- its pages are the same
     pub reach_stands : pages_of w (roots (contents_of (w page))) ≡ pages_of v (roots (contents_of (v page)))
     reach_stands = ap (λ f. pages_of w (roots (contents_of f))) same_page ∙ pages_stand (roots (contents_of (v page))) h.in_hand.trees.each
 
@@ -79,7 +79,7 @@ stays_kept GivenUp used = used
 stays_kept Taken used = refl
 stays_kept Filled used = refl
 
--- a version stands when its write is kept
+-- a version stays when its write is kept
 pub version_kept : (s t : ℕ → Standing) (words : ℕ → ℕ → ℕ) → ((q : ℕ) → t q ≡ after_keep (s q)) → (page : ℕ) (volume : State) → IsVersion s words page volume → IsVersion t words page volume
 version_kept s t words kept page volume h = record {
   in_use = subst (λ (x : Standing). IsTrue (is_kept x)) (sym (kept page)) (stays_kept (s page) h.in_use);
@@ -95,7 +95,7 @@ version_kept s t words kept page volume h = record {
   sound = h.sound;
 }
 
--- a version reaches each page once at most
+-- a version reaches each page at most once
 pub reaches_once : (s : ℕ → Standing) (w : ℕ → ℕ → ℕ) (page : ℕ) (volume : State) → IsVersion s w page volume → (q : ℕ) → times q (reach w page) ≤ 1
 reaches_once s w page volume h q =
     let ps = pages_of w (roots (contents_of (w page))) in
@@ -104,7 +104,7 @@ reaches_once s w page volume h q =
       | inr ne ↦ omega (arith, times-cons q page ps, times-cons q page [], times_other q page ne, h.in_hand.trees.once q)
     ]
 
--- where no other page is in use it reaches its own alone
+-- if no other page is in use, a version reaches only its own page
 pub reaches_alone : (s : ℕ → Standing) (w : ℕ → ℕ → ℕ) (page : ℕ) (volume : State) → IsVersion s w page volume → ((q : ℕ) → IsTrue (is_kept (s q)) → q ≡ page) → (q : ℕ) → times q (reach w page) ≡ times q (page ∷ [])
 reaches_alone s w page volume h alone q = none (times q ps) refl
   where

@@ -7,8 +7,8 @@ ghost use Rattle.be_volume.specs.Volume.{State};
 ghost use Rattle.be_paged_reading.specs.Page.{reach};
 ghost use Rattle.be_paged_reading.specs.Version.{IsVersion};
 
-/// A version has its page, and for each tree a page for each five of the tree's items and one more
-/// for those that are left over, at most.
+/// A law: a version has at most its version page and, for each tree, one page per five items and
+/// one for the rest.
 pub fn version_pages()
     ensures { (standing : ℕ → Stands) (words : ℕ → ℕ → ℕ) (page : ℕ) (volume : State)
         → IsVersion standing words page volume

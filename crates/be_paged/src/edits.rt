@@ -1,8 +1,8 @@
-//! Operations on a version in hand.
+//! Operations on a version that is being written.
 //!
-//! Refusals are found before, so each operation only does its work, and the one error is that no
-//! page is free. The write is undone after that, so the contracts don't say what it leaves, but for
-//! the pages that it has in hand, which are few (`Stops`).
+//! The volume's refusals have been found beforehand. So each operation only does its work, and the
+//! only error is that no page is free. The write is then undone, so the contracts say only one
+//! thing about what such an error leaves: few pages are in hand (`Stops`).
 ghost use Rattle.std.specs.Prelude.{◌≡◌, [], ◌+◌, ◌≤◌, ◌<◌, ◌^◌, All, length, IsTrue, IfOk};
 ghost use Rattle.std.specs.Prelude.{OnOk, IsOk};
 ghost use Rattle.be_volume.specs.Sound.{IsSound};
@@ -25,7 +25,7 @@ use be_tree::{clear, insert, remove};
 use be_value::{Kind, Name, Refusal, Value};
 use be_volume::{Done, MAX_ATTRIBUTES, MAX_INDICES, Op};
 
-/// A new node: its mark enters the catalog.
+/// Makes a node: its mark is inserted into the catalog.
 fn add_node<R: Room>(room: &mut R, version: &mut Version) -> Result<Done, Refusal>
     requires in_hand { IsInHandFor (R.standing room.old) (R.words room.old) 1
         (contents version.old) }
@@ -45,7 +45,7 @@ fn add_node<R: Room>(room: &mut R, version: &mut Version) -> Result<Done, Refusa
     Ok(Done::Node(node))
 }
 
-/// Sets an attribute: its pair changes first, and then what the catalog has.
+/// Sets an attribute: first its pair in an index changes, then the catalog.
 fn set_value<R: Room>(
     room: &mut R,
     version: &mut Version,
@@ -78,7 +78,7 @@ fn set_value<R: Room>(
     Ok(Done::Unit)
 }
 
-/// Takes an attribute away, and its pair before it.
+/// Removes an attribute, and its pair in an index first.
 fn unset_value<R: Room>(
     room: &mut R,
     version: &mut Version,
@@ -105,7 +105,7 @@ fn unset_value<R: Room>(
     Ok(Done::Unit)
 }
 
-/// A new index, which is empty whatever the nodes have: it takes no page.
+/// Makes an index. It is empty, whatever the nodes have, and takes no page.
 fn make_index<R: Room>(room: &mut R, version: &mut Version, name: &Name, kind: Kind) -> Done
     requires in_hand { IsInHand (R.standing room.old) (R.words room.old) (contents version.old) }
     ensures room { room.new ≡ room.old }
@@ -143,8 +143,8 @@ fn remove_index<R: Room>(room: &mut R, version: &mut Version, name: &Name) -> Do
     Done::Unit
 }
 
-/// Takes all attributes of a node away, each with its pair. Of an attribute the name is read, and
-/// its value only if the name has an index.
+/// Removes all attributes of a node, each with its pair. It reads each attribute's name, and its
+/// value only if the name has an index.
 fn unset_all<R: Room>(room: &mut R, version: &mut Version, node: u64) -> Result<(), Refusal>
     requires in_hand { IsInHand (R.standing room.old) (R.words room.old) (contents version.old) }
     requires open { IsTrue (R.is_open (R.kept room.old)) }
@@ -167,7 +167,7 @@ fn unset_all<R: Room>(room: &mut R, version: &mut Version, node: u64) -> Result<
     Ok(())
 }
 
-/// Drops a node: each of its attributes with its pair, and then its mark.
+/// Drops a node: first each attribute with its pair, then the node's mark.
 fn drop_node<R: Room>(room: &mut R, version: &mut Version, node: u64) -> Result<Done, Refusal>
     requires in_hand { IsInHand (R.standing room.old) (R.words room.old) (contents version.old) }
     requires open { IsTrue (R.is_open (R.kept room.old)) }
@@ -186,7 +186,7 @@ fn drop_node<R: Room>(room: &mut R, version: &mut Version, node: u64) -> Result<
     Ok(Done::Unit)
 }
 
-/// One operation, with what is remembered of an attribute, which may be another one.
+/// Performs one operation. `asked` is what is known about some attribute, perhaps not its own.
 fn edit<R: Room>(
     room: &mut R,
     version: &mut Version,
@@ -227,10 +227,10 @@ fn edit<R: Room>(
     }
 }
 
-/// Does a list of operations that are accepted, one after the other. Their outcomes enter an empty
-/// list, which is filled in place, since a list that is passed by value costs its whole capacity.
-/// What is remembered of an attribute serves the first operation, since the trees have changed
-/// after it.
+/// Performs a list of operations that the volume accepts, one after the other. Their outcomes are
+/// added to an empty list. The list is filled in place, since passing it by value costs its whole
+/// capacity. What `asked` knows about an attribute serves only the first operation, since the trees
+/// change after it.
 pub(crate) fn edit_all<R: Room>(
     room: &mut R,
     version: &mut Version,

@@ -1,9 +1,9 @@
-//! How a version page is encoded.
+//! The encoding of a version page.
 ghost use Rattle.std.specs.Prelude.{◌≡◌, ℕ, ◌+◌, ◌*◌, ◌<◌};
 ghost use Rattle.be_paged_reading.specs.Page.{contents_of, IsVersionPage};
 
-/// A law: the contents of a version page, its next number, its roots and its indices, fix each word
-/// that it uses. It does nothing.
+/// A law: the contents of a version page (its next number, roots and indices) determine each word
+/// that it uses. The function does nothing.
 pub fn one_spelling()
     ensures { (words others : ℕ → ℕ) → IsVersionPage words → IsVersionPage others
         → contents_of words ≡ contents_of others →

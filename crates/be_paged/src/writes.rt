@@ -21,9 +21,9 @@ use be_pages::{Look, Room};
 use be_value::Refusal;
 use be_volume::{Done, Op, first_refusal};
 
-/// The refusal, from NoNode to NotIndexable, that the list meets, if it meets one. It is found from
-/// the list and the old version, and nothing changes. `asked` gets the attribute that was looked
-/// for first, unless it has one.
+/// The error, from NoNode to NotIndexable, with which the volume refuses the list, if it does. It
+/// depends only on the list and the old version, and nothing changes. `asked` gets the first
+/// attribute that was looked up, unless it already has one.
 fn refusal<L: Look>(
     look: &mut L,
     version: &Version,
@@ -49,7 +49,7 @@ fn refusal<L: Look>(
     first_refusal(&mut facts, ops)
 }
 
-/// Writes a version to a page that is taken for it, as a copy of the old version page.
+/// Writes a version to a new page, which it takes as a copy of the old version page.
 fn write_version<R: Room>(room: &mut R, old_page: u64, version: &Version) -> Result<u64, Refusal>
     requires named { All (λ e. IsName e.name) version.now.entries.items }
     requires open { IsTrue (R.is_open (R.kept room.old)) }
@@ -66,7 +66,7 @@ fn write_version<R: Room>(room: &mut R, old_page: u64, version: &Version) -> Res
     Ok(page)
 }
 
-/// Gives the old version page up, and writes the new one.
+/// Gives up the old version page, and writes the new one.
 fn replace_version<R: Room>(room: &mut R, old_page: u64, version: &Version) -> Result<u64, Refusal>
     requires in_use { IsTrue (is_kept (R.standing room.old old_page)) }
     requires named { All (λ e. IsName e.name) version.now.entries.items }
@@ -84,16 +84,16 @@ fn replace_version<R: Room>(room: &mut R, old_page: u64, version: &Version) -> R
     Ok(page)
 }
 
-/// Applies 1 to 64 operations to the version of a page, all or none, and returns the new version
-/// page; an outcome for each operation enters an empty list. The new page is one that this write
-/// has taken, even if nothing changed. The list is filled in place, since one that is passed by
-/// value costs its whole capacity.
+/// Applies 1 to 64 operations to the version on a page, all or none, and returns the new version
+/// page. It adds an outcome for each operation to an empty list. The new page is one that this
+/// write has taken, even if nothing changed. The list is filled in place, since passing it by value
+/// costs its whole capacity.
 ///
-/// The errors are those of the plain volume, NoNode to NotIndexable: they come before a page is
-/// taken, and the room is unchanged. If no page is left, the error is Full, and what was there when
-/// the write began is there again once it is undone. Until then it has few pages in hand, if it had
-/// none before: about as many as trees of all items have. It takes no memory: `version` is a place
-/// for the version's contents, and what it has before and after means nothing.
+/// The errors from NoNode to NotIndexable are the volume's: they come before a page is taken, and
+/// leave the page writer unchanged. If no page is free, the error is Full, and undoing the write
+/// restores what was there when it began. Until then it has few pages in hand, if it had none
+/// before: about as many as the trees of all items have. It takes no memory. `version` is scratch
+/// space for the version's contents: its value before and after means nothing.
 pub fn apply_into<R: Room>(
     room: &mut R,
     version: &mut Version,
@@ -124,7 +124,7 @@ pub fn apply_into<R: Room>(
     Ok(page)
 }
 
-/// The same, with the outcomes in a list of their own, and a place of its own for the contents.
+/// The same as `apply_into`, with a list of its own for the outcomes and scratch space of its own.
 pub fn apply<R: Room>(
     room: &mut R,
     version_page: u64,

@@ -1,4 +1,4 @@
--- The entries of an index that a walk over its tree passes.
+-- Which entries of an index a walk over its tree passes.
 use Rattle.std.proofs.Common.{◌≡◌, ◌⊎◌, ◌≤◌, ℕ, zero, suc, Bool, true, false, cond, ◌&&◌, IfNone, IfSome, List, [], ◌∷◌, ◌++◌, None, Some, refl, sym, ap, ◌∙◌, subst, arith, inl, inr, take, length, map, get_or, if◌then◌else◌}
 use Rattle.std.specs.FinMap as fin
 use Rattle.std.specs.List.{Contains, filter}
@@ -71,7 +71,7 @@ numbers_passing test [] = refl
 numbers_passing test (x ∷ xs) =
     one_passing x (filter (λ y. passes_key test y.key (number_of y.key)) xs) (nodes_passing test xs) (passes_key test x.key (number_of x.key)) (numbers_passing test xs)
 
--- a walk over no index
+-- a walk when there is no index
 none_walked : (Is : List ℕ → ℕ → Type 0) (descending : Bool) (cursor : Option (List ℕ)) (most : ℕ) (before : List ℕ) → ((k : List ℕ) (n : ℕ) → Is k n → ⊥) → HasWalked Is descending cursor most before before
 none_walked Is descending cursor most before none = record {
   entries = [];
@@ -132,7 +132,7 @@ module _ (w : ℕ → ℕ → ℕ) (c : Contents) (s : State) (name : List ℕ) 
       let fits = (sound.pairs name q.index q.node q.value q.there q.paired).node_fits in
       (x.0, x.1, x.2, ap number_of q.is ∙ node_of_key q.value q.node fits ∙ h.node_is)
 
-  -- the pairs on a way that pass a test are the entries that are wanted
+  -- the pairs on a way that pass a test are the wanted entries
   module _ (Is : List ℕ → ℕ → Type 0) (test : Pair → Bool) (wanted : (x : Pair) → IsEntry s name low high x.key (number_of x.key) → test x ≡ true → Is x.key (number_of x.key))
       (entry_of : (k : List ℕ) (n : ℕ) → Is k n → IsEntry s name low high k n) (tested : (k : List ℕ) (n : ℕ) → Is k n → (x : Pair) → x.key ≡ k → number_of k ≡ n → test x ≡ true)
       (descending : Bool) (cursor : Option (List ℕ)) (way : Way) (is : IsWayOf low high descending cursor way) (most : ℕ) where

@@ -1,4 +1,4 @@
-//! A version as a source that walks in order.
+//! A version as a source that walks indices in their order.
 ghost use Rattle.std.specs.Prelude.{◌≡◌};
 ghost use Rattle.be_volume.specs.Volume.{State};
 ghost use Rattle.be_paged_reading.specs.Version.{HasVersion, IsVersion};
@@ -12,15 +12,15 @@ use be_plan::{KeyRange, KeyTest, Source, TextTest};
 use be_query::Comparison;
 use be_value::{Kind, Name, Refusal, Value};
 
-/// A reader of one version that also walks its indices in their order, by its page and its look. It
-/// takes no memory besides its own.
+/// Reads one version, and also walks its indices in their order. It has the version's page and a
+/// page reader, and takes no other memory.
 #[derive(Drop)]
 pub struct OrderedPages<L> {
     reader: PagedSource<L>,
 }
 
-/// The version of a page as a source that walks in order. It reads nothing yet, and keeps the look
-/// until `into_look`.
+/// The version on a page, as a source that walks in order. It reads nothing yet, and keeps the page
+/// reader until `into_look`.
 pub fn ordered_source<L: Look>(look: L, version_page: u64) -> OrderedPages<L>
     requires version { HasVersion L.standing L.words look version_page }
     ensures answers { (volume : State)
@@ -35,7 +35,7 @@ pub fn ordered_source<L: Look>(look: L, version_page: u64) -> OrderedPages<L>
 }
 
 impl<L: Look> OrderedPages<L> {
-    /// The look back, with the facts that it had.
+    /// Returns the page reader, with the facts that it had.
     pub fn into_look(self) -> L
         ensures look { (L.kept result, (L.standing result, L.words result))
             ≡ ⟦<OrderedPages<L> as Source>⟧.kept self }

@@ -1,4 +1,4 @@
--- What a list of operations, and what reads, leave of versions.
+-- What lists of operations, and reads, leave of versions.
 use Rattle.std.proofs.Common.{◌≡◌, ◌⊎◌, ℕ, List, Ok, Err, IsTrue, true, false, inl, inr, ap, sym, subst, ◌∙◌, refl}
 use Rattle.std.specs.declared.result.Result.{Result}
 use Rattle.be_value.specs.declared.refusals.Refusal.{Refusal}
@@ -16,18 +16,18 @@ made_by : Result (State × List Done) Refusal → State → State
 made_by (Ok reached) none = reached.0
 made_by (Err e) none = none
 
--- a list makes one volume
+-- a list makes only one volume
 pub one_made : {r : Result (State × List Done) Refusal} {made new : State} {a b : List Done} → r ≡ Ok (made, a) → r ≡ Ok (new, b) → made ≡ new
 unfolding made_by
 one_made {made = made} p q = ap (λ r. made_by r made) (sym p ∙ q)
 
--- what stood when the write began stands once a refused list is undone
+-- what was there when the write began is there again once a refused list is undone
 pub refused_start : {S K A B C : Type 0} (kept_of : S → K) (standing_of : S → ℕ → Standing) (words_of : S → ℕ → ℕ → ℕ) (old new : S)
     → (A × IsUnchanged kept_of standing_of words_of old new) ⊎ (B × C × KeepsStart kept_of standing_of words_of old new) → KeepsStart kept_of standing_of words_of old new
 refused_start kept_of standing_of words_of old new (inl h) = unchanged_start kept_of standing_of words_of old new h.1
 refused_start kept_of standing_of words_of old new (inr h) = h.2
 
--- both forms that were only read since
+-- both forms, if there were only reads since
 pub stands_since : (s t : ℕ → Standing) (v w : ℕ → ℕ → ℕ) (page : ℕ) (volume : State) → t ≡ s → w ≡ v
     → IsVersion s v page volume × IsWriteStart s → IsVersion t w page volume × IsWriteStart t
 stands_since s t v w page volume same_standing same_words h =
@@ -36,7 +36,7 @@ stands_since s t v w page volume same_standing same_words h =
 clash : false ≡ true → ⊥
 clash e = cc
 
--- the next write can begin once one is kept, or undone
+-- the next write can begin once one is kept or undone
 pub kept_start : (s kept : ℕ → Standing) → ((q : ℕ) → kept q ≡ after_keep (s q)) → IsWriteStart kept
 kept_start s kept same q used = same q ∙ by (s q) (subst (λ (x : Standing). IsTrue (is_kept x)) (same q) used)
   where

@@ -1,7 +1,7 @@
 //! Lists of operations on each form of a volume.
 //!
-//! What is refused memory is asked again: so each test passes with any one request for memory
-//! refused.
+//! A call that runs out of memory is repeated, so each test passes even if any one request for
+//! memory is refused.
 ghost use Rattle.std.specs.Prelude.{◌≡◌, ◌<◌, ◌≤◌, ◌+◌, ◌^◌, Ok, IfOk, OnOk, IfErr, List, length};
 ghost use Rattle.be_pages.specs.Pages.{after_undo};
 ghost use Rattle.be_tree_reading.specs.Forest.{IsWriteStart};
@@ -19,7 +19,7 @@ use be_volume::{Done, Op, Volume};
 use std::alloc::Global;
 use std::test::Fail;
 
-/// A room with the first version, and its page.
+/// A page writer with the first version, and that version's page.
 pub fn room_of(alloc: Global, pages: u64) -> Result<(VecRoom, u64), Refusal>
     ensures version { IfOk result (λ r. IsVersion (⟦<VecRoom as Look>⟧.standing r.0)
         (⟦<VecRoom as Look>⟧.words r.0) r.1 empty) }
@@ -36,7 +36,7 @@ pub fn room_of(alloc: Global, pages: u64) -> Result<(VecRoom, u64), Refusal>
     Ok((room, page))
 }
 
-/// Applies a list to the plain volume.
+/// Applies a list of operations to the plain volume.
 fn apply_plain(plain: &mut Volume, ops: &[Op]) -> Result<ArrayVec<Done, 64>, Refusal>
     requires some { 1 ≤ length ops.now }
     requires few { length ops.now ≤ 64 }
@@ -46,7 +46,8 @@ fn apply_plain(plain: &mut Volume, ops: &[Op]) -> Result<ArrayVec<Done, 64>, Ref
     again!(plain.apply(ops))
 }
 
-/// Applies a list to the pages. The plain volume isn't asked: it names the volume that they encode.
+/// Applies a list of operations to the pages. The plain volume isn't read: it only names the volume
+/// that they encode.
 pub fn apply_pages(
     _plain: &Volume,
     room: &mut VecRoom,
@@ -69,7 +70,7 @@ pub fn apply_pages(
     apply(room, page, ops)
 }
 
-/// Applies a list to the plain volume, which has to answer so.
+/// Applies a list to the plain volume, which has to accept it with these outcomes.
 pub fn accepts(plain: &mut Volume, ops: &[Op], dones: &[Done]) -> Result<(), Fail>
     requires some { 1 ≤ length ops.now }
     requires few { length ops.now ≤ 64 }
@@ -83,8 +84,8 @@ pub fn accepts(plain: &mut Volume, ops: &[Op], dones: &[Done]) -> Result<(), Fai
     }
 }
 
-/// Applies a list to the plain volume, which has to refuse it by the same refusal. If the pages are
-/// full, it has to accept the list, and isn't asked for more.
+/// Applies a list to the plain volume, which has to refuse it with the same error. If that error is
+/// Full, the plain volume has to accept the list, and nothing else is checked.
 pub fn refuses(plain: &mut Volume, ops: &[Op], refusal: Refusal) -> Result<(), Fail>
     requires some { 1 ≤ length ops.now }
     requires few { length ops.now ≤ 64 }

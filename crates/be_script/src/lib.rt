@@ -1,9 +1,9 @@
 //! Scripts: bytes in, bytes out.
 //!
-//! This is the door to scripts, and has no code of its own. be_script_language has the language as
-//! text, be_script_runner runs and races scripts, be_shell answers lines as they come,
-//! be_journal_text reads journals back from their text, be_command_line reads the words of a
-//! command line.
+//! This crate is the entry to scripts, and has no code of its own. be_script_language has the
+//! language as text, be_script_runner runs and races scripts, and be_shell runs lines as they come.
+//! be_journal_text reads journals back from their text, and be_command_line parses the command
+//! line.
 #![tactic(auto)]
 
 pub use be_command_line::{Task, task};

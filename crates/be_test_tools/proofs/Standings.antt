@@ -1,4 +1,4 @@
--- Where pages stand.
+-- Page states.
 use Rattle.std.proofs.Common.{◌≡◌, IsTrue, refl, ap}
 use mathlib.Core.Bool.{false≢true}
 use Rattle.be_pages.specs.declared.room.Standing.{Standing}

@@ -4,9 +4,9 @@ ghost use Rattle.std.specs.Prelude.{◌≡◌};
 use be_pages::{Look, Room};
 use be_value::Refusal;
 
-/// A reader of pages, or a room of them, which counts the words that are read and stored, and the
-/// pages that are taken. A word that a page has already isn't stored again, as in a table. Its
-/// facts are those of what it owns.
+/// A page reader or page writer that counts the words read and stored, and the pages taken. As in a
+/// table, a word that a page already has isn't stored again. Its facts are those of the reader or
+/// writer inside it.
 #[derive(Drop)]
 pub struct Counted<P> {
     pub pages: P,
@@ -16,7 +16,7 @@ pub struct Counted<P> {
 }
 
 impl<P: Drop> Counted<P> {
-    /// Counts from 0 what is asked of these pages.
+    /// Counts accesses to these pages, from 0.
     pub fn new(pages: P) -> Counted<P>
         ensures { result.pages ≡ pages }
     {

@@ -23,7 +23,7 @@ same_step Taken (suc n) p used = never (used (omega arith))
 same_step Filled (suc n) p used = stays_new
 
 module _ {S K : Type 0} (kept_of : S → K) (standing_of : S → ℕ → Standing) (words_of : S → ℕ → ℕ → ℕ) where
-  -- pages in use that stay as they are
+  -- pages in use that don't change
   pub swaps_none : (ps : List ℕ) (room : S) → ((q : ℕ) → 0 < times q ps → IsTrue (is_kept (standing_of room q))) → Swaps kept_of standing_of words_of ps ps room room
   swaps_none ps room used = record { kept = refl; each = λ q. same_step (standing_of room q) (times q ps) refl (used q) }
 
@@ -40,7 +40,7 @@ module _ {S K : Type 0} (kept_of : S → K) (standing_of : S → ℕ → Standin
     swaps = swaps_trans kept_of standing_of words_of (pages_of (words_of old) (roots a)) (pages_of (words_of mid) (roots b)) (pages_of (words_of new) (roots c)) old mid new first.swaps last.swaps;
   }
 
-  -- a change after reads
+  -- a change after some reads
   pub changes_since : (a b : Contents) (old read new : S) → IsUnchanged kept_of standing_of words_of old read → Changes kept_of standing_of words_of a b read new → Changes kept_of standing_of words_of a b old new
   changes_since a b old read new same change = record {
     in_hand = change.in_hand;
@@ -48,7 +48,7 @@ module _ {S K : Type 0} (kept_of : S → K) (standing_of : S → ℕ → Standin
         (swaps_since kept_of standing_of words_of (pages_of (words_of read) (roots a)) (pages_of (words_of new) (roots b)) old read new same change.swaps);
   }
 
-  -- what is kept of the write's start
+  -- what was there when the write began stays, if reads come first
   pub start_since : (old read new : S) → IsUnchanged kept_of standing_of words_of old read → KeepsStart kept_of standing_of words_of read new → KeepsStart kept_of standing_of words_of old new
   start_since old read new same keeps = start_trans kept_of standing_of words_of old read new (unchanged_start kept_of standing_of words_of old read same) keeps
 
@@ -56,12 +56,12 @@ module _ {S K : Type 0} (kept_of : S → K) (standing_of : S → ℕ → Standin
   start_after a b old mid new change keeps =
       start_trans kept_of standing_of words_of old mid new (swaps_start kept_of standing_of words_of (pages_of (words_of old) (roots a)) (pages_of (words_of mid) (roots b)) old mid change.swaps) keeps
 
-  -- contents in hand, and what they spell, after reads
+  -- contents in hand, and what they encode, after some reads
   pub in_hand_since : (c : Contents) (old read : S) → IsUnchanged kept_of standing_of words_of old read → IsInHand (standing_of old) (words_of old) c → IsInHand (standing_of read) (words_of read) c
   in_hand_since c old read same h =
       subst (λ (s : ℕ → Standing). IsInHand s (words_of read) c) (sym same.standing) (subst (λ (w : ℕ → ℕ → ℕ). IsInHand (standing_of old) w c) (sym same.words) h)
 
--- a tree that was only read
+-- a tree after some reads
 pub tree_read : {S K : Type 0} (kept_of : S → K) (standing_of : S → ℕ → Standing) (words_of : S → ℕ → ℕ → ℕ) (root : ℕ) (old read : S) → IsUnchanged kept_of standing_of words_of old read
     → IsTree (standing_of old) (words_of old) root → BecomesTree kept_of standing_of words_of (pages (words_of old) root) (pairs (words_of old) root) root old read
 tree_read kept_of standing_of words_of root old read same tree = record {

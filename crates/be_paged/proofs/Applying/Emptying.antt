@@ -28,7 +28,7 @@ use Rattle.be_paged.proofs.Applying.Stepping.{stepped_found}
 abbrev name_of : List ℕ × Value → List ℕ
 name_of e = e.0
 
--- a first entry is found by its name
+-- the first entry is found by its name
 first_found : (es : List (List ℕ × Value)) (name : List ℕ) → Some name ≡ option_map name_of (slice_get es 0) → (v : Value) × (find name_cmp name es ≡ Some v)
 first_found [] name e = absurd (clash e)
   where
@@ -64,7 +64,7 @@ ok_of (Err f) x e = cc
 same_made : (a b : State × Done) → ◌≡◌ {A = Result (State × Done) Refusal} (Ok a) (Ok b) → a.0 ≡ b.0
 same_made a b e = cc
 
--- one attribute less
+-- one attribute fewer
 module _ (volume left : State) (node : ℕ) (name : List ℕ) (h : Leaves volume left node) (has : fin.contains_key (attributes_of left.nodes node) name ≡ true) where
   pub unset_ok : IsOk (step left (Unset node name))
   unset_ok = ok_of (step left (Unset node name)) _ (stepped_found left (Unset node name) (h.there, has))

@@ -1,4 +1,4 @@
--- What giving a page up does to the pages in use.
+-- How giving up a page changes the pages in use.
 use Rattle.std.proofs.Common.{◌≡◌, ℕ, [], ◌∷◌, IsTrue, ap, sym, subst, inl, inr, arith}
 use mathlib.Core.Bool.{false≢true}
 use Rattle.std.proofs.lemmas.Bool.{cases_eq}
@@ -16,7 +16,7 @@ give_step P Taken p used = absurd (false≢true used)
 give_step P Filled p used = given_new
 
 module _ {S K : Type 0} (kept_of : S → K) (standing_of : S → ℕ → Standing) (words_of : S → ℕ → ℕ → ℕ) where
-  -- one page less is in use
+  -- one page fewer is in use
   pub given_swaps : (page : ℕ) (old new : S) → kept_of new ≡ kept_of old → IsTrue (is_kept (standing_of old page)) → words_of new ≡ words_of old
       → StandsAt (standing_of old) (standing_of new) page (after_give_up (standing_of old page)) → Swaps kept_of standing_of words_of (page ∷ []) [] old new
   given_swaps page old new kept used words stands = record {

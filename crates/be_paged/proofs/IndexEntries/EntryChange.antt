@@ -1,4 +1,4 @@
--- What contents spell after the pair of a node changed in the index of a name.
+-- What contents encode after a node's pair in the index of a name has changed.
 use Rattle.std.proofs.Common.{◌≡◌, ℕ, Bool, true, false, cond, List, get_or, Some, None, ap, sym, subst, ◌∙◌, refl}
 use Rattle.std.specs.declared.option.Option.{Option}
 use Rattle.std.specs.FinMap as fin
@@ -26,13 +26,13 @@ change_some : (indices : Indices) (name : List ℕ) (node : ℕ) (value : Option
 change_some indices name node None index e = ap (λ i. unpaired_at indices name i node) e
 change_some indices name node (Some v) index e = ap (λ i. paired_at indices name i node v) e
 
--- without an index of that name nothing changes
+-- nothing changes if the name has no index
 pub spells_unindexed : (w : ℕ → ℕ → ℕ) (c : Contents) (volume : State) (name : List ℕ) (node i : ℕ) (value : Option Value) → Spells w c volume → IsGapAt c.entries name i → Spells w c (with_indices volume name node value)
 spells_unindexed w c volume name node i value spells gap =
     let none = fin.get-entries volume.indices name ∙ gap_none w c.entries (fin.entries volume.indices) name i spells.indices (fin.entries_sorted volume.indices) gap in
     subst (λ (is : Indices). Spells w c (record { next = volume.next; nodes = volume.nodes; indices = is })) (sym (change_none volume.indices name node value none)) spells
 
--- the index of a name that is there
+-- the name has an index
 pub record Indexed (w : ℕ → ℕ → ℕ) (c : Contents) (volume : State) (name : List ℕ) (node i : ℕ) (old new : Option Value) : Type 0 where
   pub index : Index
   pub there : fin.get volume.indices name ≡ Some index

@@ -1,4 +1,4 @@
--- An index that is made, and one that is removed, among the entries of a version.
+-- Making and removing an index, in the entries of a version.
 use Rattle.std.proofs.Common.{◌≡◌, ℕ, zero, suc, ◌+◌, ◌<◌, ◌≤◌, Bool, true, false, cond, not, List, [], ◌∷◌, ◌++◌, length, map, take, drop, All, Some, None, ap, sym, subst, ◌∙◌, refl, arith, is_some, nat_le, T, ◌&&◌, IsOk}
 use Rattle.std.proofs.lemmas.Bool.Decides.{nat_tests}
 use Rattle.std.specs.List.{filter}
@@ -59,7 +59,7 @@ inserted_length es x zero = omega arith
 inserted_length [] x (suc i) = omega arith
 inserted_length (e ∷ es) x (suc i) = omega (arith, inserted_length es x i)
 
--- contents with one index more, which has no pages
+-- contents with one more index, which has no pages
 abbrev pub with_entry : Contents → ℕ → Entry → Contents
 with_entry c i entry = record { next = c.next; catalog = c.catalog; entries = take i c.entries ++ entry ∷ drop i c.entries }
 
@@ -93,7 +93,7 @@ made_spells w c volume name kind i entry spells at n k r = record {
       (gap_entries w c.entries (fin.entries volume.indices) name (new_index kind) entry i spells.indices at (new_entry w entry name kind n k r));
 }
 
--- an entry without pages leaves
+-- removing an entry without pages
 left_pages : (w : ℕ → ℕ → ℕ) (fs gs : List Entry) (e : Entry) → e.root ≡ 0 → pages_of w (map (λ x. x.root) (fs ++ e ∷ gs)) ≡ pages_of w (map (λ x. x.root) (fs ++ gs))
 left_pages w [] gs e r = ap (λ (n : ℕ). pages w n ++ pages_of w (map (λ (x : Entry). x.root) gs)) r
 left_pages w (f ∷ fs) gs e r = ap (λ ps. pages w f.root ++ ps) (left_pages w fs gs e r)
@@ -130,7 +130,7 @@ left_changes kept_of standing_of words_of old new c next catalog fs gs e r chang
       swaps = subst (λ ps. Swaps kept_of standing_of words_of (pages_of (words_of old) (roots c)) ps old new) same change.swaps;
     }
 
--- the entries of a map without a name
+-- the entries of a map without one name
 turned : {A : Type 0} (b : Bool) (x y : A) → cond (not b) x y ≡ cond b y x
 turned true x y = refl
 turned false x y = refl
@@ -172,7 +172,7 @@ less Greater p = absurd p
 flip : (a b : List ℕ) (r : Ordering) → name_cmp a b ≡ r → name_cmp b a ≡ ordering_reverse r
 flip a b r e = names_total.antisymm b a ∙ ap ordering_reverse e
 
--- names above one are not that one
+-- names above a name differ from it
 all_other : (name : List ℕ) (is : List (List ℕ × Index)) → T (below_all name_cmp name is) → filter (λ e. not (eq_by_cmp name_cmp name e.0)) is ≡ is
 all_other name [] h = refl
 all_other name (x ∷ is) h =
@@ -196,7 +196,7 @@ named_gone w (e ∷ es) (x ∷ is) name (suc i) h sorted at =
 pub gone_entries : (w : ℕ → ℕ → ℕ) (es : List Entry) (m : Indices) (name : List ℕ) (i : ℕ) → AreEntriesOf w es (fin.entries m) → IsNamedAt es name i → AreEntriesOf w (take i es ++ drop (suc i) es) (fin.entries (fin.remove m name))
 gone_entries w es m name i h at = subst (AreEntriesOf w (take i es ++ drop (suc i) es)) (sym (entries_without m name)) (named_gone w es (fin.entries m) name i h (fin.entries_sorted m) at)
 
--- what an accepted operation on an index found
+-- what a volume accepted, for an operation on an index
 pub made_steps : (w : ℕ → ℕ → ℕ) (c : Contents) (volume : State) (name : List ℕ) (kind : Kind) (i : ℕ) (entry : Entry) → Spells w c volume → IsOk (step volume (MkIndex name kind)) → IsGapAt c.entries name i
     → entry.name ≡ name → entry.kind ≡ kind → entry.root ≡ 0 → Steps w (with_entry c i entry) volume (MkIndex name kind) Nothing
 made_steps w c volume name kind i entry spells ok at n k r = record {

@@ -1,4 +1,4 @@
--- The pairs of a version's trees are no more than the items of its volume.
+-- A version's trees have no more pairs than its volume has items.
 use Rattle.std.proofs.Common.{◌≡◌, ℕ, suc, ◌+◌, ◌*◌, ◌≤◌, true, false, List, [], ◌∷◌, map, length, All, Some, None, is_some, ap, sym, ◌∙◌, refl, arith}
 use Rattle.std.specs.FinMap as fin
 use Rattle.std.specs.FinMap.{nat_cmp-IsAntisymmetric}
@@ -29,7 +29,7 @@ use Rattle.be_paged_reading.proofs.CatalogPairs.Finding.{found_pair}
 use Rattle.be_paged_reading.proofs.IndexEntries.Indexing.{names_exact}
 use Rattle.be_paged.proofs.Sizes.Keys.{is_in, same_key, few_pairs, or_left, or_right, any_entry, any_flat, any_map}
 
--- the keys of a node: its mark's, and those of its attributes
+-- a node's keys: its mark's, and its attributes'
 abbrev node_keys : ℕ × Attributes → List (List ℕ)
 node_keys e = catalog_key e.0 [] ∷ map (λ a. catalog_key e.0 a.0) (fin.entries e.1)
 
@@ -119,7 +119,7 @@ indices_size standing words (e ∷ es) (i ∷ is) trees h =
       pairs_count = omega (arith, rest.pairs_count, here, length-append (pairs words e.root) (pairs_of_all words (map (λ e. e.root) es)), sum_by-cons (λ (a : List ℕ × Index). fin.len a.1.pairs) i is);
     }
 
--- a version's pages
+-- the number of a version's pages
 pub version_size : (standing : ℕ → Standing) (words : ℕ → ℕ → ℕ) (page : ℕ) (volume : State) → IsVersion standing words page volume
     → 5 * length (reach words page) ≤ items volume + 4 * fin.len volume.indices + 9
 version_size standing words page volume version =

@@ -1,4 +1,4 @@
--- What a write has in hand where it stops because no page is left.
+-- What a write has in hand when it stops because no page is free.
 use Rattle.std.proofs.Common.{◌≡◌, ◌⊎◌, ℕ, zero, suc, ◌+◌, ◌*◌, ◌<◌, ◌≤◌, ◌^◌, Bool, true, false, cond, List, [], ◌∷◌, ◌++◌, map, take, drop, get_or, length, All, Some, None, is_some, Ok, Err, OnErr, Result, ap, ◌∙◌, refl, inl, inr, arith}
 use Rattle.std.proofs.Math.Nat.{pow-le-pow_right}
 use Rattle.std.proofs.lemmas.List.{length-append, length-map}
@@ -37,7 +37,7 @@ use Rattle.be_paged.proofs.Applying.Hand.{catalog_changes, catalog_replaces, ent
 use Rattle.be_paged.proofs.IndexEntries.Repairs.{Leaves}
 use Rattle.be_paged.proofs.Sizes.Items.{catalog_size, indices_size}
 
--- how many pairs there are once a key was put or taken
+-- the number of pairs after a key is inserted or removed
 put_size : (pair : Pair) (xs : List Pair) → length (put pair xs) ≤ length xs + 1
 put_size pair [] = omega arith
 put_size pair (x ∷ xs) = by (key_cmp x.key pair.key) (put_size pair xs)
@@ -59,7 +59,7 @@ pub taken_size : (key : Option (List ℕ)) (xs : List Pair) → length (key_take
 taken_size None xs = omega arith
 taken_size (Some k) xs = without_size k xs
 
--- a key is put only of a value
+-- a key is inserted only if there is a value
 pub entered_size : (kind : Kind) (node : ℕ) (value : Option Value) (key : Option (List ℕ)) (xs : List Pair) → IfSome key (Leaves kind node value) → length (key_put key xs) ≤ length xs + one_of (is_some value)
 entered_size kind node value None xs h = omega arith
 entered_size kind node value (Some k) xs h = omega (arith, put_size (record { key = k; payload = [] }) xs, ap (λ (v : Option Value). one_of (is_some v)) h.1)
@@ -70,7 +70,7 @@ put_pairs pair xs ys e = omega (arith, put_size pair xs, ap length e)
 pub without_pairs : (k : List ℕ) (xs ys : List Pair) → ys ≡ without k xs → length ys ≤ length xs + 0
 without_pairs k xs ys e = omega (arith, without_size k xs, ap length e)
 
--- the pairs of several trees
+-- the number of pairs of several trees
 three_size : (w : ℕ → ℕ → ℕ) (front back : List ℕ) (r : ℕ) → length (pairs_of_all w (front ++ r ∷ back)) ≡ length (pairs_of_all w front) + (length (pairs w r) + length (pairs_of_all w back))
 three_size w front back r =
     omega (
@@ -91,7 +91,7 @@ same_size v w (r ∷ rs) same =
       length-append (pairs v r) (pairs_of_all v rs),
     )
 
--- those of one of them are no more
+-- one of the trees has no more pairs than all
 part_size : (w : ℕ → ℕ → ℕ) (front back : List ℕ) (r : ℕ) → length (pairs w r) ≤ length (pairs_of_all w (front ++ r ∷ back))
 part_size w front back r = omega (arith, three_size w front back r)
 
@@ -99,7 +99,7 @@ high_within : (level a b : ℕ) → a ≤ b → CanBeHigh level a → CanBeHigh 
 high_within level a b le (inl e) = inl e
 high_within level a b le (inr enough) = inr (omega (arith, le, enough))
 
--- a tree that so many pairs allow is no higher
+-- a tree is no higher than its number of pairs allows
 not_higher : (level high count : ℕ) → CanBeHigh level count → count < 2 * 6 ^ suc high → level ≤ high
 not_higher level high count (inl e) lt = omega (arith, e)
 not_higher level high count (inr enough) lt = by (compare level high)
@@ -130,7 +130,7 @@ module _ {S K : Type 0} (kept_of : S → K) (standing_of : S → ℕ → Standin
         same_size (words_of old) (words_of new) back r.back_pairs,
       )
 
-  -- a tree that a refused change finds as it was
+  -- a refused change finds the tree as it was
   pub tree_stops : (root : ℕ) (old new : S) → IsTree (standing_of old) (words_of old) root → TakesFewer (most_taken (level_of_root (words_of old) root)) (standing_of old) (standing_of new)
       → StopsTree kept_of standing_of words_of root old new
   tree_stops root old new tree takes = record {
@@ -169,14 +169,14 @@ module _ {S K : Type 0} (kept_of : S → K) (standing_of : S → ℕ → Standin
     takes = s.takes;
   }
 
-  -- a change that stops after one that gained so many pairs
+  -- a change that stops after another one has gained some pairs
   pub stops_after : (gained less more : ℕ) (a b : Contents) (old mid new : S) → Changes kept_of standing_of words_of a b old mid → Gains gained (words_of old) (words_of mid) a b → gained + less ≤ more
       → StopsNear kept_of standing_of words_of less b mid new → StopsNear kept_of standing_of words_of more a old new
   stops_after gained less more a b old mid new first gains le s =
       stops_trans (pair_count (words_of old) a + more) (length a.entries) a b old mid new first
       (stops_within (pair_count (words_of mid) b + less) (length b.entries) (pair_count (words_of old) a + more) (length a.entries) b mid new (omega (arith, gains.0, le)) (omega (arith, gains.1)) s)
 
-  -- one that stops after reads
+  -- a change that stops after some reads
   pub stops_since : (more : ℕ) (a : Contents) (old read new : S) → IsInHand (standing_of read) (words_of read) a → IsUnchanged kept_of standing_of words_of old read
       → StopsNear kept_of standing_of words_of more a read new → StopsNear kept_of standing_of words_of more a old new
   stops_since more a old read new h same s =
@@ -186,14 +186,14 @@ module _ {S K : Type 0} (kept_of : S → K) (standing_of : S → ℕ → Standin
       gains_read a old read same = (omega (arith, ap (λ w. pair_count w a) same.words), refl)
 
   module _ (old new : S) (c : Contents) (h : IsInHand (standing_of old) (words_of old) c) where
-    -- the catalog's tree
+    -- a change to the catalog's tree
     pub catalog_gains : (root more next : ℕ) → IsTree (standing_of new) (words_of new) root → Swaps kept_of standing_of words_of (pages (words_of old) c.catalog) (pages (words_of new) root) old new
         → length (pairs (words_of new) root) ≤ length (pairs (words_of old) c.catalog) + more
         → Gains more (words_of old) (words_of new) c (record { next = next; catalog = root; entries = c.entries })
     catalog_gains root more next tree swaps le =
         (replaced_size [] (map (λ e. e.root) c.entries) c.catalog root more old new (catalog_replaces kept_of standing_of words_of old new c h root tree swaps) le, refl)
 
-    -- the tree of an index
+    -- a change to an index's tree
     pub entry_gains : (i more : ℕ) (e d : Entry) → i < length c.entries → IsTree (standing_of new) (words_of new) e.root
         → Swaps kept_of standing_of words_of (pages (words_of old) (get_or c.entries i d).root) (pages (words_of new) e.root) old new
         → length (pairs (words_of new) e.root) ≤ length (pairs (words_of old) (get_or c.entries i d).root) + more
@@ -244,7 +244,7 @@ module _ {S K : Type 0} (kept_of : S → K) (standing_of : S → ℕ → Standin
           takes = s.takes;
         }
 
-  -- what a write has in hand where it stops
+  -- the number of pages in hand when a write stops
   pub few_at_stop : (most indices high : ℕ) (before : Contents) (old new : S) → Stops kept_of standing_of words_of (most + 1) indices before old new → most + 1 < 2 * 6 ^ suc high → HasInHand (standing_of old) []
       → (n : ℕ) → 5 * in_hand n (standing_of new) ≤ most + 4 * indices + 10 * high + 15
   few_at_stop most indices high before old new s lt none n =
@@ -261,7 +261,7 @@ module _ {S K : Type 0} (kept_of : S → K) (standing_of : S → ℕ → Standin
         not_higher s.level high (most + 1) s.can_be_high lt,
       )
 
--- contents in hand have as many pairs as the volume has items at most, and as many indices
+-- contents in hand have no more pairs than the volume has items, and as many indices
 pub record AreAll (words : ℕ → ℕ → ℕ) (c : Contents) (volume : State) : Type 0 where
   pub pairs_few : pair_count words c ≤ items volume
   pub indices_are : length c.entries ≡ fin.len volume.indices
@@ -282,7 +282,7 @@ gains_trans first last more u v w a b c g h le = (omega (arith, g.0, h.0, le), h
 pub gains_none : (words : ℕ → ℕ → ℕ) (more : ℕ) (c : Contents) → Gains more words words c c
 gains_none words more c = (omega arith, refl)
 
--- a list of operations that reaches a volume stays within so many items there
+-- the volume that a list of operations reaches stays within the bounds
 reached_within : (volume made : State) (ops : List Op) (i most indices : ℕ) (dones : List Done) → steps volume (take i ops) ≡ Ok (made, dones) → i ≤ length ops → StaysWithin most indices volume ops
     → (items made ≤ most) × (fin.len made.indices ≤ indices)
 reached_within volume made ops i most indices dones stepped le stays =
@@ -309,7 +309,7 @@ module _ {S K : Type 0} (kept_of : S → K) (standing_of : S → ℕ → Standin
   result_stops less more a old new (Ok x) le h = tt
   result_stops less more a old new (Err e) le h = stops_more less more a old new le h
 
-  -- an operation of a list stops
+  -- one operation of a list stops
   pub list_stops : (volume made : State) (ops : List Op) (i most indices : ℕ) (dones : List Done) (a b : Contents) (old mid new : S) → Changes kept_of standing_of words_of a b old mid → Spells (words_of mid) b made
       → steps volume (take i ops) ≡ Ok (made, dones) → i ≤ length ops → StaysWithin most indices volume ops → StopsNear kept_of standing_of words_of 1 b mid new
       → Stops kept_of standing_of words_of (most + 1) indices a old new
@@ -319,7 +319,7 @@ module _ {S K : Type 0} (kept_of : S → K) (standing_of : S → ℕ → Standin
       stops_trans kept_of standing_of words_of (most + 1) indices a b old mid new first
       (stops_within kept_of standing_of words_of (pair_count (words_of mid) b + 1) (length b.entries) (most + 1) indices b mid new (omega (arith, at.0, all.pairs_few)) (omega (arith, at.1, all.indices_are)) s)
 
-  -- a list is done, and no page is left for the version
+  -- all operations of a list are applied, but no page is free for the version page
   pub few_at_end : (volume made : State) (ops : List Op) (dones : List Done) (a b : Contents) (old mid new : S) → Changes kept_of standing_of words_of a b old mid → Spells (words_of mid) b made → steps volume ops ≡ Ok (made, dones)
       → TakesFewer 1 (standing_of mid) (standing_of new) → TakesFew volume ops (standing_of old) (standing_of new)
   few_at_end volume made ops dones a b old mid new first spells stepped takes most indices high stays lt none n =

@@ -1,4 +1,4 @@
--- The first version page spells the empty volume.
+-- The first version page encodes the empty volume.
 use Rattle.std.proofs.Common.{◌≡◌, ℕ, zero, suc, List, [], ◌∷◌, length, map, All, IsTrue, None, ap, sym, subst, ◌∙◌, refl, arith}
 use Rattle.std.specs.Option.{option_map, option_and_then}
 use Rattle.std.specs.Ordering.{nat_cmp}

@@ -1,4 +1,4 @@
--- One page spells one volume: its pairs tell the nodes, the attributes and the indices, and nothing else is in a volume.
+-- A page encodes only one volume: its pairs determine the nodes, the attributes and the indices, which are all of a volume.
 use Rattle.std.proofs.Common.{◌≡◌, ℕ, ◌<◌, ◌≤◌, ◌^◌, List, [], ◌∷◌, drop, cond, true, false, Some, None, unwrap_or, is_some, refl, sym, ap, subst, ◌∙◌, inl, inr, arith, IsTrue}
 use Rattle.std.proofs.lemmas.Bool.{cases_lt}
 use Rattle.std.proofs.lemmas.Nat.{from_be_bytes-to_be_bytes_4, from_be_bytes-to_be_bytes_8}
@@ -37,7 +37,7 @@ use Rattle.be_paged_reading.proofs.IndexEntries.Indexing.{names_exact, names_tot
 use Rattle.be_paged_reading.proofs.CatalogPairs.Segments.{no_nameless}
 use Rattle.be_paged_reading.proofs.CatalogPairs.Validity.{values_valid}
 
--- bytes tell their number
+-- bytes determine their number
 word32 : (a b : ℕ) → a < 2 ^ 32 → b < 2 ^ 32 → to_be_bytes w32 a ≡ to_be_bytes w32 b → a ≡ b
 word32 a b p q e = sym (from_be_bytes-to_be_bytes_4 a p) ∙ ap (from_be_bytes w32) e ∙ from_be_bytes-to_be_bytes_4 b q
 
@@ -50,7 +50,7 @@ signed32 a b p q e = sym (to_z-of_z p) ∙ ap (cast_signed w32) (word32 (cast_un
 signed64 : (a b : ℤ) → FitsSigned w64 a → FitsSigned w64 b → to_be_bytes w64 (cast_unsigned w64 a) ≡ to_be_bytes w64 (cast_unsigned w64 b) → a ≡ b
 signed64 a b p q e = sym (to_z-of_z p) ∙ ap (cast_signed w64) (word64 (cast_unsigned w64 a) (cast_unsigned w64 b) (Fits-of_z p).fits (Fits-of_z q).fits e) ∙ to_z-of_z q
 
--- a payload is that of one value
+-- a payload belongs to only one value
 same_payload : (v w : Value) → IsValue v → IsValue w → payload_of v ≡ payload_of w → v ≡ w
 same_payload (Cstr a) (Cstr b) p q e = ap Cstr (ap (drop 1) e)
 same_payload (Long a) (Long b) p q e = ap Long (signed32 a b p q (ap (drop 1) e))
@@ -103,7 +103,7 @@ one_catalog items s t g h p q small_s small_t =
       | inr past ↦ no_node s node p small_s past ∙ sym (no_node t node q small_t past)
     ])
 
--- what the keys of an index are
+-- what is known about the keys of an index
 record IsKeyed (index : Index) : Type 0 where
   indexable : IsTrue (is_indexable index.kind)
   valid : (n : ℕ) (v : Value) → fin.get index.pairs n ≡ Some v → IsValue v

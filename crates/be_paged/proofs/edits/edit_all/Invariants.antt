@@ -7,7 +7,7 @@ use Rattle.be_paged_reading.specs.Place.{IsAsked}
 use Rattle.be_paged_reading.specs.Version.{Spells}
 use Rattle.be_paged.proofs.edits.edit_all.Given as goal
 
--- the operations so far are done
+-- the operations so far have been applied
 abbrev pub invariant-loop-op : goal.invariant-loop-op
 invariant-loop-op g l = record {
   changes : Changes g.R.Look.kept g.R.Look.standing g.R.Look.words (contents l.initial.version) (contents l.version) l.initial.room l.room;
