@@ -88,8 +88,8 @@ pub record SourceOf (standing : ℕ → Standing) (words : ℕ → ℕ → ℕ) 
   pub beyond : StandsAfter standing words (contents_of (words page)).entries cursor place last_page
       last_at
 
--- Of the keys on a way over the index with this name, the list has the nodes of the first that pass
--- a test, in that order, up to `most`. If the test reads texts, the index has texts.
+-- A walk over the index with this name tests its keys. The list has the nodes of the first keys
+-- that pass, in the way's order, up to `most`. If the test reads texts, the index has texts.
 pub record HasPassing (words : ℕ → ℕ → ℕ) (entries : List Entry) (name : List ℕ) (way : Way)
     (test : KeyTest) (most : ℕ) (nodes : List ℕ) : Type 0 where
   pub index : FoundIndex

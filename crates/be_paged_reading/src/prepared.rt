@@ -73,10 +73,10 @@ fn nodes_of<L: Look>(
     Ok(())
 }
 
-/// If a range of one index decides a prepared query, this writes the nodes that satisfy it over the
-/// list, in ascending order, and returns true. Otherwise it returns false, and the caller runs the
-/// query with a plan. It compares the index's name where the index was last, and makes one descent.
-/// After false or `OutOfMemory` the list may have any numbers.
+/// If a range of one index decides a prepared query, this replaces the list by the nodes that
+/// satisfy the query, ascending, and returns true. Otherwise it returns false, and the caller runs
+/// the query with a plan. It compares the index's name where the index was last, and makes one
+/// descent. After false or `OutOfMemory` the list may have any numbers.
 #[inline(always)]
 pub fn answer_decided<L: Look>(
     alloc: Global,
