@@ -107,7 +107,7 @@ refused_at_limit s ops (Err e) ok h = cc
 written_with_room : (s : Store) (ops : List Op) (volume : State) (dones : List Done) → length s.journal < s.limit → written_by s ops (Ok (volume, dones)) ≡ Ok (entered s ops volume dones, dones)
 written_with_room s ops volume dones h = let t : nat_lt (length s.journal) s.limit ≡ true = grind (arith, nat_tests) in rw t refl
 
--- the lowest version that a pass finds is at most the one that reads see, and is that one if the pass is the only one
+-- the lowest version that a pass finds is at most the one that reads see; it is that one if the pass is the only one
 least_shown : (passes : ℕ) (seen : List Commit) (phase : Phase) (least : ℕ) → IsBetweenCalls passes phase → InTime (length seen) phase
     → (least ≤ least_found (length seen) (announce_word phase)) × (passes ≡ 1 → least ≡ least_found (length seen) (announce_word phase))
     → let shown = option_map_or (λ (p : PinnedVolume). p.number) (pin_of (entries seen) phase) (length (entries seen)) in (least ≤ shown) × (passes ≡ 1 → least ≡ shown)

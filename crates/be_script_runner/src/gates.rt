@@ -1,7 +1,7 @@
 //! Calls that a race makes between the lines of its scripts.
 //!
-//! A gate tells a test which line each script is at. It can hold a script back, so the test can see
-//! that the scripts run at the same time. A race without a test uses the open gate.
+//! A gate reports to a test which line each script is at. It can hold a script back, so the test
+//! can see that the scripts run at the same time. A race without a test uses the open gate.
 ghost use Rattle.std.specs.Prelude.{ℕ};
 ghost use Rattle.be_script_runner.specs.Gates.{IsNext};
 
