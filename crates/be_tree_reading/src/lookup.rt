@@ -193,7 +193,7 @@ pub(crate) fn branch_for<L: Look>(
     at - ITEM_WORDS
 }
 
-/// The place of a key among a page's items: that of the item that has it, or else the one after
+/// The place of a key among a page's items: that of the item that has it, otherwise the one after
 /// those with lower keys.
 #[inline(always)]
 pub fn search<L: Look>(look: &mut L, page: u64, key: &[u8], first: u64) -> Result<usize, usize>
