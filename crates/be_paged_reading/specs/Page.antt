@@ -57,7 +57,7 @@ pub record IsEntry (words : ℕ → ℕ) (at : ℕ) : Type 0 where
   pub text : HaveText (λ j. words (at + 1 + j)) (entry_at words at).name
   pub kind : (1 ≤ words (at + 9)) × (words (at + 9) ≤ 7)
 
--- the words make a version page
+-- the words encode a version page
 pub record IsVersionPage (words : ℕ → ℕ) : Type 0 where
   pub tag : words 0 ≡ 255
   pub few : words 1 ≤ 32

@@ -28,14 +28,14 @@ pub none_written : (known : Option (List ℕ)) → Appends known known []
 none_written None = tt
 none_written (Some xs) = sym (append_nothing xs)
 
--- one write after another
+-- two writes in sequence
 pub written_both : (a b c : Option (List ℕ)) (xs ys : List ℕ) → Appends a b xs → Appends b c ys → Appends a c (xs ++ ys)
 written_both None b c xs ys h g = tt
 written_both (Some a) None c xs ys h g = absurd h
 written_both (Some a) (Some b) None xs ys h g = absurd g
 written_both (Some a) (Some b) (Some c) xs ys h g = g ∙ ap (λ z. z ++ ys) h ∙ append_assoc a xs ys
 
--- one read after another
+-- two reads in sequence
 pub read_both : (a b c : Option (List ℕ)) (xs ys : List ℕ) → Consumes a b xs → Consumes b c ys → Consumes a c (xs ++ ys)
 read_both None b c xs ys h g = tt
 read_both (Some a) None c xs ys h g = absurd h
@@ -185,7 +185,7 @@ none_answered store script known =
 pub none_of_line : (s : Session) (line : List ℕ) (known : Option (List ℕ)) → Wrote known known (IsFrontOfAnswer s line)
 none_of_line s line known = record { out = []; appended = none_written known; is = (after_some s line, some_text s line, some_answer s line) }
 
--- a reply of which nothing was written
+-- a reply that wasn't written at all
 pub none_of_reply : (s s' : Session) (line : List ℕ) (request : Request) (reply : Reply) (known : Option (List ℕ)) → request ≡ asked line → Serves s request reply s' →
     Wrote known known (IsFrontOfAnswer s line)
 none_of_reply s s' line request reply known e r = record {

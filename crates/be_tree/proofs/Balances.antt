@@ -54,7 +54,7 @@ length_slots cut xs more in_range =
 pub loaded_length : (page n : ℕ) → length (loaded page n) ≡ n
 loaded_length page n = length-map-range_with_len (λ (j : ℕ). At (item_place j) page) 0 n
 
--- how many items a page keeps that isn't the root
+-- how many items a page other than the root keeps
 pub least_six : (above : List Step) (level : ℕ) → 0 < length above → least_at above level ≡ 6
 least_six [] level some = absurd (omega (arith, some))
 least_six (s ∷ below) level some = refl
@@ -303,7 +303,7 @@ module _ {S K : Type 0} (kept_of : S → K) (standing_of : S → ℕ → Standin
         some = λ some. omega (arith, out_count, s.gone, s.some, above_tree.node.enough, least_six front (suc level) some, items_count (words_of start step.page));
       }
 
--- or one that may be
+-- or one that may be the root
 pub least_front : (above : List Step) (m level n : ℕ) → m < length above → 2 ≤ n → (eqb m 0 ≡ true) ⊎ (6 ≤ n) → least_at (take m above) (suc level) ≤ n
 least_front above zero level n lt two six = omega (arith, two)
 least_front [] (suc m) level n lt two six = absurd (omega (arith, lt))

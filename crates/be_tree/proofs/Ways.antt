@@ -111,7 +111,7 @@ module _ (change : List Pair → List Pair) (k : List ℕ) (standing : ℕ → S
       ∙ ap (λ n. pairs_below n words (take s.at items) ++ (whole words below (change (pairs_at (level_of (words last)) words last)) ++ pairs_below n words (drop (suc s.at) items))) (sym leads.level_is)
       ∙ ap (λ p. pairs_below (level_of (words p)) words (take s.at (items_of (words p))) ++ (whole words below (change (pairs_at (level_of (words last)) words last)) ++ pairs_below (level_of (words p)) words (drop (suc s.at) (items_of (words p))))) (sym way.0.is_page)
 
--- a put and a removal do
+-- a put and a removal go down a path so
 pub put_goes : (pair : Pair) (standing : ℕ → Standing) (words : ℕ → ℕ → ℕ) (level : ℕ) (items : List Pair) (at : ℕ) (d : Pair) → IsBelow (suc level) standing words items → 0 < length items → IsBranchFor pair.key items at → at < length items
     → put pair (pairs_below (suc level) words items) ≡ pairs_below (suc level) words (take at items) ++ (put pair (pairs_at level words (child (get_or items at d))) ++ pairs_below (suc level) words (drop (suc at) items))
 put_goes pair standing words level items at d below some branch lt =
@@ -131,7 +131,7 @@ without_goes k standing words level items at d below some branch lt =
     subst (λ n. without k (pairs_below (suc level) words items) ≡ pairs_below (suc level) words (take n items) ++ (without k (pairs_at level words (child (get_or items n d))) ++ pairs_below (suc level) words (drop (suc n) items))) (sym branch.before)
     (without_split (λ b. pairs_at level words (child b)) k items (branch.rank - 1) split d)
 
--- so does a look-up
+-- and so does a look-up
 pub payload_down : (k : List ℕ) (standing : ℕ → Standing) (words : ℕ → ℕ → ℕ) (page least : ℕ) (above : List Step) (last : ℕ) → 0 < least → IsWay words page above last → All (λ step. IsBranchFor k (items_of (words step.page)) step.at) above
     → IsTreeAt (level_of (words page)) least standing words page → payload_at (pairs_at (level_of (words page)) words page) k ≡ payload_at (pairs_at (level_of (words last)) words last) k
 payload_down k standing words page least [] last some way for tree = ap (λ p. payload_at (pairs_at (level_of (words p)) words p) k) way

@@ -32,7 +32,7 @@ pub record IsPlace (standing : ℕ → Standing) (words : ℕ → ℕ → ℕ) (
   pub tree : IsTreeAt place.level 1 standing words place.page
   pub in_range : place.next ≤ length (items_of (words place.page))
 
--- the place has an item left, and a cursor has room on its path for it and those below it
+-- the place has an item left, and the cursor's path has room for this place and those below it
 abbrev pub IsNextPlace : (standing : ℕ → Standing) (words : ℕ → ℕ → ℕ) → Place → Cursor → Type 0
 IsNextPlace standing words place cursor = IsPlace standing words place
     × ((place.next < words place.page 1) × (place.level + length cursor.path.items ≤ 13))

@@ -125,7 +125,7 @@ impl Ord for IndexKey {
     }
 }
 
-/// An equal key. It takes no memory.
+/// A copy of the key. It takes no memory.
 impl Clone for IndexKey {
     ghost is_clone = { λ a b. b ≡ a };
 

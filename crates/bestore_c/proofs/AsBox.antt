@@ -1,4 +1,4 @@
--- What is loose, and what is owned, owns what a box at the same types owns. Assumes `Logic`.
+-- A `Loose` and an `Owned` own what a box with the same types owns. Assumes `Logic`.
 use Rattle.std.proofs.Common.{◌≡◌, refl}
 use mathlib.Core.List.{List, [], ◌∷◌}
 use mathlib.Core.Bool.{true}

@@ -95,10 +95,10 @@ abbrev pub AbandonsDraft : Sitting → Sitting → Option Changing → ℕ → T
 AbandonsDraft s t None code = (code ≡ 64) × (t ≡ s)
 AbandonsDraft s t (Some c) code = (code ≡ 0) × Abandons c s.knows t.knows
 
--- A change that is written at once, by encoded operations. If one of them is invalid, nothing
--- happens, and the number is its index in the list. Otherwise they encode operations. If the
--- session writes these, the number is the commit number; if it doesn't, the number is the index of
--- the set of a wrong kind, or what the error carries.
+-- A change that is written in one call, with encoded operations. If one of them is invalid, nothing
+-- happens, and the number is its index in the list. Otherwise they encode operations. If the store
+-- accepts these, the number is the commit number. If it doesn't, the number is the index of the
+-- first set of a wrong kind, or what the error carries.
 abbrev pub WritesSpelledChange : Sitting → Sitting → List Operation → List ℕ → ℕ → ℕ → Type 0
 WritesSpelledChange s t spelled bytes number code =
     ((e : Fault) × (code ≡ fault_code e) × IsMisspelt spelled bytes e number × (t ≡ s))

@@ -1,4 +1,4 @@
--- What calls on texts of queries write.
+-- What the calls on queries' texts write.
 use Rattle.std.specs.Prelude.{◌≡◌, ◌⊎◌, ℕ, IsUtf8, List, None, length}
 use Rattle.be_query.specs.Faults.{fault}
 use Rattle.be_query.specs.Grammar.{Formula, IsTextOf}

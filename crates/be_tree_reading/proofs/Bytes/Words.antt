@@ -150,7 +150,7 @@ cmp_suc n m = by_order (cases_lt n m) (cases_eq n m)
     by_order (inr ge) (inl e) = same_cmp n m e ∙ sym (same_cmp (suc n) (suc m) (ap suc e))
     by_order (inr ge) (inr ne) = more_cmp n m (omega (arith, ge, ne)) ∙ sym (more_cmp (suc n) (suc m) (omega (arith, ge, ne)))
 
--- where one key ends, the lengths decide
+-- if one key ends, the lengths decide
 pub cmp_end : (xs ys : List ℕ) (c : ℕ) → c ≤ length xs → c ≤ length ys → ((c ≡ length xs) ⊎ (c ≡ length ys)) → key_cmp (drop c xs) (drop c ys) ≡ nat_cmp (length xs) (length ys)
 unfolding key_cmp
 cmp_end xs ys zero lx ly (inl e) = empty_first xs ys (sym e)
