@@ -32,9 +32,9 @@ pub fn catalog_key(node: u64, name: &Name) -> ArrayVec<u8, 72>
 }
 
 /// The value that the payload of the item at this place encodes, if it encodes one. An integer is
-/// read from its one or two words; a text is copied once, directly into the value. This function is
-/// inlined, so the value isn't moved from call to call. Texts have functions of their own, so only
-/// a text costs clearing the room for one.
+/// read from its one or two words; a text's bytes are copied once before the value gets them. This
+/// function is inlined, so the value isn't moved from call to call. Texts have functions of their
+/// own, so only a text costs clearing the room for one.
 #[inline(always)]
 pub(crate) fn value_at<L: Look>(look: &mut L, page: u64, at: usize) -> Option<Value>
     requires readable { IsTrue (is_readable (L.standing look.old page)) }

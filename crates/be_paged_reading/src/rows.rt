@@ -4,7 +4,6 @@
 //! cursor steps to the next name's attribute as long as the names are neighbours, in ascending
 //! order of their bytes. Any other name costs a descent. If a node has none of the names, the node
 //! itself is looked up.
-//! other name costs a descent. If a node has none of the names, the node itself is looked up.
 ghost use Rattle.std.specs.Prelude.{◌≡◌, ◌+◌, ◌*◌, ◌^◌, ◌<◌, ◌≤◌, ℕ, [], ◌∷◌, Err};
 ghost use Rattle.std.specs.Prelude.{None, Some, IfSome, IfNone, drop, length, map as each};
 ghost use Rattle.std.specs.Prelude.{slice_get};

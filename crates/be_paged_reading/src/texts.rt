@@ -1,8 +1,8 @@
 //! Tests the texts of an index leaf by leaf.
 //!
-//! For each key, the text's bytes are copied over those of the text before and tested there. The
-//! bound and the node are read from the key's words. So no key is unpacked, and of a text that
-//! doesn't pass only the bound is read besides its bytes.
+//! For each key, the text's bytes are copied over those of the text before, and tested there. The
+//! key's words are compared with the bound in place. So no key is unpacked, and the node of a text
+//! that doesn't pass isn't read.
 ghost use Rattle.std.specs.Prelude.{◌≡◌, ◌+◌, ◌-◌, ◌*◌, ◌<◌, ◌≤◌, ◌++◌, IsTrue, IfErr, IfOk, OnOk};
 ghost use Rattle.std.specs.Prelude.{false, length, take, drop};
 ghost use Rattle.std.specs.Int.{to_be_bytes, w64};

@@ -5,8 +5,6 @@
 //! bad line leaves both as they were, except that a commit ends its batch even if it is refused. If
 //! other passes write, a line runs on the store as they left it. A read leaves that store as it is,
 //! and its reply is about that store.
-//! line is run on the store as they left it: a read leaves that store, and its reply is one of that
-//! store.
 ghost use Rattle.std.specs.Prelude.{◌≡◌, ◌≤◌, Ok, List, Option, length, vec_len};
 ghost use Rattle.be_script_runner.specs.Output as spec;
 ghost use Rattle.be_script_language.specs.Request as requests;

@@ -12,7 +12,6 @@ ghost use Rattle.be_script_runner.specs.Gates.{IsNext};
 /// The two ghosts say which line of which pass has begun and which has ended. A gate needn't define
 /// them: code over an arbitrary gate learns them only from its own calls. So a clause about them
 /// says which calls the code made.
-/// it made.
 pub trait Gate {
     /// This gate was called before the pass ran the line.
     ghost begun: { Self → ℕ → ℕ → Type 0 } = { λ _ _ _. Unit {0} };

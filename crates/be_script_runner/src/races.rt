@@ -10,8 +10,6 @@
 //! ones that the script may get from what the pass has seen, if others write too. So all passes are
 //! back when the store is closed. A pass's entries in the journal are writes of its script, and the
 //! replies to each script agree with that journal.
-//! there when the store is closed. The journal's entries of a pass are writes of its script, and
-//! the replies to each script agree with that journal.
 ghost use Rattle.std.specs.Prelude.{◌≡◌, ◌≤◌, ◌<◌, ℕ, ◌^◌, ◌++◌, ◌↔◌, true, false, length, vec_len};
 ghost use Rattle.std.specs.Prelude.{map, IfOk, IfErr, OnOk, OnErr, Ok, Err, get_or, nat_lt};
 ghost use Rattle.std.specs.Io.KnownBytes.{Appends};

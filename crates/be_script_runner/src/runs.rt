@@ -4,7 +4,6 @@
 //! can't be read or is too long. Then each line runs, its reply is made as a text, and the text is
 //! written. After an error, a prefix of an output is written, which ends after a whole reply if no
 //! write has failed.
-//! failed.
 ghost use Rattle.std.specs.Prelude.{◌≡◌, ◌<◌, ◌≤◌, ◌^◌, ◌↔◌, ◌∷◌, [], length, vec_len, position};
 ghost use Rattle.std.specs.Prelude.{IfOk, OnOk, IfErr, IfSome, OnErr, IfNone, Err};
 ghost use Rattle.std.specs.Io.KnownBytes.{Appends};

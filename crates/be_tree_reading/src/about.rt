@@ -3,7 +3,6 @@
 //! Two paths go down side by side, from the root to the two ends of the range. On each level the
 //! items between them are counted: those on the two pages that the paths are on, and for each page
 //! in between the average of these two pages' counts.
-//! in between as many as these two have on average.
 ghost use Rattle.std.specs.Prelude.{ℕ, ◌-◌, ◌<◌, IsTrue};
 ghost use Rattle.be_pages.specs.Pages.{IsUnchanged, is_readable};
 ghost use Rattle.be_tree_reading.specs.Page.{IsPage};

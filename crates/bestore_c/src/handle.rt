@@ -54,8 +54,8 @@ pub struct DraftHandle {
     ghost full: { live ≡ is_some owned.value },
 }
 
-/// Returns the handle as it is. Its body compiles only because a handle may go to another thread
-/// with its session.
+/// A law: a handle may go to another thread, with its session. The function returns the handle as
+/// it is.
 pub fn may_move(pass: Handle) -> Handle
     ensures { result ≡ pass }
 {
