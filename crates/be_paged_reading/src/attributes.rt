@@ -28,8 +28,7 @@ use be_volume::MAX_ATTRIBUTES;
 use std::alloc::{AllocError, Global};
 use std::str;
 
-/// Whether the key of the item at this place begins with this node. Its first word is enough to
-/// know.
+/// Whether the key of the item at this place begins with this node. The key's first word decides.
 fn is_of_node<L: Look>(look: &mut L, page: u64, at: usize, node: u64) -> bool
     requires readable { IsTrue (is_readable (L.standing look.old page)) }
     requires in_page { at + 42 ≤ 512 }

@@ -248,8 +248,8 @@ fn tell_data<L: Look>(
     tell(cells, bytes, filled, cell, content);
 }
 
-/// Writes the value of the item at this place of the catalog. A text's bytes go directly from the
-/// page to the caller.
+/// Writes the value of the item at this place of the catalog. A text's bytes go from the page to
+/// the caller.
 pub(crate) fn tell_value<L: Look>(
     look: &mut L,
     page: u64,

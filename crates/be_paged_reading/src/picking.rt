@@ -160,8 +160,8 @@ fn pick_all<L: Look>(
 }
 
 /// Walks an index along a way, and tests its keys. It replaces the list by the nodes of the first
-/// keys that pass, in that order, up to `most`. It costs one descent. Of each key that the walk
-/// passes, it reads only what the test needs.
+/// keys that pass, in that order, up to `most`. It costs one descent. For each key that the walk
+/// passes, it reads what the test needs.
 pub(crate) fn passing_in_order<L: Look>(
     look: &mut L,
     root: u64,

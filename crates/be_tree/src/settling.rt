@@ -1,11 +1,11 @@
 //! Settles nodes that have too many or too few items: such a node is split, or shares items with a
 //! neighbour, or joins one.
 //!
-//! A node with thirteen items is written together with its left neighbour's, if that one has room;
-//! the neighbour takes all that it can hold. Otherwise it is split. A node with five items is
-//! written together with a neighbour's, the next one's if there is one: to one page if they fit,
-//! otherwise to two. So the page above gets one branch more or fewer, or as many as before, and may
-//! itself become too large or too small.
+//! If a node has thirteen items and its left neighbour has room, the items of both are written
+//! together. The neighbour takes all that it can hold. If it has no room, the node is split. If a
+//! node has five items, they are written together with those of a neighbour, the next one if there
+//! is one. They go to one page if they fit, otherwise to two. So the page above gets one branch
+//! more or fewer, or as many as before, and may itself become too large or too small.
 ghost use Rattle.std.specs.Prelude.{◌≡◌, ◌≤◌, ◌+◌, ◌-◌, ◌<◌, ◌⊎◌, ◌++◌, suc, take, drop};
 ghost use Rattle.std.specs.Prelude.{length, true, IfOk, IsTrue};
 ghost use Rattle.be_pages.specs.Pages.{IsUnchanged, is_readable};

@@ -1,7 +1,7 @@
 //! Reads an attribute into C's places.
 //!
-//! A value's bytes go from its page directly to the caller's places. The pin is tested first. So
-//! the proof needs only what the session says about a pinned read.
+//! A value's bytes go from its page to the caller's places. The pin is tested first. So the proof
+//! needs only what the session says about a pinned read.
 ghost use Rattle.std.specs.Prelude.{◌≡◌, ◌⊎◌};
 ghost use Rattle.be_paged_reading.specs.Cells.{name_in};
 ghost use Rattle.be_store.specs.Passes.{HasRead, volume_pinned};
