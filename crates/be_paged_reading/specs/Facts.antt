@@ -1,4 +1,4 @@
--- What a version in hand says about a volume.
+-- What a loaded version says about a volume.
 use Rattle.std.specs.Prelude.{◌≡◌, ℕ, IfSome}
 use Rattle.std.specs.Option.{option_map}
 use Rattle.std.specs.FinMap as map
@@ -12,18 +12,18 @@ use Rattle.be_paged_reading.specs.Place.{IsAsked}
 use Rattle.be_paged_reading.specs.declared.asked.Asked.{Asked}
 use Rattle.be_paged_reading.specs.Version.{IsInHand, Spells}
 
--- the contents in hand encode this volume, which is sound
+-- the loaded contents encode this volume, which is sound
 pub record AnswersFor (standing : ℕ → Standing) (words : ℕ → ℕ → ℕ) (c : Contents) (volume : State)
     : Type 0 where
   pub in_hand : IsInHand standing words c
   pub spells : Spells words c volume
   pub sound : IsSound volume
 
--- how many attributes a node has, if it is there
+-- how many attributes a node has, if it exists
 abbrev pub count_of : Nodes → ℕ → Option ℕ
 count_of nodes node = option_map (λ attributes. map.len attributes) (map.get nodes node)
 
--- what is remembered of a node is so
+-- what is remembered about the last node is true
 abbrev pub IsCounted : Option (ℕ × Option ℕ) → State → Type 0
 IsCounted counted volume = IfSome counted (λ last. last.1 ≡ count_of volume.nodes last.0)
 

@@ -1,7 +1,7 @@
-//! Walks over the attributes of a node.
+//! Walks over a node's attributes.
 //!
-//! In the catalog a node's mark comes first and its attributes follow by ascending names. So a walk
-//! begins after the mark and ends at the first key of another node. A node has at most 64
+//! In the catalog a node's attributes follow its mark, in ascending order of their names. So a walk
+//! begins after the mark, and ends at the first key of another node. A node has at most 64
 //! attributes, which bounds the walk.
 ghost use Rattle.std.specs.Prelude.{◌≡◌, ◌+◌, ◌≤◌, ◌<◌, ℕ, IsTrue, IfOk, IfSome, IfNone, length};
 ghost use Rattle.std.specs.Prelude.{option_map, drop, slice_get, is_some, true, Some, None, List};
@@ -28,7 +28,7 @@ use be_volume::MAX_ATTRIBUTES;
 use std::alloc::{AllocError, Global};
 use std::str;
 
-/// Whether the key of the item at a place begins with the node. Its first word decides.
+/// Whether the key of the item at this place begins with this node. The key's first word decides.
 fn is_of_node<L: Look>(look: &mut L, page: u64, at: usize, node: u64) -> bool
     requires readable { IsTrue (is_readable (L.standing look.old page)) }
     requires in_page { at + 42 ≤ 512 }
@@ -43,8 +43,8 @@ fn is_of_node<L: Look>(look: &mut L, page: u64, at: usize, node: u64) -> bool
     look.word(page, at + 1) == node
 }
 
-/// The page and the place of the node's next attribute, and a step past it; none once all were
-/// given.
+/// The page and place of the node's next attribute; the cursor steps past it. None after the node's
+/// last attribute.
 fn next_attribute<L: Look>(look: &mut L, cursor: &mut Cursor, node: u64) -> Option<(u64, usize)>
     requires cursor { IsCursor (L.standing look.old) (L.words look.old) cursor.old }
     ensures none { IfNone result (slice_get
@@ -65,7 +65,7 @@ fn next_attribute<L: Look>(look: &mut L, cursor: &mut Cursor, node: u64) -> Opti
     Some((page, at))
 }
 
-/// Whether the node has a next attribute, and a step past it. Nothing of it is copied.
+/// Whether the node has a next attribute; the cursor steps past it. Copies nothing.
 fn pass_attribute<L: Look>(look: &mut L, cursor: &mut Cursor, node: u64) -> bool
     requires cursor { IsCursor (L.standing look.old) (L.words look.old) cursor.old }
     ensures found { result ≡ is_some (slice_get
@@ -78,7 +78,8 @@ fn pass_attribute<L: Look>(look: &mut L, cursor: &mut Cursor, node: u64) -> bool
     next_attribute(look, cursor, node).is_some()
 }
 
-/// How many of the node's attributes come next. It goes no further than the most that a node has.
+/// How many of the node's attributes the cursor has ahead. Stops at the largest number that a node
+/// may have.
 fn count_rest<L: Look>(look: &mut L, cursor: &mut Cursor, node: u64) -> usize
     requires cursor { IsCursor (L.standing look.old) (L.words look.old) cursor.old }
     ensures count { length (front_of_node node (remaining (L.words look.old) cursor.old)) ≤ 64 →
@@ -93,8 +94,8 @@ fn count_rest<L: Look>(look: &mut L, cursor: &mut Cursor, node: u64) -> usize
     MAX_ATTRIBUTES
 }
 
-/// How many attributes the node has, if it is there. One descent leads to its mark, and from there
-/// a walk goes over the first words of the keys.
+/// How many attributes the node has, if it exists. It descends once to the node's mark, and from
+/// there reads the first words of the keys.
 pub(crate) fn attribute_count<L: Look>(look: &mut L, catalog: u64, node: u64) -> Option<usize>
     requires tree { IsTree (L.standing look.old) (L.words look.old) catalog }
     ensures count { (nodes : AllNodes) → IsCatalog (pairs (L.words look.old) catalog) nodes
@@ -112,7 +113,7 @@ pub(crate) fn attribute_count<L: Look>(look: &mut L, catalog: u64, node: u64) ->
     Some(count_rest(look, &mut cursor, node))
 }
 
-/// The name in the key of the item at a place of the catalog, after its node.
+/// The name in the key of the catalog's item at this place, after the node.
 fn name_at<L: Look>(look: &mut L, page: u64, at: usize) -> Option<Name>
     requires readable { IsTrue (is_readable (L.standing look.old page)) }
     requires in_page { at + 42 ≤ 512 }
@@ -127,7 +128,7 @@ fn name_at<L: Look>(look: &mut L, page: u64, at: usize) -> Option<Name>
     Name::new(str::from_utf8(key.get(8..)?).ok()?).ok()
 }
 
-/// The attribute that the item at a place of the catalog encodes.
+/// The attribute that the catalog's item at this place encodes.
 fn read_attribute<L: Look>(look: &mut L, page: u64, at: usize) -> Option<(Name, Value)>
     requires readable { IsTrue (is_readable (L.standing look.old page)) }
     requires in_page { at + 42 ≤ 512 }
@@ -143,7 +144,7 @@ fn read_attribute<L: Look>(look: &mut L, page: u64, at: usize) -> Option<(Name, 
     Some((name, value))
 }
 
-/// The node's next attribute, and a step past it; none once all were given.
+/// The node's next attribute; the cursor steps past it. None after the node's last attribute.
 fn next_value<L: Look>(look: &mut L, cursor: &mut Cursor, node: u64) -> Option<(Name, Value)>
     requires cursor { IsCursor (L.standing look.old) (L.words look.old) cursor.old }
     ensures value { (name : List ℕ) (value : AnyValue) → IsName name → IsValue value →
@@ -162,7 +163,7 @@ fn next_value<L: Look>(look: &mut L, cursor: &mut Cursor, node: u64) -> Option<(
     read_attribute(look, page, at)
 }
 
-/// The node's attributes by ascending names, in a vector.
+/// Lists the node's attributes in ascending order of their names.
 pub(crate) fn list_attributes<L: Look>(
     alloc: Global,
     look: &mut L,
@@ -188,8 +189,8 @@ pub(crate) fn list_attributes<L: Look>(
     Ok(list)
 }
 
-/// The name and the place of the node's next attribute, and a step past it; none once all were
-/// given. Its value isn't read.
+/// The name and place of the node's next attribute; the cursor steps past it. None after the node's
+/// last attribute. Doesn't read the value.
 fn next_name<L: Look>(look: &mut L, cursor: &mut Cursor, node: u64) -> Option<(Name, (u64, usize))>
     requires cursor { IsCursor (L.standing look.old) (L.words look.old) cursor.old }
     ensures name { (name : List ℕ) (value : AnyValue) → IsName name →
@@ -213,7 +214,7 @@ fn next_name<L: Look>(look: &mut L, cursor: &mut Cursor, node: u64) -> Option<(N
 }
 
 /// The name of the node's first attribute, and its place in the catalog's tree, if the node has
-/// one.
+/// any.
 pub fn first_attribute<L: Look>(
     look: &mut L,
     catalog: u64,

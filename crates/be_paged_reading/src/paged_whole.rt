@@ -1,7 +1,8 @@
-//! A version, read whole: what be_volume_state makes a volume again of.
+//! Reads a whole version, from which be_volume_state rebuilds a volume.
 //!
-//! It keeps nothing of what it read. To find whether an index has a node, it looks for the key of
-//! the node's attribute in the index's tree. A pair of an index is always its node's attribute.
+//! It remembers nothing that it read. To learn whether an index has a node, it looks up the key of
+//! the node's attribute in the index's tree. A pair of an index is always that of its node's
+//! attribute.
 ghost use Rattle.std.specs.Prelude.{◌≡◌, IfOk, None, true};
 ghost use Rattle.std.specs.FinMap as map;
 ghost use Rattle.std.specs.Option.{option_map};
@@ -21,7 +22,7 @@ use be_value::{Kind, Name, Refusal, Value, key_of};
 use be_volume_state::Whole;
 use std::alloc::{AllocError, Global};
 
-/// A reader of one whole version, by its page, and its look.
+/// A reader of one whole version, by its page and a page reader.
 #[derive(Drop)]
 pub struct PagedWhole<L> {
     alloc: Global,
@@ -29,8 +30,8 @@ pub struct PagedWhole<L> {
     page: u64,
 }
 
-/// The version of a page, to be read whole. It reads nothing yet, and keeps the look until
-/// `into_look`.
+/// A reader of the whole version at this page. It reads nothing yet, and keeps the page reader
+/// until `into_look`.
 pub fn whole<L: Look>(alloc: Global, look: L, version_page: u64) -> PagedWhole<L>
     requires version { HasVersion L.standing L.words look version_page }
     ensures answers { (volume : State)
@@ -47,7 +48,7 @@ pub fn whole<L: Look>(alloc: Global, look: L, version_page: u64) -> PagedWhole<L
 }
 
 impl<L: Look> PagedWhole<L> {
-    /// The look back, with the facts that it had.
+    /// Gives the page reader back, with the facts that it had.
     pub fn into_look(self) -> L
         ensures look { (L.kept result, (L.standing result, L.words result))
             ≡ ⟦<PagedWhole<L> as Whole>⟧.kept self }
@@ -85,7 +86,8 @@ impl<L: Look> Whole for PagedWhole<L> {
     }
 }
 
-/// The attributes of a node, by ascending bytes of their names, and None if the node isn't there.
+/// A node's attributes, in ascending order of their names' bytes, or None if the node doesn't
+/// exist.
 fn attrs_of<L: Look>(
     alloc: Global,
     look: &mut L,
@@ -105,7 +107,7 @@ fn attrs_of<L: Look>(
     }
 }
 
-/// None if there is no node; every other refusal is OutOfMemory.
+/// None if the node doesn't exist; every other error is OutOfMemory.
 fn none_for(refusal: Refusal) -> Result<Option<Vec<(Name, Value)>>, AllocError>
     ensures { IfOk result (λ list. (option_map (λ l. l.items) list ≡ None) × (refusal ≡ NoNode)) }
 {
@@ -115,7 +117,7 @@ fn none_for(refusal: Refusal) -> Result<Option<Vec<(Name, Value)>>, AllocError>
     }
 }
 
-/// The names and kinds of the indices, by ascending bytes of the names.
+/// The indices' names and kinds, in ascending order of the names' bytes.
 fn kinds_of<L: Look>(
     alloc: Global,
     look: &mut L,
@@ -133,7 +135,7 @@ fn kinds_of<L: Look>(
     }
 }
 
-/// Whether the index of a name has a key; false without an index.
+/// Whether the index with this name has a key; false if there is no index.
 fn has_pair<L: Look>(look: &mut L, version_page: u64, name: &Name, key: &[u8]) -> bool
     requires version { HasVersion L.standing L.words look.old version_page }
     ensures found { (volume : State) → IsVersion (L.standing look.old) (L.words look.old)
@@ -150,7 +152,7 @@ fn has_pair<L: Look>(look: &mut L, version_page: u64, name: &Name, key: &[u8]) -
     }
 }
 
-/// Whether the index of a name has a node: it has the key of the node's attribute.
+/// Whether the index with this name has a node, that is, the key of the node's attribute.
 fn index_has<L: Look>(look: &mut L, version_page: u64, node: u64, name: &Name) -> bool
     requires version { HasVersion L.standing L.words look.old version_page }
     ensures held { (volume : State) → IsVersion (L.standing look.old) (L.words look.old)

@@ -1,8 +1,8 @@
-//! Prepared queries on a version.
+//! Runs prepared queries on a version.
 //!
-//! The index of a prepared query is mostly where it was at the last call, so its name is compared
-//! there first. Its range is at hand, and the nodes of its keys are the answer: no plan is made,
-//! and no source.
+//! A prepared query's index is usually where it was at the last call, so its name is compared there
+//! first. Its range is ready, and the nodes of the keys in it are the answer. So it needs neither a
+//! plan nor an index reader.
 ghost use Rattle.std.specs.Prelude.{◌≡◌, ◌<◌, List, ℕ, true, Ok, Some, IfOk, IfErr, IfSome, OnOk};
 ghost use Rattle.std.specs.Option.{option_copied};
 ghost use Rattle.std.specs.List.Sorted.{IsStrictlyIncreasing};
@@ -22,8 +22,8 @@ use be_tree_reading::numbers_within;
 use be_value::Refusal;
 use std::alloc::Global;
 
-/// The index of the name that all comparisons of the query are on, if there is such a name and it
-/// has an index. The range of the query is then that for the index's kind.
+/// The index of the one name that all the query's comparisons are on, if there is such a name and
+/// it has an index. Prepares the query's range for that index's kind.
 #[inline(always)]
 fn meet_index<L: Look>(
     look: &mut L,
@@ -47,7 +47,7 @@ fn meet_index<L: Look>(
     Some(index)
 }
 
-/// Adds the node of each of these keys of an index that was found by their name.
+/// Adds the node of each key in the range. The index was found by the range's name.
 fn nodes_of<L: Look>(
     look: &mut L,
     version_page: u64,
@@ -73,10 +73,10 @@ fn nodes_of<L: Look>(
     Ok(())
 }
 
-/// If a range of one index decides a prepared query, this writes the nodes of which it is true into
-/// a list, ascending, in place of what the list had. Otherwise it returns false, and the caller
-/// runs the query by a plan. It compares the index's name where the index was last, and makes one
-/// descent. After false or `OutOfMemory` the list has any numbers.
+/// If a range of one index decides a prepared query, this replaces the list by the nodes that
+/// satisfy the query, ascending, and returns true. Otherwise it returns false, and the caller runs
+/// the query with a plan. It compares the index's name where the index was last, and makes one
+/// descent. After false or `OutOfMemory` the list may have any numbers.
 #[inline(always)]
 pub fn answer_decided<L: Look>(
     alloc: Global,

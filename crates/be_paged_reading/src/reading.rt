@@ -1,4 +1,4 @@
-//! Reading a volume from its version page.
+//! Reads a volume from its version page.
 ghost use Rattle.std.specs.Prelude.{◌≡◌, IsOk, IfErr, IfSome, Ok, is_some};
 ghost use Rattle.std.specs.FinMap as map;
 ghost use Rattle.std.specs.Option.{option_copied};
@@ -36,8 +36,8 @@ use be_tree_reading::{find_place, has_key};
 use be_value::{Kind, Name, Refusal, Value};
 use std::alloc::Global;
 
-/// The page and the place of a node's attribute in the catalog's tree, if the node has it. It costs
-/// one descent.
+/// The page and place of a node's attribute in the catalog's tree, if the node has it. It costs one
+/// descent.
 pub(crate) fn attribute_place<L: Look>(
     look: &mut L,
     catalog: u64,
@@ -54,7 +54,7 @@ pub(crate) fn attribute_place<L: Look>(
     find_place(look, catalog, &catalog_key(node, name))
 }
 
-/// The place of the item of a key, which is known or looked up.
+/// The place of the item with this key: the known place, or the one that a look-up finds.
 #[inline(always)]
 fn place_of<L: Look>(
     look: &mut L,
@@ -74,8 +74,8 @@ fn place_of<L: Look>(
     }
 }
 
-/// A node's value at a name, from the catalog's tree. If the caller knows whether the attribute is
-/// there, and its place, it makes no descent.
+/// A node's value at a name, from the catalog's tree. It makes no descent if the caller knows
+/// whether the attribute exists, and its place.
 #[inline(always)]
 pub fn value_in<L: Look>(
     look: &mut L,
@@ -96,9 +96,9 @@ pub fn value_in<L: Look>(
     value_at(look, page, at)
 }
 
-/// Whether a comparison is true of what it sees of a node: of the node's value at its name, if no
-/// index has that name or its index has the value. The value is compared in place, by the test if
-/// the caller has made the comparison ready. The index that was found last is looked at first.
+/// Whether a comparison is true of what it sees of a node. It sees the node's value at its name if
+/// no index has that name, or if its index has the value. The value is compared on its page, with
+/// `test` if the caller has made the comparison ready. The last index found is tried first.
 pub(crate) fn holds_in<L: Look>(
     look: &mut L,
     version_page: u64,
@@ -132,7 +132,7 @@ pub(crate) fn holds_in<L: Look>(
     }
 }
 
-/// The number that the next node gets. It costs one load.
+/// The number of the next new node. It costs one load.
 pub fn next<L: Look>(look: &mut L, version_page: u64) -> u64
     requires version { HasVersion L.standing L.words look.old version_page }
     ensures next { (volume : State) → IsVersion (L.standing look.old) (L.words look.old)
@@ -142,8 +142,8 @@ pub fn next<L: Look>(look: &mut L, version_page: u64) -> u64
     look.word(version_page, 2)
 }
 
-/// The value of an attribute, if the node is there and has it. It costs one descent of the
-/// catalog's tree, and takes no memory.
+/// An attribute's value, if the node exists and has it. It costs one descent of the catalog's tree,
+/// and takes no memory.
 #[inline(always)]
 pub fn get<L: Look>(look: &mut L, version_page: u64, node: u64, name: &Name) -> Option<Value>
     requires version { HasVersion L.standing L.words look.old version_page }
@@ -155,8 +155,8 @@ pub fn get<L: Look>(look: &mut L, version_page: u64, node: u64, name: &Name) -> 
     value_in(look, catalog, node, name, None)
 }
 
-/// The attributes of a node, by ascending bytes of their names. The errors are NoNode if the node
-/// isn't there, and OutOfMemory only if it is. It walks over the node's pairs in the catalog's
+/// A node's attributes, in ascending order of their names' bytes. It returns NoNode if the node
+/// doesn't exist, and OutOfMemory only if it does. It walks over the node's pairs in the catalog's
 /// tree.
 pub fn attrs<L: Look>(
     alloc: Global,
@@ -180,8 +180,8 @@ pub fn attrs<L: Look>(
     Ok(list_attributes(alloc, look, catalog, node)?)
 }
 
-/// The names and kinds of the indices, by ascending bytes of the names; refused with OutOfMemory
-/// alone. It reads the version page and no other.
+/// The indices' names and kinds, in ascending order of the names' bytes. The only error is
+/// OutOfMemory. It reads only the version page.
 pub fn indices<L: Look>(
     alloc: Global,
     look: &mut L,
@@ -198,9 +198,9 @@ pub fn indices<L: Look>(
     Ok(kinds(alloc, &version.entries)?)
 }
 
-/// Up to `most` nodes from a number on, ascending. The only error is OutOfMemory. It costs one
-/// descent of the catalog's tree, and a step for each node that it returns and for each of their
-/// attributes.
+/// Up to `most` nodes from a number on, in ascending order. The only error is OutOfMemory. It costs
+/// one descent of the catalog's tree, and a step for each node that it returns and for each of
+/// their attributes.
 pub fn nodes<L: Look>(
     alloc: Global,
     look: &mut L,

@@ -1,8 +1,9 @@
-//! Many attributes in one call: the values of nodes at names.
+//! Reads many attributes in one call: the values of several nodes at several names.
 //!
 //! A row is what one node has at the names. One descent leads to the first of its attributes. A
-//! cursor steps to the next name's as long as the names lie side by side, by ascending bytes. Any
-//! other name costs a descent. If a node has none of the names, the node itself is looked up.
+//! cursor steps to the next name's attribute as long as the names are neighbours, in ascending
+//! order of their bytes. Any other name costs a descent. If a node has none of the names, the node
+//! itself is looked up.
 ghost use Rattle.std.specs.Prelude.{◌≡◌, ◌+◌, ◌*◌, ◌^◌, ◌<◌, ◌≤◌, ℕ, [], ◌∷◌, Err};
 ghost use Rattle.std.specs.Prelude.{None, Some, IfSome, IfNone, drop, length, map as each};
 ghost use Rattle.std.specs.Prelude.{slice_get};
@@ -29,11 +30,11 @@ use be_pages::Look;
 use be_tree_reading::{Cursor, find_place, has_key, is_key_at};
 use be_value::Refusal;
 
-/// The page and the place of an item, if there is one.
+/// An item's page and place, if there is one.
 type FoundItem = Option<(u64, usize)>;
 
-/// A node of the catalog whose attributes are read one after the other: where the cursor is, and
-/// whether the node is there, if that was asked.
+/// A node whose attributes are read one after another: where the cursor is, and whether the node
+/// exists, if that was asked.
 #[derive(Drop)]
 struct Row {
     catalog: u64,
@@ -43,7 +44,7 @@ struct Row {
 }
 
 impl Row {
-    /// A row of which nothing is read yet.
+    /// A row that nothing was read from yet.
     fn new(catalog: u64, node: u64) -> Row
         ensures row { (standing : ℕ → Stands) (words : ℕ → ℕ → ℕ) → IsTree standing words catalog
             → IsInRow standing words result }
@@ -59,7 +60,7 @@ impl Row {
     }
 }
 
-/// A step of the cursor, and the place of the item that it passed, if that has the key.
+/// Steps the cursor, and returns the place of the item that it passed if the item has this key.
 fn step_to<L: Look>(look: &mut L, cursor: &mut Cursor, key: &[u8]) -> Option<(u64, usize)>
     requires cursor { IsCursor (L.standing look.old) (L.words look.old) cursor.old }
     ensures item { IfSome result (λ at. IsReadableAt (L.standing look.old) (L.words look.old) at.0
@@ -81,8 +82,8 @@ fn step_to<L: Look>(look: &mut L, cursor: &mut Cursor, key: &[u8]) -> Option<(u6
     Some((page, at))
 }
 
-/// The place of the attribute with a key in the catalog's tree, if it is there: at the cursor, or
-/// where a descent leads. The cursor is past it then.
+/// The place of the catalog's item with this key, if there is one: at the cursor, or where a
+/// descent leads. The cursor is then past it.
 fn next_place<L: Look>(
     look: &mut L,
     catalog: u64,
@@ -102,7 +103,7 @@ fn next_place<L: Look>(
     step_to(look, cursor, key)
 }
 
-/// The place of the value of a node's attribute, if the node has it, as `next_place` finds it.
+/// The place of a node's value at a name, if the node has it, found as `next_place` does.
 fn value_place<L: Look>(
     look: &mut L,
     catalog: u64,
@@ -126,7 +127,7 @@ fn value_place<L: Look>(
     next_place(look, catalog, cursor, &key)
 }
 
-/// Whether the node is there. It is looked for once in a row.
+/// Whether the node exists. A row looks it up only once.
 fn is_there<L: Look>(look: &mut L, catalog: u64, node: u64, known: &mut Option<bool>) -> bool
     requires tree { IsTree (L.standing look.old) (L.words look.old) catalog }
     requires known { (nodes : AllNodes) → IsCatalog (pairs (L.words look.old) catalog) nodes
@@ -145,7 +146,7 @@ fn is_there<L: Look>(look: &mut L, catalog: u64, node: u64, known: &mut Option<b
     there
 }
 
-/// The cell of a node that has no attribute of a name.
+/// The cell for a name that the node doesn't have.
 fn none_cell(there: bool, offset: usize) -> Cell
     ensures { result ≡ cell_of offset (Err (why_none there)) }
 {
@@ -156,7 +157,7 @@ fn none_cell(there: bool, offset: usize) -> Cell
     }
 }
 
-/// Tells what the node of a row has at a name.
+/// Writes what the row's node has at a name.
 fn tell_attribute<L: Look>(
     look: &mut L,
     row: &mut Row,
@@ -187,7 +188,7 @@ fn tell_attribute<L: Look>(
     tell(cells, bytes, filled, cell, b"");
 }
 
-/// Tells what the node of a row has at each of the names.
+/// Writes what the row's node has at each of the names.
 fn tell_row<L: Look>(
     look: &mut L,
     row: &mut Row,
@@ -211,12 +212,12 @@ fn tell_row<L: Look>(
     }
 }
 
-/// Tells what each node has at each name: the cells of the first node, then those of the second,
-/// and so on, and the bytes of all texts end to end, of both as many as there are places. Returns
-/// how many bytes that are.
+/// Writes what each node has at each name: the cells of the first node, then those of the second,
+/// and so on. It also writes the bytes of all texts one after another. It writes as many of both as
+/// there are places, and returns how many bytes the texts take.
 ///
-/// It takes no memory. A node costs one descent if its attributes of these names lie side by side.
-/// A name that it hasn't costs one more, and so does a node that has none of them.
+/// It takes no memory. A node costs one descent if its attributes with these names are neighbours.
+/// A name that it doesn't have costs one more, and so does a node that has none of the names.
 pub fn columns<L: Look>(
     look: &mut L,
     version_page: u64,
@@ -242,9 +243,8 @@ pub fn columns<L: Look>(
     filled.bytes as u64
 }
 
-/// A node's attribute as a cell, if the node is there and has it. The bytes of a text are written
-/// to the front of the places, as many as there are places. It costs one descent of the catalog's
-/// tree, and takes no memory.
+/// A node's attribute as a cell, if the node exists and has it. Writes a text's bytes to the first
+/// places, as many as fit. It costs one descent of the catalog's tree, and takes no memory.
 #[inline(always)]
 pub fn get_into<L: Look>(
     look: &mut L,
@@ -264,7 +264,7 @@ pub fn get_into<L: Look>(
     read_into(look, page, at, bytes)
 }
 
-/// The place of the value of a node's attribute, if the node has it. One descent.
+/// The place of a node's value at a name, if the node has it. It costs one descent.
 #[inline(always)]
 fn found_value<L: Look>(look: &mut L, catalog: u64, node: u64, name: &HeldName) -> FoundItem
     requires tree { IsTree (L.standing look.old) (L.words look.old) catalog }

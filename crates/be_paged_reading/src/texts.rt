@@ -1,8 +1,8 @@
-//! Texts of an index, tested where they are.
+//! Tests the texts of an index leaf by leaf.
 //!
-//! The keys of an index of texts are read leaf by leaf. The bytes of a key's text are put in place
-//! of those of the one before it and tested there; the bound and the node are read from the key's
-//! words. So no key moves, and of one whose text doesn't pass nothing else is read.
+//! For each key, the text's bytes are copied over those of the text before, and tested there. The
+//! key's words are compared with the bound in place. So no key is unpacked, and the node of a text
+//! that doesn't pass isn't read.
 ghost use Rattle.std.specs.Prelude.{◌≡◌, ◌+◌, ◌-◌, ◌*◌, ◌<◌, ◌≤◌, ◌++◌, IsTrue, IfErr, IfOk, OnOk};
 ghost use Rattle.std.specs.Prelude.{false, length, take, drop};
 ghost use Rattle.std.specs.Int.{to_be_bytes, w64};
@@ -27,7 +27,7 @@ use std::alloc::AllocError;
 /// Room for the longest text, of 255 bytes, in whole words.
 pub(crate) const ROOM: usize = 256;
 
-/// How long the text of the key at a place of a page is.
+/// The length of the text in the key at this place of a page.
 #[inline(always)]
 fn text_len_at<L: Look>(look: &mut L, page: u64, at: usize) -> usize
     requires readable { IsTrue (is_readable (L.standing look.old page)) }
@@ -41,7 +41,7 @@ fn text_len_at<L: Look>(look: &mut L, page: u64, at: usize) -> usize
     key_len.saturating_sub(9)
 }
 
-/// Puts the eight bytes of a word in place of those from one on.
+/// Writes a word's eight bytes from `at` on.
 #[inline(always)]
 fn put_word(room: &mut [u8], at: usize, word: u64)
     requires { at + 8 ≤ length room.old }
@@ -50,7 +50,7 @@ fn put_word(room: &mut [u8], at: usize, word: u64)
     room[at..at + 8].copy_from_slice(&word.to_be_bytes());
 }
 
-/// Puts the `n` bytes that begin with a word in place of the first ones.
+/// Writes the first `n` bytes of the page's words from this place on to the beginning of `room`.
 #[inline(always)]
 fn put_bytes<L: Look>(look: &mut L, page: u64, at: usize, n: usize, room: &mut [u8])
     requires readable { IsTrue (is_readable (L.standing look.old page)) }
@@ -65,8 +65,8 @@ fn put_bytes<L: Look>(look: &mut L, page: u64, at: usize, n: usize, room: &mut [
     }
 }
 
-/// Puts the text of the key at a place of a page in place of the first bytes, and returns how long
-/// it is.
+/// Copies the text in the key at this place of a page to the beginning of `room`, and returns its
+/// length.
 #[inline(always)]
 fn put_text<L: Look>(look: &mut L, page: u64, at: usize, room: &mut [u8]) -> usize
     requires readable { IsTrue (is_readable (L.standing look.old page)) }
@@ -82,7 +82,7 @@ fn put_text<L: Look>(look: &mut L, page: u64, at: usize, room: &mut [u8]) -> usi
     length
 }
 
-/// The first bytes.
+/// The first `n` bytes.
 #[inline(always)]
 fn front(room: &[u8], n: usize) -> &[u8]
     requires { n ≤ length room.now }
@@ -91,8 +91,8 @@ fn front(room: &[u8], n: usize) -> &[u8]
     &room[..n]
 }
 
-/// Adds the node of the key at a place of a page, if its text passes the test. At an error the list
-/// is as before.
+/// Adds the node of the key at this place of a page, if its text passes the test. After an error
+/// the list is as before.
 #[inline(always)]
 pub(crate) fn test_item<L: Look>(
     look: &mut L,
@@ -121,9 +121,8 @@ pub(crate) fn test_item<L: Look>(
     Ok(())
 }
 
-/// Adds the nodes of a leaf's keys, from the item of a number on, up to the bound, whose texts
-/// pass the test, and returns whether a key is above the bound. The leaf is named by its page and
-/// that number.
+/// Tests a leaf's keys from an item on, up to the bound, and adds the nodes of those whose texts
+/// pass. Returns whether a key is above the bound. `leaf` has the page and the item's number.
 fn test_leaf<L: Look>(
     look: &mut L,
     leaf: (u64, usize),
@@ -161,8 +160,8 @@ fn test_leaf<L: Look>(
     Ok(false)
 }
 
-/// Adds the nodes of the keys that a cursor has still to give, up to the bound, whose texts pass
-/// the test, leaf by leaf.
+/// Tests the keys that a cursor has ahead, up to the bound, leaf by leaf, and adds the nodes of
+/// those whose texts pass.
 fn test_rest<L: Look>(
     look: &mut L,
     cursor: &mut Cursor,
@@ -189,8 +188,8 @@ fn test_rest<L: Look>(
     Ok(())
 }
 
-/// Adds the nodes of the keys from `low` to `high`, both included, or to the last key, whose texts
-/// pass the test, in the order of the keys. It costs one descent, and reads the words of each text.
+/// Tests the keys from `low` to `high`, both included, or to the last key. Adds the nodes of those
+/// whose texts pass, in the keys' order. It costs one descent, and reads the words of each text.
 pub(crate) fn nodes_passing<L: Look>(
     look: &mut L,
     root: u64,

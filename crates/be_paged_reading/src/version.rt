@@ -1,4 +1,4 @@
-//! Version pages, read and written.
+//! Reads and writes version pages.
 ghost use Rattle.std.specs.Prelude.{◌≡◌, ◌≢◌, ℕ, ◌+◌, ◌<◌, [], All, IsTrue};
 ghost use Rattle.be_volume.specs.Sound.{IsName};
 ghost use Rattle.be_pages.specs.Pages.{is_readable, is_taken, IsUnchanged, StandsAt};
@@ -9,8 +9,8 @@ use crate::entry::Entry;
 use arrayvec::ArrayVec;
 use be_pages::{Look, Room};
 
-/// A version page's contents in hand. It is large, so a writer keeps one from one write to the
-/// next, whatever its contents are then.
+/// A version page's contents, loaded. It is large, so a writer keeps one from write to write,
+/// whatever it has in it then.
 #[derive(Drop)]
 pub struct Version {
     pub next: u64,
@@ -19,7 +19,7 @@ pub struct Version {
 }
 
 impl Version {
-    /// Contents that have no index yet.
+    /// Contents without indices.
     pub fn new() -> Version
         ensures next { result.next ≡ 0 }
         ensures catalog { result.catalog ≡ 0 }
@@ -33,8 +33,8 @@ impl Version {
     }
 }
 
-/// Reads a version page into contents, whatever they were. They are filled in place, since contents
-/// that are passed by value cost their whole capacity.
+/// Loads a version page over whatever the contents were. It fills them in place, since passing
+/// contents by value costs their whole capacity.
 pub fn fill_version<L: Look>(look: &mut L, page: u64, version: &mut Version)
     requires readable { IsTrue (is_readable (L.standing look.old page)) }
     requires page { IsVersionPage (L.words look.old page) }
@@ -52,7 +52,7 @@ pub fn fill_version<L: Look>(look: &mut L, page: u64, version: &mut Version)
     }
 }
 
-/// Writes a version page that was taken: the words that it uses, and no others.
+/// Writes a version to a page that was taken: only the words that it uses.
 pub fn store_version<R: Room>(room: &mut R, page: u64, version: &Version)
     requires taken { IsTrue (is_taken (R.standing room.old page)) }
     requires named { All (λ e. IsName e.name) version.now.entries.items }

@@ -1,4 +1,4 @@
--- What a write and a commit are answered.
+-- The replies to writes and commits.
 use Rattle.std.proofs.Common.{◌≡◌, ◌⊎◌, ◌≤◌, ℕ, true, false, is_some, List, [], ◌∷◌, length, Option, Some, None, IsOk, inl, inr, refl, sym, ap, ◌∙◌, subst, arith}
 use Rattle.std.specs.Prelude.{Ok, Err}
 use Rattle.be_store.specs.Live.{LiveQuery}
@@ -13,19 +13,19 @@ use Rattle.be_script_runner.specs.Store.{PinnedVolume, Store, Joins, Meanwhile, 
 use Rattle.be_script_runner.specs.View.{unbatched, batched}
 use Rattle.be_script_runner.proofs.JoinLemmas.{joins_itself}
 
--- a reply from the store as it was
+-- a reply about the store as it was
 pub serves_at_once : (s after : Session) (request : Request) (reply : Reply) → Replies s request reply after → Serves s request reply after
 serves_at_once s after request reply r = record { now = s.store; joins = joins_itself s.store; is = r }
 
--- a reply from the store as others left it
+-- a reply about the store as others left it
 pub serves_joined : (s after : Session) (new : Store) (request : Request) (reply : Reply) → Joins s.store new → Replies (with_store s new) request reply after → Serves s request reply after
 serves_joined s after new request reply j r = record { now = new; joins = j; is = r }
 
--- what is true of two values is true of their equals
+-- what holds for two values holds for equal ones
 pub of_both : {B : Type 0} (P : B → B → Type 0) (b b' c c' : B) → b ≡ c → b' ≡ c' → P c c' → P b b'
 of_both P b b' c c' e e' h = subst (λ x. P x b') (sym e) (subst (λ y. P c y) (sym e') h)
 
--- a pin where one stands
+-- a pin while a version is pinned
 pub pinned_already : (s : Session) → true ≡ is_some s.store.pin → Replies s pin already_pinned s
 pinned_already s h = by s.store.pin h
   where
@@ -33,7 +33,7 @@ pinned_already s h = by s.store.pin h
     by None g = cc
     by (Some p) g = refl
 
--- a pin where none stood
+-- a pin while none is pinned
 pub pinned_now : (old new : Store) (batch : Option (List Op)) (l : Option LiveQuery) (n : ℕ) → old.pin ≡ None → Meanwhile old (λ s. (new ≡ pinned s) × (n ≡ length s.journal)) →
     Serves (record { store = old; batch = batch; live = l }) pin (pinned_at n) (record { store = new; batch = batch; live = l })
 pinned_now old new batch l n none m = record {
@@ -47,12 +47,12 @@ pub no_pin : (p : Option PinnedVolume) → false ≡ is_some p → p ≡ None
 no_pin None h = refl
 no_pin (Some p) h = cc
 
--- a commit of nothing
+-- a commit of an empty batch
 pub commit_empty : (store : Store) (ops : List Op) (l : Option LiveQuery) → length ops ≡ 0 → Replies (batched store ops l) commit empty_batch (batched store ops l)
 commit_empty store [] l h = inl refl
 commit_empty store (op ∷ ops) l h = absurd (omega (arith, h))
 
--- a refusal that comes in place of an accepted write is no memory, or holds the write up
+-- an error although the volume accepts the write: memory ran out, or the write is held up
 held_up : (s : Store) (ops : List Op) (e : Refusal) → (IsWant s e × IsOk (written s ops)) ⊎ IsBusy s e →
     ((refused e ≡ refused OutOfMemory) × IsOk (written s ops)) ⊎ IsHeldUp s ops (refused e)
 held_up s ops e (inl h) = by h.0

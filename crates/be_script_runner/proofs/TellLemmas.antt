@@ -1,4 +1,4 @@
--- Runs that tell their journal.
+-- Runs that write their journal too.
 use Rattle.std.proofs.Common.{◌≡◌, ℕ, Bool, true, List, [], ◌++◌, IfOk, IfErr, IfSome, OnErr, Some, None, inl, inr, refl, sym, ap, ◌∙◌, subst, append_assoc, append-nil}
 use Rattle.std.specs.declared.option.Option.{Option}
 use Rattle.std.specs.declared.result.Result.{Result}
@@ -40,13 +40,13 @@ told_run limits script first after c log old mid new begun ended all legal volum
       };
     }
 
--- what was said of the script that was read is so of the reader's bytes
+-- what holds for the script that was read, holds for the reader's bytes
 pub told_of_reader : {E : Type 0} (r : Result Bool E) (limits : StoreLimits) (input left old new : Option (List ℕ)) (bytes : List ℕ) → ReadsAll input left bytes →
     IfOk r (λ legal. (legal ≡ true) × Wrote old new (IsToldRun limits bytes)) → IfOk r (λ legal. (legal ≡ true) × IfSome input (λ script. Wrote old new (IsToldRun limits script)))
 told_of_reader (Ok legal) limits input left old new bytes h w = (w.0, all_read input left bytes (λ script. Wrote old new (IsToldRun limits script)) h w.1)
 told_of_reader (Err e) limits input left old new bytes h w = tt
 
--- a front of the replies was written
+-- a prefix of the replies was written
 pub told_replies : (limits : StoreLimits) (script : List ℕ) (store : Store) (old new : Option (List ℕ)) → store ≡ start limits.commits → Wrote old new (IsFrontOfOutput store script) →
     Wrote old new (IsToldInPart limits script)
 told_replies limits script store old new begun w = record {
@@ -77,7 +77,7 @@ pub first_lines_told : (limits : StoreLimits) (script : List ℕ) (store : Store
     Wrote old new (AreFirstReplies (start limits.commits) script)
 first_lines_told limits script store old new begun w = subst (λ (s : Store). Wrote old new (AreFirstReplies s script)) begun w
 
--- all lines were answered, and no more was written
+-- all lines were answered, and nothing more was written
 pub all_lines_told : (limits : StoreLimits) (script : List ℕ) (store last : Store) (old mid new : Option (List ℕ)) → store ≡ start limits.commits → Wrote old mid (IsOutputTo store script last) →
     new ≡ mid → Wrote old new (AreFirstReplies (start limits.commits) script)
 all_lines_told limits script store last old mid new begun w same = first_lines_told limits script store old new begun (record {
@@ -86,7 +86,7 @@ all_lines_told limits script store last old mid new begun w same = first_lines_t
   is = record { lines = lines_of script; rest = []; is = sym (append-nil (lines_of script)); last = w.is.0; output = w.is.1 };
 })
 
--- all the replies were written, and after them a front of the journal that they leave
+-- all the replies were written, and after them a prefix of the journal that they leave
 pub told_in_part : (limits : StoreLimits) (script : List ℕ) (first after c : Knowledge) (log : List Entry) (old mid new : Option (List ℕ)) → known first ≡ start limits.commits → c ≡ after →
     log ≡ entries c.seen → IsLegal log → CanSpellEach limits.pages log → Wrote old mid (IsOutputTo (known first) script (known after)) → Wrote mid new (IsFrontOf (result_text log)) →
     Wrote old new (IsToldInPart limits script)
@@ -108,7 +108,7 @@ told_in_part limits script first after c log old mid new begun ended all legal v
       );
     }
 
--- a late fault leaves a part of the whole, and for want of memory whole replies
+-- a late error leaves a prefix of the whole, and if memory ran out, whole replies
 pub stops_late : {A : Type 0} (r : Result A RunFault) (limits : StoreLimits) (input left old new : Option (List ℕ)) (bytes : List ℕ) → IfErr r IsLate → ReadsAll input left bytes →
     OnErr r (Wrote old new (IsToldInPart limits bytes)) → IfErr r (λ e. e ≡ Memory → Wrote old new (AreFirstReplies (start limits.commits) bytes)) →
     IfErr r (λ e. TellingLeaves limits e input old new)
@@ -120,7 +120,7 @@ stops_late (Err Write) limits input left old new bytes l h w whole = all_read in
 stops_late (Err Memory) limits input left old new bytes l h w whole =
     all_read input left bytes (λ script. Wrote old new (AreFirstReplies (start limits.commits) script)) h (whole refl)
 
--- a fault of the reading leaves nothing written
+-- an error while reading leaves nothing written
 pub stops_early : (e : RunFault) (limits : StoreLimits) (input left held : Option (List ℕ)) → ReadFault e input left → TellingLeaves limits e input held held
 stops_early Limits limits input left held h = absurd h
 stops_early Read limits input left held h = left_by Read (start limits.commits) input left held h

@@ -1,4 +1,4 @@
--- What a run writes if it writes its journal too, and the replies to the script of a journal.
+-- What a run writes if it writes its journal too, and the replies to a journal's script.
 use Rattle.std.specs.Prelude.{◌≡◌, ◌⊎◌, ℕ, ◌+◌, ◌<◌, ◌≤◌, ◌^◌, List, [], ◌∷◌, ◌++◌, flat_map}
 use Rattle.std.specs.Prelude.{length, map, nat_lt, if◌then◌else◌, IfSome, None}
 use Rattle.std.specs.Io.KnownBytes.{Keeps}
@@ -19,8 +19,8 @@ use Rattle.be_script_runner.specs.declared.faults.RunFault.{RunFault}
 use Rattle.be_script_runner.specs.declared.faults.RunFault.TheVariants.{Limits, Read, TooLong}
 use Rattle.be_script_runner.specs.declared.faults.RunFault.TheVariants.{Write, Memory}
 
--- The replies are an output of the script, and the journal of the store that this output leaves
--- follows them. After each of its writes the volume fits into as many pages as the limits say.
+-- The replies are an output of the script, followed by the journal of the store that this output
+-- leaves. After each of its writes the volume fits into as many pages as the limits say.
 pub record IsToldRun (limits : StoreLimits) (script out : List ℕ) : Type 0 where
   pub last : Store
   pub replies : List ℕ
@@ -29,15 +29,15 @@ pub record IsToldRun (limits : StoreLimits) (script out : List ℕ) : Type 0 whe
   pub volumes : CanSpellEach limits.pages last.journal
   pub is : out ≡ replies ++ result_text last.journal
 
--- the text is a front of the replies to the script, or all of them and a front of the journal after
+-- the text is a prefix of the script's replies, or all of them and a prefix of the journal after
 -- them
 abbrev pub IsToldInPart : StoreLimits → List ℕ → List ℕ → Type 0
 IsToldInPart limits script front = IsFrontOfOutput (start limits.commits) script front
     ⊎ ((rest : List ℕ) × IsToldRun limits script (front ++ rest))
 
--- What a fault leaves. If the limits or the script are invalid, nothing was written. After a failed
--- write, a front of the whole text. Out of memory leaves the replies to the first lines, each of
--- them whole, and nothing of the journal.
+-- What an error leaves. If the limits or the script are invalid, nothing was written. After a
+-- failed write, a prefix of the whole text. If memory ran out, whole replies to the first lines,
+-- and nothing of the journal.
 abbrev pub TellingLeaves : StoreLimits → RunFault → Option (List ℕ) → Option (List ℕ)
     → Option (List ℕ) → Type 0
 TellingLeaves limits Limits input old new = Keeps old new
@@ -49,7 +49,7 @@ TellingLeaves limits Write input old new = IfSome input
 TellingLeaves limits Memory input old new = IfSome input
     (λ script. Wrote old new (AreFirstReplies (start limits.commits) script))
 
--- a store of one pass with these writes, by its pass
+-- a store with one pass, which made these writes
 abbrev pub made : ℕ → List Entry → Store
 made limit entries = record {
   journal = map by_only_pass entries;
@@ -60,8 +60,8 @@ made limit entries = record {
   pin = None;
 }
 
--- what the lines of the write with this number are answered: the reply to its operation, or those
--- of a batch of several
+-- the replies to the lines of the write with this number: the reply to its operation, or those of a
+-- batch of several
 abbrev pub write_output : ℕ → Entry → List ℕ
 write_output number entry =
     if nat_lt 1 (length entry.ops) then text_of ok
@@ -69,13 +69,13 @@ write_output number entry =
     ++ text_of (committed number entry.dones))
     else text_of (done_reply entry.dones)
 
--- what the lines of writes are answered that are numbered from n on
+-- the replies to the lines of writes that are numbered from n on
 abbrev pub dump_output : ℕ → List Entry → List ℕ
 dump_output n [] = []
 dump_output n (entry ∷ entries) = write_output n entry ++ dump_output (n + 1) entries
 
--- A run of the script on a store of one pass, whose journal has room for `limit` entries, leaves
--- this volume after at most `most` writes.
+-- A run of the script on a store with one pass and room for `limit` entries leaves this volume,
+-- after at most `most` writes.
 pub record MakesVolume (limit : ℕ) (script : List ℕ) (volume : State) (most : ℕ) : Type 0 where
   pub last : Store
   pub replies : List ℕ

@@ -1,4 +1,4 @@
-//! Runs that tell their journal.
+//! Runs that write their journal too.
 ghost use Rattle.std.specs.Prelude.{◌≡◌, ◌≤◌, ◌^◌, ◌↔◌, ◌∷◌, [], true, length, IfOk, IfErr, OnOk};
 ghost use Rattle.std.specs.Prelude.{OnErr, IfSome, Err};
 ghost use Rattle.be_journal.specs.Journal.{IsLegal};
@@ -21,7 +21,7 @@ use be_store::laws::alone;
 use std::alloc::Global;
 use std::io::Write;
 
-/// A list of this pass alone.
+/// A list of only this pass.
 fn only(alloc: Global, pass: Pass) -> Result<Vec<Pass>, RunFault>
     ensures passes { IfOk result (λ passes. passes.items ≡ pass ∷ []) }
     ensures fault { IfErr result (λ e. e ≡ RunFault.Memory) }
@@ -33,8 +33,8 @@ fn only(alloc: Global, pass: Pass) -> Result<Vec<Pass>, RunFault>
     }
 }
 
-/// The journal of a store whose only pass is back: all that the pass has seen. Memory is the only
-/// fault.
+/// Closes a store whose only pass is back, and returns its journal: all that the pass has seen.
+/// Memory is the only error.
 pub fn close_alone(alloc: Global, store: be_store::Store, pass: Pass) -> Result<Journal, RunFault>
     requires pass { IsPassOf store pass }
     requires one { store.limits.passes ≡ 1 }
@@ -76,16 +76,15 @@ fn run_on_new<W: Write>(
     put_result(alloc, writer, &journal)
 }
 
-/// Runs a script as [`crate::run`] does, and writes after the replies what a race writes after
-/// them: `journal N`, the journal's text, and `replay ok`. Returns whether the journal is legal,
-/// which is always true.
+/// Runs a script as [`crate::run`] does. After the replies it writes what a race writes after them:
+/// `journal N`, the journal's text, and `replay ok`. Returns whether the journal is legal, which is
+/// always true.
 ///
-/// The script is read before the store is opened. The journal is that which the replies leave: each
-/// accepted write of the script, in its order; after each of them the volume fits into as many
-/// pages as the limits say. Faults are those of `run`. `Write` leaves a front of the replies
-/// written, or all of them and a front of what follows them. `Memory` leaves the replies to the
-/// script's first lines, each of them whole, and nothing of the journal. Any other fault leaves
-/// nothing.
+/// The script is read before the store is opened. The journal has each accepted write of the
+/// script, in order. After each of them the volume fits into as many pages as the limits say.
+/// Errors are those of `run`. After `Write`, a prefix of the replies was written, or all of them
+/// and a prefix of what follows them. After `Memory`, whole replies to the script's first lines
+/// were written, and nothing of the journal. After any other error nothing was written.
 pub fn run_and_tell<R: ScriptReader, W: Write>(
     alloc: Global,
     reader: &mut R,

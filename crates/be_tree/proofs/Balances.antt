@@ -34,7 +34,7 @@ use Rattle.be_tree_reading.proofs.Shape.Below.{all_left, all_right, below_left, 
 use Rattle.be_tree_reading.proofs.Shape.Roots.{tree_over}
 use Rattle.be_tree.proofs.Ways.{IsPopped, rising_inside, step_leads, way_pop, whole_push}
 
--- lists with others in the place of a cut
+-- lists with a cut replaced by others
 pub map_spliced : {A B : Type 0} (f : A → B) (cut : Cut) (xs more : List A) → map f (spliced cut xs more) ≡ spliced cut (map f xs) (map f more)
 map_spliced f cut xs more =
     map-append f (take cut.at xs) (more ++ drop (cut.at + cut.gone) xs)
@@ -54,12 +54,12 @@ length_slots cut xs more in_range =
 pub loaded_length : (page n : ℕ) → length (loaded page n) ≡ n
 loaded_length page n = length-map-range_with_len (λ (j : ℕ). At (item_place j) page) 0 n
 
--- how many items a page keeps that isn't the root
+-- how many items a page other than the root keeps
 pub least_six : (above : List Step) (level : ℕ) → 0 < length above → least_at above level ≡ 6
 least_six [] level some = absurd (omega (arith, some))
 least_six (s ∷ below) level some = refl
 
--- what stood at first stands still after another change
+-- what was there when the write began is still there after another change
 begun_before : (s t : Standing) → after_undo t ≡ after_undo s → IsTrue (is_from_before s) → IsTrue (is_from_before t)
 begun_before s t e old = same t ∙ ap is_from_before e ∙ sym (same s) ∙ old
   where
@@ -106,7 +106,7 @@ module _ {S K : Type 0} (kept_of : S → K) (standing_of : S → ℕ → Standin
   pub whole_beside : (ps : List Pair) → whole (words_of start) (front ++ step ∷ []) ps ≡ whole (words_of start) front (beside (suc level) (words_of start) step ps)
   whole_beside ps = whole_push (words_of start) front step ps ∙ ap (whole (words_of start) front) (around_beside ps)
 
-  -- the node is a child in hand
+  -- the node is an unwritten child
   pub child_in_hand : 5 ≤ length slots → length slots ≤ 13 → IsChildInHand kept_of standing_of words_of step was level given slots start mid
   child_in_hand some few =
       let ps = pairs_below level (words_of mid) (pairs_of (words_of mid) given slots) in
@@ -126,7 +126,7 @@ module _ {S K : Type 0} (kept_of : S → K) (standing_of : S → ℕ → Standin
         rising = rising_inside (words_of start) front (beside (suc level) (words_of start) step ps) (subst IsRising (whole_beside ps) h.rising);
       }
 
-  -- once it is settled
+  -- after it was settled
   module _ (settled : Settled) (new : S) (s : IsSettled kept_of standing_of words_of step level given (beside (suc level) (words_of start) step (pairs_below level (words_of mid) (pairs_of (words_of mid) given slots))) settled start new) where
     now_same : words_of new step.page ≡ words_of start step.page
     now_same =
@@ -148,7 +148,7 @@ module _ {S K : Type 0} (kept_of : S → K) (standing_of : S → ℕ → Standin
     pub now_count : words_of new step.page 1 ≡ words_of start step.page 1
     now_count = ap (λ (w : ℕ → ℕ). w 1) now_same
 
-    -- how many items the page has with them
+    -- how many items the page then has
     pub settled_count : length (spliced settled.cut (items_of (words_of start step.page)) (pairs_of (words_of new) given settled.branches.items)) + settled.cut.gone ≡ words_of new step.page 1 + length settled.branches.items
     settled_count = omega (
       arith,
@@ -158,7 +158,7 @@ module _ {S K : Type 0} (kept_of : S → K) (standing_of : S → ℕ → Standin
       now_count,
     )
 
-    -- what stood at first stands
+    -- what was there when the write began is still there
     pub settled_start : KeepsStart kept_of standing_of words_of mid new
     settled_start =
         let before = pages_below (suc level) (words_of start) (items_of (words_of start step.page)) in
@@ -204,11 +204,11 @@ module _ {S K : Type 0} (kept_of : S → K) (standing_of : S → ℕ → Standin
             omega (arith, none_now, some, ap (λ p. times p (pages_below (suc level) (words_of new) (pairs_of (words_of new) given settled.branches.items))) here)
         off New is some = absurd is
 
-    -- the branches can be put into the page above, where there are not too many
+    -- the branches can be put into the page above, if there aren't too many
     pub can_settle : words_of new step.page 1 + length settled.branches.items ≤ 12 + settled.cut.gone → CanBeSpliced (standing_of new) (words_of new) step.page settled.cut given settled.branches.items
     can_settle few = record { is_page = now_page; in_use = now_kept; in_range = now_range; few = few; ready = now_ready; off = now_off; key_fits = h.key_fits }
 
-    -- and were
+    -- and they were
     module _ (to : ℕ) (last : S) (put : IsSpliced kept_of standing_of words_of step.page settled.cut given settled.branches.items to new last)
         (enough : least_at front (suc level) ≤ length (spliced settled.cut (items_of (words_of start step.page)) (pairs_of (words_of new) given settled.branches.items))) where
       items_are : items_of (words_of last to) ≡ spliced settled.cut (items_of (words_of start step.page)) (pairs_of (words_of new) given settled.branches.items)
@@ -247,7 +247,7 @@ module _ {S K : Type 0} (kept_of : S → K) (standing_of : S → ℕ → Standin
       settled_tree new_root final h =
           subst (λ qs. BecomesTree kept_of standing_of words_of (pages (words_of start) root) qs new_root start final) (ap (λ n. whole (words_of start) front (pairs_at n (words_of last) to)) up ∙ settled_whole) h
 
-    -- the page above is in hand in turn
+    -- the page above is an unwritten node in turn
     module _ (out : List Slot) (read : S) (same : IsUnchanged kept_of standing_of words_of new read) (is : out ≡ spliced settled.cut (loaded step.page (words_of new step.page 1)) settled.branches.items) where
       out_pairs : pairs_of (words_of read) given out ≡ spliced settled.cut (items_of (words_of start step.page)) (pairs_of (words_of new) given settled.branches.items)
       out_pairs =
@@ -303,7 +303,7 @@ module _ {S K : Type 0} (kept_of : S → K) (standing_of : S → ℕ → Standin
         some = λ some. omega (arith, out_count, s.gone, s.some, above_tree.node.enough, least_six front (suc level) some, items_count (words_of start step.page));
       }
 
--- or one that may be
+-- or one that may be the root
 pub least_front : (above : List Step) (m level n : ℕ) → m < length above → 2 ≤ n → (eqb m 0 ≡ true) ⊎ (6 ≤ n) → least_at (take m above) (suc level) ≤ n
 least_front above zero level n lt two six = omega (arith, two)
 least_front [] (suc m) level n lt two six = absurd (omega (arith, lt))
@@ -320,7 +320,7 @@ module _ {S K : Type 0} (kept_of : S → K) (standing_of : S → ℕ → Standin
   pub hand_tree_at : IsTreeAt level (least_at above level) (standing_of start) (words_of start) was
   hand_tree_at = subst (λ n. IsTreeAt n (least_at above n) (standing_of start) (words_of start) was) h.at_level (tree_on_way (standing_of start) (words_of start) root above was h.way)
 
-  -- the node's page has its words still
+  -- the node's page still has its words
   pub hand_same : words_of mid was ≡ words_of start was
   hand_same =
       swaps_same kept_of standing_of words_of (pages_below level (words_of start) (items_of (words_of start was))) (pages_below level (words_of mid) (pairs_of (words_of mid) given slots)) start mid h.node.swaps was hand_tree_at.page_once
@@ -332,7 +332,7 @@ module _ {S K : Type 0} (kept_of : S → K) (standing_of : S → ℕ → Standin
       let after = pages_below level (words_of mid) (pairs_of (words_of mid) given slots) in
       (kept_after kept_of standing_of words_of before after was start mid h.node.swaps hand_tree_at.page_once hand_tree_at.page_in_use, given_up_page kept_of standing_of words_of before after was start mid h.node.swaps hand_tree_at.page_once hand_tree_at.page_in_use)
 
-  -- since the room was only read
+  -- after pages were only read
   pub hand_read : (read : S) → IsUnchanged kept_of standing_of words_of mid read → IsInHand kept_of standing_of words_of root above was given slots level start read
   hand_read read same =
       let before = pages_below level (words_of start) (items_of (words_of start was)) in
@@ -360,7 +360,7 @@ hand_rest kept_of standing_of words_of root [] was level given slots start mid h
     (ap (λ n. pages_at n (words_of start) was) (sym h.at_level) ∙ ap (λ p. pages (words_of start) (suc p)) (sym h.way.way) ∙ ap (pages (words_of start)) e) over
 hand_rest kept_of standing_of words_of root (s ∷ below) was level given slots start mid h empty new_root new written = absurd (omega (arith, ap length empty))
 
--- what was settled, since the room was only read
+-- what was settled, after pages were only read
 pub settled_read : {S K : Type 0} (kept_of : S → K) (standing_of : S → ℕ → Standing) (words_of : S → ℕ → ℕ → ℕ) (step : Step) (level : ℕ) (given : Pair) (all : List Pair) (settled : Settled) (start new read : S) → IsUnchanged kept_of standing_of words_of new read
     → IsSettled kept_of standing_of words_of step level given all settled start new → IsSettled kept_of standing_of words_of step level given all settled start read
 settled_read kept_of standing_of words_of step level given all settled start new read same s =
@@ -387,7 +387,7 @@ steps_above xs i lt =
     let e : length (take (length xs - i) xs) - 1 ≡ length xs - (i + 1) = omega (arith, length-take-le (length xs - i) xs (omega arith)) in
     ap (λ n. take n (take (length xs - i) xs)) e ∙ take-take (length xs - (i + 1)) (length xs - i) xs (omega arith)
 
--- a node in hand, once its page's level was read
+-- an unwritten node, after its page's level was read
 module _ {S K : Type 0} (kept_of : S → K) (standing_of : S → ℕ → Standing) (words_of : S → ℕ → ℕ → ℕ) (root : ℕ) (above : List Step) (was level : ℕ) (given : Pair) (slots : List Slot) (room read : S)
     (same : IsUnchanged kept_of standing_of words_of room read) (is : level ≡ words_of room was 0) (start : S) (h : IsInHand kept_of standing_of words_of root above was given slots (level_of (words_of start was)) start room) where
   level_is : level_of (words_of start was) ≡ level
@@ -398,7 +398,7 @@ module _ {S K : Type 0} (kept_of : S → K) (standing_of : S → ℕ → Standin
       subst (λ n. IsInHand kept_of standing_of words_of root above was given slots n start read) level_is
       (hand_read kept_of standing_of words_of root above was (level_of (words_of start was)) given slots start room h read same)
 
-  -- its pairs make the same of the tree
+  -- its pairs make the same tree
   pub read_same : whole (words_of start) above (pairs_below level (words_of read) (pairs_of (words_of read) given slots)) ≡ whole (words_of start) above (pairs_below (level_of (words_of start was)) (words_of room) (pairs_of (words_of room) given slots))
   read_same =
       ap (λ n. whole (words_of start) above (pairs_below n (words_of read) (pairs_of (words_of read) given slots))) (sym level_is)
@@ -412,7 +412,7 @@ module _ {S K : Type 0} (kept_of : S → K) (standing_of : S → ℕ → Standin
         ≡ whole (words_of start) above (pairs_below (level_of (words_of start was)) (words_of room) (pairs_of (words_of room) given slots))
     once_same = ap (λ xs. whole (words_of start) xs (pairs_below level (words_of read) (pairs_of (words_of read) given slots))) (last_step above some) ∙ read_same
 
--- what stood where one node was in hand stands where another is
+-- what was there for one unwritten node is there for another
 pub hands_start : {S K : Type 0} (kept_of : S → K) (standing_of : S → ℕ → Standing) (words_of : S → ℕ → ℕ → ℕ) (root : ℕ) (above then : List Step) (was page : ℕ) (given : Pair) (slots out : List Slot) (level up : ℕ) (start mid new : S)
     → IsInHand kept_of standing_of words_of root above was given slots level start mid → IsInHand kept_of standing_of words_of root then page given out up start new → KeepsStart kept_of standing_of words_of mid new
 hands_start kept_of standing_of words_of root above then was page given slots out level up start mid new one other =

@@ -1,4 +1,4 @@
--- A leaf at the end of a path that has changed.
+-- A changed leaf at the end of a path.
 use Rattle.std.proofs.Common.{◌≡◌, ◌≢◌, ℕ, zero, suc, ◌+◌, ◌-◌, ◌<◌, ◌≤◌, List, [], ◌∷◌, ◌++◌, Bool, true, length, get_or, take, drop, All, IfOk, IfErr, Ok, Err, None, is_some, ap, sym, subst, ◌∙◌, refl, arith, append_assoc, if◌then◌else◌, length-append, length-drop}
 use Rattle.std.specs.declared.cmp.Ordering.TheVariants.{Equal, Greater}
 use Rattle.std.specs.List.{flat_map}
@@ -37,7 +37,7 @@ put_first : (pair : Pair) (items : List Pair) → ((d : Pair) → 0 < length ite
 put_first pair [] above = refl
 put_first pair (x ∷ xs) above = ap (λ r. put_before r pair x xs (put pair xs)) (above x (omega arith))
 
--- a put among the items of a leaf
+-- a put into a leaf's items
 module _ (standing : ℕ → Standing) (words : ℕ → ℕ → ℕ) (items : List Pair) (below : IsBelow 0 standing words items) (pair : Pair) where
   pub put_equal : (at : ℕ) → at < length items → key_cmp (get_or items at pair).key pair.key ≡ Equal → put pair items ≡ spliced (record { at = at; gone = 1 }) items (pair ∷ [])
   put_equal at lt same =
@@ -59,7 +59,7 @@ module _ (standing : ℕ → Standing) (words : ℕ → ℕ → ℕ) (items : Li
       ∙ ap (λ xs. xs ++ (pair ∷ drop (suc m) items)) (sym (take-suc items m pair lt))
       ∙ ap (λ n. take (suc m) items ++ (pair ∷ drop n items)) e
 
--- a key out of them
+-- a removal of a key from them
 pub without_equal : (items : List Pair) → IsRising items → (k : List ℕ) (at : ℕ) (d : Pair) → at < length items → key_cmp (get_or items at d).key k ≡ Equal → without k items ≡ spliced (record { at = at; gone = 1 }) items []
 without_equal items rising k at d lt same =
     let e : suc at ≡ at + 1 = omega arith in
@@ -72,7 +72,7 @@ without_equal items rising k at d lt same =
     ∙ ap (λ o. take at items ++ ((if is_eq o then [] else item ∷ []) ++ drop (suc at) items)) same
     ∙ ap (λ n. take at items ++ drop n items) e
 
--- the first key stays
+-- the first key is unchanged
 pub keeps_front : (at : ℕ) (items rest : List Pair) → 0 < at → KeepsLeast items (take at items ++ rest)
 keeps_front zero items rest some k starts = absurd (omega (arith, some))
 keeps_front (suc m) [] rest some k starts = absurd starts
@@ -83,7 +83,7 @@ keeps_equal zero [] rest pair lt same k starts = absurd starts
 keeps_equal zero (x ∷ xs) rest pair lt same k starts = sym (key_exact x.key pair.key same) ∙ starts
 keeps_equal (suc m) items rest pair lt same k starts = keeps_front (suc m) items (pair ∷ rest) (omega arith) k starts
 
--- a leaf that has changed
+-- a changed leaf
 module _ {S K : Type 0} (kept_of : S → K) (standing_of : S → ℕ → Standing) (words_of : S → ℕ → ℕ → ℕ) (root : ℕ) (above : List Step) (leaf : ℕ) (cut : Cut) (given : Pair) (slots : List Slot) (to : ℕ) (start mid : S)
     (way : IsWayIn (standing_of start) (words_of start) root above leaf) (is_leaf : level_of (words_of start leaf) ≡ 0) (s : IsSpliced kept_of standing_of words_of leaf cut given slots to start mid)
     (enough : least_at above 0 ≤ length (spliced cut (items_of (words_of start leaf)) (pairs_of (words_of start) given slots)))
@@ -110,7 +110,7 @@ module _ {S K : Type 0} (kept_of : S → K) (standing_of : S → ℕ → Standin
       } in
       subst (λ n. IsChanged kept_of standing_of words_of root above (record { was = leaf; page = to; same_least = b }) n start mid) (sym is_leaf) here
 
--- what a change of a tree is at the end of a path
+-- how a change of a tree is one of the leaf at the end of a path
 pub record ChangesLeaf (change : List Pair → List Pair) (standing : ℕ → Standing) (words : ℕ → ℕ → ℕ) (root : ℕ) (above : List Step) (leaf : ℕ) : Type 0 where
   pub all : change (pairs words root) ≡ whole words above (change (items_of (words leaf)))
   pub tree : IsTreeAt 0 (least_at above 0) standing words leaf
@@ -142,7 +142,7 @@ without_leaf k standing words root above leaf way for is_leaf =
       pairs_rise = subst IsRising (sym is) tree.below.rising;
     }
 
--- what a change of a tree is once it is one of its leaf's items
+-- how a change of a tree follows from one of its leaf's items
 module _ (change : List Pair → List Pair) (rises : (xs : List Pair) → IsRising xs → IsRising (change xs)) (standing : ℕ → Standing) (words : ℕ → ℕ → ℕ) (root : ℕ) (above : List Step) (leaf : ℕ) (cut : Cut) (more : List Pair)
     (leafy : ChangesLeaf change standing words root above leaf) (is : change (items_of (words leaf)) ≡ spliced cut (items_of (words leaf)) more) where
   pub all_is : change (pairs words root) ≡ whole words above (spliced cut (items_of (words leaf)) more)
@@ -151,12 +151,12 @@ module _ (change : List Pair → List Pair) (rises : (xs : List Pair) → IsRisi
   pub all_rise : IsRising (whole words above (spliced cut (items_of (words leaf)) more))
   all_rise = subst IsRising all_is (rises (pairs words root) leafy.pairs_rise)
 
--- how many items there are then
+-- how many items there then are
 pub length_spliced : (cut : Cut) (items more : List Pair) → cut.at + cut.gone ≤ length items → length (spliced cut items more) + cut.gone ≡ length items + length more
 length_spliced cut items more in_range =
     omega (arith, in_range, length-append (take cut.at items) (more ++ drop (cut.at + cut.gone) items), length-append more (drop (cut.at + cut.gone) items), length-take-le cut.at items (omega (arith, in_range)), length-drop (cut.at + cut.gone) items)
 
--- a leaf's items in hand, changed
+-- a leaf's items as an unwritten node, changed
 module _ {S K : Type 0} (kept_of : S → K) (standing_of : S → ℕ → Standing) (words_of : S → ℕ → ℕ → ℕ) (change : List Pair → List Pair) (rises : (xs : List Pair) → IsRising xs → IsRising (change xs))
     (root : ℕ) (above : List Step) (leaf : ℕ) (given : Pair) (slots : List Slot) (start read : S) (same : IsUnchanged kept_of standing_of words_of start read)
     (way : IsWayIn (standing_of start) (words_of start) root above leaf) (is_leaf : level_of (words_of start leaf) ≡ 0) (leafy : ChangesLeaf change (standing_of start) (words_of start) root above leaf)
@@ -194,7 +194,7 @@ module _ {S K : Type 0} (kept_of : S → K) (standing_of : S → ℕ → Standin
       subst (λ ps. BecomesTree kept_of standing_of words_of (pages (words_of start) root) ps new_root start new)
       (ap (λ n. whole (words_of start) above (pairs_below n (words_of read) (pairs_of (words_of read) given slots))) is_leaf ∙ hand_all) h
 
--- what a path tells of a put where its leaf has no pair of the key, and of one where it has
+-- what a path says about a put, if its leaf has no pair with the key, and if it has one
 pub record PutsAt (standing : ℕ → Standing) (words : ℕ → ℕ → ℕ) (root : ℕ) (path : Path) (pair : Pair) (cut : Cut) : Type 0 where
   pub leafy : ChangesLeaf (put pair) standing words root path.above.items path.leaf
   pub in_range : cut.at + cut.gone ≤ length (items_of (words path.leaf))
@@ -225,7 +225,7 @@ takes_at standing words root path k at h place =
       is = without_equal items leafy.tree.below.rising k at d lt (ap (λ x. key_cmp x.key k) (item_get (words path.leaf) at d found.0) ∙ found.1);
     }
 
--- since a room was only read
+-- after pages were only read
 module _ {S K : Type 0} (kept_of : S → K) (standing_of : S → ℕ → Standing) (words_of : S → ℕ → ℕ → ℕ) (old read : S) (same : IsUnchanged kept_of standing_of words_of old read) where
   pub path_read : (root : ℕ) (k : List ℕ) (path : Path) → IsPathTo (standing_of old) (words_of old) root k path → IsPathTo (standing_of read) (words_of read) root k path
   path_read root k path h =
@@ -240,7 +240,7 @@ module _ {S K : Type 0} (kept_of : S → K) (standing_of : S → ℕ → Standin
         (swaps_since kept_of standing_of words_of (pages (words_of read) root) (pages (words_of new) new_root) old read new same h.swaps);
   }
 
--- what a path tells of a look-up
+-- what a path says about a look-up
 module _ (standing : ℕ → Standing) (words : ℕ → ℕ → ℕ) (root : ℕ) (k : List ℕ) (path : Path) (h : IsPathTo standing words root k path) where
   leaf_least : 0 < least_at path.above.items 0
   leaf_least = some_least path.above.items

@@ -1,4 +1,4 @@
--- A branch to a page that has changed is written above it.
+-- A branch to a changed page is written above it.
 use Rattle.std.proofs.Common.{◌≡◌, ◌≢◌, ℕ, suc, ◌+◌, ◌-◌, ◌<◌, ◌≤◌, ◌^◌, ◌⊎◌, List, [], ◌∷◌, ◌++◌, Bool, true, length, get_or, take, drop, ap, sym, subst, ◌∙◌, refl, inl, inr, arith, length-append, length-drop}
 use Rattle.std.proofs.lemmas.List.{length-take-le}
 use Rattle.be_pages.specs.declared.room.Standing.{Standing}
@@ -26,7 +26,7 @@ use Rattle.be_tree.proofs.Ways.{IsPopped, branch_is, rising_inside, step_leads, 
 pub top : (standing : ℕ → Standing) (words : ℕ → ℕ → ℕ) (root : ℕ) → IsTree standing words root → 0 < root → IsTreeAt (level_of (words (root - 1))) (least_of_root (level_of (words (root - 1)))) standing words (root - 1)
 top standing words root tree some = root_tree root (root - 1) (level_of (words (root - 1))) standing words (omega (arith, some)) refl tree
 
--- the tree at the end of a way
+-- the tree at the end of a path
 pub tree_on_way : (standing : ℕ → Standing) (words : ℕ → ℕ → ℕ) (root : ℕ) (above : List Step) (last : ℕ) → IsWayIn standing words root above last → IsTreeAt (level_of (words last)) (least_at above (level_of (words last))) standing words last
 tree_on_way standing words root [] last way = subst (λ p. IsTreeAt (level_of (words p)) (least_of_root (level_of (words p))) standing words p) way.way (top standing words root way.tree way.some)
 tree_on_way standing words root (s ∷ below) last way =
@@ -55,7 +55,7 @@ module _ {S K : Type 0} (kept_of : S → K) (standing_of : S → ℕ → Standin
       suc_pred : (root : ℕ) → 0 < root → suc (root - 1) ≡ root
       suc_pred root some = omega (arith, some)
 
-  -- a change that has come to the root
+  -- a change that has reached the root
   pub changed_root : (root new_root : ℕ) (above : List Step) (changed : Changed) (level : ℕ) (start now : S) → above ≡ [] → new_root ≡ suc changed.page → IsChanged kept_of standing_of words_of root above changed level start now
       → BecomesTree kept_of standing_of words_of (pages (words_of start) root) (whole (words_of start) above (pairs_at level (words_of now) changed.page)) new_root start now
   changed_root root new_root [] changed level start now empty is h =
@@ -63,7 +63,7 @@ module _ {S K : Type 0} (kept_of : S → K) (standing_of : S → ℕ → Standin
       (subst (λ p. BecomesNode kept_of standing_of words_of (pages_at level (words_of start) p) level (least_of_root level) changed.page start now) (sym h.way.way) h.node) refl
   changed_root root new_root (s ∷ below) changed level start now empty is h = absurd (omega (arith, ap length empty))
 
-  -- a page that was changed where it is, with its least key
+  -- a page that was changed in place and keeps its lowest key
   pub changed_here : (root : ℕ) (above : List Step) (changed : Changed) (level : ℕ) (start now : S) → IsChanged kept_of standing_of words_of root above changed level start now → changed.page ≡ changed.was → changed.same_least ≡ true
       → BecomesTree kept_of standing_of words_of (pages (words_of start) root) (whole (words_of start) above (pairs_at level (words_of now) changed.page)) root start now
   changed_here root above changed level start now h same least =

@@ -1,4 +1,4 @@
--- A page of a tree that has become another, and what becomes of those above it.
+-- A page of a tree that has become another one, and how those above it change.
 use Rattle.std.proofs.Common.{◌≡◌, ℕ, suc, ◌+◌, ◌<◌, ◌≤◌, ◌⊎◌, List, [], ◌∷◌, ◌++◌, length, get_or, take, drop, IsTrue, ap, sym, subst, ◌∙◌, refl, inl, inr, arith}
 use Rattle.std.proofs.lemmas.Bool.{cases_lt}
 use Rattle.std.proofs.lemmas.List.{append-nil, length-take-le}
@@ -19,13 +19,13 @@ use Rattle.be_tree_reading.proofs.Shape.Levels.{tree_in_use}
 use Rattle.be_tree.proofs.Shape.Parts.{all_one, becomes_part, starts_append, starts_first}
 use Rattle.be_tree.proofs.Ways.{branch_is, branch_names, rising_inside, step_leads, three}
 
--- a list that starts at a key starts there with more after it, and without
+-- a list that starts at a key does so with or without more after it
 first_part : (k j : List ℕ) (xs ys : List Pair) → StartsAt j xs → StartsAt k (xs ++ ys) → StartsAt k xs
 first_part k j [] ys some starts = absurd some
 first_part k j (x ∷ xs) ys some starts = starts
 
 module _ {S K : Type 0} (kept_of : S → K) (standing_of : S → ℕ → Standing) (words_of : S → ℕ → ℕ → ℕ) where
-  -- items are written to a page, in the place of other pages
+  -- items are written to a page, replacing other pages
   module _ (level least : ℕ) (items : List Pair) (to : ℕ) (source : List ℕ) (old new : S) (below : IsBelow level (standing_of old) (words_of old) items) (enough : least ≤ length items)
       (is_page : IsPage (words_of new to)) (at_level : level_of (words_of new to) ≡ level) (has_items : items_of (words_of new to) ≡ items)
       (swaps : Swaps kept_of standing_of words_of source (to ∷ []) old new) (apart : (q : ℕ) → times q source + times q (pages_below level (words_of old) items) ≤ 1) where
@@ -68,7 +68,7 @@ module _ {S K : Type 0} (kept_of : S → K) (standing_of : S → ℕ → Standin
               (swaps_with kept_of standing_of words_of page before (pages_below level (words_of mid) items) start mid first.swaps none once used) wrote.swaps;
         }
 
-  -- a child has become another page, and a branch to it is to stand in the place of the one to it
+  -- a child has become another page, and a branch to it will replace the branch to the old one
   module _ (level least page at : ℕ) (start now : S) (tree : IsTreeAt (suc level) least (standing_of start) (words_of start) page) (lt : at < words_of start page 1)
       (to : ℕ) (branch : Pair) (is : child branch ≡ to) (key_fits : length branch.key ≤ 264) (names : IsBranch branch (pairs_at level (words_of now) to))
       (node : BecomesNode kept_of standing_of words_of (pages_at level (words_of start) (child (item_at (words_of start page) (item_place at)))) level 6 to start now) where
@@ -114,7 +114,7 @@ module _ {S K : Type 0} (kept_of : S → K) (standing_of : S → ℕ → Standin
         (becomes_part kept_of standing_of words_of (suc level) before (item ∷ []) after (branch ∷ []) (pairs_at level (words_of now) to) start now
         (subst (IsBelow (suc level) (standing_of start) (words_of start)) parts tree.below) becomes_item rising)
 
--- the pairs below a page begin where those of its items do
+-- the pairs below a page begin where its items do
 module _ (level least page at : ℕ) (standing : ℕ → Standing) (words : ℕ → ℕ → ℕ) (tree : IsTreeAt (suc level) least standing words page) (lt : at < words page 1) (ps : List Pair) where
   old_parts : pairs_at (suc level) words page ≡ pairs_below (suc level) words (take at (items_of (words page))) ++ (pairs_at level words (child (item_at (words page) (item_place at))) ++ pairs_below (suc level) words (drop (suc at) (items_of (words page))))
   old_parts =
@@ -153,19 +153,19 @@ module _ (level least page at : ℕ) (standing : ℕ → Standing) (words : ℕ 
           let old : StartsAt k (here ++ Z) = subst (λ A. StartsAt k (A ++ (here ++ Z))) none (subst (StartsAt k) old_parts starts) in
           subst (λ A. StartsAt k (A ++ (ps ++ Z))) (sym none) (starts_append k ps Z (keeps k (first_part k (item_at (words page) (item_place at)).key here Z named old)))
 
--- how many items the page at the end of a way from a page has at least
+-- the smallest number of items of the page at the end of a path from a page
 abbrev pub end_least : List Step → ℕ → ℕ
 end_least [] least = least
 end_least (step ∷ below) least = 6
 
--- what a step puts round pairs, by its page and its level
+-- the pairs that a step puts around some pairs, by its page and its level
 pub around_is : (words : ℕ → ℕ → ℕ) (page level : ℕ) (step : Step) (ps : List Pair) → step.page ≡ page → level_of (words page) ≡ level
     → around words step ps ≡ pairs_below level words (take step.at (items_of (words page))) ++ (ps ++ pairs_below level words (drop (suc step.at) (items_of (words page))))
 around_is words page level step ps is up =
     ap (λ p. pairs_below (level_of (words p)) words (take step.at (items_of (words p))) ++ (ps ++ pairs_below (level_of (words p)) words (drop (suc step.at) (items_of (words p))))) is
     ∙ ap (λ n. pairs_below n words (take step.at (items_of (words page))) ++ (ps ++ pairs_below n words (drop (suc step.at) (items_of (words page))))) up
 
--- a page stays, with a change below it that keeps its least key
+-- a page stays when something below it changes but keeps its lowest key
 pub record Stays {S K : Type 0} (kept_of : S → K) (standing_of : S → ℕ → Standing) (words_of : S → ℕ → ℕ → ℕ) (level least page : ℕ) (ps : List Pair) (start now : S) : Type 0 where
   pub node : BecomesNode kept_of standing_of words_of (pages_at level (words_of start) page) level least page start now
   pub pairs_are : pairs_at level (words_of now) page ≡ ps

@@ -1,4 +1,4 @@
--- A node in hand that is settled among the children of a page.
+-- An unwritten node that is settled among a page's children.
 use Rattle.std.proofs.Common.{◌≡◌, ℕ, suc, ◌+◌, ◌<◌, ◌≤◌, List, [], ◌∷◌, ◌++◌, length, map, take, drop, IsTrue, Result, IfOk, ap, sym, subst, ◌∙◌, refl, arith}
 use Rattle.std.proofs.lemmas.List.{append-nil}
 use Rattle.be_pages.specs.declared.room.Standing.{Standing}
@@ -29,7 +29,7 @@ use Rattle.be_tree.proofs.Shape.Parts.{becomes_part}
 use Rattle.be_tree_reading.proofs.TreeFacts.{times_part}
 use Rattle.be_tree.proofs.Ways.{branch_child, branch_is, three}
 
--- two children have become others, and a page's items have these in the place of the two
+-- two children have become others, which replace the two among a page's items
 two_settled : {S K : Type 0} (kept_of : S → K) (standing_of : S → ℕ → Standing) (words_of : S → ℕ → ℕ → ℕ) (level page i l r : ℕ) (ps : List Pair) (start new : S) → IsTreeAt (suc level) 2 (standing_of start) (words_of start) page
     → i + 2 ≤ words_of start page 1 → l ≡ child (item_at (words_of start page) (item_place i)) → r ≡ child (item_at (words_of start page) (item_place (i + 1))) → (us all : List Pair)
     → all ≡ pairs_below (suc level) (words_of start) (take i (items_of (words_of start page))) ++ (ps ++ pairs_below (suc level) (words_of start) (drop (i + 2) (items_of (words_of start page)))) → IsRising all
@@ -54,7 +54,7 @@ module _ {S K : Type 0} (kept_of : S → K) (standing_of : S → ℕ → Standin
   pub was_tree : IsTreeAt level 6 (standing_of start) (words_of start) was
   was_tree = subst (λ p. IsTreeAt level 6 (standing_of start) (words_of start) p) h.is_child (branch_child level 2 (standing_of start) (words_of start) step.page step.at h.tree h.in_range)
 
-  -- the page above is none of those
+  -- the page above isn't among those
   above_none : times step.page (pages_at level (words_of start) was) ≡ 0
   above_none =
       let items = items_of (words_of start step.page) in
@@ -89,7 +89,7 @@ module _ {S K : Type 0} (kept_of : S → K) (standing_of : S → ℕ → Standin
       let after = pages_below level (words_of mid) (pairs_of (words_of mid) given slots) in
       (kept_after kept_of standing_of words_of before after was start mid h.node.swaps was_tree.page_once was_tree.page_in_use, given_up_page kept_of standing_of words_of before after was start mid h.node.swaps was_tree.page_once was_tree.page_in_use)
 
-  -- and what it makes
+  -- and what writing it makes
   pub alone_settled : (us : List Pair) (new : S) → Becomes kept_of standing_of words_of (was ∷ pages_below level (words_of mid) (pairs_of (words_of mid) given slots)) (pairs_below level (words_of mid) (pairs_of (words_of mid) given slots)) (suc level) us mid new
       → Becomes kept_of standing_of words_of (pages_below (suc level) (words_of start) (items_of (words_of start step.page))) (beside (suc level) (words_of start) step (pairs_below level (words_of mid) (pairs_of (words_of mid) given slots))) (suc level)
       (spliced (record { at = step.at; gone = 1 }) (items_of (words_of start step.page)) us) start new
@@ -171,7 +171,7 @@ module _ {S K : Type 0} (kept_of : S → K) (standing_of : S → ℕ → Standin
     right_settled us new joined = two_settled kept_of standing_of words_of level step.page step.at was r (pairs_below level (words_of mid) (pairs_of (words_of mid) given slots) ++ pairs_at level (words_of start) r) start new h.tree lt (sym h.is_child) r_is us
         (beside (suc level) (words_of start) step (pairs_below level (words_of mid) (pairs_of (words_of mid) given slots))) right_parts h.rising joined
 
--- two neighbours with the items of both in hand
+-- two neighbours whose items are in one unwritten node
 pub record TwoInHand {S K : Type 0} (kept_of : S → K) (standing_of : S → ℕ → Standing) (words_of : S → ℕ → ℕ → ℕ) (page level i l r : ℕ) (given : Pair) (all : List Pair) (both : List Slot) (start read : S) : Type 0 where
   pub can : IsWritable standing_of words_of read level given both
   pub are_apart : AreApart standing_of words_of read level given both l r
@@ -252,7 +252,7 @@ module _ {S K : Type 0} (kept_of : S → K) (standing_of : S → ℕ → Standin
             settled = λ us new packed. right_settled kept_of standing_of words_of step was level given slots start mid h r lt_was r_was us new (joined.written us new packed);
           }
 
--- the same of a room that was only read since
+-- the same, after pages were only read
 module _ {S K : Type 0} (kept_of : S → K) (standing_of : S → ℕ → Standing) (words_of : S → ℕ → ℕ → ℕ) (step : Step) (was level : ℕ) (given : Pair) (slots : List Slot) (mid read : S) (same : IsUnchanged kept_of standing_of words_of mid read) where
   pub child_read : (start : S) → IsChildInHand kept_of standing_of words_of step was level given slots start mid → IsChildInHand kept_of standing_of words_of step was level given slots start read
   child_read start h =
@@ -283,7 +283,7 @@ module _ {S K : Type 0} (kept_of : S → K) (standing_of : S → ℕ → Standin
       (λ settled k start child.
       subst (λ w. IsSettled kept_of standing_of words_of step level given (beside (suc level) (words_of start) step (pairs_below level w (pairs_of w given slots))) settled start new) same.words (k start (child_read start child))) h
 
-  -- the child is not the only one
+  -- the child isn't the only one
   pub child_beside : (start : S) → IsChildInHand kept_of standing_of words_of step was level given slots start mid → words_of mid step.page 1 ≤ step.at + 1 → 0 < step.at
   child_beside start h last =
       let n = ap (λ (w : ℕ → ℕ). w 1) (above_same kept_of standing_of words_of step was level given slots start mid h) in

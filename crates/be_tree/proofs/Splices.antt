@@ -1,4 +1,4 @@
--- Items of pages while words of one page are written.
+-- Pages' items while one page's words are written.
 use Rattle.std.proofs.Common.{◌≡◌, ◌≢◌, ℕ, ◌+◌, ◌-◌, ◌<◌, ◌≤◌, ◌⊎◌, ◌==◌, if◌then◌else◌, IsTrue, List, [], ◌++◌, length, map, take, drop, get_or, ap, sym, subst, ◌∙◌, inl, inr, refl, arith, length-append, length-drop}
 use Rattle.std.proofs.lemmas.Bool.{cases_eq, cases_lt}
 use Rattle.std.proofs.lemmas.Bool.Decides.{nat_tests}
@@ -20,7 +20,7 @@ use Rattle.be_tree.proofs.Nodes.Stands.{stands_at, stands_else}
 use Rattle.be_tree_reading.proofs.Items.{item_get, items_count}
 use Rattle.be_tree.proofs.Nodes.Slots.{branch_same}
 
--- what a page has once its header is written and the items before and after a cut are copied
+-- what a page has after its header was written and the items before and after a cut were copied
 pub gap_of : (u v : ℕ → ℕ) (cut : Cut) (more rest : ℕ) → cut.at + cut.gone ≤ u 1 → rest ≡ u 1 - (cut.at + cut.gone) → v 0 ≡ u 0 → v 1 ≡ cut.at + more + rest
     → AreCopies u v 0 0 cut.at → AreCopies u v (cut.at + cut.gone) (cut.at + more) rest → HasGap u v cut more
 gap_of u v cut more rest in_range is level count front back = record {
@@ -33,7 +33,7 @@ gap_of u v cut more rest in_range is level count front back = record {
 pub other_word : (j i : ℕ) → (j ≡ i → ⊥) → (x y : ℕ) → (if j == i then x else y) ≡ y
 other_word j i ne x y = grind (arith, nat_tests)
 
--- a word of a page that has one filled
+-- writing a word to a page that has a filled one
 pub fill_only : {S K : Type 0} (kept_of : S → K) (standing_of : S → ℕ → Standing) (words_of : S → ℕ → ℕ → ℕ) (page i word : ℕ) (old now : S)
     → kept_of now ≡ kept_of old → StandsAt (standing_of old) (standing_of now) page Filled → standing_of old page ≡ Filled
     → ((j : ℕ) → words_of now page j ≡ (if j == i then word else words_of old page j)) → ((q : ℕ) → q ≢ page → words_of now q ≡ words_of old q)
@@ -49,7 +49,7 @@ fill_only kept_of standing_of words_of page i word old now kept stands filled pl
   after = λ j ge. place j ∙ other_word j i (λ e. absurd (omega (arith, ge, e))) word (words_of old page j);
 }
 
--- since a page was only read
+-- after pages were only read
 pub only_since : {S K : Type 0} (kept_of : S → K) (standing_of : S → ℕ → Standing) (words_of : S → ℕ → ℕ → ℕ) (page lo hi : ℕ) (old read now : S)
     → kept_of read ≡ kept_of old → standing_of read ≡ standing_of old → words_of read ≡ words_of old → OnlyWrites kept_of standing_of words_of page lo hi read now → OnlyWrites kept_of standing_of words_of page lo hi old now
 only_since kept_of standing_of words_of page lo hi old read now kept standing words only = record {
@@ -64,7 +64,7 @@ pub filled_word : (i x y : ℕ) → (if i == i then x else y) ≡ x
 filled_word i x y = grind (arith, nat_tests)
 
 module _ {S K : Type 0} (kept_of : S → K) (standing_of : S → ℕ → Standing) (words_of : S → ℕ → ℕ → ℕ) (page lo hi : ℕ) (old now : S) (only : OnlyWrites kept_of standing_of words_of page lo hi old now) where
-  -- an item that wasn't written
+  -- an item that wasn't overwritten
   pub there : (from place : ℕ) → (from ≡ page → (hi ≤ place) ⊎ (place + 42 ≤ lo)) → IsItem (words_of old from) place
       → (item_at (words_of now from) place ≡ item_at (words_of old from) place) × IsItem (words_of now from) place
   there from place apart item = elim (cases_eq from page) [
@@ -88,7 +88,7 @@ module _ {S K : Type 0} (kept_of : S → K) (standing_of : S → ℕ → Standin
     after = λ j ge. more.after j (omega (arith, ge, by)) ∙ only.after j (omega (arith, ge, hiy));
   }
 
--- slots of other pages than one that is written
+-- slots of pages other than the one that is written
 module _ (page : ℕ) (s t : ℕ → Standing) (v w : ℕ → ℕ → ℕ) (stands : (q : ℕ) → q ≢ page → t q ≡ s q) (words : (q : ℕ) → q ≢ page → w q ≡ v q) where
   pub off_ready : (slot : Slot) → IsOff page slot → IsReady s v slot → IsReady t w slot
   off_ready (At at from) off ready = (subst (λ u. IsTrue (is_readable u)) (sym (stands from off)) ready.0, (ready.1.0, subst (λ u. IsItem u at) (sym (words from off)) ready.1.1))
@@ -100,13 +100,13 @@ module _ (page : ℕ) (s t : ℕ → Standing) (v w : ℕ → ℕ → ℕ) (stan
   off_pair given (Branch child) off = branch_same v w child (words child off)
   off_pair given New off = refl
 
--- a page that was free is none of a ready slot's
+-- a page that was free isn't a ready slot's
 pub off_free : (page : ℕ) (s : ℕ → Standing) (v : ℕ → ℕ → ℕ) (slot : Slot) → s page ≡ Free → IsReady s v slot → IsOff page slot
 off_free page s v (At at from) free ready = λ e. false≢true (ap is_readable (sym free) ∙ ap (λ q. is_readable (s q)) (sym e) ∙ ready.0)
 off_free page s v (Branch child) free ready = λ e. false≢true (ap is_readable (sym free) ∙ ap (λ q. is_readable (s q)) (sym e) ∙ ready.0)
 off_free page s v New free ready = tt
 
--- a page once the room in the place of a cut is filled
+-- a page after the room in a cut's place was filled
 module _ (u v w : ℕ → ℕ) (cut : Cut) (slots : List Slot) (f : Slot → Pair) (gap : HasGap u v cut (length slots)) (in_range : cut.at + cut.gone ≤ u 1)
     (stored : (k : ℕ) (d : Slot) → k < length slots → IsStored w (cut.at + k) (f (get_or slots k d)))
     (before : (j : ℕ) → j < item_place cut.at → w j ≡ v j) (after : (j : ℕ) → item_place (cut.at + length slots) ≤ j → w j ≡ v j) where

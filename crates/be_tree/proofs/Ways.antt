@@ -1,4 +1,4 @@
--- The way down a tree: its steps, the trees and the pairs below them.
+-- The path down a tree: its steps, and the trees and pairs below them.
 use Rattle.std.proofs.Common.{◌≡◌, ℕ, zero, suc, ◌-◌, ◌<◌, List, [], ◌∷◌, ◌++◌, length, get_or, take, drop, All, ap, sym, subst, ◌∙◌, refl, arith}
 use Rattle.std.proofs.lemmas.List.{append-nil}
 use Rattle.be_pages.specs.declared.room.Standing.{Standing}
@@ -14,7 +14,7 @@ use Rattle.be_tree_reading.proofs.Putting.Puts.{put_at_item}
 use Rattle.be_tree.proofs.Removing.Removes.{without_split}
 use Rattle.be_tree_reading.proofs.TreeFacts.{branch_tree, in_three, inner_split, steps_down}
 
--- one step more at the end, and one less
+-- one step more at the end, or one fewer
 pub way_push : (words : ℕ → ℕ → ℕ) (page : ℕ) (above : List Step) (last : ℕ) (step : Step) → IsWay words page above last → IsStep words last step
     → IsWay words page (above ++ step ∷ []) (child (item_at (words last) (item_place step.at)))
 way_push words page [] last step way here = (subst (λ p. IsStep words p step) (sym way) here, ap (λ p. child (item_at (words p) (item_place step.at))) way)
@@ -46,7 +46,7 @@ rising_inside words (s ∷ below) ps rising =
     let after = pairs_below (level_of (words s.page)) words (drop (suc s.at) (items_of (words s.page))) in
     rising_inside words below ps (IsRising_left (whole words below ps) after (IsRising_right before (whole words below ps ++ after) rising))
 
--- an inner page's item and what stands below it
+-- an inner page's item and what is below it
 module _ (level least : ℕ) (standing : ℕ → Standing) (words : ℕ → ℕ → ℕ) (page at : ℕ) (tree : IsTreeAt (suc level) least standing words page) (lt : at < words page 1) where
   pub branch_is : get_or (items_of (words page)) at (item_at (words page) (item_place at)) ≡ item_at (words page) (item_place at)
   branch_is = item_get (words page) at (item_at (words page) (item_place at)) lt
@@ -79,13 +79,13 @@ step_leads standing words page least step here tree =
       tree = subst (λ n. IsTreeAt n 6 standing words (child (item_at (words page) (item_place step.at)))) (sym is) below;
     }
 
--- the trees along a way
+-- the trees along a path
 pub way_down : (standing : ℕ → Standing) (words : ℕ → ℕ → ℕ) (page : ℕ) (above : List Step) (last : ℕ) → IsWay words page above last → IsTreeAt (level_of (words page)) 6 standing words page → IsTreeAt (level_of (words last)) 6 standing words last
 way_down standing words page [] last way tree = subst (λ p. IsTreeAt (level_of (words p)) 6 standing words p) way tree
 way_down standing words page (s ∷ below) last way tree =
     way_down standing words (child (item_at (words page) (item_place s.at))) below last way.1 (step_leads standing words page 6 s way.0 tree).tree
 
--- a change that goes down a way changes the pairs at its end, and no others
+-- a change that goes down a path changes only the pairs at its end
 module _ (change : List Pair → List Pair) (k : List ℕ) (standing : ℕ → Standing) (words : ℕ → ℕ → ℕ)
     (goes : (level : ℕ) (items : List Pair) (at : ℕ) (d : Pair) → IsBelow (suc level) standing words items → 0 < length items → IsBranchFor k items at → at < length items
     → change (pairs_below (suc level) words items) ≡ pairs_below (suc level) words (take at items) ++ (change (pairs_at level words (child (get_or items at d))) ++ pairs_below (suc level) words (drop (suc at) items))) where
@@ -111,7 +111,7 @@ module _ (change : List Pair → List Pair) (k : List ℕ) (standing : ℕ → S
       ∙ ap (λ n. pairs_below n words (take s.at items) ++ (whole words below (change (pairs_at (level_of (words last)) words last)) ++ pairs_below n words (drop (suc s.at) items))) (sym leads.level_is)
       ∙ ap (λ p. pairs_below (level_of (words p)) words (take s.at (items_of (words p))) ++ (whole words below (change (pairs_at (level_of (words last)) words last)) ++ pairs_below (level_of (words p)) words (drop (suc s.at) (items_of (words p))))) (sym way.0.is_page)
 
--- a put and a removal do
+-- a put and a removal go down a path so
 pub put_goes : (pair : Pair) (standing : ℕ → Standing) (words : ℕ → ℕ → ℕ) (level : ℕ) (items : List Pair) (at : ℕ) (d : Pair) → IsBelow (suc level) standing words items → 0 < length items → IsBranchFor pair.key items at → at < length items
     → put pair (pairs_below (suc level) words items) ≡ pairs_below (suc level) words (take at items) ++ (put pair (pairs_at level words (child (get_or items at d))) ++ pairs_below (suc level) words (drop (suc at) items))
 put_goes pair standing words level items at d below some branch lt =
@@ -131,7 +131,7 @@ without_goes k standing words level items at d below some branch lt =
     subst (λ n. without k (pairs_below (suc level) words items) ≡ pairs_below (suc level) words (take n items) ++ (without k (pairs_at level words (child (get_or items n d))) ++ pairs_below (suc level) words (drop (suc n) items))) (sym branch.before)
     (without_split (λ b. pairs_at level words (child b)) k items (branch.rank - 1) split d)
 
--- so does a look-up
+-- and so does a look-up
 pub payload_down : (k : List ℕ) (standing : ℕ → Standing) (words : ℕ → ℕ → ℕ) (page least : ℕ) (above : List Step) (last : ℕ) → 0 < least → IsWay words page above last → All (λ step. IsBranchFor k (items_of (words step.page)) step.at) above
     → IsTreeAt (level_of (words page)) least standing words page → payload_at (pairs_at (level_of (words page)) words page) k ≡ payload_at (pairs_at (level_of (words last)) words last) k
 payload_down k standing words page least [] last some way for tree = ap (λ p. payload_at (pairs_at (level_of (words p)) words p) k) way

@@ -1,4 +1,4 @@
--- The way down to a key, and what becomes of a tree below it and up to its root.
+-- The path down to a key, and how a tree changes below it and up to its root.
 use Rattle.std.specs.Prelude.{◌≡◌, ℕ, suc, ◌-◌, ◌<◌, ◌≤◌, List, [], ◌∷◌, ◌++◌, length, take}
 use Rattle.std.specs.Prelude.{drop, All, true, IfOk, IfErr, Result}
 use Rattle.std.specs.declared.cmp.Ordering.TheVariants.{Equal}
@@ -17,26 +17,26 @@ use Rattle.be_tree.specs.Splicing.{spliced}
 use Rattle.be_tree_reading.specs.Tree.{Becomes, BecomesTree, IsTree, IsTreeAt, child, least_of_root}
 use Rattle.be_tree_reading.specs.Tree.{pages, pages_at, pages_below, pairs, pairs_at, pairs_below}
 
--- a step of a way: one of an inner page's branches
+-- a step of a path: one of an inner page's branches
 pub record IsStep (words : ℕ → ℕ → ℕ) (page : ℕ) (step : Step) : Type 0 where
   pub is_page : step.page ≡ page
   pub inner : 0 < level_of (words page)
   pub in_range : step.at < words page 1
 
--- from a page each step's branch leads to the next one's page, and that of the last step to `last`
+-- from this page, each step's branch leads to the next step's page, and the last step's to `last`
 abbrev pub IsWay : (words : ℕ → ℕ → ℕ) (page : ℕ) → List Step → (last : ℕ) → Type 0
 IsWay words page [] last = page ≡ last
 IsWay words page (step ∷ below) last = IsStep words page step
     × IsWay words (child (item_at (words page) (item_place step.at))) below last
 
--- such a way from the root of a tree
+-- such a path from a tree's root
 pub record IsWayIn (standing : ℕ → Standing) (words : ℕ → ℕ → ℕ) (root : ℕ) (above : List Step)
     (last : ℕ) : Type 0 where
   pub tree : IsTree standing words root
   pub some : 0 < root
   pub way : IsWay words (root - 1) above last
 
--- the way down to a key
+-- the path down to a key
 pub record IsPathTo (standing : ℕ → Standing) (words : ℕ → ℕ → ℕ) (root : ℕ) (key : List ℕ)
     (path : Path) : Type 0 where
   pub way : IsWayIn standing words root path.above.items path.leaf
@@ -46,62 +46,62 @@ pub record IsPathTo (standing : ℕ → Standing) (words : ℕ → ℕ → ℕ) 
       × (key_cmp (item_at (words path.leaf) (item_place at)).key key ≡ Equal))
   pub absent : IfErr path.place (IsGap key (items_of (words path.leaf)))
 
--- the way down to a key, whose place is this
+-- the path down to a key, with this place
 pub record IsPathAt {S : Type 0} (standing_of : S → ℕ → Standing) (words_of : S → ℕ → ℕ → ℕ)
     (now : S) (root : ℕ) (key : List ℕ) (path : Path) (place : Result ℕ ℕ) : Type 0 where
   pub leads : IsPathTo (standing_of now) (words_of now) root key path
   pub place_is : path.place ≡ place
 
--- the way down to the key of a pair that may be put, whose place is this
+-- the path down to the key of a pair that may be put, with this place
 pub record IsPathFor {S : Type 0} (standing_of : S → ℕ → Standing) (words_of : S → ℕ → ℕ → ℕ)
     (now : S) (root : ℕ) (pair : Pair) (path : Path) (place : Result ℕ ℕ) : Type 0 where
   pub leads : IsPathTo (standing_of now) (words_of now) root pair.key path
   pub place_is : path.place ≡ place
   pub key_fits : length pair.key ≤ 264
 
--- if a write takes a key out of a tree, its pages become those of a tree without it
+-- if the write succeeds, the tree's pages become those of a tree without the key
 abbrev pub TakesOut : {S K E : Type 0} → (S → K) → (S → ℕ → Standing) → (S → ℕ → ℕ → ℕ)
     → (root : ℕ) (key : List ℕ) → Result ℕ E → (old new : S) → Type 0
 TakesOut kept_of standing_of words_of root key result old new =
     IfOk result (λ to. BecomesTree kept_of standing_of words_of (pages (words_of old) root)
     (without key (pairs (words_of old) root)) to old new)
 
--- if a write puts a pair into a tree, its pages become those of a tree with it
+-- if the write succeeds, the tree's pages become those of a tree with the pair
 abbrev pub PutsInto : {S K E : Type 0} → (S → K) → (S → ℕ → Standing) → (S → ℕ → ℕ → ℕ)
     → (root : ℕ) (pair : Pair) → Result ℕ E → (old new : S) → Type 0
 PutsInto kept_of standing_of words_of root pair result old new =
     IfOk result (λ to. BecomesTree kept_of standing_of words_of (pages (words_of old) root)
     (put pair (pairs (words_of old) root)) to old new)
 
--- the pairs of a page, with these in the place of those below a step
+-- a page's pairs, with these replacing the ones below a step
 abbrev pub around : (words : ℕ → ℕ → ℕ) → Step → List Pair → List Pair
 around words step ps =
     pairs_below (level_of (words step.page)) words (take step.at (items_of (words step.page)))
     ++ (ps ++ pairs_below (level_of (words step.page)) words
     (drop (suc step.at) (items_of (words step.page))))
 
--- the pairs of a tree, with these in the place of those below a way
+-- a tree's pairs, with these replacing the ones below a path
 abbrev pub whole : (words : ℕ → ℕ → ℕ) → List Step → List Pair → List Pair
 whole words [] ps = ps
 whole words (step ∷ below) ps = around words step (whole words below ps)
 
--- how many items the page at the end of a way keeps at least
+-- the smallest number of items of the page at the end of a path
 abbrev pub least_at : List Step → (level : ℕ) → ℕ
 least_at [] level = least_of_root level
 least_at (step ∷ below) level = 6
 
--- the first key is the same
+-- the first key is unchanged
 abbrev pub KeepsLeast : List Pair → List Pair → Type 0
 KeepsLeast before after = (k : List ℕ) → StartsAt k before → StartsAt k after
 
--- the pages in use before have become those of a well-formed tree from this page of a level down
+-- the pages in use before have become those of a well-formed tree from this page on this level down
 pub record BecomesNode {S K : Type 0} (kept_of : S → K) (standing_of : S → ℕ → Standing)
     (words_of : S → ℕ → ℕ → ℕ)
     (before : List ℕ) (level least : ℕ) (page : ℕ) (old new : S) : Type 0 where
   pub tree : IsTreeAt level least (standing_of new) (words_of new) page
   pub swaps : Swaps kept_of standing_of words_of before (pages_at level (words_of new) page) old new
 
--- of a tree the page at the end of a way, with what is below it, has become another
+-- in a tree, the page at the end of a path, with everything below it, has become another page
 pub record IsChanged {S K : Type 0} (kept_of : S → K) (standing_of : S → ℕ → Standing)
     (words_of : S → ℕ → ℕ → ℕ)
     (root : ℕ) (above : List Step) (changed : Changed) (level : ℕ) (start now : S) : Type 0 where
@@ -114,8 +114,8 @@ pub record IsChanged {S K : Type 0} (kept_of : S → K) (standing_of : S → ℕ
       (pairs_at level (words_of now) changed.page)
   pub rising : IsRising (whole (words_of start) above (pairs_at level (words_of now) changed.page))
 
--- slots in the place of a cut of a leaf leave it enough items, and the tree's keys rise; if it says
--- so, the first key is the same
+-- if slots replace a cut of a leaf, the leaf has enough items and the tree's keys ascend; if
+-- `same_least` is set, the first key is unchanged
 pub record IsEdit (words : ℕ → ℕ → ℕ) (above : List Step) (leaf : ℕ) (edit : Edit) (given : Pair)
     (slots : List Slot) : Type 0 where
   pub is_leaf : level_of (words leaf) ≡ 0

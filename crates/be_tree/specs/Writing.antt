@@ -1,4 +1,4 @@
--- What a node in hand takes to be written, and what is made of it.
+-- What an unwritten node needs to be written, and what it becomes.
 use Rattle.std.specs.Prelude.{◌≡◌, ◌≢◌, ℕ, suc, ◌≤◌, List, ◌∷◌, ◌++◌, length, All, IsTrue, Result}
 use Rattle.std.specs.Prelude.{OnErr, IfErr, IfOk}
 use Rattle.arrayvec.specs.ArrayVec.{ArrayVec}
@@ -12,26 +12,26 @@ use Rattle.be_tree_reading.specs.Pair.{Pair}
 use Rattle.be_tree.specs.Slot.{IsReady, pairs_of}
 use Rattle.be_tree_reading.specs.Tree.{Becomes, BecomesTree, IsBelow, pages_below, pairs_below}
 
--- each of a node's items can be read, also the pair that is put among them
+-- each of a node's items can be read, and so can the pair that is put among them
 abbrev pub AreReady : (standing : ℕ → Standing) (words : ℕ → ℕ → ℕ) (given : Pair) → List Slot
     → Type 0
 AreReady standing words given slots = All (IsReady standing words) slots × (length given.key ≤ 264)
 
--- and what is below the items is well formed
+-- and what is below its items is well formed
 abbrev pub IsWritable : {S : Type 0} → (S → ℕ → Standing) → (S → ℕ → ℕ → ℕ) → (now : S)
     → (level : ℕ) (given : Pair) → List Slot → Type 0
 IsWritable standing_of words_of now level given slots =
     IsBelow level (standing_of now) (words_of now) (pairs_of (words_of now) given slots)
     × AreReady (standing_of now) (words_of now) given slots
 
--- a page that is in use, and not below the node
+-- a page that is in use, but not below the node
 abbrev pub IsApart : {S : Type 0} → (S → ℕ → Standing) → (S → ℕ → ℕ → ℕ) → (now : S)
     → (level : ℕ) (given : Pair) → List Slot → (page : ℕ) → Type 0
 IsApart standing_of words_of now level given slots page =
     IsTrue (is_kept (standing_of now page)) ×
     (times page (pages_below level (words_of now) (pairs_of (words_of now) given slots)) ≡ 0)
 
--- two such pages
+-- two different such pages
 abbrev pub AreApart : {S : Type 0} → (S → ℕ → Standing) → (S → ℕ → ℕ → ℕ) → (now : S)
     → (level : ℕ) (given : Pair) → List Slot → (left right : ℕ) → Type 0
 AreApart standing_of words_of now level given slots left right =
@@ -49,7 +49,7 @@ Replaces kept_of standing_of words_of level given slots pages branches old new =
     (pairs_below level (words_of old) (pairs_of (words_of old) given slots)) (suc level) branches
     old new
 
--- if a write packs the node, that is so of the branches that it returns
+-- if a write packs the node, this holds for the branches that it returns
 abbrev pub Packs : {S K E : Type 0} → (S → K) → (S → ℕ → Standing) → (S → ℕ → ℕ → ℕ)
     → (level : ℕ) (given : Pair) → List Slot → (pages : List ℕ) → Result (ArrayVec Slot) E → S → S
     → Type 0
@@ -57,7 +57,7 @@ Packs kept_of standing_of words_of level given slots pages result old new =
     IfOk result (λ branches. Replaces kept_of standing_of words_of level given slots pages
     (pairs_of (words_of new) given branches.items) old new)
 
--- and those of a tree with this root
+-- or they have become a tree's pages, with this root
 abbrev pub ReplacesTree : {S K : Type 0} → (S → K) → (S → ℕ → Standing) → (S → ℕ → ℕ → ℕ)
     → (level : ℕ) (given : Pair) → List Slot → (page root : ℕ) → S → S → Type 0
 ReplacesTree kept_of standing_of words_of level given slots page root old new =
@@ -65,8 +65,8 @@ ReplacesTree kept_of standing_of words_of level given slots page root old new =
     (page ∷ pages_below level (words_of old) (pairs_of (words_of old) given slots))
     (pairs_below level (words_of old) (pairs_of (words_of old) given slots)) root old new
 
--- If a write is refused, what was there when it began is there again once it is undone, and no page
--- was left. The write has at most so many pages more in hand than before, and fewer if refused.
+-- If a write is refused, undoing it restores what was there when it began, and no page was left to
+-- take. The write holds at most `most` pages more than before, and fewer if it is refused.
 abbrev pub Refuses : {S K A : Type 0} → (S → K) → (S → ℕ → Standing) → (S → ℕ → ℕ → ℕ)
     → (full : S → ℕ → Type 0) → (most : ℕ) → Result A Refusal → S → S → Type 0
 Refuses kept_of standing_of words_of full most result old new =

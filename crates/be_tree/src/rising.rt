@@ -1,8 +1,8 @@
-//! The pages above a page that was changed are changed, as far as they have to be.
+//! Changes the pages above a changed page, as far as necessary.
 //!
-//! A page that is copied has another number, so the branch to it is changed. A page of which the
-//! least key is another one is named by it above. If neither is so, the pages above stay as they
-//! are.
+//! A page that is copied gets another number, so the branch to it changes. If a page's lowest key
+//! changes, the branch above has to have the new key. If neither happens, the pages above stay as
+//! they are.
 ghost use Rattle.std.specs.Prelude.{◌≡◌, ◌+◌, ◌<◌, ◌⊎◌, IfOk, IsTrue, length, true};
 ghost use Rattle.be_tree_reading.specs.Page.{items_of, level_of};
 ghost use Rattle.be_tree.specs.Path.{IsChanged, IsEdit, IsWayIn, whole};
@@ -18,19 +18,19 @@ use crate::splicing::{Cut, splice};
 use be_pages::Room;
 use be_value::Refusal;
 
-/// A page of a tree that was changed.
+/// A changed page of a tree.
 #[derive(Clone, Copy)]
 pub(crate) struct Changed {
-    /// The page as the tree has it.
+    /// The page before the change.
     pub(crate) was: u64,
-    /// The page that has the items now: the same one, or its copy.
+    /// The page that now has the items: the same one, or its copy.
     pub(crate) page: u64,
-    /// Whether the least key below it is known to be the same.
+    /// Whether the lowest key below it is known to be unchanged.
     pub(crate) same_least: bool,
 }
 
-/// Whether the least key below a page is known to be the same, where the child of its branch of
-/// this number was changed.
+/// Whether the lowest key below a page is known to be unchanged, after the child of branch `at` was
+/// changed.
 fn keeps_least(child: Changed, at: usize) -> bool
     ensures { result ≡ true → (0 < at) ⊎ (child.same_least ≡ true) }
 {
@@ -38,8 +38,8 @@ fn keeps_least(child: Changed, at: usize) -> bool
 }
 
 /// Writes the branches to a changed page and to those above it that change with it, the lowest
-/// first, and gives the new root. Above a page that was changed where it is, with its least key,
-/// nothing changes.
+/// first, and returns the new root. If a page was changed in place and keeps its lowest key,
+/// nothing above it changes.
 pub(crate) fn rise<R: Room>(
     room: &mut R,
     root: u64,
@@ -85,15 +85,15 @@ pub(crate) fn rise<R: Room>(
     Ok(below.page + 1)
 }
 
-/// Which items of a leaf are left out, and whether its first key is known to be the same once
-/// others are put there.
+/// Which items of a leaf are left out, and whether its first key is known to be unchanged after
+/// others were put in their place.
 #[derive(Clone, Copy)]
 pub(crate) struct Edit {
     pub(crate) cut: Cut,
     pub(crate) same_least: bool,
 }
 
-/// Puts slots in the place of a cut of the leaf that a path leads to, and gives the new root.
+/// Replaces a cut of the leaf at the end of a path by slots, and returns the new root.
 pub(crate) fn change_leaf<R: Room>(
     room: &mut R,
     root: u64,

@@ -1,11 +1,11 @@
-//! A node that has too many items or too few is settled: it is split, or shares items with a
+//! Settles nodes that have too many or too few items: such a node is split, or shares items with a
 //! neighbour, or joins one.
 //!
-//! A node of thirteen items is written with those of its left neighbour, if that one has room:
-//! it takes all that it can hold. Otherwise it is split. A node of five is written with those of a
-//! neighbour, the next one if there is one: to one page if they fit, otherwise to two. So the page
-//! above has one branch more or less, or as many as before, and may be too large or too small in
-//! turn.
+//! If a node has thirteen items and its left neighbour has room, the items of both are written
+//! together. The neighbour takes all that it can hold. If it has no room, the node is split. If a
+//! node has five items, they are written together with those of a neighbour, the next one if there
+//! is one. They go to one page if they fit, otherwise to two. So the page above gets one branch
+//! more or fewer, or as many as before, and may itself become too large or too small.
 ghost use Rattle.std.specs.Prelude.{◌≡◌, ◌≤◌, ◌+◌, ◌-◌, ◌<◌, ◌⊎◌, ◌++◌, suc, take, drop};
 ghost use Rattle.std.specs.Prelude.{length, true, IfOk, IsTrue};
 ghost use Rattle.be_pages.specs.Pages.{IsUnchanged, is_readable};
@@ -31,17 +31,17 @@ use be_pages::{Look, Room};
 use be_tree_reading::{HEADER_WORDS, ITEM_WORDS, LEAST_ITEMS, MOST_ITEMS, child_at};
 use be_value::Refusal;
 
-/// What is in the place of some of a node's branches: the branches to the pages that were written.
+/// The branches to the pages that were written, which replace some of a node's branches.
 #[derive(Drop)]
 pub(crate) struct Settled {
     pub(crate) cut: Cut,
     pub(crate) branches: ArrayVec<Slot, 2>,
 }
 
-/// What a node in hand was settled to, or why it wasn't.
+/// How an unwritten node was settled, or why it wasn't.
 type Settling = Result<Settled, Refusal>;
 
-/// Writes a node in hand that is too large, whose page is the child of a step, in two pages.
+/// Writes an unwritten node that is too large to two pages. Its page is the child at a step.
 fn settle_split<R: Room>(room: &mut R, step: Step, was: u64, node: Node<'_>) -> Settling
     requires child { (start : R) × IsChildInHand R.kept R.standing R.words step was node.level
         node.pair.now node.slots.now start room.old }
@@ -57,7 +57,7 @@ fn settle_split<R: Room>(room: &mut R, step: Step, was: u64, node: Node<'_>) -> 
     Ok(Settled { cut, branches })
 }
 
-/// Writes it together with the items of the child before it.
+/// Writes the node together with the items of the child before it.
 fn settle_left<R: Room>(room: &mut R, step: Step, was: u64, node: Node<'_>) -> Settling
     requires child { (start : R) × IsChildInHand R.kept R.standing R.words step was node.level
         node.pair.now node.slots.now start room.old }
@@ -85,7 +85,7 @@ fn settle_left<R: Room>(room: &mut R, step: Step, was: u64, node: Node<'_>) -> S
     Ok(Settled { cut, branches })
 }
 
-/// Writes it together with the items of the child after it.
+/// Writes the node together with the items of the child after it.
 fn settle_right<R: Room>(room: &mut R, step: Step, was: u64, node: Node<'_>) -> Settling
     requires child { (start : R) × IsChildInHand R.kept R.standing R.words step was node.level
         node.pair.now node.slots.now start room.old }
@@ -113,7 +113,7 @@ fn settle_right<R: Room>(room: &mut R, step: Step, was: u64, node: Node<'_>) -> 
     Ok(Settled { cut, branches })
 }
 
-/// Whether the child before a step's is there and has room for an item.
+/// Whether there is a child before the step's that has room for an item.
 fn left_has_room<R: Room>(room: &mut R, step: Step, was: u64, node: Node<'_>) -> bool
     requires child { (start : R) × IsChildInHand R.kept R.standing R.words step was node.level
         node.pair.now node.slots.now start room.old }
@@ -129,7 +129,7 @@ fn left_has_room<R: Room>(room: &mut R, step: Step, was: u64, node: Node<'_>) ->
     count_of(room, left) < MOST_ITEMS
 }
 
-/// Settles a node in hand, whose page is the child of a step.
+/// Settles an unwritten node, whose page is the child at a step.
 fn settle_child<R: Room>(room: &mut R, step: Step, was: u64, node: Node<'_>) -> Settling
     requires child { (start : R) × IsChildInHand R.kept R.standing R.words step was node.level
         node.pair.now node.slots.now start room.old }
@@ -150,7 +150,7 @@ fn settle_child<R: Room>(room: &mut R, step: Step, was: u64, node: Node<'_>) -> 
     settle_left(room, step, was, node)
 }
 
-/// Leaves out one slot of a cut of two.
+/// Removes one slot of a cut if the cut has two.
 fn leave_one(slots: &mut ArrayVec<Slot, 24>, cut: Cut)
     requires in_range { cut.at + cut.gone ≤ length slots.old.items }
     requires gone { (0 < cut.gone) × (cut.gone ≤ 2) }
@@ -162,7 +162,7 @@ fn leave_one(slots: &mut ArrayVec<Slot, 24>, cut: Cut)
     }
 }
 
-/// The slots of a page's items, with others in the place of a cut.
+/// The slots of a page's items, with others replacing a cut.
 fn slots_with<L: Look>(look: &mut L, page: u64, settled: Settled) -> ArrayVec<Slot, 24>
     requires readable { IsTrue (is_readable (L.standing look.old page)) }
     requires page { IsPage (L.words look.old page) }
@@ -191,8 +191,8 @@ fn insert_all(slots: &mut ArrayVec<Slot, 24>, at: usize, mut more: ArrayVec<Slot
     }
 }
 
-/// Puts slots in the place of the one at a number. If one replaces one, as mostly, no other is
-/// moved.
+/// Replaces the slot at a place by others. If it is replaced by a single one, as usual, no other
+/// slot is moved.
 fn replace_at(slots: &mut ArrayVec<Slot, 24>, at: usize, mut more: ArrayVec<Slot, 2>)
     requires in_range { at < length slots.old.items }
     requires room { length slots.old.items + length more.items ≤ 25 }
@@ -210,7 +210,7 @@ fn replace_at(slots: &mut ArrayVec<Slot, 24>, at: usize, mut more: ArrayVec<Slot
     }
 }
 
-/// Whether a page may have so many items: a root needs two branches, and each other page six.
+/// Whether a page may have this many items: a root needs two branches, any other page six items.
 fn fits(count: usize, is_root: bool) -> bool
     ensures most { result ≡ true → count ≤ 12 }
     ensures least { result ≡ true → 2 ≤ count }
@@ -222,16 +222,16 @@ fn fits(count: usize, is_root: bool) -> bool
     is_root || count >= LEAST_ITEMS
 }
 
-/// What a node in hand has become once it was settled.
+/// What happened to an unwritten node when it was settled.
 #[derive(Drop)]
 pub(crate) enum Turn {
     /// The tree is whole, and has this root.
     Whole(u64),
-    /// The page above has too many items now, or too few, and these slots are to be written for it.
+    /// The page above now has too many items or too few. These slots are to be written for it.
     Above(u64, ArrayVec<Slot, 24>),
 }
 
-/// Settles a node in hand that isn't the root, and writes what is above where that can be.
+/// Settles an unwritten node that isn't the root, and writes what is above it if possible.
 fn settle_once<R: Room>(
     room: &mut R,
     root: u64,
@@ -276,8 +276,8 @@ fn settle_once<R: Room>(
     Ok(Turn::Above(step.page, slots))
 }
 
-/// Settles a node in hand and the pages above it that have too many items or too few then, and
-/// writes the others above. Gives the new root.
+/// Settles an unwritten node, and the pages above it that then have too many items or too few.
+/// Writes the other pages above, and returns the new root.
 #[inline(never)]
 pub(crate) fn settle<R: Room>(
     room: &mut R,

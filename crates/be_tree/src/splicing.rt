@@ -1,8 +1,8 @@
-//! Items are put in the place of a page's items.
+//! Replaces some of a page's items by others.
 //!
-//! A page that this write has taken is changed where it is: the items after the place are moved up
-//! or down, and the others stay. A page that was there when the write began keeps its words: its
-//! items are copied to a page that is taken for them, each to the place that it has then.
+//! A page that this write has taken is changed in place: the items after the cut are moved up or
+//! down, and the others stay. A page that was there when the write began keeps its words: its items
+//! are copied to a page that is taken for them, directly to their new places.
 ghost use Rattle.std.specs.Prelude.{◌≡◌, ℕ, ◌+◌, ◌^◌, ◌<◌, ◌≤◌, All, IsTrue, length};
 ghost use Rattle.std.specs.Prelude.{IfErr, IfOk, OnErr, slice_index_or};
 ghost use Rattle.be_pages.specs.declared.room.Standing.TheVariants.{Free, Taken, Filled};
@@ -22,7 +22,7 @@ use be_pages::Room;
 use be_tree_reading::{HEADER_WORDS, ITEM_WORDS};
 use be_value::Refusal;
 
-/// Copies items to lower places, or to another page, from the first one on.
+/// Copies items to lower places, or to another page, starting with the first.
 fn copy_down<R: Room>(room: &mut R, from: u64, first: usize, page: u64, at: usize, count: usize)
     requires filled { R.standing room.old page ≡ Filled }
     requires in_page { (at + count ≤ 12) × (first + count ≤ 12) }
@@ -40,7 +40,7 @@ fn copy_down<R: Room>(room: &mut R, from: u64, first: usize, page: u64, at: usiz
     }
 }
 
-/// Copies items to higher places, from the last one on.
+/// Copies items to higher places, starting with the last.
 fn copy_up<R: Room>(room: &mut R, page: u64, first: usize, at: usize, count: usize)
     requires filled { R.standing room.old page ≡ Filled }
     requires in_page { at + count ≤ 12 }
@@ -58,7 +58,7 @@ fn copy_up<R: Room>(room: &mut R, page: u64, first: usize, at: usize, count: usi
     }
 }
 
-/// Copies items of a page to other places of it, so that none is written over before it is copied.
+/// Moves items within a page, so that none is overwritten before it is copied.
 fn move_items<R: Room>(room: &mut R, page: u64, first: usize, at: usize, count: usize)
     requires filled { R.standing room.old page ≡ Filled }
     requires in_page { (at + count ≤ 12) × (first + count ≤ 12) }
@@ -74,15 +74,15 @@ fn move_items<R: Room>(room: &mut R, page: u64, first: usize, at: usize, count: 
     copy_down(room, page, first, page, at, count);
 }
 
-/// Which of a node's items are left out: `gone` of them from number `at` on.
+/// The items of a node that are left out: `gone` of them from number `at` on.
 #[derive(Clone, Copy)]
 pub(crate) struct Cut {
     pub(crate) at: usize,
     pub(crate) gone: usize,
 }
 
-/// Moves the items after a cut of a page that this write has taken, so that there is room for
-/// `more` in its place.
+/// Moves the items after a cut, on a page that this write has taken, to make room for `more` items
+/// in the cut's place.
 fn open_here<R: Room>(room: &mut R, page: u64, cut: Cut, more: usize)
     requires filled { R.standing room.old page ≡ Filled }
     requires page { IsPage (R.words room.old page) }
@@ -99,8 +99,9 @@ fn open_here<R: Room>(room: &mut R, page: u64, cut: Cut, more: usize)
     move_items(room, page, next, cut.at + more, rest);
 }
 
-/// Takes a page for a copy of one of a level. From level 2 on a page is copied by so many writes
-/// that its earlier copy is near; below that a page that was freed last is nearer.
+/// Takes a page for the copy of a page on this level. From level 2 on, it asks for the page that
+/// this one was copied from, which has most of the words already. Lower pages have usually left the
+/// cache by then, so a page that was freed last is nearer.
 fn take_copy<R: Room>(room: &mut R, page: u64, level: u64) -> Result<u64, Refusal>
     requires open { IsTrue (R.is_open (R.kept room.old)) }
     ensures page { IfOk result (λ copy. (copy < 2 ^ 32) × (R.standing room.old copy ≡ Free)) }
@@ -117,8 +118,8 @@ fn take_copy<R: Room>(room: &mut R, page: u64, level: u64) -> Result<u64, Refusa
     room.take_like(page)
 }
 
-/// Copies a page to one that is taken for it, with room for `more` items in the place of a cut, and
-/// gives the copy.
+/// Copies a page to one that is taken for it, with room for `more` items in a cut's place, and
+/// returns the copy.
 fn open_copy<R: Room>(room: &mut R, page: u64, cut: Cut, more: usize) -> Result<u64, Refusal>
     requires in_use { IsTrue (is_kept (R.standing room.old page)) }
     requires page { IsPage (R.words room.old page) }
@@ -142,7 +143,7 @@ fn open_copy<R: Room>(room: &mut R, page: u64, cut: Cut, more: usize) -> Result<
     Ok(copy)
 }
 
-/// Writes slots one after the other, the first as a page's item of this number.
+/// Writes the items of slots one after another, from item number `at` of a page on.
 pub(crate) fn store_slots<R: Room>(room: &mut R, page: u64, at: usize, slots: &[Slot], pair: &Item)
     requires filled { R.standing room.old page ≡ Filled }
     requires in_page { at + length slots.now ≤ 12 }
@@ -167,8 +168,8 @@ pub(crate) fn store_slots<R: Room>(room: &mut R, page: u64, at: usize, slots: &[
     }
 }
 
-/// Puts slots in the place of a cut: on the page itself, if this write has taken it, otherwise on a
-/// copy, and the page is given up. Gives the page that has the items then.
+/// Replaces a cut by slots. This happens on the page itself if this write has taken it, otherwise
+/// on a copy, and the page is given up. Returns the page that now has the items.
 pub(crate) fn splice<R: Room>(
     room: &mut R,
     page: u64,

@@ -1,4 +1,4 @@
-//! The words of a page, written.
+//! Writes a page's words.
 ghost use Rattle.std.specs.Prelude.{◌≡◌, ◌≢◌, [], ◌+◌, ◌-◌, ◌*◌, ◌/◌, ◌%◌, ◌<◌, ◌≤◌, ◌++◌};
 ghost use Rattle.std.specs.Prelude.{IsTrue, length, take, map};
 ghost use Rattle.std.specs.List.{range_with_len};
@@ -21,8 +21,8 @@ use arrayvec::ArrayVec;
 use be_pages::{Look, Room};
 use be_tree_reading::{HEADER_WORDS, ITEM_WORDS, LENGTH_BITS, word_from};
 
-/// Writes bytes into the words from a place on, of a page that has a word filled, eight in a word,
-/// and zeros after the last.
+/// Writes bytes into a page's words from a place on, eight per word, with zeros after the last
+/// byte. The page has a filled word.
 pub(crate) fn store_bytes<R: Room>(room: &mut R, page: u64, at: usize, bytes: &[u8])
     requires filled { R.standing room.old page ≡ Filled }
     requires in_page { at + words_for (length bytes.now) ≤ 512 }
@@ -38,7 +38,7 @@ pub(crate) fn store_bytes<R: Room>(room: &mut R, page: u64, at: usize, bytes: &[
     }
 }
 
-/// Writes an item at a place, of a page that has a word filled.
+/// Writes an item to this place of a page that has a filled word.
 pub(crate) fn store_item<R: Room>(room: &mut R, page: u64, at: usize, item: &Item)
     requires filled { R.standing room.old page ≡ Filled }
     requires in_page { at + 42 ≤ 512 }
@@ -57,8 +57,8 @@ pub(crate) fn store_item<R: Room>(room: &mut R, page: u64, at: usize, item: &Ite
     store_bytes(room, page, at + 1, bytes);
 }
 
-/// Copies the words of an item to a place of a page that has a word filled. An item that lies there
-/// already is left alone.
+/// Copies an item's words to this place of a page that has a filled word. Does nothing if the item
+/// is there already.
 #[inline(always)]
 pub(crate) fn copy_item<R: Room>(room: &mut R, page: u64, at: usize, from: u64, place: usize)
     requires filled { R.standing room.old page ≡ Filled }
@@ -81,7 +81,7 @@ pub(crate) fn copy_item<R: Room>(room: &mut R, page: u64, at: usize, from: u64, 
     }
 }
 
-/// The first `skip` bytes of a word, and after them the first bytes of a number.
+/// The first `skip` bytes of a word, followed by the first bytes of a number.
 #[inline(always)]
 fn joined(first: u64, number: u64, skip: usize) -> u64
     requires { (0 < skip) × (skip < 8) }
@@ -91,8 +91,8 @@ fn joined(first: u64, number: u64, skip: usize) -> u64
     (first >> (64 - 8 * skip) << (64 - 8 * skip)) + (number >> (8 * skip))
 }
 
-/// Writes the first `skip` bytes of a word, a number in the eight bytes after them, and zeros up to
-/// the end of its last word.
+/// Writes the first `skip` bytes of a word, then a number in the next eight bytes. The rest of the
+/// last word is zeros.
 #[inline(always)]
 fn store_number<R: Room>(room: &mut R, page: u64, at: usize, first: u64, skip: usize, number: u64)
     requires filled { R.standing room.old page ≡ Filled }
@@ -113,7 +113,8 @@ fn store_number<R: Room>(room: &mut R, page: u64, at: usize, first: u64, skip: u
     room.refill(page, at + 1, number << (64 - 8 * skip));
 }
 
-/// A word whose first `bytes` bytes are those of a word of a page. Of no byte, the page isn't read.
+/// A word whose first `bytes` bytes are those of a page's word. If `bytes` is 0, the page isn't
+/// read.
 #[inline(always)]
 fn begun_word<L: Look>(look: &mut L, page: u64, at: usize, bytes: usize) -> u64
     requires readable { IsTrue (is_readable (L.standing look.old page)) }
@@ -128,8 +129,9 @@ fn begun_word<L: Look>(look: &mut L, page: u64, at: usize, bytes: usize) -> u64
     look.word(page, at)
 }
 
-/// Writes the branch to another page at a place of a page that has a word filled. The whole words
-/// of its key are copied as words, and the rest of it and the number are written as words too.
+/// Writes the branch to another page at this place of a page that has a filled word. The whole
+/// words of its key are copied as words, and the rest of the key and the number are written as
+/// words too.
 fn store_branch<R: Room>(room: &mut R, page: u64, at: usize, child: u64)
     requires filled { R.standing room.old page ≡ Filled }
     requires in_page { at + 42 ≤ 512 }
@@ -151,7 +153,7 @@ fn store_branch<R: Room>(room: &mut R, page: u64, at: usize, child: u64)
     store_number(room, page, at + 1 + whole, last, key_len % 8, child);
 }
 
-/// Writes the item of a slot at a place of a page that has a word filled.
+/// Writes a slot's item to this place of a page that has a filled word.
 pub(crate) fn store_slot<R: Room>(room: &mut R, page: u64, at: usize, slot: Slot, pair: &Item)
     requires filled { R.standing room.old page ≡ Filled }
     requires in_page { at + 42 ≤ 512 }
@@ -170,7 +172,7 @@ pub(crate) fn store_slot<R: Room>(room: &mut R, page: u64, at: usize, slot: Slot
     }
 }
 
-/// Writes the slots of a page's items into an empty list.
+/// Writes the slots for a page's items into an empty list.
 pub(crate) fn fill_slots<L: Look>(look: &mut L, page: u64, slots: &mut ArrayVec<Slot, 24>)
     requires readable { IsTrue (is_readable (L.standing look.old page)) }
     requires page { IsPage (L.words look.old page) }

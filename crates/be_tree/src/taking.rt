@@ -1,4 +1,4 @@
-//! The item that a path leads to is taken out.
+//! Takes out the item that a path leads to.
 ghost use Rattle.std.specs.Prelude.{◌≡◌, IsTrue, Ok, length};
 ghost use Rattle.be_tree.specs.Counting.{most_taken};
 ghost use Rattle.be_tree.specs.Path.{IsPathAt, TakesOut, least_at};
@@ -15,7 +15,7 @@ use arrayvec::ArrayVec;
 use be_pages::Room;
 use be_tree_reading::LEAST_ITEMS;
 
-/// Takes out the item that a path leads to, which has this number, and gives the new root.
+/// Takes out the item that a path leads to, which has number `at`, and returns the new root.
 pub(crate) fn take_out<R: Room>(
     room: &mut R,
     root: u64,
@@ -40,7 +40,7 @@ pub(crate) fn take_out<R: Room>(
     change_leaf(room, root, path, edit, &[], &none)
 }
 
-/// Takes an item out of a leaf that has no more than it has to keep.
+/// Takes an item out of a leaf that has only as many as it needs.
 #[inline(never)]
 fn underflow<R: Room>(room: &mut R, root: u64, key: &[u8], path: &Path, at: usize) -> NewRoot
     requires path { IsPathAt R.standing R.words room.old root key.now path.now (Ok at) }
@@ -56,7 +56,7 @@ fn underflow<R: Room>(room: &mut R, root: u64, key: &[u8], path: &Path, at: usiz
     settle(room, root, &path.above, path.leaf, slots, &none)
 }
 
-/// How many items a leaf below these pages keeps at least.
+/// The smallest number of items of a leaf below these pages.
 fn least_of_leaf(above: &[Step]) -> usize
     ensures { result ≡ least_at above.now 0 }
 {

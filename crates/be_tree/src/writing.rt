@@ -1,7 +1,7 @@
-//! A node in hand is written to pages of its own.
+//! Writes unwritten nodes to new pages.
 //!
-//! This is what becomes of a node that has too many items or too few: its items are on one page or
-//! on two, and go to one that is taken for them, or to two. The pages where they were are given up.
+//! This is for nodes that have too many or too few items. Their items are on one page or on two,
+//! and go to one or two pages that are taken for them. The pages where they were are given up.
 ghost use Rattle.std.specs.Prelude.{◌≡◌, ◌+◌, ◌-◌, ◌^◌, ◌<◌, ◌≤◌, [], ◌∷◌};
 ghost use Rattle.std.specs.Prelude.{length, take, All, IfOk};
 ghost use Rattle.std.specs.Prelude.{IsTrue};
@@ -20,7 +20,7 @@ use be_pages::{Look, Room};
 use be_tree_reading::{LEAST_ITEMS, MOST_ITEMS, child_at};
 use be_value::Refusal;
 
-/// Writes a node to a page of its own, and returns the page.
+/// Writes a node to a new page, and returns that page.
 fn write_node<R: Room>(room: &mut R, node: Node<'_>) -> Result<u64, Refusal>
     requires size { (0 < length node.slots.now) × (length node.slots.now ≤ 12) }
     requires ready { AreReady (R.standing room.old) (R.words room.old) node.pair.now
@@ -41,7 +41,7 @@ fn write_node<R: Room>(room: &mut R, node: Node<'_>) -> Result<u64, Refusal>
     Ok(page)
 }
 
-/// Writes a node that is changed to a page of its own, and gives the old one up. Gives the page.
+/// Writes a changed node to a new page, gives up the old one, and returns the new one.
 fn write_changed<R: Room>(room: &mut R, old: u64, node: Node<'_>) -> Result<u64, Refusal>
     requires size { (0 < length node.slots.now) × (length node.slots.now ≤ 12) }
     requires ready { AreReady (R.standing room.old) (R.words room.old) node.pair.now
@@ -61,7 +61,8 @@ fn write_changed<R: Room>(room: &mut R, old: u64, node: Node<'_>) -> Result<u64,
     Ok(page)
 }
 
-/// Writes a node with what is below it, as `write_changed` does, and gives its page.
+/// Writes a node as `write_changed` does, and returns the new page. Its contract covers what is
+/// below the node.
 pub(crate) fn write_branch<R: Room>(room: &mut R, old: u64, node: Node<'_>) -> Result<u64, Refusal>
     requires node { IsWritable R.standing R.words room.old node.level node.pair.now node.slots.now }
     requires size { (6 ≤ length node.slots.now) × (length node.slots.now ≤ 12) }
@@ -77,8 +78,8 @@ pub(crate) fn write_branch<R: Room>(room: &mut R, old: u64, node: Node<'_>) -> R
     Ok(page)
 }
 
-/// Writes a node in hand to two pages, the first `cut` items to the first, and gives them. The old
-/// page is given up.
+/// Writes an unwritten node to two pages, its first `cut` items to the first, and returns the
+/// pages. Gives up the old page.
 fn write_parts<R: Room>(
     room: &mut R,
     old: u64,
@@ -106,7 +107,7 @@ fn write_parts<R: Room>(
     Ok((left, right))
 }
 
-/// How many of the items the first of two pages takes: all that it can hold while six are left for
+/// How many items the first of two pages takes: all that it can hold, as long as six are left for
 /// the second.
 fn first_of_two(len: usize) -> usize
     requires { (12 < len) × (len ≤ 24) }
@@ -120,8 +121,8 @@ fn first_of_two(len: usize) -> usize
     }
 }
 
-/// Writes a node in hand to one page or to two, and gives the branches to them. The old page is
-/// given up.
+/// Writes an unwritten node to one page or to two, and returns the branches to them. Gives up the
+/// old page.
 pub(crate) fn pack<R: Room>(
     room: &mut R,
     old: u64,
@@ -150,7 +151,7 @@ pub(crate) fn pack<R: Room>(
     Ok(branches)
 }
 
-/// The same of a node in hand whose items are on two neighbours. Both are given up.
+/// The same for an unwritten node whose items are on two neighbouring pages. Gives up both.
 pub(crate) fn pack_two<R: Room>(
     room: &mut R,
     left: u64,
@@ -174,7 +175,7 @@ pub(crate) fn pack_two<R: Room>(
     Ok(branches)
 }
 
-/// Writes items as a tree of one page, and returns its root.
+/// Writes items as a one-page tree, and returns its root.
 pub(crate) fn write_first_root<R: Room>(
     room: &mut R,
     slots: &[Slot],
@@ -200,7 +201,7 @@ pub(crate) fn write_first_root<R: Room>(
     Ok(top + 1)
 }
 
-/// Writes items as a tree of their own, and gives its root. The old root's page is given up.
+/// Writes items as a tree of their own, and returns its root. Gives up the old root's page.
 pub(crate) fn write_root<R: Room>(room: &mut R, old: u64, node: Node<'_>) -> Result<u64, Refusal>
     requires node { IsWritable R.standing R.words room.old node.level node.pair.now node.slots.now }
     requires enough { least_of_root node.level ≤ length node.slots.now }
@@ -227,8 +228,8 @@ pub(crate) fn write_root<R: Room>(room: &mut R, old: u64, node: Node<'_>) -> Res
     Ok(top + 1)
 }
 
-/// Writes what is left of a root as a tree, and gives its root: none if nothing is left, and the
-/// page of the one branch that is left of an inner root. The old root's page is given up.
+/// Writes what is left of a root as a tree, and returns its root: 0 if nothing is left. If one
+/// branch of an inner root is left, the new root is its page. Gives up the old root's page.
 pub(crate) fn write_rest<R: Room>(room: &mut R, old: u64, node: Node<'_>) -> Result<u64, Refusal>
     requires low { node.level < 2 ^ 32 }
     requires node { IsWritable R.standing R.words room.old node.level node.pair.now node.slots.now }
@@ -253,7 +254,7 @@ pub(crate) fn write_rest<R: Room>(room: &mut R, old: u64, node: Node<'_>) -> Res
     Ok(root)
 }
 
-/// The page that a slot's branch names.
+/// The page of a slot's branch.
 fn child_of<L: Look>(look: &mut L, slot: Slot, pair: &Item) -> u64
     requires ready { IsReady (L.standing look.old) (L.words look.old) slot }
     requires names_page { length (pair_of (L.words look.old) pair.now slot).payload ≡ 8 }

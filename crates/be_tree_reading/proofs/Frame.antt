@@ -1,4 +1,4 @@
--- Rooms whose pages in use change.
+-- Changes of the pages in use.
 use Rattle.std.proofs.Common.{◌≡◌, ℕ, zero, suc, ◌+◌, ◌<◌, ◌≤◌, List, [], ◌∷◌, ◌++◌, IsTrue, ap, sym, subst, ◌∙◌, refl, inl, inr, arith, cond, ◌==◌}
 use Rattle.std.proofs.lemmas.Bool.{cases_eq}
 use Rattle.std.proofs.lemmas.Bool.Decides.{nat_tests}
@@ -8,7 +8,7 @@ use Rattle.be_pages.specs.declared.room.Standing.{Standing}
 use Rattle.be_pages.specs.declared.room.Standing.TheVariants.{Free, Old, GivenUp, Taken, Filled}
 use Rattle.be_pages.specs.Pages.{is_readable, is_taken, is_kept, is_from_before, after_undo, times, PageStep, untouched, unused, fresh, given_old, given_new, stays_old, stays_new, Swaps, KeepsStart, IsUnchanged}
 
--- how often a page is among a part's pages
+-- how often a page is among the pages of two parts
 pub times_append : (q : ℕ) (xs ys : List ℕ) → times q (xs ++ ys) ≡ times q xs + times q ys
 times_append q xs ys = sum_by-append (λ p. cond (p == q) 1 0) xs ys
 
@@ -36,14 +36,14 @@ one_page q p = elim (cases_eq q p) [
   | inr ne ↦ omega (arith, times_other q p ne)
 ]
 
--- what holds of a page holds of each of a list of it alone
+-- what holds for a page holds for each page in a list of only that page
 pub alone : (P : ℕ → Type 0) (page : ℕ) → P page → (q : ℕ) → 0 < times q (page ∷ []) → P q
 alone P page here q some = elim (cases_eq q page) [
   | inl e ↦ subst P (sym e) here
   | inr ne ↦ absurd (omega (arith, some, times_other q page ne))
 ]
 
--- one page more, and two, that are none of these
+-- one more page, and two more, that aren't among these
 pub one_beside : (page : ℕ) (ps : List ℕ) → times page ps ≡ 0 → ((q : ℕ) → times q ps ≤ 1) → (q : ℕ) → times q (page ∷ []) + times q ps ≤ 1
 one_beside page ps none once q = elim (cases_eq q page) [
   | inl e ↦ subst (λ p. times p (page ∷ []) + times p ps ≤ 1) (sym e) (omega (arith, times_itself page, none))
@@ -56,7 +56,7 @@ two_beside l r ps ne nl nr once q = elim (cases_eq q l) [
   | inr other ↦ omega (arith, times_append q (l ∷ []) (r ∷ []), times_other q l other, one_beside r ps nr once q)
 ]
 
--- one change of a page after another
+-- two changes of a page in sequence
 step_trans : {P Q S : Type 0} {b m a : ℕ} {s t u : Standing} → (P → Q → S) → PageStep P b m s t → PageStep Q m a t u → PageStep S b a s u
 step_trans f (untouched p) (untouched q) = untouched (f p q)
 step_trans f (untouched p) unused = unused
@@ -75,7 +75,7 @@ step_trans f (stays_old p) (stays_old q) = stays_old (f p q)
 step_trans f stays_new given_new = given_new
 step_trans f stays_new stays_new = stays_new
 
--- a page in use that is untouched is in use before and after
+-- a page in use that isn't touched is in use before and after
 stays_used : {P : Type 0} (s : Standing) → IsTrue (is_kept s) → P → (n m : ℕ) → PageStep P (suc n) (suc m) s s
 stays_used Free used p n m = absurd (false≢true used)
 stays_used Old used p n m = stays_old p
@@ -92,7 +92,7 @@ step_stays used e (given_new {b}) n m = absurd (omega (arith, e))
 step_stays used e (stays_old {b} p) n m = absurd (omega (arith, e))
 step_stays used e (stays_new {b}) n m = absurd (omega (arith, e))
 
--- the same change, seen beside other pages in use
+-- the same change, together with other pages in use
 step_frame : {P : Type 0} {b a : ℕ} {s t : Standing} (x : ℕ) → x + b ≤ 1 → (0 < x → IsTrue (is_kept s)) → PageStep P b a s t → PageStep P (x + b) (x + a) s t
 step_frame {P = P} {b = b} {a = a} {s = s} {t = t} zero once used step =
     let e : b ≡ 0 + b = omega arith in
@@ -113,7 +113,7 @@ step_same none read (given_new {b}) = absurd (omega (arith, none))
 step_same none read (stays_old p) = p
 step_same none read (stays_new {b} {a}) = absurd (omega (arith, none))
 
--- and stands where it stood
+-- and its state
 step_stands : {P : Type 0} {b a : ℕ} {s t : Standing} → b ≡ 0 → IsTrue (is_readable s) → PageStep P b a s t → t ≡ s
 step_stands none read (untouched p) = refl
 step_stands none read unused = refl
@@ -123,7 +123,7 @@ step_stands none read (given_new {b}) = absurd (omega (arith, none))
 step_stands none read (stays_old p) = refl
 step_stands none read stays_new = refl
 
--- a page in use afterwards is held
+-- a page in use afterwards is kept
 step_after : {P : Type 0} {b a : ℕ} {s t : Standing} → 0 < a → PageStep P b a s t → IsTrue (is_kept t)
 step_after some (untouched p) = absurd (omega (arith, some))
 step_after some unused = absurd (omega (arith, some))
@@ -133,7 +133,7 @@ step_after some given_new = absurd (omega (arith, some))
 step_after some (stays_old p) = refl
 step_after some stays_new = refl
 
--- a page that comes into use was free
+-- a page that newly comes into use was free
 step_fresh : {P : Type 0} {b a : ℕ} {s t : Standing} → b ≡ 0 → 0 < a → PageStep P b a s t → s ≡ Free
 step_fresh none some (untouched p) = absurd (omega (arith, some))
 step_fresh none some unused = refl
@@ -161,7 +161,7 @@ step_older old given_new = absurd (false≢true old)
 step_older old (stays_old p) = p
 step_older old stays_new = absurd (false≢true old)
 
--- what stands the same once undone was there alike
+-- if two states are the same after an undo, and one is that of a page from before the write, so is the other
 from_before : (s t : Standing) → after_undo t ≡ after_undo s → IsTrue (is_from_before s) → IsTrue (is_from_before t)
 from_before s t e old = same t ∙ ap is_from_before e ∙ sym (same s) ∙ old
   where
@@ -201,7 +201,7 @@ module _ {S K : Type 0} (kept_of : S → K) (standing_of : S → ℕ → Standin
   pub swaps_fresh : (b a : List ℕ) (old new : S) → Swaps kept_of standing_of words_of b a old new → (q : ℕ) → times q b ≡ 0 → 0 < times q a → standing_of old q ≡ Free
   swaps_fresh b a old new swaps q none some = step_fresh none some (swaps.each q)
 
-  -- a change beside a page in use
+  -- a change, together with a page in use
   pub swaps_with : (page : ℕ) (b a : List ℕ) (old new : S) → Swaps kept_of standing_of words_of b a old new → times page b ≡ 0 → ((q : ℕ) → times q b ≤ 1) → IsTrue (is_kept (standing_of old page))
       → Swaps kept_of standing_of words_of (page ∷ b) (page ∷ a) old new
   swaps_with page b a old new swaps none once used =
@@ -249,7 +249,7 @@ readable_kept GivenUp used = refl
 readable_kept Taken used = refl
 readable_kept Filled used = refl
 
--- a page that was free is taken and filled
+-- a free page is taken and filled
 pub written_swaps : {S K : Type 0} (kept_of : S → K) (standing_of : S → ℕ → Standing) (words_of : S → ℕ → ℕ → ℕ) (page : ℕ) (old new : S)
     → kept_of new ≡ kept_of old → standing_of old page ≡ Free → standing_of new page ≡ Filled
     → ((q : ℕ) → (q ≡ page → ⊥) → standing_of new q ≡ standing_of old q) → ((q : ℕ) → (q ≡ page → ⊥) → words_of new q ≡ words_of old q)
@@ -276,7 +276,7 @@ filled_is GivenUp used taken = absurd (false≢true used)
 filled_is Taken used taken = absurd (false≢true used)
 filled_is Filled used taken = refl
 
--- a page in use that the write has taken is written over
+-- a page in use that the write has taken is overwritten
 pub rewritten_swaps : {S K : Type 0} (kept_of : S → K) (standing_of : S → ℕ → Standing) (words_of : S → ℕ → ℕ → ℕ) (page : ℕ) (old new : S)
     → kept_of new ≡ kept_of old → IsTrue (is_kept (standing_of old page)) → IsTrue (is_taken (standing_of old page)) → standing_of new page ≡ Filled
     → ((q : ℕ) → (q ≡ page → ⊥) → standing_of new q ≡ standing_of old q) → ((q : ℕ) → (q ≡ page → ⊥) → words_of new q ≡ words_of old q)
@@ -297,7 +297,7 @@ rewritten_swaps kept_of standing_of words_of page old new kept used taken filled
     step q P s t once was filled =
         subst (λ n. PageStep P n n s t) (sym once) (subst (λ u. PageStep P 1 1 u t) (sym was) (subst (λ u. PageStep P 1 1 Filled u) (sym filled) stays_new))
 
--- a change of what was only read since
+-- a change, after pages were only read
 pub swaps_since : {S K : Type 0} (kept_of : S → K) (standing_of : S → ℕ → Standing) (words_of : S → ℕ → ℕ → ℕ) (b a : List ℕ) (old read new : S) → IsUnchanged kept_of standing_of words_of old read
     → Swaps kept_of standing_of words_of b a read new → Swaps kept_of standing_of words_of b a old new
 swaps_since kept_of standing_of words_of b a old read new same swaps = record {
@@ -313,7 +313,7 @@ unchanged_start kept_of standing_of words_of old read same = record {
   words = λ q old. ap (λ w. w q) same.words;
 }
 
--- one reading after another
+-- two reads in sequence
 pub unchanged_trans : {S K : Type 0} (kept_of : S → K) (standing_of : S → ℕ → Standing) (words_of : S → ℕ → ℕ → ℕ) (old mid new : S)
     → IsUnchanged kept_of standing_of words_of old mid → IsUnchanged kept_of standing_of words_of mid new → IsUnchanged kept_of standing_of words_of old new
 unchanged_trans kept_of standing_of words_of old mid new first last = record {

@@ -1,4 +1,4 @@
--- The branch of a node on the way to a key.
+-- A node's branch on the way to a key.
 use Rattle.std.proofs.Common.{◌≡◌, ◌≢◌, ℕ, zero, suc, ◌+◌, ◌-◌, ◌<◌, ◌≤◌, List, [], ◌∷◌, ◌++◌, length, get_or, take, drop, All, Some, None, ap, sym, subst, ◌∙◌, refl, inl, inr, if◌then◌else◌, arith, zero-add, drop-cons}
 use Rattle.std.specs.List.{flat_map, range_with_len}
 use Rattle.std.specs.declared.cmp.Ordering.TheVariants.{Greater}
@@ -27,7 +27,7 @@ pub flat_map_in_three : {A : Type 0} (f : Pair → List A) (items : List Pair) (
 flat_map_in_three f items at d lt =
     ap (flat_map f) (in_three items at d lt) ∙ flat_map-append f (take at items) (get_or items at d ∷ drop (suc at) items)
 
--- the keys that the items before `at` give are below k, and those after it above
+-- the keys that items before `at` give are below k, and those that items after it give are above k
 pub record IsSplit (f : Pair → List Pair) (k : List ℕ) (items : List Pair) (at : ℕ) : Type 0 where
   pub in_range : at < length items
   pub below : AllBelow k (flat_map f (take at items))
@@ -42,7 +42,7 @@ starts_above k key [] zs starts rising gt = absurd starts
 starts_above k key (y ∷ ys) zs starts rising gt = AllAbove_from k y (ys ++ zs) rising (ap (λ q. key_cmp q k) starts ∙ gt)
 
 module _ (f : Pair → List Pair) (k : List ℕ) (items : List Pair) (rising : IsRising (flat_map f items)) (starts : All (λ b. StartsAt b.key (f b)) items) where
-  -- from an item above k on, all that the items give is above k
+  -- if an item is above k, so is everything that it and later items give
   above_from : (i : ℕ) → ((d : Pair) → i < length items → key_cmp (get_or items i d).key k ≡ Greater) → AllAbove k (flat_map f (drop i items))
   above_from i gt = elim (cases_lt i (length items)) [
     | inl lt ↦
@@ -60,13 +60,13 @@ module _ (f : Pair → List Pair) (k : List ℕ) (items : List Pair) (rising : I
       nothing_past (x ∷ xs) zero le = absurd (omega (arith, le))
       nothing_past (x ∷ xs) (suc i) le = nothing_past xs i (omega (arith, le))
 
-  -- before an item that is not above k, all is below k
+  -- everything that comes before an item that isn't above k is below k
   below_before : (i : ℕ) (d : Pair) → i < length items → key_cmp (get_or items i d).key k ≢ Greater → AllBelow k (flat_map f (take i items))
   below_before i d lt le =
       starts_below k (get_or items i d).key (flat_map f (take i items)) (f (get_or items i d)) (flat_map f (drop (suc i) items)) (starts i d lt)
       (subst IsRising (flat_map_in_three f items i d lt) rising) le
 
-  -- the branch to go down is the last whose key is not above k, or the first
+  -- the branch to descend is the last one whose key isn't above k, or the first one
   pub rank_split : (r : ℕ) → IsRank k items r → 0 < length items → IsSplit f k items (r - 1)
   rank_split zero rank some =
       let all = above_from 0 rank.above in
@@ -94,7 +94,7 @@ module _ (f : Pair → List Pair) (k : List ℕ) (items : List Pair) (at : ℕ) 
       ∙ payload_at_right k (flat_map f (take at items)) (f (get_or items at d) ++ flat_map f (drop (suc at) items)) split.below
       ∙ payload_at_left k (f (get_or items at d)) (flat_map f (drop (suc at) items)) split.above
 
-  -- so does a put
+  -- a put does, too
   pub put_split : (pair d : Pair) → pair.key ≡ k → put pair (flat_map f items) ≡ flat_map f (take at items) ++ (put pair (f (get_or items at d)) ++ flat_map f (drop (suc at) items))
   put_split pair d e =
       ap (put pair) (flat_map_in_three f items at d split.in_range)
@@ -110,7 +110,7 @@ times_part f q items at d lt =
       times_append q (f (get_or items at d)) (flat_map f (drop (suc at) items)),
     )
 
--- the keys of a page fit
+-- a page's keys fit
 pub key_fits : (words : ℕ → ℕ) (at : ℕ) → IsItem words at → length (item_at words at).key ≤ 264
 unfolding item_at
 key_fits words at item = omega (arith, length-take (key_len words at) (bytes_at words (at + 1) (key_len words at + payload_len words at)), item.key_fits)
@@ -143,7 +143,7 @@ module _ (level : ℕ) (standing : ℕ → Standing) (words : ℕ → ℕ → �
         page_in_use = below.in_use (child b) (omega (arith, times_part g (child b) items at d lt, some));
       }
 
-  -- the branches name the least keys of their children
+  -- the branches have the lowest keys of their children
   pub branches_start : All (λ b. StartsAt b.key (pairs_at level words (child b))) items
   branches_start at d lt = (below.shaped at d lt).1.starts
 

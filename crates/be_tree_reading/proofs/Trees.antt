@@ -1,4 +1,4 @@
--- Several trees of one room, of which one changes.
+-- Several trees in the same pages, one of which changes.
 use Rattle.std.proofs.Common.{◌≡◌, ℕ, zero, suc, ◌+◌, ◌<◌, ◌≤◌, List, [], ◌∷◌, ◌++◌, length, get_or, All, IsTrue, ap, sym, subst, ◌∙◌, refl, inl, inr, arith}
 use mathlib.Core.Bool.{false≢true}
 use Rattle.std.proofs.lemmas.Bool.{cases_eq}
@@ -16,7 +16,7 @@ use Rattle.be_tree_reading.proofs.Frame.{times_append, times-cons, times_tail, t
 use Rattle.be_tree_reading.proofs.Shape.Levels.{tree_in_use}
 use Rattle.be_tree_reading.specs.Forest.{pages_of, AreTrees, KeepsTree, Replaces, IsWriteStart, IsUndone}
 
--- the pages of a tree are in use, once each
+-- a tree's pages are in use, each only once
 pub root_in_use : (s : ℕ → Standing) (v : ℕ → ℕ → ℕ) (root : ℕ) → IsTree s v root → (q : ℕ) → 0 < times q (pages v root) → IsTrue (is_kept (s q))
 root_in_use s v zero tree q some = absurd (omega (arith, some))
 root_in_use s v (suc page) tree q some = tree_in_use (level_of (v page)) (least_of_root (level_of (v page))) s v page tree q some
@@ -28,12 +28,12 @@ root_once s v (suc page) tree q = elim (cases_eq q page) [
   | inr ne ↦ omega (arith, times-cons q page (pages_below (level_of (v page)) v (items_of (v page))), times-cons q page [], times_other q page ne, tree.below.once q)
 ]
 
--- the pairs of a tree rise by key
+-- a tree's pairs ascend by key
 pub tree_rising : (s : ℕ → Standing) (v : ℕ → ℕ → ℕ) (root : ℕ) → IsTree s v root → IsRising (pairs v root)
 tree_rising s v zero tree = tt
 tree_rising s v (suc page) tree = tree.below.rising
 
--- a tree whose pages have the same words and stand as before stands
+-- a tree whose pages keep their words and states stays well formed
 module _ (s t : ℕ → Standing) (v w : ℕ → ℕ → ℕ) where
   below_same : (level : ℕ) (items : List Pair) → IsBelow level s v items → ((q : ℕ) → 0 < times q (pages_below level v items) → w q ≡ v q)
       → ((q : ℕ) → 0 < times q (pages_below level v items) → t q ≡ s q) → IsBelow level t w items
@@ -93,7 +93,7 @@ times_part v q [] i d lt = absurd (omega (arith, lt))
 times_part v q (r ∷ rs) zero d lt = omega (arith, times_first v r rs q)
 times_part v q (r ∷ rs) (suc i) d lt = omega (arith, times_first v r rs q, times_part v q rs i d (omega (arith, lt)))
 
--- a page of several trees is one of one of them
+-- a page of several trees is a page of one of them
 pub trees_in_use : (s : ℕ → Standing) (v : ℕ → ℕ → ℕ) (rs : List ℕ) → All (IsTree s v) rs → (q : ℕ) → 0 < times q (pages_of v rs) → IsTrue (is_kept (s q))
 trees_in_use s v [] each q some = absurd (omega (arith, some))
 trees_in_use s v (r ∷ rs) each q some = by (times q (pages v r)) (trees_in_use s v rs (λ i d lt. each (suc i) d (omega (arith, lt))) q) refl
@@ -109,7 +109,7 @@ all_pages v w (x ∷ xs) h = ap2 (h zero zero (omega arith)) (all_pages v w xs (
     ap2 : {x y : List ℕ} {xs ys : List ℕ} → x ≡ y → xs ≡ ys → x ++ xs ≡ y ++ ys
     ap2 p q = cc
 
--- some trees whose pages are not among those that change
+-- trees whose pages aren't among those that change
 pub record AreBeside (s t : ℕ → Standing) (v w : ℕ → ℕ → ℕ) (rs : List ℕ) : Type 0 where
   pub trees : All (IsTree t w) rs
   pub same_pairs : All (λ r. pairs w r ≡ pairs v r) rs
@@ -193,7 +193,7 @@ module _ {S K : Type 0} (kept_of : S → K) (standing_of : S → ℕ → Standin
         (λ q. omega (arith, old_times q)) (λ q. omega (arith, new_times q)) trees.once used;
   }
 
--- a tree of which no page is among those that were replaced stands as it was
+-- a tree none of whose pages was replaced stays as it was
 pub tree_beside : {S K : Type 0} (kept_of : S → K) (standing_of : S → ℕ → Standing) (words_of : S → ℕ → ℕ → ℕ) (before after : List ℕ) (old new : S) (root : ℕ)
     → Swaps kept_of standing_of words_of before after old new → IsTree (standing_of old) (words_of old) root
     → ((q : ℕ) → 0 < times q (pages (words_of old) root) → times q before ≡ 0) → KeepsTree (standing_of new) (words_of old) (words_of new) root
@@ -212,7 +212,7 @@ tree_beside kept_of standing_of words_of before after old new root swaps tree ap
     stands : (q : ℕ) → 0 < times q (pages (words_of old) root) → standing_of new q ≡ standing_of old q
     stands q some = swaps_stands kept_of standing_of words_of before after old new swaps q (apart q some) (read q some)
 
--- a tree that stood when the write began stands once it is undone
+-- a tree that was well formed when the write began is so after the write was undone
 pub tree_undone : (start undone : ℕ → Standing) (v w : ℕ → ℕ → ℕ) (root : ℕ) → IsWriteStart start → IsUndone start undone v w → IsTree start v root → KeepsTree undone v w root
 tree_undone start undone v w root clean was tree = record {
   tree = tree_same start undone v w root tree words stands;
@@ -236,7 +236,7 @@ stays GivenUp used = used
 stays Taken used = refl
 stays Filled used = refl
 
--- a tree stands when its write is kept
+-- a tree stays well formed when its write is kept
 pub tree_kept : (s t : ℕ → Standing) (v w : ℕ → ℕ → ℕ) → ((q : ℕ) → t q ≡ after_keep (s q)) → w ≡ v → (root : ℕ) → IsTree s v root → IsTree t w root
 tree_kept s t v w kept words root tree = subst (λ u. IsTree t u root) (sym words) (same_words root tree)
   where

@@ -1,8 +1,8 @@
-//! A cursor that goes back among the pairs of a tree.
+//! A cursor that goes backwards through a tree's pairs.
 //!
-//! It keeps the way from the root down to a leaf, as `Cursor` does. What it still has to give is
-//! the pairs before the deepest place, the last one first, then those before the place above it,
-//! and so on up to the root.
+//! It keeps the path from the root down to a leaf, as `Cursor` does. The pairs before the deepest
+//! place come first, the last of them first. Then come those before the place above it, and so on
+//! up to the root.
 ghost use Rattle.std.specs.Prelude.{◌≡◌, ℕ, [], ◌+◌, ◌<◌, ◌≤◌, ◌++◌, length, take, Some, None};
 ghost use Rattle.std.specs.Prelude.{IfNone, IfSome, IsTrue};
 ghost use Rattle.std.specs.Option.{option_copied};
@@ -20,8 +20,8 @@ use crate::page::{HEADER_WORDS, ITEM_WORDS, child_at, first_word};
 use arrayvec::ArrayVec;
 use be_pages::Look;
 
-/// A place among the pairs of a tree, from which a walk goes down to the least key. It serves as
-/// long as the tree's pages keep their words, and takes no memory besides its own 14 places.
+/// A place among a tree's pairs, from which a walk goes down to the lowest key. It is valid as long
+/// as the tree's pages keep their words. It takes no memory beyond its own 14 places.
 #[derive(Drop)]
 pub struct BackCursor {
     path: ArrayVec<Place, 14>,
@@ -39,9 +39,9 @@ impl BackCursor {
         }
     }
 
-    /// Brings the cursor after the greatest pair of a tree whose key is at or before `to`; with
-    /// `before` set, strictly before it. Without a key it comes after all pairs. It costs one
-    /// descent, or without a key a look at the root's page.
+    /// Moves the cursor to just after the highest pair of a tree whose key is at or before `to`;
+    /// with `before` set, strictly before it. Without a key it moves after all pairs. It costs one
+    /// descent; without a key, only a read of the root's page.
     pub fn seek<L: Look>(&mut self, look: &mut L, root: u64, to: Option<&[u8]>, before: bool)
         requires tree { IsTree (L.standing look.old) (L.words look.old) root }
         ensures cursor { IsBackCursor (L.standing look.old) (L.words look.old) self.new }
@@ -59,7 +59,7 @@ impl BackCursor {
         }
     }
 
-    /// Brings an empty cursor after all pairs of a tree.
+    /// Moves an empty cursor after all pairs of a tree.
     fn begin_at_end<L: Look>(&mut self, look: &mut L, root: u64)
         requires tree { IsTree (L.standing look.old) (L.words look.old) root }
         requires some { 0 < root }
@@ -73,8 +73,7 @@ impl BackCursor {
         self.path.push(place);
     }
 
-    /// Goes down with an empty cursor to the leaf with the last of the pairs that `seek` brings it
-    /// after.
+    /// Goes down with an empty cursor to the leaf with the last pair that `seek` moves past.
     fn descend<L: Look>(&mut self, look: &mut L, root: u64, to: &[u8], before: bool)
         requires tree { IsTree (L.standing look.old) (L.words look.old) root }
         requires some { 0 < root }
@@ -107,8 +106,8 @@ impl BackCursor {
         });
     }
 
-    /// Takes the deepest place off the path that has an item before it, and with it the deeper
-    /// ones, which have none.
+    /// Removes places from the end of the path up to the deepest one with an item before it, and
+    /// returns that one.
     fn pop_spent(&mut self) -> Option<Place>
         ensures none { IfNone result ((words : ℕ → ℕ → ℕ) → coming words self.old ≡ []) }
         ensures empty { IfNone result ((words : ℕ → ℕ → ℕ) → coming words self.new ≡ []) }
@@ -131,8 +130,8 @@ impl BackCursor {
         None
     }
 
-    /// The leaf of the pair that comes next, with how many of the leaf's items come, the last of
-    /// them first, and a step past all of these.
+    /// The leaf of the next pair, and how many of the leaf's items are still ahead, the last of
+    /// them first. The cursor moves past all of these.
     pub fn step_leaf<L: Look>(&mut self, look: &mut L) -> Option<(u64, usize)>
         requires cursor { IsBackCursor (L.standing look.old) (L.words look.old) self.old }
         ensures none { IfNone result (coming (L.words look.old) self.old ≡ []) }
@@ -158,7 +157,7 @@ impl BackCursor {
     }
 }
 
-/// The place after all items of a page.
+/// The place after all of a page's items.
 fn after_items<L: Look>(look: &mut L, page: u64, level: u64) -> Place
     requires tree { (least : ℕ) × (0 < least)
         × IsTreeAt level least (L.standing look.old) (L.words look.old) page }

@@ -1,14 +1,14 @@
-//! A cursor among the pairs of a tree.
+//! A cursor among a tree's pairs.
 //!
-//! A cursor keeps the way from the root down to the pair that comes next: for each page on it the
-//! number of the item that comes after those already passed. What it still has to give is the pairs
-//! past the deepest place, then those past the one above it, and so on up to the root. Once a page
-//! is spent, its place is taken off and the walk goes on from the one above. So a step mostly reads
-//! one leaf, and a walk over a whole tree reads each inner page about once. A look-up for each pair
-//! would go down from the root each time.
+//! A cursor keeps the path from the root down to the next pair: for each page on it, the number of
+//! the item after those already passed. It has ahead of it the pairs after the deepest place, then
+//! those after the place above, and so on up to the root. When it has passed all of a page, it
+//! removes the page's place and continues from the one above. So most steps read one leaf, and a
+//! walk over a whole tree reads each inner page about once. A look-up for each pair would go down
+//! from the root every time.
 //!
-//! No page may have more than 12 items, and each but the root has at least 6. So a tree of fewer
-//! than 2^32 pages has no level above 13, and the way down has at most 14 places.
+//! A page has up to 12 items, and each page except the root has at least 6. So a tree with fewer
+//! than 2^32 pages has no level above 13, and a path has at most 14 places.
 ghost use Rattle.std.specs.Prelude.{◌≡◌, ℕ, [], ◌+◌, ◌<◌, ◌≤◌, ◌++◌, length};
 ghost use Rattle.std.specs.Prelude.{option_map, drop, IfNone, IfSome, Some, slice_get};
 ghost use Rattle.be_pages.specs.declared.room.Standing.{Standing as Stands};
@@ -26,8 +26,8 @@ use crate::walk::{TreeItem, fill_key, key_at};
 use arrayvec::ArrayVec;
 use be_pages::Look;
 
-/// A place in a page of a level: the number of the item that comes next. It is kept small, since a
-/// cursor has room for 14.
+/// A place on a page of a level: the number of the next item. It is kept small, since a cursor has
+/// room for 14.
 #[derive(Clone, Copy)]
 pub(crate) struct Place {
     pub(crate) page: u32,
@@ -45,8 +45,8 @@ impl Default for Place {
     }
 }
 
-/// A place among the pairs of a tree, with the way to it from the root. It serves as long as the
-/// tree's pages keep their words, and takes no memory besides its own 14 places.
+/// A place among a tree's pairs, with the path to it from the root. It is valid as long as the
+/// tree's pages keep their words. It takes no memory beyond its own 14 places.
 #[derive(Drop)]
 pub struct Cursor {
     path: ArrayVec<Place, 14>,
@@ -64,8 +64,8 @@ impl Cursor {
         }
     }
 
-    /// Brings the cursor before the least pair of a tree whose key is at or after `from`; with
-    /// `after` set, strictly after it. It costs one descent.
+    /// Moves the cursor to just before the lowest pair of a tree whose key is at or after `from`;
+    /// with `after` set, strictly after it. It costs one descent.
     pub fn seek<L: Look>(&mut self, look: &mut L, root: u64, from: &[u8], after: bool)
         requires tree { IsTree (L.standing look.old) (L.words look.old) root }
         ensures cursor { IsCursor (L.standing look.old) (L.words look.old) self.new }
@@ -85,9 +85,8 @@ impl Cursor {
         });
     }
 
-    /// Goes down to the leaf with the first of the pairs that `seek` brings the cursor before.
-    /// Returns the leaf, and how many of its items are before them; the cursor is past the leaf
-    /// then.
+    /// Goes down to the leaf with the first pair that `seek` moves before. Returns the leaf, and
+    /// how many of its items come before that pair. The cursor is then past the leaf.
     pub(crate) fn descend<L: Look>(
         &mut self,
         look: &mut L,
@@ -126,8 +125,8 @@ impl Cursor {
         (page, next)
     }
 
-    /// The pair that comes next, and a step past it; None once all were returned. It is the pair
-    /// that `range` returns for the last one's key and `after`, without the descent.
+    /// The next pair; the cursor steps past it. None after the last. It is the pair that `range`
+    /// returns for the last pair's key and `after`, without the descent.
     pub fn next<L: Look>(&mut self, look: &mut L) -> Option<TreeItem>
         requires cursor { IsCursor (L.standing look.old) (L.words look.old) self.old }
         ensures item { option_map pair_in result
@@ -147,7 +146,7 @@ impl Cursor {
         Some(item)
     }
 
-    /// The key of the pair that comes next, and a step past it. No payload is read.
+    /// The next pair's key; the cursor steps past the pair. Reads no payload.
     pub fn next_key<L: Look>(&mut self, look: &mut L) -> Option<ArrayVec<u8, 264>>
         requires cursor { IsCursor (L.standing look.old) (L.words look.old) self.old }
         ensures key { option_map (λ key. key.items) result
@@ -161,8 +160,8 @@ impl Cursor {
         Some(key_at(look, page, at))
     }
 
-    /// Takes the deepest place off the path that has an item left, and with it the deeper ones,
-    /// which have none.
+    /// Removes places from the end of the path up to the deepest one that has an item left, and
+    /// returns that one.
     fn pop_spent<L: Look>(&mut self, look: &mut L) -> Option<Place>
         requires cursor { IsCursor (L.standing look.old) (L.words look.old) self.old }
         ensures none { IfNone result (remaining (L.words look.old) self.old ≡ []) }
@@ -181,7 +180,7 @@ impl Cursor {
         None
     }
 
-    /// Takes the place of the pair that comes next off the path: a place in a leaf, which has an
+    /// Removes the next pair's place from the path and returns it: a place in a leaf that has an
     /// item left.
     fn take_place<L: Look>(&mut self, look: &mut L) -> Option<Place>
         requires cursor { IsCursor (L.standing look.old) (L.words look.old) self.old }
@@ -214,8 +213,7 @@ impl Cursor {
         Some(place)
     }
 
-    /// The page and the place of the item that comes next, and a step past it. Nothing of the item
-    /// is read.
+    /// The next item's page and place; the cursor steps past it. Reads nothing of the item.
     pub fn step<L: Look>(&mut self, look: &mut L) -> Option<(u64, usize)>
         requires cursor { IsCursor (L.standing look.old) (L.words look.old) self.old }
         ensures none { IfNone result (remaining (L.words look.old) self.old ≡ []) }
@@ -239,8 +237,8 @@ impl Cursor {
         ))
     }
 
-    /// The leaf of the pair that comes next, with the number of the pair's item in it, and a step
-    /// past all of the leaf's pairs.
+    /// The leaf of the next pair, and the number of the pair's item in it. The cursor steps past
+    /// all of the leaf's pairs.
     pub fn step_leaf<L: Look>(&mut self, look: &mut L) -> Option<(u64, usize)>
         requires cursor { IsCursor (L.standing look.old) (L.words look.old) self.old }
         ensures none { IfNone result (remaining (L.words look.old) self.old ≡ []) }
@@ -258,7 +256,8 @@ impl Cursor {
     }
 }
 
-/// How many of a leaf's items come before the pairs at or after a key.
+/// How many of a leaf's items come before the pairs at or after a key; with `after` set, strictly
+/// after it.
 pub(crate) fn leaf_from<L: Look>(
     look: &mut L,
     page: u64,

@@ -1,8 +1,8 @@
-//! Numbers in the order of the keys that they end, or in the reverse order, up to so many.
+//! The numbers at the ends of keys, in the keys' order or in reverse, up to a limit.
 //!
-//! Of each leaf that a walk comes to, the last key that may still be wanted is compared with the
-//! end of the range: mostly it is within, and the numbers of all are added without a look at the
-//! other keys.
+//! In each leaf that a walk reaches, the last key that may still be wanted is compared with the end
+//! of the range. Usually it is within, and all these numbers are added without reading the other
+//! keys.
 ghost use Rattle.std.specs.Prelude.{◌≡◌, ℕ, List, [], ◌+◌, ◌-◌, ◌<◌, ◌≤◌, ◌++◌, length, take, true};
 ghost use Rattle.std.specs.Prelude.{false, IfOk, IsTrue, OnOk, slice_index_or};
 ghost use Rattle.be_pages.specs.Pages.{IsUnchanged, is_readable};
@@ -22,17 +22,17 @@ use crate::way::{Leaf, Walk, Way};
 use be_pages::Look;
 use std::alloc::AllocError;
 
-/// How many of a leaf's items are taken, and how many are wanted of later leaves.
+/// How many of a leaf's items are taken, and how many are still wanted after that.
 #[derive(Clone, Copy)]
 struct Run {
     count: usize,
     want: usize,
 }
 
-/// Adds the number in the last eight bytes of each key of a range, in the order of a walk over it,
-/// up to `most` of them. Returns the page and the place of the last key whose number was added, or
-/// None if there was none. It costs one descent, a comparison for each leaf, and a few words for
-/// each number.
+/// Walks over a range of keys. In the walk's order it adds the number in the last eight bytes of
+/// each key, up to `most`. Returns the page and place of the last key whose number was added, if
+/// there is one. It costs one descent, one comparison for each leaf, and a few words for each
+/// number.
 pub fn numbers_in_order<L: Look>(
     look: &mut L,
     root: u64,
@@ -56,7 +56,7 @@ pub fn numbers_in_order<L: Look>(
 }
 
 /// Adds the numbers of the keys that a walk has ahead, up to the end of its range and up to `most`
-/// of them. Returns the place of the last key.
+/// of them. Returns the last key's place.
 fn push_ahead<L: Look>(
     look: &mut L,
     walk: &mut Walk,
@@ -96,8 +96,8 @@ fn push_ahead<L: Look>(
     Ok(last)
 }
 
-/// How many of the items that a walk has ahead in a leaf are within its range, up to `want`; and
-/// how many are wanted after them, which is none if the range ends in this leaf.
+/// How many of the items that a walk has ahead in a leaf are within its range, up to `want`. And
+/// how many are still wanted after them: none if the range ends in this leaf.
 fn run_in<L: Look>(look: &mut L, leaf: Leaf, way: Way<'_>, first: u64, want: usize) -> Run
     requires leaf { IsLeaf (L.standing look.old) (L.words look.old) leaf }
     requires back { leaf.back ≡ way.back }
@@ -151,8 +151,8 @@ fn count_within<L: Look>(look: &mut L, leaf: Leaf, way: Way<'_>, first: u64, mos
     0
 }
 
-/// Whether the key of the item at a place isn't past the end of a way, whose first word is at hand
-/// (`first_of_end`).
+/// Whether the key of the item at this place isn't past the end of a way, whose first word is
+/// `first` (`first_of_end`).
 #[inline(always)]
 pub fn is_within<L: Look>(look: &mut L, page: u64, at: usize, way: Way<'_>, first: u64) -> bool
     requires readable { IsTrue (is_readable (L.standing look.old page)) }
@@ -169,7 +169,7 @@ pub fn is_within<L: Look>(look: &mut L, page: u64, at: usize, way: Way<'_>, firs
     }
 }
 
-/// The first word of the key where a way ends, or 0 if there is none.
+/// The first word of the key at which a way ends, or 0 if there is none.
 pub fn first_of_end(way: Way<'_>) -> u64
     ensures { IsFirstOf (end_of_way way.entry) result }
 {

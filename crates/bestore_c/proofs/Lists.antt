@@ -1,4 +1,4 @@
--- What a list is to C.
+-- How C gets a list.
 use Rattle.std.proofs.Common.{◌≡◌, ◌⊎◌, ℕ, List, length, map, Option, Some, None, Result, Ok, Err, IfOk, IfErr, inl, inr, ap, sym, subst, ◌∙◌}
 use Rattle.be_session.specs.Fault.{fault_code}
 use Rattle.be_session.specs.Operations.{AreSpelled}
@@ -14,14 +14,14 @@ use Rattle.bestore_c.specs.Calls.{IsPutOut, Listed}
 use Rattle.bestore_c.specs.Places.{over}
 use Rattle.bestore_c.specs.declared.handle.Counts.{Counts}
 
--- what is so of the answer that came
+-- what holds for a result that is an answer holds for that answer
 pub at_ok : {X E : Type 0} (P : X → Type 0) (r : Result X E) (x : X) → r ≡ Ok x → IfOk r P → P x
 at_ok P r x is all = subst (λ a. IfOk a P) is all
 
 pub at_err : {X E : Type 0} (P : E → Type 0) (r : Result X E) (e : E) → r ≡ Err e → IfErr r P → P e
 at_err P r e is all = subst (λ a. IfErr a P) is all
 
--- what is spelled, put out
+-- encoded operations that a call wrote for C
 pub put_out : (ops : List Op) (counts : Counts) (places filled : List Operation) (byte_places bytes : List ℕ) (code : ℕ) (os : List Operation) (bs : List ℕ)
     → AreSpelled os bs ops → code ≡ 0 → counts.operations ≡ length os → filled ≡ over os places → counts.bytes ≡ length bs → bytes ≡ over bs byte_places
     → IsPutOut ops counts places filled byte_places bytes code
@@ -31,7 +31,7 @@ module _ {A X : Type 0} (makes : A → Op) (view : X → List A) (counts : Count
   abbrev pub Told : Option ℕ → Result (List A) Refusal → Type 0
   Told pin meant = Listed makes pin meant counts places filled byte_places bytes code
 
-  -- there was no memory for it
+  -- memory ran out
   spent : (n : ℕ) (meant : Result (List A) Refusal) → code ≡ 10 → Told (Some n) meant
   spent n (Ok list) ten = inl ten
   spent n (Err why) ten = inl ten
@@ -52,7 +52,7 @@ module _ {A X : Type 0} (makes : A → Op) (view : X → List A) (counts : Count
         | inr told ↦ subst (λ m. Told (Some n) m) (sym told) (inr coded)
       ]
 
-  -- the same of an answer that is known to be one or the other
+  -- the same for a result that is known to be an answer
   pub listed_ok : (pin : Option ℕ) (answer : Result X Fault) (x : X) (meant : Result (List A) Refusal) (list : List A) → answer ≡ Ok x
       → AtPin pin answer (ReadAnswers view answer meant) → list ≡ view x → IsPutOut (map makes list) counts places filled byte_places bytes code → Told pin meant
   listed_ok pin answer x meant list is pinned same out =

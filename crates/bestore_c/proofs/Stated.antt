@@ -1,4 +1,4 @@
--- What is told of the operations that make a version again.
+-- What calls return of the operations that rebuild a version.
 use Rattle.std.proofs.Common.{◌≡◌, ◌⊎◌, ◌≤◌, ◌<◌, ℕ, List, [], ◌++◌, length, Option, Some, None, Result, Ok, Err, false, inl, inr, refl, ap, sym, subst, ◌∙◌}
 use Rattle.std.proofs.lemmas.Bool.{true≢false}
 use Rattle.std.specs.Prelude.{is_some}
@@ -20,12 +20,12 @@ use Rattle.bestore_c.specs.Places.{over}
 use Rattle.bestore_c.specs.States.{StaysToTell, TellsNext, TellsState, untold_at}
 use Rattle.bestore_c.specs.declared.handle.Counts.{Counts}
 
--- a place that was just begun stands where its handle did, which was closed
+-- a new place has the operations left that its closed handle had
 pub begun : (volume : State) (o : Option StatePlace) (p : StatePlace) → is_some o ≡ false → untold volume p ≡ state_ops volume → untold volume p ≡ untold_at volume o
 begun volume None p closed is = is
 begun volume (Some q) p closed is = absurd (true≢false closed)
 
--- where the list is empty, so is what is left of both
+-- if the list is empty, so is the rest
 none_left : (ops rest : List Op) → (ops ≡ [] → ops ++ rest ≡ []) → ops ≡ [] → rest ≡ []
 none_left ops rest ends none = subst (λ (xs : List Op). xs ++ rest ≡ []) none (ends none)
 
@@ -51,7 +51,7 @@ stays ops rest still counts places byte_places os bs many size beyond =
       | inr lacks ↦ inr (short places byte_places counts os bs many size lacks.0, ap (λ (ws : List Op). ws ++ rest) lacks.1)
     ]
 
--- what was ready is put out
+-- the call returned what was ready
 pub told_ready : (volume : State) (p q : StatePlace) (counts : Counts) (places filled : List Operation) (byte_places bytes : List ℕ) (code : ℕ)
     (os : List Operation) (bs : List ℕ)
     → length (waiting p) ≤ 64 → (waiting p ≡ [] → untold volume p ≡ []) → unread volume q ≡ unread volume p → AreSpelled os bs (waiting p)
@@ -72,7 +72,7 @@ told_ready volume p q counts places filled byte_places bytes code os bs few ends
           (stays ops rest (waiting q) counts places byte_places os bs many size beyond),
     )
 
--- nothing was put out, for want of memory
+-- memory ran out, and the call returned nothing
 pub told_none : (volume : State) (p q : StatePlace) (counts : Counts) (places filled : List Operation) (byte_places bytes : List ℕ) (code : ℕ) (e : Fault)
     → code ≡ fault_code e → e ≡ Refused OutOfMemory → unread volume q ≡ unread volume p → waiting q ≡ waiting p
     → TellsNext (untold volume p) (untold volume q) counts places filled byte_places bytes code
@@ -80,19 +80,19 @@ told_none volume p q counts places filled byte_places bytes code e is none same 
     inl (is ∙ ap fault_code none, ap (λ (ws : List Op). ws ++ unread volume q) waits ∙ ap (λ later. waiting p ++ later) same)
 
 module _ (before mid still : List Op) (counts : Counts) (places filled : List Operation) (byte_places bytes : List ℕ) (code : ℕ) where
-  -- the next list was told, at a pin
+  -- the call returned the next list, at a pin
   pub state_told : {X : Type 0} (pin : Option ℕ) (x : X) (meant : Type 0) → AtPin {X = X} pin (Ok x) meant → mid ≡ before
       → TellsNext mid still counts places filled byte_places bytes code → TellsState pin before still counts places filled byte_places bytes code
   state_told None x meant pinned same told = cc
   state_told (Some n) x meant pinned same told = subst (λ l. TellsNext l still counts places filled byte_places bytes code) same told
 
-  -- there was no pin, or no memory
+  -- there was no pin, or memory ran out
   pub state_untold : (X : Type 0) (pin : Option ℕ) (e : Fault) → AtPin {X = X} pin (Err e) (e ≡ Refused OutOfMemory) → still ≡ before → code ≡ fault_code e
       → TellsState pin before still counts places filled byte_places bytes code
   state_untold X None e pinned same is = (inl (is ∙ ap (λ (r : Result X Fault). fault_code (fault_in r)) pinned), same)
   state_untold X (Some n) e pinned same is = inl (is ∙ ap fault_code pinned, same)
 
-  -- there was no memory for the place itself
+  -- memory ran out for the place itself
   pub state_spent : (pin : Option ℕ) → still ≡ before → code ≡ 10 → TellsState pin before still counts places filled byte_places bytes code
   state_spent None same ten = (inr ten, same)
   state_spent (Some n) same ten = inl (ten, same)

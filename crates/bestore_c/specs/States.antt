@@ -10,26 +10,26 @@ use Rattle.be_volume.specs.declared.ops.Op.{Op}
 use Rattle.bestore_c.specs.Calls.{IsPutOut}
 use Rattle.bestore_c.specs.declared.handle.Counts.{Counts}
 
--- the operations of a volume that are still to be returned: all of them if the place's handle is
+-- the volume's operations that are still to be returned; all of them if the place's handle is
 -- closed
 abbrev pub untold_at : State → Option StatePlace → List Op
 untold_at volume None = state_ops volume
 untold_at volume (Some p) = untold volume p
 
--- a list that comes before the rest: up to 64 operations, and empty only if the rest is empty, too
+-- a list before the rest: it has up to 64 operations, and is empty only if the rest is empty too
 abbrev pub IsNextList : List Op → List Op → Type 0
 IsNextList ops rest = (length ops ≤ 64) × (ops ≡ [] → rest ≡ [])
 
--- What is still to be returned then: the rest, if there was room for all of the list; otherwise the
--- list once more, and the rest.
+-- What is still to be returned after the call: the rest, if the whole list fitted; otherwise the
+-- list again, and the rest.
 abbrev pub StaysToTell : List Op → List Op → Counts → List Operation → List ℕ → List Op → Type 0
 StaysToTell ops rest counts places byte_places still =
     ((counts.operations ≤ length places) × (counts.bytes ≤ length byte_places) × (still ≡ rest))
     ⊎ (((length places < counts.operations) ⊎ (length byte_places < counts.bytes))
     × (still ≡ ops ++ rest))
 
--- Returns the next list of the operations that are still to be returned. After running out of
--- memory all of them are still to be returned.
+-- Returns the next list of the operations that are still to be returned. If memory runs out, all of
+-- them are still to be returned.
 abbrev pub TellsNext : List Op → List Op → Counts → List Operation → List Operation → List ℕ
     → List ℕ → ℕ → Type 0
 TellsNext left still counts places filled byte_places bytes code =
@@ -38,7 +38,7 @@ TellsNext left still counts places filled byte_places bytes code =
     × IsPutOut ops counts places filled byte_places bytes code
     × StaysToTell ops rest counts places byte_places still)
 
--- The same in the pinned version, if there is a pin.
+-- The same in the pinned version; 66 or 10 without a pin.
 abbrev pub TellsState : Option ℕ → List Op → List Op → Counts → List Operation → List Operation
     → List ℕ → List ℕ → ℕ → Type 0
 TellsState None left still counts places filled byte_places bytes code = ((code ≡ 66) ⊎ (code ≡ 10))

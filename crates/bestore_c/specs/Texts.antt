@@ -1,4 +1,4 @@
--- What calls on texts of queries write.
+-- What the calls on queries' texts write.
 use Rattle.std.specs.Prelude.{◌≡◌, ◌⊎◌, ℕ, IsUtf8, List, None, length}
 use Rattle.be_query.specs.Faults.{fault}
 use Rattle.be_query.specs.Grammar.{Formula, IsTextOf}
@@ -12,7 +12,8 @@ use Rattle.bestore_c.specs.Calls.{Refuses}
 use Rattle.bestore_c.specs.Places.{over}
 use Rattle.bestore_c.specs.declared.handle.Counts.{Counts}
 
--- Comparisons, as far as there are places, and how many they and their bytes are.
+-- How many comparisons there are, how many bytes these take, and as many of both as there are
+-- places.
 pub record Lists (ds : List Description) (counts : Counts) (rows listed : List SpelledComparison)
     (places filled : List ℕ) : Type 0 where
   pub comparisons : counts.operations ≡ length (spelled_from 0 ds)
@@ -27,8 +28,8 @@ ListsComparisons text counts rows listed bytes filled = (fault text ≡ None) ×
     × IsTextOf text tree
     × Lists (described (leaves tree) (places text)) counts rows listed bytes filled
 
--- A text that a call makes of another, as far as there is room; 70 if that isn't UTF-8, 10 if the
--- call runs out of memory.
+-- A text that a call makes from another one, as far as there is room; 70 if that isn't valid UTF-8,
+-- 10 if memory runs out.
 abbrev pub MakesText : (List ℕ → Type 0) → List ℕ → List ℕ → List ℕ → ℕ → ℕ → Type 0
 MakesText is_made text bytes filled count code =
     ((made : List ℕ) × is_made made × (code ≡ 0) × (count ≡ length made)

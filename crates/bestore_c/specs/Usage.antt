@@ -1,4 +1,4 @@
--- What C gets of how full a store is.
+-- What C learns about how full a store is.
 use Rattle.std.specs.Prelude.{◌≡◌, ◌⊎◌, ℕ, false, true, Some, None}
 use Rattle.std.specs.declared.option.Option.{Option}
 use Rattle.be_session.specs.Sitting.{Sitting}
@@ -12,7 +12,7 @@ use Rattle.be_value.specs.declared.refusals.Refusal.{Refusal}
 use Rattle.bestore_c.specs.Calls.{Refuses}
 use Rattle.bestore_c.specs.declared.handle.Usage.{Usage}
 
--- the oldest announcement, if there is one, with the pass that has made it
+-- the oldest published version, if there is one, with the pass that published it
 abbrev pub ShowsOldest : Option Announcement → Usage → Type 0
 ShowsOldest None u = (u.is_held ≡ false) × (u.oldest ≡ 0) × (u.holder ≡ 0)
 ShowsOldest (Some a) u = (u.is_held ≡ true) × (u.oldest ≡ a.number) × (u.holder ≡ a.pass)

@@ -1,4 +1,4 @@
-//! Changes that C holds: what they read, and how they leave their handle.
+//! Changes that C holds: reads in them, and taking one out of its handle.
 ghost use Rattle.std.specs.Prelude.{◌≡◌, ◌⊎◌, ℕ, None, Some};
 ghost use Rattle.be_store.specs.Passes.{HasRead};
 ghost use Rattle.bestore_c.specs.Calls.{Shown};
@@ -14,7 +14,7 @@ use be_store::{Name, Value};
 use std::alloc::Global;
 use std::mem;
 
-/// Writes a value, with as many of its bytes as fit, or returns that there is no attribute.
+/// Writes a value, with as many of its bytes as fit, or returns the code for a missing attribute.
 fn show(found: Option<Value>, told: &mut Attribute, bytes: &mut [u8]) -> u32
     ensures shown { (n : ℕ) → Shown (Some n) found told.new bytes.old bytes.new result }
     ensures kept { (result ≡ 0) ⊎ ((told.new ≡ told.old) × (bytes.new ≡ bytes.old)) }
@@ -32,7 +32,7 @@ fn show(found: Option<Value>, told: &mut Attribute, bytes: &mut [u8]) -> u32
     0
 }
 
-/// Reads an attribute as a change's operations leave it, and writes its value.
+/// Reads an attribute as the change's operations leave it, and writes its value.
 pub(crate) fn read_changed(
     session: &mut Session,
     change: &Change,
@@ -54,7 +54,7 @@ pub(crate) fn read_changed(
     }
 }
 
-/// Takes the change out of its handle, which is closed then.
+/// Takes the change out of its handle, and closes that.
 pub(crate) fn take_change(alloc: Global, draft: &mut DraftHandle) -> Option<Change>
     ensures closed { draft.new.owned.value ≡ None }
     ensures change { result ≡ draft.old.owned.value }

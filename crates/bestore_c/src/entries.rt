@@ -1,4 +1,4 @@
-//! One entry of the journal, as C reads it.
+//! One journal entry, as C reads it.
 ghost use Rattle.std.specs.Option.{option_copied};
 ghost use Rattle.std.specs.Prelude.{◌≡◌, IfErr, IfOk, OnErr, OnOk, length, slice_get};
 ghost use Rattle.be_store.specs.History.{IsUntold, Learns, LocksAndUnlocks};
@@ -14,8 +14,8 @@ use be_session::{Fault, Operation, Session, entry_spelled};
 use be_store::Entry;
 use std::alloc::Global;
 
-/// Writes an entry for the caller, as far as there is room: its pass, and its operations, each that
-/// made a node with that node; or that there is none.
+/// Writes an entry's pass and operations for the caller, as far as there is room. An operation that
+/// made a node has its number. Without an entry it writes zeros.
 fn put_entry(
     alloc: Global,
     entry: Option<&Entry>,
@@ -44,8 +44,8 @@ fn put_entry(
     Ok(())
 }
 
-/// Writes the journal's entry of an index for the caller, if there is one, as far as there is room.
-/// Returns the journal's length.
+/// Writes the journal's entry with this index for the caller, if there is one, as far as there is
+/// room. Returns the journal's length.
 pub(crate) fn tell_entry(
     alloc: Global,
     session: &mut Session,

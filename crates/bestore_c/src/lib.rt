@@ -1,9 +1,9 @@
-//! The store for programs in C: `include/bestore.h` declares what is exported here.
+//! The exports of the library for C. `include/bestore.h` declares them.
 //!
-//! Each export takes a handle that its caller owns, calls the session in it, and returns a number:
-//! 0, the number of a refusal or of another error, or 64 and 65, which are the handle's own. Two
-//! have a `requires`: the witness of `bes_join` is one of the pass's store, and the last refresh of
-//! the query of `bes_refresh_changed` was in it.
+//! Each export takes a handle that its caller owns, calls the handle's session, and returns a
+//! number: 0, an error's number, or 64 or 65, which are about the handle itself. Two exports have a
+//! `requires`: `bes_join` takes a witness of the pass's own store, and `bes_refresh_changed` takes
+//! a query that was last refreshed in that store.
 #![tactic(auto)]
 
 ghost use Rattle.std.specs.Prelude.{◌≡◌, ◌⊎◌, ◌+◌, ◌==◌, None, Ok, length, map, not};
@@ -83,7 +83,7 @@ use std::alloc::Global;
 use std::mem;
 use telling::usage_of;
 
-/// The number of a call without an error.
+/// What a call without an error returns.
 const DONE: u32 = 0;
 
 const NO_MEMORY: u32 = 10;
@@ -91,11 +91,11 @@ const NO_MEMORY: u32 = 10;
 /// The handle is closed.
 pub(crate) const CLOSED: u32 = 64;
 
-/// The handle that is to be opened is open.
+/// The handle that the call should open is open already.
 const OPEN: u32 = 65;
 
-/// The version of the library: 4,000 for 0.4.0, a million for each first number and a thousand for
-/// each second.
+/// The library's version: 4,000 for 0.4.0, with a million for each major number and a thousand for
+/// each minor one.
 #[unsafe(no_mangle)]
 pub extern "C" fn bes_version() -> u32
     ensures { result ≡ 4000 }
@@ -103,7 +103,7 @@ pub extern "C" fn bes_version() -> u32
     4000
 }
 
-/// Opens a store, and the handle as its first pass.
+/// Opens a store, and opens the handle as its first pass.
 #[unsafe(no_mangle)]
 pub extern "C" fn bes_open(
     alloc: Global,
@@ -162,7 +162,7 @@ pub extern "C" fn bes_another(alloc: Global, pass: &mut Handle, other: &mut Hand
     }
 }
 
-/// Moves what the handle holds into a handle that is closed, and closes it.
+/// Moves the handle's session to a closed handle, and closes this one.
 #[unsafe(no_mangle)]
 pub extern "C" fn bes_move(alloc: Global, pass: &mut Handle, other: &mut Handle) -> u32
     ensures { MovesHandle pass.old.owned.value other.old.owned.value pass.new.owned.value
@@ -182,8 +182,8 @@ pub extern "C" fn bes_move(alloc: Global, pass: &mut Handle, other: &mut Handle)
     DONE
 }
 
-/// Closes the handle. It releases the pin and gives the pass back to the store. The store goes with
-/// its last handle.
+/// Closes the handle: releases its pin and gives its pass back to the store. The last handle's
+/// close also frees the store.
 #[unsafe(no_mangle)]
 pub extern "C" fn bes_close(alloc: Global, pass: &mut Handle) -> u32
     ensures closed { pass.new.owned.value ≡ None }
@@ -198,9 +198,8 @@ pub extern "C" fn bes_close(alloc: Global, pass: &mut Handle) -> u32
     DONE
 }
 
-/// Closes the store by its last handle, which is then closed. Returns the journal's text: how many
-/// bytes it has, and all of them. If there is too little room, it returns the length alone, and the
-/// handle stays open.
+/// Closes the store and its last handle. Returns the journal's text and its length in bytes. If
+/// there is too little room, it returns only the length, and the handle stays open.
 #[unsafe(no_mangle)]
 pub extern "C" fn bes_finish(
     alloc: Global,
@@ -226,8 +225,8 @@ pub extern "C" fn bes_finish(
     }
 }
 
-/// Meets a pass that was given back: both have then seen what either had. Returns the length of
-/// that.
+/// Meets a pass that was given back: afterwards both have seen what either had. Returns the length
+/// of what they have seen.
 #[unsafe(no_mangle)]
 pub extern "C" fn bes_meet(pass: &mut Handle, seen: &mut u64) -> u32
     ensures pass { Calls pass.old.owned.value pass.new.owned.value (IsClosed seen.new result)
@@ -247,7 +246,7 @@ pub extern "C" fn bes_meet(pass: &mut Handle, seen: &mut u64) -> u32
     }
 }
 
-/// Opens the handle with a witness of what the pass has seen.
+/// Opens the witness's handle with a witness of what the pass has seen.
 #[unsafe(no_mangle)]
 pub extern "C" fn bes_witness_of(
     alloc: Global,
@@ -276,7 +275,8 @@ pub extern "C" fn bes_witness_of(
     }
 }
 
-/// The pass and the witness have then both seen what either had. Returns the length of that.
+/// Joins the pass and the witness: afterwards both have seen what either had. Returns the length of
+/// what they have seen.
 #[unsafe(no_mangle)]
 pub extern "C" fn bes_join(pass: &mut Handle, witness: &mut WitnessHandle, seen: &mut u64) -> u32
     requires { AreOfOneStore pass.old.owned.value witness.old.owned.value }
@@ -295,7 +295,7 @@ pub extern "C" fn bes_join(pass: &mut Handle, witness: &mut WitnessHandle, seen:
     DONE
 }
 
-/// Moves what the handle of a witness holds into one that is closed, and closes it.
+/// Moves the handle's witness to a closed handle, and closes this one.
 #[unsafe(no_mangle)]
 pub extern "C" fn bes_move_witness(
     alloc: Global,
@@ -319,7 +319,7 @@ pub extern "C" fn bes_move_witness(
     DONE
 }
 
-/// Closes the handle of a witness.
+/// Closes a witness's handle.
 #[unsafe(no_mangle)]
 pub extern "C" fn bes_dismiss(alloc: Global, witness: &mut WitnessHandle) -> u32
     ensures closed { witness.new.owned.value ≡ None }
@@ -370,8 +370,8 @@ pub extern "C" fn bes_unpin(pass: &mut Handle) -> u32
     }
 }
 
-/// Writes 1 to 64 operations, all or none. Returns the journal's length with them, and for each
-/// operation the number of the node that it made, or 0, as far as there is room.
+/// Writes 1 to 64 operations, all or none. Returns the journal's length with them. For each
+/// operation it also returns the number of the node that it made, or 0, as far as there is room.
 #[unsafe(no_mangle)]
 pub extern "C" fn bes_apply(
     alloc: Global,
@@ -405,8 +405,8 @@ pub extern "C" fn bes_apply(
     }
 }
 
-/// Writes as `bes_apply` does if the journal has `expected` entries. Otherwise it writes nothing
-/// and returns the length that it found.
+/// Writes as `bes_apply` does if the journal has exactly `expected` entries. Otherwise it writes
+/// nothing and returns the length that it found.
 #[unsafe(no_mangle)]
 pub extern "C" fn bes_apply_if(
     alloc: Global,
@@ -443,8 +443,8 @@ pub extern "C" fn bes_apply_if(
 }
 
 /// Writes encoded operations as a change on the pinned snapshot, all or none, if no other write
-/// came since. A set of another kind than the index of its name takes is refused, and its place is
-/// returned. Otherwise as `bes_apply_if` with the snapshot's number.
+/// came in between. Refuses a set whose kind differs from that of the name's index, and returns its
+/// place in the list. Otherwise it does what `bes_apply_if` does with the snapshot's number.
 #[unsafe(no_mangle)]
 pub extern "C" fn bes_apply_change(
     alloc: Global,
@@ -474,9 +474,9 @@ pub extern "C" fn bes_apply_change(
     }
 }
 
-/// Begins a change on the pinned snapshot, and opens the handle with it. A pass that isn't pinned
-/// is pinned now, until the change ends. Returns the snapshot's number, and that of the first new
-/// node.
+/// Begins a change on the pinned snapshot, and opens the handle with it. If the pass isn't pinned,
+/// it is pinned until the change ends. Returns the snapshot's number and the number of the first
+/// new node.
 #[unsafe(no_mangle)]
 pub extern "C" fn bes_begin_change(
     alloc: Global,
@@ -512,7 +512,7 @@ pub extern "C" fn bes_begin_change(
     }
 }
 
-/// The change takes values of any kind from here on.
+/// Lets the change take values of any kind from now on.
 #[unsafe(no_mangle)]
 pub extern "C" fn bes_change_any_kind(draft: &mut DraftHandle) -> u32
     ensures { TakesAnyKind draft.old.owned.value draft.new.owned.value result }
@@ -524,7 +524,7 @@ pub extern "C" fn bes_change_any_kind(draft: &mut DraftHandle) -> u32
     DONE
 }
 
-/// Collects an operation, which is written once the change ends. Returns the number of the node
+/// Collects an operation, which is written when the change ends. Returns the number of the node
 /// that it will make, or 0.
 #[unsafe(no_mangle)]
 pub extern "C" fn bes_change_add(
@@ -549,7 +549,7 @@ pub extern "C" fn bes_change_add(
     }
 }
 
-/// Reads a node's attribute as the change's operations leave it, as `bes_get` does.
+/// Reads a node's attribute as the change's operations leave it. Otherwise as `bes_get`.
 #[unsafe(no_mangle)]
 pub extern "C" fn bes_change_get(
     pass: &mut Handle,
@@ -580,8 +580,8 @@ pub extern "C" fn bes_change_get(
     }
 }
 
-/// Lists the operations that the change has collected. Returns how many they are and how many bytes
-/// their parts take, and of both as much as there is room for.
+/// Lists the operations that the change has collected. Returns how many there are and how many
+/// bytes their parts take, and as much of both as there is room for.
 #[unsafe(no_mangle)]
 pub extern "C" fn bes_change_batch(
     alloc: Global,
@@ -604,7 +604,7 @@ pub extern "C" fn bes_change_batch(
 }
 
 /// Ends the change: writes what it has collected if no other write came since its snapshot, and
-/// unpins the pass if `bes_begin_change` pinned it. The handle is closed then, also after an error.
+/// unpins the pass if `bes_begin_change` pinned it. This closes the handle, also after an error.
 /// Returns the commit number, or the snapshot's if nothing was collected.
 #[unsafe(no_mangle)]
 pub extern "C" fn bes_end_change(
@@ -634,8 +634,8 @@ pub extern "C" fn bes_end_change(
     }
 }
 
-/// Ends the change without writing, and unpins the pass if `bes_begin_change` pinned it. The handle
-/// is closed then, also if the pass is closed.
+/// Ends the change without writing, and unpins the pass if `bes_begin_change` pinned it. This
+/// closes the handle, even if the pass is closed.
 #[unsafe(no_mangle)]
 pub extern "C" fn bes_abandon_change(
     alloc: Global,
@@ -657,7 +657,7 @@ pub extern "C" fn bes_abandon_change(
     DONE
 }
 
-/// Moves what the handle of a change holds into one that is closed, and closes it.
+/// Moves the handle's change to a closed handle, and closes this one.
 #[unsafe(no_mangle)]
 pub extern "C" fn bes_move_draft(
     alloc: Global,
@@ -695,7 +695,7 @@ pub extern "C" fn bes_number(pass: &mut Handle, number: &mut u64) -> u32
     DONE
 }
 
-/// Returns the number that the next new node gets, in the pinned version.
+/// Returns the number that the next new node would get, in the pinned version.
 #[unsafe(no_mangle)]
 pub extern "C" fn bes_next(pass: &mut Handle, node: &mut u64) -> u32
     ensures pass { Calls pass.old.owned.value pass.new.owned.value (IsClosed node.new result)
@@ -715,9 +715,9 @@ pub extern "C" fn bes_next(pass: &mut Handle, node: &mut u64) -> u32
     }
 }
 
-/// Returns one entry of the journal, by its index from 0: its pass and its operations, each that
-/// made a node with that node, as much as there is room for. At the journal's end there are none.
-/// Returns the journal's length in `number`.
+/// Returns the journal's entry with this index, counted from 0: its pass and its operations, as
+/// many as there is room for. An operation that made a node has its number. At the journal's end
+/// there is no entry. `number` is the journal's length.
 #[unsafe(no_mangle)]
 pub extern "C" fn bes_journal_from(
     alloc: Global,
@@ -749,8 +749,8 @@ pub extern "C" fn bes_journal_from(
     }
 }
 
-/// Asks the query of this text in the pinned version. Returns how many nodes meet it, and as many
-/// of them as there is room for.
+/// Runs the query with this text in the pinned version. Returns how many nodes it found, and as
+/// many of them as there is room for.
 #[unsafe(no_mangle)]
 pub extern "C" fn bes_query(
     alloc: Global,
@@ -771,7 +771,7 @@ pub extern "C" fn bes_query(
     tell(answer, nodes, count)
 }
 
-/// Asks the query that items in reverse Polish order build, as `bes_query` does.
+/// Runs the query that these items build in reverse Polish order. Otherwise as `bes_query`.
 #[unsafe(no_mangle)]
 pub extern "C" fn bes_query_items(
     alloc: Global,
@@ -797,8 +797,8 @@ pub extern "C" fn bes_query_items(
     tell(answer, nodes, count)
 }
 
-/// Returns the index cover from which the query of this text would be answered in the pinned
-/// version, as a text: how many bytes it has, and as many of them as there is room for.
+/// Returns a text that names the indices which would answer this query in the pinned version.
+/// Returns its length in bytes, and as many of them as there is room for.
 #[unsafe(no_mangle)]
 pub extern "C" fn bes_explain(
     alloc: Global,
@@ -819,8 +819,8 @@ pub extern "C" fn bes_explain(
     tell_text(answer, bytes, count)
 }
 
-/// Lists the nodes of the pinned version from a number on, ascending, as many as there is room for.
-/// Returns how many these are.
+/// Lists the pinned version's nodes from a number on, in ascending order, as many as there is room
+/// for. Returns how many it listed.
 #[unsafe(no_mangle)]
 pub extern "C" fn bes_nodes(
     alloc: Global,
@@ -844,7 +844,7 @@ pub extern "C" fn bes_nodes(
     tell(answer, nodes, count)
 }
 
-/// Returns how full the store is, and the oldest version that a pass has announced.
+/// Returns how full the store is, and the oldest version that a pass has published.
 #[unsafe(no_mangle)]
 pub extern "C" fn bes_status(pass: &mut Handle, usage: &mut Usage, number: &mut u64) -> u32
     ensures pass { Calls pass.old.owned.value pass.new.owned.value (IsClosed number.new result)
@@ -864,8 +864,8 @@ pub extern "C" fn bes_status(pass: &mut Handle, usage: &mut Usage, number: &mut 
     }
 }
 
-/// Reads a node's attribute in the pinned version. Returns its type code, its number and its length
-/// in bytes, and as many of its bytes as there is room for.
+/// Reads a node's attribute in the pinned version. Returns its type code, its number, its length in
+/// bytes, and as many of its bytes as there is room for.
 #[unsafe(no_mangle)]
 pub extern "C" fn bes_get(
     pass: &mut Handle,
@@ -887,7 +887,7 @@ pub extern "C" fn bes_get(
     }
 }
 
-/// Checks a name, and keeps it for the calls that take it.
+/// Checks a name, and keeps it for the calls that take a checked name.
 #[unsafe(no_mangle)]
 pub extern "C" fn bes_check_name(name_bytes: &[u8], held: &mut HeldName) -> u32
     ensures { HoldsName name_bytes.now held.old held.new result }
@@ -901,8 +901,7 @@ pub extern "C" fn bes_check_name(name_bytes: &[u8], held: &mut HeldName) -> u32
     }
 }
 
-/// Reads a node's attribute in the pinned version by a name that is checked already, as `bes_get`
-/// does.
+/// Reads a node's attribute in the pinned version by a checked name. Otherwise as `bes_get`.
 #[unsafe(no_mangle)]
 pub extern "C" fn bes_get_named(
     pass: &mut Handle,
@@ -921,8 +920,9 @@ pub extern "C" fn bes_get_named(
     read(pass.owned.lent(), node, held, attribute, bytes)
 }
 
-/// Returns what each node has at each name in the pinned version: a cell for each, and the bytes of
-/// all texts end to end, of both as many as there are places. Returns how many bytes there are.
+/// Reads the attributes with these names of these nodes in the pinned version. Returns a cell for
+/// each, and the bytes of all texts one after another, as many of both as there is room for.
+/// `count` is the number of bytes that all texts take.
 #[unsafe(no_mangle)]
 pub extern "C" fn bes_columns(
     pass: &mut Handle,
@@ -952,7 +952,7 @@ pub extern "C" fn bes_columns(
 }
 
 /// Lists a node's attributes in the pinned version, as the operations that set them. Returns how
-/// many they are and how many bytes their parts take, and of both as much as there is room for.
+/// many there are and how many bytes their parts take, and as much of both as there is room for.
 #[unsafe(no_mangle)]
 pub extern "C" fn bes_attributes(
     alloc: Global,
@@ -976,7 +976,7 @@ pub extern "C" fn bes_attributes(
     tell_attributes(alloc, node, answer, counts, listed, bytes)
 }
 
-/// Lists the indices of the pinned version, as the operations that make them. Otherwise as
+/// Lists the pinned version's indices, as the operations that make them. Otherwise as
 /// `bes_attributes`.
 #[unsafe(no_mangle)]
 pub extern "C" fn bes_indices(
@@ -1001,8 +1001,8 @@ pub extern "C" fn bes_indices(
 }
 
 /// Returns the next operations that rebuild the pinned version, up to 64, and none after the last.
-/// It returns how many they are and how many bytes their parts take, and of both as much as there
-/// is room for. If there is room for all of it, the place moves after them.
+/// Returns how many there are and how many bytes their parts take, and as much of both as there is
+/// room for. If there is room for all of them, the place moves past them.
 #[unsafe(no_mangle)]
 pub extern "C" fn bes_state(
     alloc: Global,
@@ -1037,7 +1037,7 @@ pub extern "C" fn bes_state(
     )
 }
 
-/// Closes the handle of a place: it is before the first operation again.
+/// Closes a place's handle. It is then before the first operation again.
 #[unsafe(no_mangle)]
 pub extern "C" fn bes_leave(alloc: Global, place: &mut PlaceHandle) -> u32
     ensures closed { place.new.owned.value ≡ None }
@@ -1052,7 +1052,7 @@ pub extern "C" fn bes_leave(alloc: Global, place: &mut PlaceHandle) -> u32
     DONE
 }
 
-/// Parses the query of this text, and opens the handle with it.
+/// Parses a query's text, and opens the handle with the query.
 #[unsafe(no_mangle)]
 pub extern "C" fn bes_prepare(
     alloc: Global,
@@ -1079,7 +1079,7 @@ pub extern "C" fn bes_prepare(
     }
 }
 
-/// Opens the handle with the query that items in reverse Polish order build.
+/// Opens the handle with the query that these items build in reverse Polish order.
 #[unsafe(no_mangle)]
 pub extern "C" fn bes_prepare_items(
     alloc: Global,
@@ -1107,8 +1107,8 @@ pub extern "C" fn bes_prepare_items(
     }
 }
 
-/// Returns the canonical text of a prepared query: how many bytes it has, and as many of them as
-/// there is room for.
+/// Returns a prepared query's canonical text: its length in bytes, and as many of them as there is
+/// room for.
 #[unsafe(no_mangle)]
 pub extern "C" fn bes_prepared_text(
     alloc: Global,
@@ -1133,7 +1133,7 @@ pub extern "C" fn bes_prepared_text(
     }
 }
 
-/// Moves what the handle of a prepared query holds into one that is closed, and closes it.
+/// Moves the handle's prepared query to a closed handle, and closes this one.
 #[unsafe(no_mangle)]
 pub extern "C" fn bes_move_prepared(
     alloc: Global,
@@ -1157,7 +1157,7 @@ pub extern "C" fn bes_move_prepared(
     DONE
 }
 
-/// Moves what the handle of a place holds into one that is closed, and closes it.
+/// Moves the handle's place to a closed handle, and closes this one.
 #[unsafe(no_mangle)]
 pub extern "C" fn bes_move_place(
     alloc: Global,
@@ -1181,7 +1181,7 @@ pub extern "C" fn bes_move_place(
     DONE
 }
 
-/// Closes the handle of a prepared query.
+/// Closes a prepared query's handle.
 #[unsafe(no_mangle)]
 pub extern "C" fn bes_release(alloc: Global, prepared: &mut PreparedHandle) -> u32
     ensures closed { prepared.new.owned.value ≡ None }
@@ -1196,8 +1196,8 @@ pub extern "C" fn bes_release(alloc: Global, prepared: &mut PreparedHandle) -> u
     DONE
 }
 
-/// Asks a prepared query in the pinned version, as `bes_query` does, and keeps what it found for
-/// `bes_found`. What its last refresh found stays.
+/// Runs a prepared query in the pinned version, and keeps what it finds for `bes_found`. What the
+/// last refresh found stays. Otherwise as `bes_query`.
 #[unsafe(no_mangle)]
 pub extern "C" fn bes_query_prepared(
     pass: &mut Handle,
@@ -1223,9 +1223,9 @@ pub extern "C" fn bes_query_prepared(
     find_prepared(pass.owned.lent(), query, nodes, count)
 }
 
-/// Asks a prepared query in the pinned version for a page of its answer in the order of an index:
-/// the first nodes after the cursor, as many as there is room for. Returns them and how many they
-/// are, and whether there are more, and moves the cursor to the last of them.
+/// Reads a page of a prepared query's answer in the pinned version, in the order of an index: the
+/// first nodes after the cursor, as many as there is room for. Returns them, their number, and
+/// whether there are more, and moves the cursor to the last of them.
 #[unsafe(no_mangle)]
 pub extern "C" fn bes_ordered(
     pass: &mut Handle,
@@ -1261,8 +1261,8 @@ pub extern "C" fn bes_ordered(
     find_ordered(pass.owned.lent(), query, order, cursor, nodes, count, more)
 }
 
-/// Asks a prepared query in the pinned version for its nodes from a number on, ascending, as many
-/// as there is room for. Returns them and how many they are.
+/// Returns a prepared query's nodes in the pinned version from a number on, in ascending order, as
+/// many as there is room for. Also returns how many these are.
 #[unsafe(no_mangle)]
 pub extern "C" fn bes_first(
     pass: &mut Handle,
@@ -1288,8 +1288,8 @@ pub extern "C" fn bes_first(
     find_first(pass.owned.lent(), query, from, nodes, count)
 }
 
-/// Asks a prepared query in the pinned version for any of its nodes, none twice, as many as there
-/// is room for. Returns them and how many they are.
+/// Returns any of a prepared query's nodes in the pinned version, each only once, as many as there
+/// is room for. Also returns how many these are.
 #[unsafe(no_mangle)]
 pub extern "C" fn bes_any(
     pass: &mut Handle,
@@ -1314,8 +1314,8 @@ pub extern "C" fn bes_any(
     find_any(pass.owned.lent(), query, nodes, count)
 }
 
-/// Returns the nodes that a prepared query found when it was asked last, from an index on, as many
-/// as there is room for, and how many it found in all.
+/// Returns the nodes that a prepared query found when it last ran, from an index on, as many as
+/// there is room for. `count` is how many it found in all.
 #[unsafe(no_mangle)]
 pub extern "C" fn bes_found(
     prepared: &mut PreparedHandle,
@@ -1337,8 +1337,8 @@ pub extern "C" fn bes_found(
     DONE
 }
 
-/// Refreshes a prepared query in the pinned version. Returns how many nodes came since its last
-/// refresh, and how many went; `bes_changes` returns which.
+/// Refreshes a prepared query in the pinned version. Returns how many nodes have joined the answer
+/// since its last refresh, and how many have left it. `bes_changes` returns which.
 #[unsafe(no_mangle)]
 pub extern "C" fn bes_refresh(
     pass: &mut Handle,
@@ -1360,8 +1360,8 @@ pub extern "C" fn bes_refresh(
     refresh_prepared(pass.owned.lent(), prepared.owned.lent(), counts)
 }
 
-/// Refreshes a prepared query in the pinned version by what was written since its last refresh,
-/// which was one of this store. Otherwise as `bes_refresh`.
+/// Refreshes a prepared query in the pinned version by what was written since its last refresh.
+/// That has to be one in this store. Otherwise as `bes_refresh`.
 #[unsafe(no_mangle)]
 pub extern "C" fn bes_refresh_changed(
     pass: &mut Handle,
@@ -1385,8 +1385,8 @@ pub extern "C" fn bes_refresh_changed(
     refresh_changed(pass.owned.lent(), prepared.owned.lent(), counts)
 }
 
-/// Returns the nodes that came at the last refresh of a prepared query, and those that went, of
-/// both as many as there is room for.
+/// Returns which nodes joined a prepared query's answer at its last refresh, and which left it.
+/// Writes as many of each as there is room for.
 #[unsafe(no_mangle)]
 pub extern "C" fn bes_changes(
     prepared: &mut PreparedHandle,
@@ -1407,8 +1407,8 @@ pub extern "C" fn bes_changes(
     DONE
 }
 
-/// Returns the journal's text up to now: how many bytes it has, and as many of them as there is
-/// room for.
+/// Returns the journal's text up to now: its length in bytes, and as many of them as there is room
+/// for.
 #[unsafe(no_mangle)]
 pub extern "C" fn bes_journal(pass: &mut Handle, bytes: &mut [u8], count: &mut u64) -> u32
     ensures pass { Calls pass.old.owned.value pass.new.owned.value (IsClosed count.new result)

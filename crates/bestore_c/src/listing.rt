@@ -1,4 +1,4 @@
-//! Lists, returned as the operations that would make them.
+//! Returns lists as the operations that would make them.
 ghost use Rattle.std.specs.Prelude.{◌≡◌, ◌⊎◌, ℕ, List, IfOk, IfErr, length};
 ghost use Rattle.std.specs.declared.option.Option.{Option as AnyOption};
 ghost use Rattle.std.specs.declared.result.Result.{Result as AnyResult};
@@ -19,8 +19,7 @@ use be_session::{Fault, Operation, Spelling, attributes_spelled, indices_spelled
 use be_store::{Kind, Name, Value};
 use std::alloc::Global;
 
-/// Writes how many operations an encoding has and how many bytes, and as many of both as there is
-/// room for.
+/// Writes how many operations and bytes an encoding has, and as many of both as there is room for.
 pub(crate) fn put_spelling(
     spelling: &Spelling,
     counts: &mut Counts,
@@ -63,8 +62,8 @@ pub(crate) fn put_spelled(
     }
 }
 
-/// Writes a node's attributes, as far as there is room. What this says of the version follows from
-/// the session's own contract.
+/// Writes a node's attributes, as far as there is room. What this means for the version follows
+/// from the session's own contract.
 pub(crate) fn tell_attributes(
     alloc: Global,
     node: u64,

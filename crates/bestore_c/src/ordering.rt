@@ -1,4 +1,4 @@
-//! Answers of prepared queries a part at a time, and refreshes by what was written.
+//! Reads answers of prepared queries a part at a time, and refreshes queries by what was written.
 ghost use Rattle.std.specs.Prelude.{◌≡◌, ◌⊎◌, IfErr, OnOk, length};
 ghost use Rattle.be_paged_reading.specs.Cells.{name_in};
 ghost use Rattle.be_store.specs.Live.{IsLiveOf};
@@ -43,9 +43,9 @@ fn number_of(others: bool) -> u32
     if others { 1 } else { 0 }
 }
 
-/// Asks a prepared query in the session's pinned version for a page in the order of an index: as
-/// many nodes as there is room for. Writes them, how many they are, and whether there are more, and
-/// moves the cursor to the last of them.
+/// Reads a page of a prepared query's answer in the session's pinned version, in the order of an
+/// index: as many nodes as there is room for. Writes them, their number, and whether there are
+/// more, and moves the cursor to the last of them.
 pub(crate) fn find_ordered(
     session: &mut Session,
     prepared: &mut Prepared,
@@ -73,8 +73,8 @@ pub(crate) fn find_ordered(
     }
 }
 
-/// Asks a prepared query in the session's pinned version for its nodes from a number on, as many as
-/// there is room for, and writes them.
+/// Writes a prepared query's nodes in the session's pinned version from a number on, as many as
+/// there is room for.
 pub(crate) fn find_first(
     session: &mut Session,
     prepared: &mut Prepared,
@@ -93,8 +93,8 @@ pub(crate) fn find_first(
     tell_found(answer, prepared, nodes, count)
 }
 
-/// Asks a prepared query in the session's pinned version for any of its nodes, as many as there is
-/// room for, and writes them.
+/// Writes any of a prepared query's nodes in the session's pinned version, as many as there is room
+/// for.
 pub(crate) fn find_any(
     session: &mut Session,
     prepared: &mut Prepared,
@@ -113,7 +113,8 @@ pub(crate) fn find_any(
 }
 
 /// Refreshes a prepared query in the session's pinned version by what was written since its last
-/// refresh, which was one of the session's store. Writes how many nodes came and how many went.
+/// refresh. That has to be one in the session's store. Writes how many nodes joined the query's
+/// answer and how many left it.
 pub(crate) fn refresh_changed(
     session: &mut Session,
     prepared: &mut Prepared,

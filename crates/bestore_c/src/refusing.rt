@@ -1,4 +1,4 @@
-//! What a call that did nothing returns, and the number that goes with it.
+//! What a call that did nothing returns: an error's code, and the number that goes with it.
 ghost use Rattle.std.specs.Prelude.{◌≡◌};
 ghost use Rattle.be_session.specs.Fault.{fault_code};
 ghost use Rattle.bestore_c.specs.Calls.{Refuses};
@@ -13,7 +13,7 @@ pub(crate) fn refuse(fault: Fault, number: &mut u64) -> u32
     fault.code()
 }
 
-/// Writes the place of a list's error, and returns the error's code.
+/// Writes the place of the list's invalid item, and returns the error's code.
 pub(crate) fn refuse_list(misspelt: ListFault, number: &mut u64) -> u32
     ensures code { result ≡ fault_code misspelt.fault }
     ensures place { number.new ≡ misspelt.place }

@@ -1,4 +1,4 @@
-//! The operations that rebuild a version, returned list by list.
+//! Returns the operations that rebuild a version, list by list.
 ghost use Rattle.std.specs.Prelude.{◌≡◌, ◌⊎◌, ◌≤◌, [], OnOk, length, true};
 ghost use Rattle.be_store.specs.Passes.{HasRead, volume_pinned};
 ghost use Rattle.be_session.specs.States.{untold, waiting};
@@ -12,7 +12,7 @@ use crate::owned_place::OwnedPlace;
 use be_session::{Operation, Session, StatePlace};
 use std::alloc::{AllocError, Global};
 
-/// Opens the handle of a place if it is closed.
+/// Opens a place's handle if it is closed.
 pub(crate) fn begin(alloc: Global, place: &mut PlaceHandle) -> Result<(), AllocError>
     ensures same { (volume : State) → untold_at volume place.new.owned.value
         ≡ untold_at volume place.old.owned.value }
@@ -33,8 +33,8 @@ pub(crate) fn begin(alloc: Global, place: &mut PlaceHandle) -> Result<(), AllocE
     }
 }
 
-/// Writes the operations that are ready at a place, as far as there is room. If there is room for
-/// all of them, they count as returned.
+/// Writes the operations that are ready at a place, as far as there is room. If all of them fit,
+/// they count as returned.
 fn tell_ready(
     alloc: Global,
     place: &mut StatePlace,

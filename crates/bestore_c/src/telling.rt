@@ -1,11 +1,11 @@
-//! How full a store is, as C gets it.
+//! A store's figures, as C gets them.
 ghost use Rattle.std.specs.Prelude.{◌≡◌};
 ghost use Rattle.bestore_c.specs.Usage.{Shows};
 
 use crate::handle::Usage;
 use be_store::Status;
 
-/// The figures of a store, with a flag in place of a value that may be missing.
+/// A store's figures. A flag says whether there is an oldest version.
 pub(crate) fn usage_of(status: &Status) -> Usage
     ensures { Shows status.now result }
 {

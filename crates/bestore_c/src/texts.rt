@@ -1,4 +1,5 @@
-//! Texts of queries: what one compares, and what is put into one. These calls take no handle.
+//! Calls on the texts of queries: what a query compares, and how to put a text into one. These
+//! calls take no handle.
 ghost use Rattle.std.specs.Prelude.{◌≡◌, ◌⊎◌, ◌≢◌, ℕ, List, IfErr, IfOk, None, false, length, map};
 ghost use Rattle.std.specs.Prelude.{string_bytes};
 ghost use Rattle.be_query.specs.Faults.{fault};
@@ -26,9 +27,9 @@ use std::str;
 /// The number of a call that ran out of memory.
 const NO_MEMORY: u32 = 10;
 
-/// Lists the comparisons of a query's text, from left to right, as many as there is room for, and
-/// the bytes of their names and values. Of a text that isn't a query it returns the error, and the
-/// number that goes with it.
+/// Lists the comparisons in a query's text, from left to right, and the bytes of their names and
+/// values. Writes as many as there is room for. If the text isn't a query, it returns the error and
+/// the number that goes with it.
 #[unsafe(no_mangle)]
 pub extern "C" fn bes_query_comparisons(
     alloc: Global,
@@ -63,8 +64,8 @@ pub extern "C" fn bes_query_comparisons(
     }
 }
 
-/// Writes a text so that a query reads it back as a name or a value: how many bytes that has, and
-/// as many of them as there is room for.
+/// Escapes a text so that a query reads it back as a name or a value. Returns the length of the
+/// result in bytes, and as many of them as there is room for.
 #[unsafe(no_mangle)]
 pub extern "C" fn bes_escape_bytes(
     alloc: Global,
@@ -85,8 +86,8 @@ pub extern "C" fn bes_escape_bytes(
     }
 }
 
-/// Writes a pattern that matches the texts which are equal to this one but for upper and lower
-/// case, as `bes_escape_bytes` writes a text.
+/// Makes a pattern that matches every text which differs from this one only in upper and lower
+/// case. Otherwise as `bes_escape_bytes`.
 #[unsafe(no_mangle)]
 pub extern "C" fn bes_any_case_bytes(
     alloc: Global,
@@ -108,7 +109,7 @@ pub extern "C" fn bes_any_case_bytes(
     }
 }
 
-/// The comparisons of a text in bytes.
+/// Lists the comparisons in the text that these bytes encode.
 fn comparisons_of(alloc: Global, text: &[u8]) -> Result<Vec<Compared>, Fault>
     ensures ok { IfOk result (λ v. (fault text.now ≡ None) × (tree : Formula)
         × IsTextOf text.now tree × (map told v.items ≡ described (leaves tree) (places text.now))) }
@@ -120,7 +121,7 @@ fn comparisons_of(alloc: Global, text: &[u8]) -> Result<Vec<Compared>, Fault>
     }
 }
 
-/// Writes a text that was made, as far as there is room.
+/// Writes a text that one of these calls made, as far as there is room.
 fn tell_made(made: Result<String, AllocError>, bytes: &mut [u8], count: &mut u64) -> u32
     ensures made { IfOk made (λ s. (result ≡ 0) × (count.new ≡ length (string_bytes s))
         × (bytes.new ≡ over (string_bytes s) bytes.old)) }

@@ -1,4 +1,4 @@
--- Two neighbours among the items of an inner node, whose children became others.
+-- Two neighbours among an inner node's items, whose children became others.
 use Rattle.std.proofs.Common.{◌≡◌, ℕ, suc, ◌+◌, ◌<◌, ◌≤◌, List, [], ◌∷◌, ◌++◌, length, take, drop, ap, sym, subst, ◌∙◌, arith}
 use Rattle.std.specs.List.{flat_map}
 use Rattle.std.proofs.lemmas.List.{append-nil, append_assoc, drop_more, take_more, take-append-drop}
@@ -51,7 +51,7 @@ module _ (level below least page : ℕ) (standing : ℕ → Standing) (words : �
     pub two_neighbours : (l r : ℕ) → l ≡ child (item_at (words page) (item_place i)) → r ≡ child (item_at (words page) (item_place (i + 1))) → AreNeighbours below standing words l r
     two_neighbours l r l_is r_is = are_neighbours below standing words (item_at (words page) (item_place i)) (item_at (words page) (item_place (i + 1))) l r l_is r_is two_below
 
-    -- what becomes of all pairs where the second child's pairs become others
+    -- how all pairs change when the second child's pairs do
     module _ (at : ℕ) (is : at ≡ i + 1) (all : List Pair) (f : List Pair → List Pair)
         (one : all ≡ pairs_below (suc below) words (take at (items_of (words page))) ++ (f (pairs_at below words (child (item_at (words page) (item_place at)))) ++ pairs_below (suc below) words (drop (suc at) (items_of (words page))))) where
       pub second_changed : all
@@ -81,7 +81,7 @@ module _ (level below least page : ℕ) (standing : ℕ → Standing) (words : �
           let back = pairs_below level words (drop (i + 2) (items_of (words page))) in
           IsRising_left (b ++ d) back (IsRising_right (pairs_below level words (take i (items_of (words page)))) ((b ++ d) ++ back) (subst IsRising second_changed rising))
 
-    -- and where the first one's do
+    -- and when the first child's pairs do
     pub first_changed : (all : List Pair) (f : List Pair → List Pair)
         → all ≡ pairs_below (suc below) words (take i (items_of (words page))) ++ (f (pairs_at below words (child (item_at (words page) (item_place i)))) ++ pairs_below (suc below) words (drop (suc i) (items_of (words page))))
         → all ≡ pairs_below level words (take i (items_of (words page))) ++ ((f (pairs_at below words (child (item_at (words page) (item_place i)))) ++ pairs_at below words (child (item_at (words page) (item_place (i + 1)))))

@@ -1,4 +1,4 @@
--- Two neighbours of which one changed, with the items of both in hand: what writing them takes, and what it makes.
+-- Two neighbours, one of them changed, with the items of both in one unwritten node: what writing it needs, and what it makes.
 use Rattle.std.proofs.Common.{◌≡◌, ℕ, suc, ◌+◌, List, ◌∷◌, ◌++◌, length, map, All, IsTrue, ap, sym, subst, ◌∙◌, arith}
 use Rattle.std.specs.List.{range_with_len}
 use Rattle.std.proofs.lemmas.List.{length-append}

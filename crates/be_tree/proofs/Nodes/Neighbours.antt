@@ -1,4 +1,4 @@
--- Two neighbours under one parent, of which one changed, written together.
+-- Two neighbours under one parent, one of them changed, written together.
 use Rattle.std.proofs.Common.{◌≡◌, ◌≢◌, ℕ, suc, ◌<◌, ◌==◌, List, [], ◌∷◌, ◌++◌, map, cond, All, IsTrue, ap, sym, subst, ◌∙◌, refl, inl, inr, arith}
 use Rattle.std.specs.List.{range_with_len}
 use Rattle.std.proofs.lemmas.Bool.{cases_eq}
@@ -96,7 +96,7 @@ module _ {S K : Type 0} (kept_of : S → K) (standing_of : S → ℕ → Standin
         ]
       ]
 
-      -- and were then written, and the two pages given up
+      -- and were then written, and the two pages were given up
       pub becomes_joined : (us : List Pair) (new : S) → Becomes kept_of standing_of words_of (l ∷ r ∷ pages_below level (words_of mid) items) (pairs_below level (words_of mid) items) (suc level) us mid new
           → Becomes kept_of standing_of words_of (l ∷ r ∷ pages_below level (words_of old) (items_of (words_of old l) ++ items_of (words_of old r))) all (suc level) us old new
       becomes_joined us new packed = record {

@@ -1,4 +1,4 @@
--- Nodes in hand, while pages change.
+-- Unwritten nodes while pages change.
 use Rattle.std.proofs.Common.{◌≡◌, ℕ, suc, ◌+◌, ◌<◌, ◌≤◌, ◌^◌, List, [], ◌∷◌, length, get_or, map, All, IsTrue, ap, sym, subst, ◌∙◌, refl, arith, zero-add}
 use Rattle.std.specs.List.{range_with_len}
 use Rattle.std.specs.Int.{to_be_bytes, w64}
@@ -18,7 +18,7 @@ use Rattle.be_tree_reading.proofs.Frame.{swaps_stands, swaps_same, readable_kept
 use Rattle.be_tree_reading.proofs.Shape.Below.{child_page}
 use Rattle.be_tree.specs.Slot.{branch_to, pair_of, pairs_of, IsReady, IsBranchSlot}
 
--- items that stand in a page as a list of slots says
+-- a page's items as a list of slots gives them
 pub stored_map : (f : Slot → Pair) (g : ℕ → Pair) (slots : List Slot) (n : ℕ) → n ≡ length slots → ((k : ℕ) (d : Slot) → k < n → g k ≡ f (get_or slots k d)) → map g (range_with_len 0 n) ≡ map f slots
 stored_map f g slots n len same = subst (λ m. map g (range_with_len 0 m) ≡ map f slots) (sym len) (from g slots 0 (λ k d lt. ap g (zero-add k) ∙ same k d (omega (arith, len, lt))))
   where
@@ -31,7 +31,7 @@ stored_map f g slots n len same = subst (λ m. map g (range_with_len 0 m) ≡ ma
         ap2 : {A : Type 0} {x y : A} {xs ys : List A} → x ≡ y → xs ≡ ys → x ∷ xs ≡ y ∷ ys
         ap2 p q = cc
 
--- a branch names its page
+-- a branch to a page leads there
 pub child_branch : (w : ℕ → ℕ → ℕ) (page : ℕ) → page < 2 ^ 32 → child (branch_to w page) ≡ page
 unfolding child
 child_branch w page small = from_be_bytes-to_be_bytes_8 page (omega (arith, small))
@@ -49,7 +49,7 @@ written_at level w items page small is_page at_level has some =
       names_page = refl;
     }
 
--- the slot's page is none of these
+-- the slot's page isn't among these
 pub IsApart : List ℕ → Slot → Type 0
 IsApart pages (At at page) = times page pages ≡ 0
 IsApart pages (Branch page) = times page pages ≡ 0
@@ -68,7 +68,7 @@ map_agree f g (x ∷ xs) same = ap2 (same 0 x (omega arith)) (map_agree f g xs (
     ap2 : {A : Type 0} {x y : A} {xs ys : List A} → x ≡ y → xs ≡ ys → x ∷ xs ≡ y ∷ ys
     ap2 p q = cc
 
--- slots of pages that a change leaves alone
+-- slots of pages that a change doesn't touch
 module _ {S K : Type 0} (kept_of : S → K) (standing_of : S → ℕ → Standing) (words_of : S → ℕ → ℕ → ℕ) (before after : List ℕ) (old new : S) (swaps : Swaps kept_of standing_of words_of before after old new) where
   page_ready : (page : ℕ) (P : (ℕ → ℕ) → Type 0) → times page before ≡ 0 → IsTrue (is_readable (standing_of old page)) × P (words_of old page) → IsTrue (is_readable (standing_of new page)) × P (words_of new page)
   page_ready page P none ready = (
@@ -100,7 +100,7 @@ module _ {S K : Type 0} (kept_of : S → K) (standing_of : S → ℕ → Standin
 pub all_apart_nil : (slots : List Slot) → All (IsApart []) slots
 all_apart_nil slots = λ i d lt. apart_nil (get_or slots i d)
 
--- branches with what stands below them can be read
+-- branches to well-formed nodes can be read
 branch_ready : (level : ℕ) (s : ℕ → Standing) (w : ℕ → ℕ → ℕ) (given : Pair) (slot : Slot) → IsBranchSlot slot → IsNode level 6 (w (child (pair_of w given slot))) → IsTrue (is_kept (s (child (pair_of w given slot)))) → IsReady s w slot
 branch_ready level s w given (At at page) is node used = absurd is
 branch_ready level s w given (Branch page) is node used =

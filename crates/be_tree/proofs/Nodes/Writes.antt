@@ -1,4 +1,4 @@
--- Nodes in hand that are written, in the place of the pages where their items stood.
+-- Unwritten nodes that are written, replacing the pages that had their items.
 use Rattle.std.proofs.Common.{◌≡◌, ◌≢◌, ℕ, suc, ◌+◌, ◌<◌, ◌≤◌, ◌^◌, List, [], ◌∷◌, ◌++◌, length, All, IsTrue, ap, sym, subst, ◌∙◌, arith}
 use Rattle.std.proofs.lemmas.List.{length-map, map-append}
 use mathlib.Core.Bool.{false≢true}
@@ -15,7 +15,7 @@ use Rattle.be_tree.proofs.Shape.Parts.{becomes_branch, becomes_two}
 use Rattle.be_tree_reading.proofs.Putting.Puts.{given_up_page}
 use Rattle.be_tree.proofs.Nodes.Slots.{all_apart_nil, child_branch, pairs_swaps, written_at}
 
--- a page with its items, while others are written
+-- a page keeps its items while others are written
 pub written_same : (level : ℕ) (v w : ℕ → ℕ → ℕ) (items : List Pair) (page : ℕ) → page < 2 ^ 32 → w page ≡ v page → 0 < length items
     → IsWritten level v items (branch_to v page) → IsWritten level w items (branch_to w page)
 written_same level v w items page small same some written =
@@ -26,7 +26,7 @@ written_same level v w items page small same some written =
     (ap items_of same ∙ subst (λ p. items_of (v p) ≡ items) is written.has_items)
     some
 
--- a page that was free is none that is in use
+-- a page that was free isn't one in use
 pub free_other : (s : ℕ → Standing) (free used : ℕ) → s free ≡ Free → IsTrue (is_kept (s used)) → free ≢ used
 free_other s free used is kept e = false≢true (ap is_kept (sym is) ∙ ap (λ q. is_kept (s q)) e ∙ kept)
 
@@ -34,7 +34,7 @@ some_page : (p : ℕ) → 0 < times p (p ∷ [])
 some_page p = omega (arith, times_itself p)
 
 module _ {S K : Type 0} (kept_of : S → K) (standing_of : S → ℕ → Standing) (words_of : S → ℕ → ℕ → ℕ) (level : ℕ) (given : Pair) where
-  -- in one page
+  -- written to one page
   pub one_written : (slots : List Slot) (source : List ℕ) (page : ℕ) (old new : S)
       → IsBelow level (standing_of old) (words_of old) (pairs_of (words_of old) given slots) → 6 ≤ length slots
       → IsWritten level (words_of new) (pairs_of (words_of old) given slots) (branch_to (words_of new) page) → page < 2 ^ 32
@@ -47,7 +47,7 @@ module _ {S K : Type 0} (kept_of : S → K) (standing_of : S → ℕ → Standin
       (omega (arith, enough, length-map slots (pair_of (words_of old) given))) written
       (subst (λ p. Swaps kept_of standing_of words_of source (p ∷ []) old new) (sym (child_branch (words_of new) page small)) swaps) apart
 
-  -- in two pages
+  -- written to two pages
   pub two_written : (front back slots : List Slot) (source : List ℕ) (left right : ℕ) (old new : S) → slots ≡ front ++ back
       → IsBelow level (standing_of old) (words_of old) (pairs_of (words_of old) given slots) → 6 ≤ length front → 6 ≤ length back
       → IsWritten level (words_of new) (pairs_of (words_of old) given front) (branch_to (words_of new) left) → left < 2 ^ 32
@@ -72,7 +72,7 @@ module _ {S K : Type 0} (kept_of : S → K) (standing_of : S → ℕ → Standin
       (λ q. subst (λ xs. times q source + times q (pages_below level v xs) ≤ 1) whole (apart q))
       (λ q. subst (λ p. times q (p ∷ child (branch_to w right) ∷ []) ≤ 1) l (subst (λ p. times q (left ∷ p ∷ []) ≤ 1) r (one q))))
 
-  -- the second page was taken, and then the first was written in the place of the old one
+  -- the second page was taken, and then the first one replaced the old page
   pub parts_written : (front back slots : List Slot) (page left right : ℕ) (old mid new : S) → slots ≡ front ++ back
       → IsBelow level (standing_of old) (words_of old) (pairs_of (words_of old) given slots) → 6 ≤ length front → 6 ≤ length back
       → All (IsReady (standing_of old) (words_of old)) front

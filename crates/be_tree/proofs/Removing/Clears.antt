@@ -15,7 +15,7 @@ use Rattle.be_tree_reading.proofs.TreeFacts.{branch_tree}
 use Rattle.be_tree_reading.proofs.Putting.Puts.{tree_weaker, swaps_given_up}
 
 module _ {S K : Type 0} (kept_of : S → K) (standing_of : S → ℕ → Standing) (words_of : S → ℕ → ℕ → ℕ) where
-  -- where nothing changed, no page was replaced
+  -- if nothing changed, no page was replaced
   pub swaps_none : (old new : S) → IsUnchanged kept_of standing_of words_of old new → Swaps kept_of standing_of words_of [] [] old new
   swaps_none old new same = record {
     kept = same.kept;
@@ -32,7 +32,7 @@ module _ {S K : Type 0} (kept_of : S → K) (standing_of : S → ℕ → Standin
       (λ q. omega (arith, times_append q first last)) (λ q. omega arith) (λ q. omega (arith, times_append q first last, once q)) used)
       after
 
-  -- a tree whose pages stand as before, with the same words
+  -- a tree whose pages keep their words and states
   pub tree_standing : (level least page : ℕ) (old mid : S) → IsTreeAt level least (standing_of old) (words_of old) page → words_of mid ≡ words_of old
       → ((q : ℕ) → 0 < times q (pages_at level (words_of old) page) → standing_of mid q ≡ standing_of old q) → IsTreeAt level least (standing_of mid) (words_of mid) page
   tree_standing level least page old mid tree words stands =
@@ -103,7 +103,7 @@ take_count words n e = all_of (items_of words) n (e ∙ sym (items_count words))
     all_of (x ∷ xs) zero e = absurd (omega (arith, e))
     all_of (x ∷ xs) (suc n) e = ap (λ ys. x ∷ ys) (all_of xs n (omega (arith, e)))
 
--- nothing stands below no items
+-- nothing is below an empty list of items
 pub none_below : (level : ℕ) (words : ℕ → ℕ → ℕ) → pages_below level words [] ≡ []
 none_below zero words = refl
 none_below (suc level) words = refl
@@ -117,7 +117,7 @@ taken_among level words items j q = omega (
 )
 
 module _ {S K : Type 0} (kept_of : S → K) (standing_of : S → ℕ → Standing) (words_of : S → ℕ → ℕ → ℕ) where
-  -- pages were replaced, and then the room was read
+  -- pages were replaced, and then pages were only read
   pub swaps_until : (before after : List ℕ) (old mid read : S) → Swaps kept_of standing_of words_of before after old mid → IsUnchanged kept_of standing_of words_of mid read → Swaps kept_of standing_of words_of before after old read
   swaps_until before after old mid read swaps same = record {
     kept = same.kept ∙ swaps.kept;
@@ -125,7 +125,7 @@ module _ {S K : Type 0} (kept_of : S → K) (standing_of : S → ℕ → Standin
         (subst (λ w. PageStep (w q ≡ words_of old q) (times q before) (times q after) (standing_of old q) (standing_of mid q)) (sym same.words) (swaps.each q));
   }
 
-  -- the node's page is none of those below it, so it can be read while they are given up
+  -- the node's page isn't among those below it, so it can be read while they are given up
   pub node_readable : (level least page j : ℕ) (old mid : S) → IsTreeAt level least (standing_of old) (words_of old) page
       → Swaps kept_of standing_of words_of (pages_below level (words_of old) (take j (items_of (words_of old page)))) [] old mid → IsTrue (is_readable (standing_of mid page))
   node_readable level least page j old mid tree swaps =
@@ -133,7 +133,7 @@ module _ {S K : Type 0} (kept_of : S → K) (standing_of : S → ℕ → Standin
       let none : times page (pages_below level (words_of old) (take j (items_of (words_of old page)))) ≡ 0 = omega (arith, taken_among level (words_of old) (items_of (words_of old page)) j page, tree.page_once) in
       subst (λ s. IsTrue (is_readable s)) (sym (swaps_stands kept_of standing_of words_of (pages_below level (words_of old) (take j (items_of (words_of old page)))) [] old mid swaps page none read)) read
 
-  -- the next branch's child stands, while those before it are given up
+  -- the next branch's child stays well formed while those before it are given up
   pub child_still : (level below least page j : ℕ) (old mid : S) → level ≡ suc below → IsTreeAt level least (standing_of old) (words_of old) page → j < words_of old page 1
       → Swaps kept_of standing_of words_of (pages_below level (words_of old) (take j (items_of (words_of old page)))) [] old mid → words_of mid ≡ words_of old
       → IsTreeAt below 1 (standing_of mid) (words_of mid) (child (item_at (words_of old page) (item_place j)))
@@ -144,7 +144,7 @@ module _ {S K : Type 0} (kept_of : S → K) (standing_of : S → ℕ → Standin
       (omega (arith, next_apart level below least (standing_of old) (words_of old) page j e tree lt q, some))
       (readable_kept (standing_of old q) (next_in_use level below least (standing_of old) (words_of old) page j e tree lt q some)))
 
-  -- a page is given up besides
+  -- another page is given up too
   pub swaps_gives : (before after : List ℕ) (page : ℕ) (old mid new : S) → Swaps kept_of standing_of words_of before after old mid → times page before ≡ 0 → IsTrue (is_kept (standing_of old page))
       → kept_of new ≡ kept_of mid → words_of new ≡ words_of mid → StandsAt (standing_of mid) (standing_of new) page (after_give_up (standing_of mid page)) → Swaps kept_of standing_of words_of (page ∷ before) after old new
   swaps_gives before after page old mid new swaps none used kept words stands =

@@ -1,4 +1,4 @@
--- A key taken out below a page: what a removal stands on.
+-- A key taken out below a page: facts that a removal needs.
 use Rattle.std.proofs.Common.{◌≡◌, ℕ, zero, suc, ◌≤◌, List, [], ◌∷◌, ◌++◌, length, get_or, take, drop, All, if◌then◌else◌, ap, ◌∙◌, refl, arith}
 use Rattle.std.specs.List.{flat_map}
 use Rattle.std.specs.Ordering.{is_eq}
@@ -11,7 +11,7 @@ use Rattle.be_tree_reading.specs.Tree.{least_of_root, IsTreeAt}
 use Rattle.be_tree_reading.proofs.Order.{AllAbove_left, AllAbove_right}
 use Rattle.be_tree_reading.proofs.TreeFacts.{flat_map_in_three, IsSplit}
 
--- a key out of a list in three parts
+-- removing a key from a list in three parts
 without_above : (k : List ℕ) (xs : List Pair) → AllAbove k xs → without k xs ≡ xs
 without_above k [] h = refl
 without_above k (x ∷ xs) h = rw h.0 (ap (λ ys. x ∷ ys) (without_above k xs h.1))
@@ -48,7 +48,7 @@ rising_without k (x ∷ xs) rising =
       | Greater ↦ (above_without x.key k xs rising.0, rising_without k xs rising.1)
     ]
 
--- a removal from the pairs of items goes to one of them
+-- a removal from the pairs below items goes to one item
 pub without_split : (f : Pair → List Pair) (k : List ℕ) (items : List Pair) (at : ℕ) → IsSplit f k items at → (d : Pair)
     → without k (flat_map f items) ≡ flat_map f (take at items) ++ (without k (f (get_or items at d)) ++ flat_map f (drop (suc at) items))
 without_split f k items at split d =

@@ -18,7 +18,7 @@ use Rattle.be_tree_reading.proofs.Trees.{root_in_use, root_once}
 some_none : {A : Type 0} (x : A) → Some x ≡ None → ⊥
 some_none x e = cc
 
--- a list without a key that it lacks
+-- removing a key that a list doesn't have
 pub without_absent : (k : List ℕ) (xs : List Pair) → payload_at xs k ≡ None → without k xs ≡ xs
 without_absent k [] none = refl
 without_absent k (x ∷ xs) none =
@@ -82,7 +82,7 @@ module _ {S K : Type 0} (kept_of : S → K) (standing_of : S → ℕ → Standin
       (subst (λ (n : ℕ). BecomesTree kept_of standing_of words_of (pages_below n (words_of room) (branch ∷ [])) (pairs_below n (words_of room) (branch ∷ [])) (suc (child branch)) room room) (sym e)
       (one_left (level - 1) branch room (subst (λ (n : ℕ). IsBelow n (standing_of room) (words_of room) (branch ∷ [])) e (subst (IsBelow level (standing_of room) (words_of room)) one below))))
 
--- a list of one
+-- a list with one element
 pub one_mapped : {A B : Type 0} (f : A → B) (xs : List A) (d : A) → length xs ≡ 1 → map f xs ≡ f (get_or xs 0 d) ∷ []
 one_mapped f [] d len = absurd (omega (arith, len))
 one_mapped f (y ∷ []) d len = refl

@@ -22,7 +22,7 @@ starts_first level words [] d shaped some = absurd (omega (arith, some))
 starts_first zero words (x ∷ xs) d shaped some = refl
 starts_first (suc level) words (x ∷ xs) d shaped some = starts_append x.key (pairs_at level words (child x)) (pairs_below (suc level) words xs) (shaped 0 x (omega arith)).1.starts
 
--- the branch to a page that was written with items, by what stands below them
+-- the branch to a page that was written with items, by what is below them
 pub branch_above : (level : ℕ) (words : ℕ → ℕ → ℕ) (items : List Pair) (branch : Pair) → IsWritten level words items branch → 6 ≤ length items → AreShaped level words items
     → IsNode level 6 (words (child branch)) × IsBranch branch (pairs_at level words (child branch)) × AreShaped level words (items_of (words (child branch)))
 branch_above level words items branch written enough shaped =
@@ -51,7 +51,7 @@ module _ {S K : Type 0} (kept_of : S → K) (standing_of : S → ℕ → Standin
         (record { kept = refl; each = λ q. untouched refl }) (λ q. omega arith) (λ q. omega arith) below.once below.in_use;
   }
 
-  -- items are written to a page, to which a branch leads, in the place of other pages
+  -- items are written to a page with a branch to it, replacing other pages
   module _ (level : ℕ) (items : List Pair) (branch : Pair) (source : List ℕ) (old new : S)
       (below : IsBelow level (standing_of old) (words_of old) items) (enough : 6 ≤ length items)
       (written : IsWritten level (words_of new) items branch) (swaps : Swaps kept_of standing_of words_of source (child branch ∷ []) old new)
@@ -225,7 +225,7 @@ module _ {S K : Type 0} (kept_of : S → K) (standing_of : S → ℕ → Standin
       becomes_append level level xs (ys ++ zs) xs (us ++ zs) (pairs_below level (words_of old) xs) (ps ++ pairs_below level (words_of old) zs) old old new below
       (becomes_same level xs old front) back' rising
 
--- a clause on an error that holds anyway
+-- a clause about an error that always holds
 pub on_err : {T E P : Type 0} (r : Result T E) → P → OnErr r P
 on_err (Ok x) p = tt
 on_err (Err e) p = p

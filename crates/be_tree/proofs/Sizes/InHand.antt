@@ -1,4 +1,4 @@
--- The pages that a write has in hand, counted.
+-- Counts the pages that a write holds.
 use Rattle.std.proofs.Common.{◌≡◌, ◌≢◌, ℕ, zero, suc, ◌+◌, ◌<◌, ◌≤◌, ◌==◌, List, [], ◌∷◌, length, IsTrue, true, false, Bool, refl, ap, inl, inr, arith, cond}
 use Rattle.std.proofs.lemmas.Bool.{cases_eq}
 use Rattle.std.proofs.lemmas.Bool.Decides.{nat_tests}
@@ -10,7 +10,7 @@ use Rattle.be_tree.specs.Counting.{one_of, in_hand, TakesAtMost, TakesFewer, Has
 use Rattle.be_tree_reading.proofs.Frame.{times-cons, times_itself}
 use Rattle.be_tree.proofs.Nodes.Stands.{stands_at, stands_else}
 
--- one change after another
+-- two changes in sequence
 pub takes_then : (a b : ℕ) (s t u : ℕ → Standing) → TakesAtMost a s t → TakesAtMost b t u → TakesAtMost (a + b) s u
 takes_then a b s t u first second n = omega (arith, first n, second n)
 
@@ -27,7 +27,7 @@ takes_within a b s t le takes n = omega (arith, le, takes n)
 pub fewer_within : (a b : ℕ) (s t : ℕ → Standing) → a ≤ b → TakesFewer a s t → TakesFewer b s t
 fewer_within a b s t le takes n = omega (arith, le, takes n)
 
--- how often the first n pages are among some
+-- how often the first n pages are among some pages
 all_times : ℕ → List ℕ → ℕ
 all_times zero ps = 0
 all_times (suc n) ps = times n ps + all_times n ps
@@ -72,7 +72,7 @@ all_times_size : (n : ℕ) (ps : List ℕ) → all_times n ps ≤ length ps
 all_times_size n [] = omega (arith, none_of_none n)
 all_times_size n (p ∷ ps) = omega (arith, all_times_cons n p ps, one_hit n p, all_times_size n ps)
 
--- if each page comes into hand only where it is among these, no more do than these
+-- if newly held pages are all among these, there are at most as many of them
 by_pages : (n : ℕ) (old new : ℕ → Standing) (ps : List ℕ) → ((q : ℕ) → one_of (is_taken (new q)) ≤ one_of (is_taken (old q)) + times q ps) → in_hand n new ≤ in_hand n old + all_times n ps
 unfolding all_times
 by_pages zero old new ps each = omega arith
@@ -85,7 +85,7 @@ takes_by old new ps each n = omega (arith, by_pages n old new ps each, all_times
 pub takes_still : (s t : ℕ → Standing) → ((q : ℕ) → t q ≡ s q) → TakesAtMost 0 s t
 takes_still s t same = takes_by s t [] (λ q. omega (arith, ap (λ x. one_of (is_taken x)) (same q)))
 
--- no page but this one does
+-- only this page does
 pub takes_one : (s t : ℕ → Standing) (page : ℕ) → ((q : ℕ) → q ≢ page → t q ≡ s q) → TakesAtMost 1 s t
 takes_one s t page same = takes_by s t (page ∷ []) (λ q. elim (cases_eq q page) [
   | inl e ↦ omega (arith, at_most_one (is_taken (t q)), ap (λ p. times p (page ∷ [])) e, times_itself page)
@@ -96,7 +96,7 @@ takes_one s t page same = takes_by s t (page ∷ []) (λ q. elim (cases_eq q pag
     at_most_one true = omega arith
     at_most_one false = omega arith
 
--- a page that is given up is in hand no more
+-- a page that was given up isn't held any more
 given_up : (x : Standing) → is_taken (after_give_up x) ≡ false
 given_up Free = refl
 given_up Old = refl
@@ -110,7 +110,7 @@ takes_given_up s t page stands = takes_by s t [] (λ q. elim (cases_eq q page) [
   | inr ne ↦ omega (arith, ap (λ x. one_of (is_taken x)) (stands_else s t page (after_give_up (s page)) stands q ne))
 ])
 
--- the pages in hand are no more than those among which they are
+-- there are at most as many held pages as pages that they are among
 in_bits : (b : Bool) (n : ℕ) → (IsTrue b → 0 < n) → one_of b ≤ n
 in_bits true n h = h refl
 in_bits false n h = omega arith

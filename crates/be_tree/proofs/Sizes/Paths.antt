@@ -1,4 +1,4 @@
--- A way down has a step for each level.
+-- A path down has a step for each level.
 use Rattle.std.proofs.Common.{◌≡◌, ℕ, zero, suc, ◌+◌, ◌-◌, List, [], ◌∷◌, length, ap, subst, arith}
 use Rattle.be_pages.specs.declared.room.Standing.{Standing}
 use Rattle.be_tree.specs.declared.path.Path.{Path}
@@ -16,7 +16,7 @@ way_levels standing words page least (s ∷ below) last way tree =
     let leads = step_leads standing words page least s way.0 tree in
     omega (arith, leads.level_is, way_levels standing words next 6 below last way.1 leads.tree)
 
--- so has the way to a key
+-- so does the path to a key
 pub path_levels : (standing : ℕ → Standing) (words : ℕ → ℕ → ℕ) (root : ℕ) (key : List ℕ) (path : Path) → IsPathTo standing words root key path → length path.above.items ≡ level_of_root words root
 path_levels standing words zero key path h = absurd (omega (arith, h.way.some))
 path_levels standing words (suc page) key path h =

@@ -34,14 +34,14 @@ root_some : (level : ℕ) → 1 ≤ least_of_root level
 root_some zero = omega arith
 root_some (suc level) = omega arith
 
--- a tree has a page for each five of its pairs at most, and one for the rest
+-- a tree has at most one page for each five of its pairs, and one for the remaining pairs
 pub tree_size : (standing : ℕ → Standing) (words : ℕ → ℕ → ℕ) (root : ℕ) → IsTree standing words root → 5 * length (pages words root) ≤ length (pairs words root) + 4
 tree_size standing words zero tree = omega arith
 tree_size standing words (suc page) tree =
     let level = level_of (words page) in
     omega (arith, below_sizes level words (items_of (words page)) tree.below.shaped, tree.node.enough, root_some level)
 
--- several trees, one of these for each
+-- several trees, each with remaining pairs
 pub forest_size : (standing : ℕ → Standing) (words : ℕ → ℕ → ℕ) (roots : List ℕ) → All (IsTree standing words) roots
     → 5 * length (pages_of words roots) ≤ length (pairs_of_all words roots) + 4 * length roots
 forest_size standing words [] trees = omega arith
@@ -50,7 +50,7 @@ forest_size standing words (r ∷ rs) trees =
     let rest = forest_size standing words rs (λ i d lt. trees (suc i) d (omega (arith, lt))) in
     omega (arith, here, rest, length-append (pages words r) (pages_of words rs), length-append (pairs words r) (pairs_of_all words rs))
 
--- below each item of a node of a level there are 6 ^ level pairs
+-- below each item of a node on a level there are at least 6 ^ level pairs
 many : (level : ℕ) (words : ℕ → ℕ → ℕ)
     → ((items : List Pair) → AreShaped level words items → (n : ℕ) → n ≤ length items → n * 6 ^ level ≤ length (pairs_below level words items))
     → (items : List Pair) → AreShaped (suc level) words items → (n : ℕ) → n ≤ length items → n * 6 ^ suc level ≤ length (pairs_below (suc level) words items)

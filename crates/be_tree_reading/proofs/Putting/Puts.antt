@@ -1,4 +1,4 @@
--- A pair put below a page.
+-- A pair is put below a page.
 use Rattle.std.proofs.Common.{◌≡◌, ℕ, zero, suc, ◌-◌, ◌<◌, ◌≤◌, List, [], ◌∷◌, ◌++◌, length, get_or, take, drop, IsTrue, ap, sym, subst, ◌∙◌, refl, inl, inr, arith}
 use mathlib.Core.Bool.{false≢true}
 use Rattle.std.specs.List.{flat_map, remove}
@@ -35,7 +35,7 @@ rising_put pair (x ∷ xs) rising =
       | Greater ↦ λ e. ((e, AllAbove_trans x.key pair.key xs e rising.0), rising)
     ] refl
 
--- a put into the pairs below items goes to one item
+-- a put into the pairs below some items goes to one item
 pub put_at_item : (level : ℕ) (standing : ℕ → Standing) (words : ℕ → ℕ → ℕ) (items : List Pair) (pair : Pair) (r at : ℕ) (item : Pair)
     → IsBelow level standing words items → 0 < length items → IsRank pair.key items r → at ≡ r - 1 → item ≡ get_or items at item
     → record {
@@ -63,7 +63,7 @@ put_at_item (suc level) standing words items pair r at item below some rank plac
           ∙ ap (λ x. flat_map f (take at items) ++ (put pair x ++ flat_map f (drop (suc at) items))) (sym (append-nil (f item)));
     }
 
--- a page in use that is none of those before is none of those after
+-- a page in use that isn't among the pages before isn't among those after
 pub given_up_page : {S K : Type 0} (kept_of : S → K) (standing_of : S → ℕ → Standing) (words_of : S → ℕ → ℕ → ℕ) (before after : List ℕ) (page : ℕ) (old mid : S) → Swaps kept_of standing_of words_of before after old mid
     → times page before ≡ 0 → IsTrue (is_kept (standing_of old page)) → times page after ≡ 0
 given_up_page kept_of standing_of words_of before after page old mid swaps none used = elim (cases_eq (times page after) 0) [
@@ -72,7 +72,7 @@ given_up_page kept_of standing_of words_of before after page old mid swaps none 
 ]
 
 module _ {S K : Type 0} (kept_of : S → K) (standing_of : S → ℕ → Standing) (words_of : S → ℕ → ℕ → ℕ) where
-  -- a page in use is given up besides
+  -- a page in use is given up too
   pub swaps_given_up : (before after : List ℕ) (page : ℕ) (old mid new : S) → Swaps kept_of standing_of words_of before after old mid
       → times page before ≡ 0 → IsTrue (is_kept (standing_of old page))
       → kept_of new ≡ kept_of mid → words_of new ≡ words_of mid → standing_of new page ≡ after_give_up (standing_of mid page) → ((q : ℕ) → (q ≡ page → ⊥) → standing_of new q ≡ standing_of mid q)
@@ -148,7 +148,7 @@ module _ {S K : Type 0} (kept_of : S → K) (standing_of : S → ℕ → Standin
       not_page : 0 < times page (pages_below level (words_of mid) items) → ⊥
       not_page some = absurd (omega (arith, some, given_up_page kept_of standing_of words_of before (pages_below level (words_of mid) items) page old mid becomes.swaps none used))
 
-  -- a page in use that none of the pages before is, is held still
+  -- a page in use that isn't among the pages before is still kept
   pub held_after : (before after : List ℕ) (page : ℕ) (old new : S) → Swaps kept_of standing_of words_of before after old new → times page before ≡ 0 → IsTrue (is_kept (standing_of old page)) → IsTrue (is_held (standing_of new page))
   held_after before after page old new swaps none used = held _ (subst (λ s. IsTrue (is_kept s)) (sym (swaps_stands kept_of standing_of words_of before after old new swaps page none (readable_kept _ used))) used)
     where
@@ -159,11 +159,11 @@ module _ {S K : Type 0} (kept_of : S → K) (standing_of : S → ℕ → Standin
       held Taken used = refl
       held Filled used = refl
 
-  -- and in use still
+  -- and is still in use
   pub kept_after : (before after : List ℕ) (page : ℕ) (old new : S) → Swaps kept_of standing_of words_of before after old new → times page before ≡ 0 → IsTrue (is_kept (standing_of old page)) → IsTrue (is_kept (standing_of new page))
   kept_after before after page old new swaps none used = subst (λ s. IsTrue (is_kept s)) (sym (swaps_stands kept_of standing_of words_of before after old new swaps page none (readable_kept _ used))) used
 
-  -- a change of what was only read since
+  -- a change, after pages were only read
   pub becomes_since : (before : List ℕ) (all : List Pair) (level : ℕ) (items : List Pair) (old read new : S) → IsUnchanged kept_of standing_of words_of old read
       → Becomes kept_of standing_of words_of before all level items read new → Becomes kept_of standing_of words_of before all level items old new
   becomes_since before all level items old read new same becomes = record {
@@ -176,7 +176,7 @@ module _ {S K : Type 0} (kept_of : S → K) (standing_of : S → ℕ → Standin
     };
   }
 
-  -- what a page's items become, one of which became others, when the page is given up
+  -- what a page's items become when one of them becomes others and the page is given up
   module _ (level : ℕ) (page : ℕ) (pair item : Pair) (items rest : List Pair) (r at : ℕ) (old read : S)
       (tree : IsTreeAt level 1 (standing_of old) (words_of old) page) (same : IsUnchanged kept_of standing_of words_of old read)
       (loaded : items ≡ items_of (words_of read page)) (rank : IsRank pair.key items r) (place : at ≡ r - 1) (is : item ≡ get_or items at item) (removed : rest ≡ remove items at) where
@@ -199,7 +199,7 @@ module _ {S K : Type 0} (kept_of : S → K) (standing_of : S → ℕ → Standin
     three : items ≡ take at items ++ item ∷ drop (suc at) items
     three = in_three items at item parts.in_range ∙ ap (λ x. take at items ++ x ∷ drop (suc at) items) (sym is)
 
--- a branch alone, and its child
+-- a single branch, and its child
 pub branch_child : (level below : ℕ) (standing : ℕ → Standing) (words : ℕ → ℕ → ℕ) (item : Pair) → level ≡ suc below → IsBelow level standing words (item ∷ []) → IsTreeAt below 6 standing words (child item)
 branch_child level below standing words item e h = branch_tree below standing words (item ∷ []) (subst (λ n. IsBelow n standing words (item ∷ [])) e h) 0 item (omega arith)
 
@@ -212,7 +212,7 @@ tree_weaker level least standing words page le tree = record {
 }
 
 module _ {S K : Type 0} (kept_of : S → K) (standing_of : S → ℕ → Standing) (words_of : S → ℕ → ℕ → ℕ) where
-  -- a change after which was only read
+  -- a change, and then pages are only read
   pub becomes_until : (before : List ℕ) (all : List Pair) (level : ℕ) (items : List Pair) (old new read : S) → IsUnchanged kept_of standing_of words_of new read
       → Becomes kept_of standing_of words_of before all level items old new → Becomes kept_of standing_of words_of before all level items old read
   becomes_until before all level items old new read same becomes = record {
@@ -233,7 +233,7 @@ module _ {S K : Type 0} (kept_of : S → K) (standing_of : S → ℕ → Standin
       (subst (λ s. IsTreeAt below 6 s (words_of read) (child item)) (sym same.standing)
       (subst (λ w. IsTreeAt below 6 (standing_of old) w (child item)) (sym same.words) (branch_child level below (standing_of old) (words_of old) item e h)))
 
-  -- a page's items changed, and were then written in its place
+  -- a page's items change, and are then written in its place
   pub becomes_over : (before : List ℕ) (all : List Pair) (level next page : ℕ) (xs us : List Pair) (old mid new : S) → Becomes kept_of standing_of words_of before all level xs old mid
       → times page before ≡ 0 → ((q : ℕ) → times q before ≤ 1) → IsTrue (is_kept (standing_of old page))
       → Becomes kept_of standing_of words_of (page ∷ pages_below level (words_of mid) xs) (pairs_below level (words_of mid) xs) next us mid new

@@ -1,4 +1,4 @@
--- The path of a cursor that goes back.
+-- The path of a cursor that goes backwards.
 use Rattle.std.proofs.Common.{◌≡◌, ℕ, zero, suc, ◌+◌, ◌-◌, ◌<◌, ◌≤◌, List, [], ◌∷◌, ◌++◌, length, get_or, take, ap, sym, subst, ◌∙◌, refl, arith, Bool, Some, append_assoc}
 use Rattle.std.proofs.lemmas.List.{append-nil, get_or-append-add, length-append, take_all, take_more}
 use Rattle.be_pages.specs.declared.room.Standing.{Standing}
@@ -15,7 +15,7 @@ use Rattle.be_tree_reading.proofs.Shape.Below.{pairs_append}
 use Rattle.be_tree_reading.proofs.TreeFacts.{inner_split}
 use Rattle.be_tree_reading.proofs.Untils.{until_split}
 
--- a path with one more place has what is before it last
+-- on a path with one more place, what is before that place comes last
 pub up_push : (words : ℕ → ℕ → ℕ) (path : List Place) (place : Place) → pairs_up_to words (path ++ place ∷ []) ≡ pairs_up_to words path ++ pairs_before words place
 up_push words [] place = append-nil (pairs_before words place)
 up_push words (q ∷ path) place =
@@ -30,7 +30,7 @@ before_start words place start = ap (λ n. pairs_below place.level words (take n
     none zero = refl
     none (suc level) = refl
 
--- before a place at its page's end is all that is below the page
+-- before a place at its page's end is everything below the page
 pub before_end : (words : ℕ → ℕ → ℕ) (level page next : ℕ) → next ≡ words page 1 → pairs_below level words (take next (items_of (words page))) ≡ pairs_at level words page
 before_end words level page next end = ap (pairs_below level words) (take_all next (items_of (words page)) (omega (arith, end, items_count (words page))))
 
@@ -52,7 +52,7 @@ leads_back level below words page at e lt =
     subst (λ l. pairs_below l words (take (at + 1) (items_of (words page))) ≡ pairs_below l words (take at (items_of (words page))) ++ pairs_at below words (child (item_at (words page) (item_place at)))) (sym e)
     (branch_before below words page at lt)
 
--- the way down to the pairs up to a key: all before the branch, and those of the branch
+-- on the way down to the pairs up to a key: all before the branch, and those of the branch
 pub until_branch : (level below : ℕ) (standing : ℕ → Standing) (words : ℕ → ℕ → ℕ) (least page : ℕ) (k : List ℕ) (r at : ℕ) (before : Bool)
     → level ≡ suc below → IsTreeAt level least standing words page → 0 < least → IsRank k (items_of (words page)) r → at ≡ r - 1 → at < words page 1
     → pairs_until (pairs_at level words page) (Some k) before ≡ pairs_below level words (take at (items_of (words page))) ++ pairs_until (pairs_at below words (child (item_at (words page) (item_place at)))) (Some k) before
@@ -71,7 +71,7 @@ until_branch level below standing words least page k r at before e tree some ran
         ∙ ap (λ (x : Pair). pairs_below (suc below) words (take (r - 1) items) ++ pairs_until (pairs_at below words (child x)) (Some k) before) is
         ∙ ap (λ i. pairs_below (suc below) words (take i items) ++ pairs_until (pairs_at below words (child branch)) (Some k) before) (sym place)
 
--- the last place of a path
+-- a path's last place
 module _ (standing : ℕ → Standing) (words : ℕ → ℕ → ℕ) (path : List Place) (place : Place) where
   last_place : (d : Place) → get_or (path ++ place ∷ []) (length path) d ≡ place
   last_place d =

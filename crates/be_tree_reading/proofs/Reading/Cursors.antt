@@ -1,4 +1,4 @@
--- The path of a cursor.
+-- A cursor's path.
 use Rattle.std.proofs.Common.{◌≡◌, ℕ, zero, suc, ◌+◌, ◌-◌, ◌<◌, ◌≤◌, List, [], ◌∷◌, ◌++◌, length, get_or, drop, ap, sym, subst, ◌∙◌, refl, inl, inr, arith, Bool, drop-cons, append_assoc}
 use Rattle.std.proofs.lemmas.Bool.{cases_lt}
 use Rattle.std.proofs.lemmas.List.{append-nil, get_or_append_left, get_or-append-add, length-append}
@@ -16,7 +16,7 @@ use Rattle.be_tree_reading.proofs.Putting.Puts.{tree_weaker}
 use Rattle.be_tree_reading.proofs.Shape.Below.{all_left}
 use Rattle.be_tree_reading.proofs.Ranges.{from_split}
 
--- a path with one more place gives what stands past it first
+-- on a path with one more place, what is after that place comes first
 pub along_push : (words : ℕ → ℕ → ℕ) (path : List Place) (place : Place) → pairs_along words (path ++ place ∷ []) ≡ pairs_past words place ++ pairs_along words path
 along_push words [] place = sym (append-nil (pairs_past words place))
 along_push words (q ∷ path) place =
@@ -54,7 +54,7 @@ nothing_past [] (suc i) le = refl
 nothing_past (x ∷ xs) zero le = absurd (omega (arith, le))
 nothing_past (x ∷ xs) (suc i) le = nothing_past xs i (omega (arith, le))
 
--- nothing stands past a place at its page's end
+-- nothing is after a place at its page's end
 pub past_end : (words : ℕ → ℕ → ℕ) (place : Place) → length (items_of (words place.page)) ≤ place.next → pairs_past words place ≡ []
 past_end words place end = ap (λ xs. pairs_below place.level words xs) (nothing_past (items_of (words place.page)) place.next end) ∙ none place.level
   where
@@ -77,17 +77,17 @@ module _ (standing : ℕ → Standing) (words : ℕ → ℕ → ℕ) (level leas
       ∙ ap (λ (x : Pair). x ∷ drop (suc next) (items_of (words page))) is_here
       ∙ ap (λ i. item_at (words page) (item_place next) ∷ drop i (items_of (words page))) e
 
-  -- the pair at a place of a leaf stands before those past it
+  -- the pair at a leaf's place, followed by those after it
   pub leaf_step : level ≡ 0 → pairs_below level words (drop next (items_of (words page))) ≡ item_at (words page) (item_place next) ∷ pairs_below level words (drop (next + 1) (items_of (words page)))
   leaf_step e = subst (λ l. pairs_below l words (drop next (items_of (words page))) ≡ item_at (words page) (item_place next) ∷ pairs_below l words (drop (next + 1) (items_of (words page)))) (sym e) at_rest
 
--- the pairs from a place of a leaf on: the item there, and the others
+-- the pairs from a leaf's place on: the item there, and the others
 pub step_parts : (standing : ℕ → Standing) (words : ℕ → ℕ → ℕ) (place : Place) (all rest : List Pair) → IsPlace standing words place → place.next < words place.page 1 → place.level ≡ 0
     → all ≡ pairs_past words place ++ rest
     → all ≡ item_at (words place.page) (item_place place.next) ∷ (pairs_below place.level words (drop (place.next + 1) (items_of (words place.page))) ++ rest)
 step_parts standing words place all rest is lt leaf e = e ∙ ap (λ xs. xs ++ rest) (leaf_step standing words place.level 1 place.page place.next is.tree lt leaf)
 
--- what the branch at a place of an inner node leads to
+-- what the branch at an inner node's place leads to
 pub record LeadsDown (level below : ℕ) (standing : ℕ → Standing) (words : ℕ → ℕ → ℕ) (page next : ℕ) (branch : Pair) : Type 0 where
   pub names_page : length branch.payload ≡ 8
   pub tree : IsTreeAt below 1 standing words (child branch)
@@ -116,7 +116,7 @@ pub leads_down : (level below : ℕ) (standing : ℕ → Standing) (words : ℕ 
 leads_down level below standing words least page next e tree lt =
     subst (λ l. LeadsDown l below standing words page next (item_at (words page) (item_place next))) (sym e) (leads_from below standing words least page next (subst (λ l. IsTreeAt l least standing words page) e tree) lt)
 
--- the way down to the pairs from a key on: those of the branch, and all past it
+-- on the way down to the pairs from a key on: those of the branch, and all after it
 pub from_branch : (level below : ℕ) (standing : ℕ → Standing) (words : ℕ → ℕ → ℕ) (least page : ℕ) (k : List ℕ) (r at : ℕ) (after : Bool)
     → level ≡ suc below → IsTreeAt level least standing words page → 0 < least → IsRank k (items_of (words page)) r → at ≡ r - 1 → at < words page 1
     → pairs_from (pairs_at level words page) k after ≡ pairs_from (pairs_at below words (child (item_at (words page) (item_place at)))) k after ++ pairs_below level words (drop (at + 1) (items_of (words page)))

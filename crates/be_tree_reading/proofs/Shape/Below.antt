@@ -1,4 +1,4 @@
--- What stands below the items of a node, in parts and while other pages change.
+-- What is below a node's items, in parts and while other pages change.
 use Rattle.std.proofs.Common.{◌≡◌, ℕ, zero, suc, ◌+◌, ◌<◌, ◌≤◌, List, [], ◌∷◌, ◌++◌, length, get_or, All, IsTrue, ap, sym, subst, ◌∙◌, refl, arith}
 use mathlib.Core.Bool.{false≢true}
 use Rattle.std.specs.List.{flat_map}
@@ -15,7 +15,7 @@ use Rattle.be_tree_reading.proofs.Order.{IsRising_left, IsRising_right}
 use Rattle.be_tree_reading.proofs.Frame.{times_append, times-cons, times_tail, same_page, swaps_same, swaps_stands, swaps_fresh, readable_kept}
 use Rattle.be_tree_reading.proofs.TreeFacts.{times_part}
 
--- what stands below two lists of items
+-- what is below two lists of items
 pub pairs_append : (level : ℕ) (words : ℕ → ℕ → ℕ) (xs ys : List Pair) → pairs_below level words (xs ++ ys) ≡ pairs_below level words xs ++ pairs_below level words ys
 pairs_append zero words xs ys = refl
 pairs_append (suc level) words xs ys = flat_map-append (λ b. pairs_below level words (items_of (words (child b)))) xs ys
@@ -44,7 +44,7 @@ times_both level words left right q =
       times_pages level words (items_of (words (child left))) (items_of (words (child right))) q,
     )
 
--- all of a list of which a part holds it
+-- what holds for all of a list holds for all of a part
 pub all_left : {A : Type 0} (P : A → Type 0) (xs ys : List A) → All P (xs ++ ys) → All P xs
 all_left P xs ys all i d lt = subst P (get_or_append_left xs ys d i lt) (all i d (omega (arith, length-append xs ys, lt)))
 
@@ -146,7 +146,7 @@ shaped_same (suc level) v w items same h = λ i d lt.
 
 module _ {S K : Type 0} (kept_of : S → K) (standing_of : S → ℕ → Standing) (words_of : S → ℕ → ℕ → ℕ) (before after : List ℕ) (old new : S) (swaps : Swaps kept_of standing_of words_of before after old new)
     (level : ℕ) (items : List Pair) (below : IsBelow level (standing_of old) (words_of old) items) (apart : (q : ℕ) → times q before + times q (pages_below level (words_of old) items) ≤ 1) where
-  -- a page of the part has its words still
+  -- a page of the part still has its words
   beside_words : (q : ℕ) → 0 < times q (pages_below level (words_of old) items) → words_of new q ≡ words_of old q
   beside_words q some = swaps_same kept_of standing_of words_of before after old new swaps q (omega (arith, apart q, some)) (readable_kept (standing_of old q) (below.in_use q some))
 
@@ -167,7 +167,7 @@ module _ {S K : Type 0} (kept_of : S → K) (standing_of : S → ℕ → Standin
         subst (λ s. IsTrue (is_kept s)) (sym (swaps_stands kept_of standing_of words_of before after old new swaps q (omega (arith, apart q, was)) (readable_kept (standing_of old q) (below.in_use q was)))) (below.in_use q was);
   }
 
-  -- the pages that come into use are none of the part's
+  -- the pages that newly come into use aren't among the part's
   pub beside_apart : (q : ℕ) → times q after ≤ 1 → times q after + times q (pages_below level (words_of old) items) ≤ 1
   beside_apart q once = split (times q (pages_below level (words_of old) items)) (times q after) refl refl
     where

@@ -1,4 +1,4 @@
--- How high a tree can be: below a node of six items and more stand six times as many pages at each level.
+-- How high a tree can be: below a node with at least six items, each level has at least six times as many pages.
 use Rattle.std.proofs.Common.{◌≡◌, ℕ, zero, suc, ◌+◌, ◌*◌, ◌^◌, ◌<◌, ◌≤◌, List, [], ◌∷◌, length, sym, subst, inl, inr, arith}
 use Rattle.std.proofs.lemmas.Bool.{cases_lt, cases_eq}
 use Rattle.std.proofs.lemmas.List.{length-append}
@@ -11,7 +11,7 @@ use Rattle.be_tree_reading.specs.Tree.{child, pages_at, pages_below, AreShaped, 
 use Rattle.be_tree_reading.proofs.Frame.{times-cons, times_other, same_page}
 use Rattle.be_tree_reading.proofs.Shape.Levels.{pigeonhole, tree_in_use, kept_not_free}
 
--- a node of six items has at least so many pages at and below it
+-- the smallest number of pages at and below a node with six items
 abbrev pages_least : ℕ → ℕ
 pages_least zero = 1
 pages_least (suc level) = 6 * pages_least level
@@ -46,7 +46,7 @@ tall (suc level) le = elim (cases_lt level 13) [
   | inr ge ↦ let below = tall level ge in omega (arith, below)
 ]
 
--- each page of a tree is one of its pages once
+-- each page of a tree is there only once
 pub once_at : (level least : ℕ) (standing : ℕ → Standing) (words : ℕ → ℕ → ℕ) (page : ℕ) → IsTreeAt level least standing words page → (q : ℕ) → times q (pages_at level words page) ≤ 1
 once_at level least standing words page tree q = elim (cases_eq q page) [
   | inl e ↦ subst (λ p. times p (pages_at level words page) ≤ 1) (sym e) (omega (arith, times-cons page page (pages_below level words (items_of (words page))), same_page page, tree.page_once))
@@ -63,7 +63,7 @@ high (suc level) words (x ∷ xs) shaped some few = elim (cases_lt level 13) [
       absurd (omega (arith, few, tall level ge, deep level words (items_of (words (child x))) here.2 here.0.enough, length-append (pages_at level words (child x)) (pages_below (suc level) words xs)))
 ]
 
--- a tree of pages below 2^32 has a level of at most 13
+-- a tree with fewer than 2^32 pages has a level of at most 13
 pub height : (level least : ℕ) (standing : ℕ → Standing) (words : ℕ → ℕ → ℕ) (page : ℕ) → 1 ≤ least → IsTreeAt level least standing words page
     → ((q : ℕ) → (standing q ≡ Free → ⊥) → q < 2 ^ 32) → level ≤ 13
 height level least standing words page some tree small =

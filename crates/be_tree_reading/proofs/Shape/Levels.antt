@@ -1,4 +1,4 @@
--- A tree is no higher than it has pages, and it has no more pages than there are.
+-- A tree has no more levels than pages, and no more pages than there are.
 use Rattle.std.proofs.Common.{◌≡◌, ℕ, zero, suc, ◌+◌, ◌<◌, ◌≤◌, ◌==◌, List, [], ◌∷◌, ◌⊎◌, length, IsTrue, true, false, cond, ap, sym, subst, ◌∙◌, refl, inl, inr, arith}
 use Rattle.std.proofs.lemmas.Bool.{cases_eq}
 use Rattle.std.proofs.lemmas.Bool.Decides.{nat_tests}
@@ -47,7 +47,7 @@ none_dropped n (p ∷ ps) =
       | false ↦ λ e. omega (arith, rest, times-cons n p (drop_page n ps), ap (λ b. cond {A = ℕ} b 1 0) e)
     ] refl
 
--- different numbers below n are at most n
+-- there are at most n different numbers below n
 pub pigeonhole : (n : ℕ) (ps : List ℕ) → ((q : ℕ) → times q ps ≤ 1) → ((q : ℕ) → 0 < times q ps → q < n) → length ps ≤ n
 pigeonhole zero [] once small = omega arith
 pigeonhole zero (p ∷ ps) once small = absurd (omega (arith, small p (omega (arith, times-cons p p ps, same_page p))))
@@ -59,7 +59,7 @@ pigeonhole (suc n) ps once small =
     below q some (inl e) = absurd (omega (arith, ap (λ p. times p (drop_page n ps)) e, none_dropped n ps, some))
     below q some (inr ne) = omega (arith, ne, small q (omega (arith, times_dropped q n ps, some)))
 
--- a node of a level has a page for each level below it
+-- a node has a page for each level below it
 level_below : (level : ℕ) (words : ℕ → ℕ → ℕ) (items : List Pair) → AreShaped level words items → 0 < length items → level ≤ length (pages_below level words items)
 level_below zero words items shaped some = omega arith
 level_below (suc level) words [] shaped some = absurd (omega (arith, some))

@@ -1,4 +1,4 @@
--- A node that is written as the root of a tree.
+-- A node that is written as a tree's root.
 use Rattle.std.proofs.Common.{◌≡◌, ℕ, zero, suc, ◌+◌, ◌≤◌, List, [], ◌∷◌, ◌++◌, length, IsTrue, ap, sym, subst, ◌∙◌, inl, inr, arith, cond, ◌==◌, if◌then◌else◌}
 use Rattle.be_pages.specs.declared.room.Standing.{Standing}
 use Rattle.std.proofs.lemmas.Bool.{cases_eq}
@@ -44,7 +44,7 @@ module _ {S K : Type 0} (kept_of : S → K) (standing_of : S → ℕ → Standin
       swaps = subst (λ n. Swaps kept_of standing_of words_of (source ++ pages_below level (words_of old) items) (pages_at n (words_of new) (child branch)) old new) (sym written.at_level) framed;
     }
 
-  -- one change after another
+  -- two changes in sequence
   pub becomes_tree : (before : List ℕ) (all : List Pair) (level : ℕ) (xs : List Pair) (root : ℕ) (old mid new : S) → Becomes kept_of standing_of words_of before all level xs old mid
       → BecomesTree kept_of standing_of words_of (pages_below level (words_of mid) xs) (pairs_below level (words_of mid) xs) root mid new → BecomesTree kept_of standing_of words_of before all root old new
   becomes_tree before all level xs root old mid new first last = record {
@@ -53,7 +53,7 @@ module _ {S K : Type 0} (kept_of : S → K) (standing_of : S → ℕ → Standin
     swaps = swaps_trans kept_of standing_of words_of before (pages_below level (words_of mid) xs) (pages (words_of new) root) old mid new first.swaps last.swaps;
   }
 
-  -- the items of a root's page changed, and were then written in its place
+  -- the items of a root's page change, and are then written in its place
   pub tree_over : (before : List ℕ) (all : List Pair) (level page : ℕ) (xs : List Pair) (root : ℕ) (old mid new : S) → Becomes kept_of standing_of words_of before all level xs old mid
       → times page before ≡ 0 → ((q : ℕ) → times q before ≤ 1) → IsTrue (is_kept (standing_of old page))
       → BecomesTree kept_of standing_of words_of (page ∷ pages_below level (words_of mid) xs) (pairs_below level (words_of mid) xs) root mid new
@@ -75,7 +75,7 @@ root_some zero = omega arith
 root_some (suc level) = omega arith
 
 module _ {S K : Type 0} (kept_of : S → K) (standing_of : S → ℕ → Standing) (words_of : S → ℕ → ℕ → ℕ) where
-  -- a tree stands while a page is given up that is none of its own
+  -- a tree stays well formed when a page that isn't its own is given up
   below_given_up : (level : ℕ) (items : List Pair) (page : ℕ) (mid new : S) → IsBelow level (standing_of mid) (words_of mid) items → times page (pages_below level (words_of mid) items) ≡ 0
       → words_of new ≡ words_of mid → ((q : ℕ) → (q ≡ page → ⊥) → standing_of new q ≡ standing_of mid q) → IsBelow level (standing_of new) (words_of new) items
   below_given_up level items page mid new below none words others =

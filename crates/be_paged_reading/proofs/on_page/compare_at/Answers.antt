@@ -34,7 +34,7 @@ loop-j-init g c =
       unchanged = record { kept = c.word-mine.ensures.kept; standing = c.word-mine.ensures.standing; words = c.word-mine.ensures.words };
     }
 
--- a further word of it
+-- one of its later words
 next_is : (g : Over) (c : After-word_from-other g) → to_be_bytes w64 c.word-next.result ≡ padded (entry_at (g.L.Look.words c.args.look.now c.args.page) c.args.at).name (8 * c.loop-j.j) 8
 next_is g c =
     let words = g.L.Look.words c.args.look.now c.args.page in

@@ -11,7 +11,7 @@ use Rattle.be_paged_reading.proofs.on_page.find_index.Given.{Over}
 use Rattle.be_paged_reading.proofs.on_page.find_index.Goals as goal
 use Rattle.be_paged_reading.proofs.on_page.find_index.Goals.{After-middle-at, After-compare_at}
 
--- the place is that of an index
+-- the place is an index's
 in_range : (g : Over) (c : After-middle-at g) → c.middle-at.result < g.L.Look.words c.args.look.now c.args.page 1
 in_range g c = omega (arith, c.middle-at.ensures.1, c.halves.invariant.in_range)
 
@@ -48,7 +48,7 @@ compared g c =
     ∙ ap (λ (h : ℕ → ℕ → ℕ). name_cmp (entry_at (h c.args.page) (entry_place at)).name c.as_bytes-text.result.now) c.halves.invariant.unchanged.words
     ∙ ap (name_cmp (entry_at (g.L.Look.words c.args.look.now c.args.page) (entry_place at)).name) (c.as_bytes-text.ensures.value ∙ c.as_str.ensures.text))
 
--- what one comparison leaves
+-- a comparison only reads
 same_since : (g : Over) (c : After-compare_at g) → IsUnchanged g.L.Look.kept g.L.Look.standing g.L.Look.words c.args.look.now c.compare_at.new.look
 same_since g c =
     let known = c.halves.invariant.unchanged in

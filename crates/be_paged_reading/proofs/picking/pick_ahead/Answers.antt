@@ -39,7 +39,7 @@ is_ahead-requires-clause-in_page g c = (here g (goal.at.is_ahead-requires-clause
 pub is_ahead-requires-clause-item : goal.is_ahead-requires-clause-item
 is_ahead-requires-clause-item g c = (here g (goal.at.is_ahead-requires-clause-item g c).After-place-at).readable.1.1
 
--- the item, once it was compared with the end of the way
+-- the item, after its comparison with the end of the way
 compared : (g : Over) (c : After-is_ahead g) → IsPlaceAhead (g.L.Look.standing c.is_ahead.new.look) (g.L.Look.words c.is_ahead.new.look) (g.L.Look.words c.args.look.now) c.args.leaf c.loop-i.i c.place-at.result
 compared g c =
     let i = c.loop-i.invariant in
@@ -107,7 +107,7 @@ returns-then-not-is_ahead-clause-ended g c = λ _ rest stays.
 pub returns-then-not-is_ahead-clause-goes_on : goal.returns-then-not-is_ahead-clause-goes_on
 returns-then-not-is_ahead-clause-goes_on g c = λ e. absurd (cc e)
 
--- all were tested
+-- all items were tested
 pub returns-clause-ended : goal.returns-clause-ended
 returns-clause-ended g c = λ e. absurd (cc e)
 

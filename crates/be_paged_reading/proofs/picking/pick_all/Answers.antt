@@ -33,7 +33,7 @@ step_leaf-requires g c =
 read : (g : Over) (c : After-pick_ahead g) → g.L.Look.words c.step_leaf.new.look ≡ g.L.Look.words c.args.look.now
 read g c = c.step_leaf.ensures.unchanged.words ∙ c.leaves.invariant.unchanged.words
 
--- the items of the leaf, and what is ahead of it
+-- the leaf's items that the walk has ahead
 abbrev here : (g : Over) (c : After-pick_ahead g) → List Pair
 here g c = items_ahead (g.L.Look.words c.args.look.now) c.in-Some.leaf
 
@@ -112,7 +112,7 @@ leaves-preserved g c =
           c.pick_ahead.ensures.unchanged;
     }
 
--- nothing is ahead
+-- the walk has nothing ahead
 pub returns-clause-found : goal.returns-clause-found
 returns-clause-found g c =
     let words = g.L.Look.words c.args.look.now in

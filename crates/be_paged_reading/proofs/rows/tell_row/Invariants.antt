@@ -9,7 +9,7 @@ use Rattle.be_paged_reading.specs.declared.cells.Cell.{Cell}
 use Rattle.be_paged_reading.proofs.Told.{Found}
 use Rattle.be_paged_reading.proofs.rows.tell_row.Given as goal
 
--- what the node has at the names so far is told
+-- what the node has at the names so far is written
 abbrev pub invariant-loop-name : goal.invariant-loop-name
 invariant-loop-name g l = record {
   row : GoesOn (g.L.Look.standing l.look) (g.L.Look.words l.look) l.fn.row l.row;

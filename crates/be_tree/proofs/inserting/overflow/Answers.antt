@@ -37,7 +37,7 @@ insert-requires g c =
     let room : length c.fill_slots.new.slots.items < 24 = omega (arith, c.fill_slots.ensures.few) in
     search (rules, in_bounds, room)
 
--- the leaf's slots with the pair among them
+-- the leaf's slots, with the new pair among them
 module _ (g : Over) (c : After-insert g) (at : PutsAt (g.R.Look.standing c.args.room.now) (g.R.Look.words c.args.room.now) c.args.root c.args.path.now c.args.pair.now (record { at = c.args.at; gone = 0 })) where
   slots_are : c.insert.new.self.items ≡ spliced (record { at = c.args.at; gone = 0 }) (loaded c.args.path.now.leaf (g.R.Look.words c.args.room.now c.args.path.now.leaf 1)) (New ∷ [])
   slots_are =

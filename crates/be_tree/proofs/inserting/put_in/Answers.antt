@@ -21,7 +21,7 @@ use Rattle.be_tree.proofs.inserting.put_in.Goals.{After-count_of, Start}
 above_zero : (n : ℕ) → ltb 0 n ≡ true → 0 < n
 above_zero n e = grind (arith, nat_tests)
 
--- the state before the count was read
+-- before the count was read
 puts : (g : Over) (c : Start g) → PutsAt (g.R.Look.standing c.args.room.now) (g.R.Look.words c.args.room.now) c.args.root c.args.path.now c.args.pair.now (record { at = c.args.at; gone = 0 })
 puts g c = puts_in (g.R.Look.standing c.args.room.now) (g.R.Look.words c.args.room.now) c.args.root c.args.path.now c.args.pair.now c.args.at c.requires.path.leads c.requires.path.place_is
 
@@ -32,7 +32,7 @@ count_of-requires-clause-readable g c =
 pub count_of-requires-clause-page : goal.count_of-requires-clause-page
 count_of-requires-clause-page g c = (puts g (goal.at.count_of-requires-clause-page g c).Start).leafy.tree.node.is_page
 
--- and once it was
+-- and after it
 path : (g : Over) (c : After-count_of g) → IsPathTo (g.R.Look.standing c.count_of.new.look) (g.R.Look.words c.count_of.new.look) c.args.root c.args.pair.now.key c.args.path.now
 path g c = path_read g.R.Look.kept g.R.Look.standing g.R.Look.words c.args.room.now c.count_of.new.look c.count_of.ensures.unchanged c.args.root c.args.pair.now.key c.args.path.now c.requires.path.leads
 

@@ -37,7 +37,7 @@ loop-level-init g c =
       unchanged = record { kept = c.word-level.ensures.kept; standing = c.word-level.ensures.standing; words = c.word-level.ensures.words };
     }
 
--- the room after the search in a page is as at first
+-- after the search on a page, the words are those at the call
 words_same : (g : Over) (c : After-branch_in-place g) → g.L.Look.words c.branch_in-place.new.look ≡ g.L.Look.words c.args.look.now
 words_same g c = c.branch_in-place.ensures.unchanged.words ∙ c.loop-level.invariant.unchanged.words
 

@@ -13,7 +13,7 @@ use Rattle.be_tree.proofs.Sizes.InHand.{fewer_within, takes_fewer_then, takes_sa
 use Rattle.be_tree.proofs.Sizes.Refusals.{takes_on}
 use Rattle.be_tree.proofs.rising.rise.Goals as goal
 
--- the lowest step that is left
+-- the lowest step left
 last_step : (xs : List Step) (i : ℕ) → i < length xs → take (length xs - i) xs ≡ take (length xs - 1 - i) xs ++ get_or xs (length xs - 1 - i) (record { page = 0; at = 0 }) ∷ []
 last_step xs i lt =
     let e : length xs - i ≡ suc (length xs - 1 - i) = omega (arith, lt) in

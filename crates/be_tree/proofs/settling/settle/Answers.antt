@@ -41,18 +41,18 @@ loop-i-init g c =
       some = c.requires.some;
     }
 
--- the node as it was given, of whatever tree it is, and the pairs that the tree is to have
+-- the node as it was given, for every tree that it may belong to, and the pairs that the tree will have
 abbrev Begun : (g : Over) (c : After-deref g) (start : g.row.R.Denot) → Type 0
 Begun g c start = IsInHand g.R.Look.kept g.R.Look.standing g.R.Look.words c.args.root c.args.above.now c.args.was c.args.pair.now c.args.in_hand.items (level_of (g.R.Look.words start c.args.was)) start c.args.room.now
 
 abbrev all : (g : Over) (c : After-deref g) (start : g.row.R.Denot) → List Pair
 all g c start = whole (g.R.Look.words start) c.args.above.now (pairs_below (level_of (g.R.Look.words start c.args.was)) (g.R.Look.words c.args.room.now) (pairs_of (g.R.Look.words c.args.room.now) c.args.pair.now c.args.in_hand.items))
 
--- the steps that are left
+-- the steps left
 abbrev left : (xs : List Step) (i : ℕ) → List Step
 left xs i = take (length xs - i) xs
 
--- how many pages are taken until the page above is in hand, and until the pages above are written
+-- how many pages are taken until the page above is unwritten, and until the pages above are written
 one_more : (i : ℕ) (s t u : ℕ → Standing) → TakesAtMost (2 * i) s t → TakesAtMost 2 t u → TakesAtMost (2 * (i + 1)) s u
 one_more i s t u before two n = omega (arith, before n, two n)
 
@@ -62,7 +62,7 @@ last_takes above i s t u lt before more n = omega (arith, lt, length-take-le (le
 last_fewer : (above : List Step) (i : ℕ) (s t u : ℕ → Standing) → i < length above → TakesAtMost (2 * i) s t → TakesFewer (length (left above i) + 2) t u → TakesFewer (most_taken (length above)) s u
 last_fewer above i s t u lt before more n = omega (arith, lt, length-take-le (length above - i) above (omega arith), before n, more n)
 
--- the node that is left
+-- the node left to settle
 module _ (g : Over) (c : After-deref g) (start : g.row.R.Denot) (h : Begun g c start) where
   hand : IsInHand g.R.Look.kept g.R.Look.standing g.R.Look.words c.args.root (left c.args.above.now c.loop-i.i) c.loop-i.was c.args.pair.now c.deref.result.now (level_of (g.R.Look.words start c.loop-i.was)) start c.loop-i.room
   hand =
@@ -79,7 +79,7 @@ module _ (g : Over) (c : After-deref g) (start : g.row.R.Denot) (h : Begun g c s
       hands_start g.R.Look.kept g.R.Look.standing g.R.Look.words c.args.root c.args.above.now (left c.args.above.now c.loop-i.i) c.args.was c.loop-i.was c.args.pair.now c.args.in_hand.items c.loop-i.slots.items
       (level_of (g.R.Look.words start c.args.was)) (level_of (g.R.Look.words start c.loop-i.was)) start c.args.room.now c.loop-i.room h (c.loop-i.invariant.in_hand start h)
 
-  -- the page above it is in hand in turn
+  -- the page above it is unwritten in turn
   up : (page : ℕ) (out : List Slot) (new : g.row.R.Denot) → c.loop-i.i < length c.args.above.now
       → IsAbove g.R.Look.kept g.R.Look.standing g.R.Look.words c.args.root (take (length (left c.args.above.now c.loop-i.i) - 1) (left c.args.above.now c.loop-i.i)) page c.args.pair.now out
       (whole (g.R.Look.words start) (left c.args.above.now c.loop-i.i) (pairs_below (level_of (g.R.Look.words start c.loop-i.was)) (g.R.Look.words c.loop-i.room) (pairs_of (g.R.Look.words c.loop-i.room) c.args.pair.now c.deref.result.now))) start new
@@ -165,7 +165,7 @@ word-level-requires-clause-readable g c =
     (hand_apart g.R.Look.kept g.R.Look.standing g.R.Look.words c.args.root (left c.args.above.now c.loop-i.i) c.loop-i.was (level_of (g.R.Look.words start c.loop-i.was)) c.args.pair.now c.loop-i.slots.items start c.loop-i.room
     (c.loop-i.invariant.in_hand start c.requires.in_hand.1)).0
 
--- what is left is the root's node
+-- the root's node is left
 module _ (g : Over) (c : After-word-level g) (start : g.row.R.Denot)
     (h : IsInHand g.R.Look.kept g.R.Look.standing g.R.Look.words c.args.root c.args.above.now c.args.was c.args.pair.now c.args.in_hand.items (level_of (g.R.Look.words start c.args.was)) start c.args.room.now) where
   read : IsUnchanged g.R.Look.kept g.R.Look.standing g.R.Look.words c.loop-i.room c.word-level.new.self

@@ -43,11 +43,11 @@ risen_takes above s d e f some two one more n = omega (arith, some, length-take-
 risen_fewer : (above : List Step) (s d e f : ℕ → Standing) → 0 < length above → TakesAtMost 2 s d → TakesAtMost 1 d e → TakesFewer (length (front above)) e f → TakesFewer (length above + 2) s f
 risen_fewer above s d e f some two one more n = omega (arith, some, length-take-le (length above - 1) above (omega arith), two n, one n, more n)
 
--- the node, of whatever tree it is, once its page's level was read
+-- the node, for every tree that it may belong to, after its page's level was read
 abbrev Begun : (g : Over) (c : After-word-level g) (start : g.row.R.Denot) → Type 0
 Begun g c start = IsInHand g.R.Look.kept g.R.Look.standing g.R.Look.words c.args.root c.args.above.now c.args.was c.args.pair.now c.args.slots.now (level_of (g.R.Look.words start c.args.was)) start c.args.room.now
 
--- the pairs that the tree is to have
+-- the pairs that the tree will have
 abbrev all : (g : Over) (c : After-word-level g) (start : g.row.R.Denot) → List Pair
 all g c start = whole (g.R.Look.words start) c.args.above.now (pairs_below (level_of (g.R.Look.words start c.args.was)) (g.R.Look.words c.args.room.now) (pairs_of (g.R.Look.words c.args.room.now) c.args.pair.now c.args.slots.now))
 
@@ -69,7 +69,7 @@ module _ (g : Over) (c : After-word-level g) (start : g.row.R.Denot) (h : Begun 
   node =
       child_in_hand g.R.Look.kept g.R.Look.standing g.R.Look.words c.args.root (front c.args.above.now) (last c.args.above.now) c.args.was c.word-level.result c.args.pair.now c.args.slots.now start c.word-level.new.self hand c.requires.size.0 c.requires.size.1
 
-  -- and once it is settled
+  -- after it was settled
   module _ (settled : Settled) (new : g.row.R.Denot)
       (s : IsSettled g.R.Look.kept g.R.Look.standing g.R.Look.words (last c.args.above.now) c.word-level.result c.args.pair.now
       (beside (suc c.word-level.result) (g.R.Look.words start) (last c.args.above.now) (pairs_below c.word-level.result (g.R.Look.words c.word-level.new.self) (pairs_of (g.R.Look.words c.word-level.new.self) c.args.pair.now c.args.slots.now))) settled start new) where
@@ -89,7 +89,7 @@ module _ (g : Over) (c : After-word-level g) (start : g.row.R.Denot) (h : Begun 
         start_trans g.R.Look.kept g.R.Look.standing g.R.Look.words c.args.room.now c.word-level.new.self new (unchanged_start g.R.Look.kept g.R.Look.standing g.R.Look.words c.args.room.now c.word-level.new.self (same g c))
         (settled_start g.R.Look.kept g.R.Look.standing g.R.Look.words c.args.root (front c.args.above.now) (last c.args.above.now) c.args.was c.word-level.result c.args.pair.now c.args.slots.now start c.word-level.new.self hand settled new s)
 
-    -- the same of a room that was only read since
+    -- the same, after pages were only read
     read : (now : g.row.R.Denot) → IsUnchanged g.R.Look.kept g.R.Look.standing g.R.Look.words new now
         → IsSettled g.R.Look.kept g.R.Look.standing g.R.Look.words (last c.args.above.now) c.word-level.result c.args.pair.now
         (beside (suc c.word-level.result) (g.R.Look.words start) (last c.args.above.now) (pairs_below c.word-level.result (g.R.Look.words c.word-level.new.self) (pairs_of (g.R.Look.words c.word-level.new.self) c.args.pair.now c.args.slots.now))) settled start now
@@ -106,7 +106,7 @@ module _ (g : Over) (c : After-word-level g) (start : g.row.R.Denot) (h : Begun 
     count : length (spliced settled.cut (items_of (g.R.Look.words start (last c.args.above.now).page)) (pairs_of (g.R.Look.words new) c.args.pair.now settled.branches.items)) + settled.cut.gone ≡ g.R.Look.words new (last c.args.above.now).page 1 + length settled.branches.items
     count = settled_count g.R.Look.kept g.R.Look.standing g.R.Look.words c.args.root (front c.args.above.now) (last c.args.above.now) c.args.was c.word-level.result c.args.pair.now c.args.slots.now start c.word-level.new.self hand settled new s
 
-    -- and were
+    -- and they were
     module _ (bs : List Slot) (is : bs ≡ settled.branches.items) (to : ℕ) (put : g.row.R.Denot) (spliced_in : IsSpliced g.R.Look.kept g.R.Look.standing g.R.Look.words (last c.args.above.now).page settled.cut c.args.pair.now bs to new put)
         (enough : least_at (front c.args.above.now) (suc c.word-level.result) ≤ length (spliced settled.cut (items_of (g.R.Look.words start (last c.args.above.now).page)) (pairs_of (g.R.Look.words new) c.args.pair.now settled.branches.items))) where
       spliced_so : IsSpliced g.R.Look.kept g.R.Look.standing g.R.Look.words (last c.args.above.now).page settled.cut c.args.pair.now settled.branches.items to new put
@@ -123,7 +123,7 @@ module _ (g : Over) (c : After-word-level g) (start : g.row.R.Denot) (h : Begun 
           subst (λ ps. BecomesTree g.R.Look.kept g.R.Look.standing g.R.Look.words (pages (g.R.Look.words start) c.args.root) ps new_root start final) same_pairs
           (settled_tree g.R.Look.kept g.R.Look.standing g.R.Look.words c.args.root (front c.args.above.now) (last c.args.above.now) c.args.was c.word-level.result c.args.pair.now c.args.slots.now start c.word-level.new.self hand settled new s to put spliced_so enough new_root final made)
 
-    -- or the page is in hand
+    -- or the page above is an unwritten node
     above : (out : List Slot) (now : g.row.R.Denot) → IsUnchanged g.R.Look.kept g.R.Look.standing g.R.Look.words new now → out ≡ spliced settled.cut (loaded (last c.args.above.now).page (g.R.Look.words new (last c.args.above.now).page 1)) settled.branches.items
         → IsAbove g.R.Look.kept g.R.Look.standing g.R.Look.words c.args.root (front c.args.above.now) (last c.args.above.now).page c.args.pair.now out (all g c start) start now
     above out now unchanged is =

@@ -10,7 +10,7 @@ use Rattle.be_tree.proofs.splicing.open_copy.Given.{Over}
 use Rattle.be_tree.proofs.splicing.open_copy.Goals as goal
 use Rattle.be_tree.proofs.splicing.open_copy.Goals.{After-copy_down-2}
 
--- the page is not its copy, and keeps its words
+-- the page isn't its own copy, and keeps its words
 apart : (g : Over) (c : After-copy_down-2 g) → c.args.page ≢ c.in_ok-copy.copy
 apart g c = λ e. free_other (g.R.Look.standing c.args.room.now) c.in_ok-copy.copy c.args.page (sym (ap (λ s. s c.in_ok-copy.copy) c.word-level.ensures.standing) ∙ c.in_ok-copy.ensures.page.1) c.requires.in_use (sym e)
 

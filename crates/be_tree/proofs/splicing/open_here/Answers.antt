@@ -7,7 +7,7 @@ use Rattle.be_tree.proofs.splicing.open_here.Given.{Over}
 use Rattle.be_tree.proofs.splicing.open_here.Goals as goal
 use Rattle.be_tree.proofs.splicing.open_here.Goals.{After-fill}
 
--- the header has the new count, and the items are as they were
+-- the header has the new count, and the items are unchanged
 header : (g : Over) (c : After-fill g) → OnlyWrites g.R.Look.kept g.R.Look.standing g.R.Look.words c.args.page 1 2 c.args.room.now c.fill.new.self
 header g c =
     let read = c.word-count.new.self in

@@ -2,7 +2,7 @@ use Rattle.std.proofs.Common.{◌≡◌, ℕ, ◌+◌, ◌*◌, ◌^◌, ◌<◌
 use Rattle.be_pages.specs.Pages.{OnlyWrites}
 use Rattle.be_tree.proofs.storing.store_branch.Given as goal
 
--- the header stands, and the words so far are copied
+-- the header is written, and the words so far are copied
 abbrev pub invariant-loop-i : goal.invariant-loop-i
 invariant-loop-i g l = record {
   header : g.R.Look.words l.room l.page l.at ≡ l.key_len * 2 ^ 32 + 8;

@@ -18,7 +18,7 @@ use Rattle.be_tree.proofs.taking.take_out.Goals.{After-count_of, Start}
 above_zero : (n : ℕ) → ltb 0 n ≡ true → 0 < n
 above_zero n e = grind (arith, nat_tests)
 
--- the state before the count was read
+-- before the count was read
 takes : (g : Over) (c : Start g) → TakesAt (g.R.Look.standing c.args.room.now) (g.R.Look.words c.args.room.now) c.args.root c.args.path.now c.args.key.now c.args.at
 takes g c = takes_at (g.R.Look.standing c.args.room.now) (g.R.Look.words c.args.room.now) c.args.root c.args.path.now c.args.key.now c.args.at c.requires.path.leads c.requires.path.place_is
 
@@ -29,7 +29,7 @@ count_of-requires-clause-readable g c =
 pub count_of-requires-clause-page : goal.count_of-requires-clause-page
 count_of-requires-clause-page g c = (takes g (goal.at.count_of-requires-clause-page g c).Start).leafy.tree.node.is_page
 
--- and once it was
+-- and after it
 path : (g : Over) (c : After-count_of g) → IsPathTo (g.R.Look.standing c.count_of.new.look) (g.R.Look.words c.count_of.new.look) c.args.root c.args.key.now c.args.path.now
 path g c = path_read g.R.Look.kept g.R.Look.standing g.R.Look.words c.args.room.now c.count_of.new.look c.count_of.ensures.unchanged c.args.root c.args.key.now c.args.path.now c.requires.path.leads
 

@@ -9,7 +9,7 @@ use Rattle.be_tree_reading.proofs.Putting.Puts.{becomes_given_up, held_after}
 use Rattle.be_tree.proofs.Sizes.InHand.{takes_given_up, takes_then}
 use Rattle.be_tree.proofs.writing.pack_two.Goals as goal
 
--- the second page is none of those that were replaced
+-- the second page isn't among those that were replaced
 other : (l r : ℕ) (ps : List ℕ) → (l ≡ r → ⊥) → times r ps ≡ 0 → times r (l ∷ ps) ≡ 0
 other l r ps ne none = omega (arith, times_append r (l ∷ []) ps, times_other r l (λ e. ne (sym e)), none)
 

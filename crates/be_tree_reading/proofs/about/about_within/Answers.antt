@@ -6,7 +6,7 @@ use Rattle.be_tree_reading.proofs.Putting.Puts.{tree_weaker}
 use Rattle.be_tree_reading.proofs.Shape.Roots.{root_some, root_tree}
 use Rattle.be_tree_reading.proofs.about.about_within.Goals as goal
 
--- a tree in a room that was read since
+-- a tree after pages were only read
 tree_read : (s t : ℕ → Standing) (v w : ℕ → ℕ → ℕ) (level least page : ℕ) → t ≡ s → w ≡ v → IsTreeAt level least s v page → IsTreeAt level least t w page
 tree_read s t v w level least page es ew tree =
     subst (λ (u : ℕ → ℕ → ℕ). IsTreeAt level least t u page) (sym ew) (subst (λ (r : ℕ → Standing). IsTreeAt level least r v page) (sym es) tree)

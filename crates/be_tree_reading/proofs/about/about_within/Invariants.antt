@@ -3,7 +3,7 @@ use Rattle.be_pages.specs.Pages.{IsUnchanged}
 use Rattle.be_tree_reading.specs.Tree.{IsTreeAt}
 use Rattle.be_tree_reading.proofs.about.about_within.Given as goal
 
--- both ways are on a page of the same level
+-- both paths are on pages of the same level
 abbrev pub invariant-loop-level : goal.invariant-loop-level
 invariant-loop-level g l = record {
   left_least : ℕ;

@@ -11,7 +11,7 @@ use Rattle.be_tree_reading.proofs.about.step_down.Goals.{After-branch_to-number}
 pub word-count-requires-clause-readable : goal.word-count-requires-clause-readable
 word-count-requires-clause-readable g c = readable_kept (g.L.Look.standing c.args.look.now c.args.page) c.requires.inner.1.1.1.1.page_in_use
 
--- the words are as at first
+-- the words are those at the call
 read : (g : Over) (c : After-branch_to-number g) → g.L.Look.words c.branch_to-number.new.look ≡ g.L.Look.words c.args.look.now
 read g c = c.branch_to-number.ensures.unchanged.words ∙ c.word-count.ensures.words
 

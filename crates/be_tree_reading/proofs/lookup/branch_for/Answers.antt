@@ -22,7 +22,7 @@ loop-at-init g c = record {
   unchanged = record { kept = refl; standing = refl; words = refl };
 }
 
--- the place is that of an item
+-- the place is an item's
 pub is_above-requires-clause-in_page : goal.is_above-requires-clause-in_page
 is_above-requires-clause-in_page g c = omega (arith, c.loop-at.invariant.is_place, c.loop-at-test.true, c.requires.end, c.requires.page.few)
 
@@ -32,7 +32,7 @@ is_above-requires-clause-item g c =
     subst (λ (w : ℕ → ℕ → ℕ). IsItem (w c.args.page) c.loop-at.at) (sym i.unchanged.words)
     (subst (λ (p : ℕ). IsItem (g.L.Look.words c.args.look.now c.args.page) p) (sym i.is_place) (c.requires.page.each i.number (omega (arith, i.is_place, c.loop-at-test.true, c.requires.end))))
 
--- how the item that is asked compares
+-- how the current item compares
 asked : (g : Over) (c : After-is_above g) (d : Pair) → c.loop-at.invariant.number < g.L.Look.words c.args.look.now c.args.page 1
     → is_gt (key_cmp (get_or (items_of (g.L.Look.words c.args.look.now c.args.page)) c.loop-at.invariant.number d).key c.args.key.now) ≡ c.is_above.result
 asked g c d lt =

@@ -6,7 +6,7 @@ use Rattle.be_tree_reading.specs.Key.{key_cmp}
 use Rattle.be_tree_reading.specs.Page.{item_place, items_of}
 use Rattle.be_tree_reading.proofs.lookup.branch_for.Given as goal
 
--- the item that was asked last is not above the key
+-- the last item compared isn't above the key
 abbrev pub invariant-loop-at : goal.invariant-loop-at
 invariant-loop-at g l = record {
   number : ℕ;

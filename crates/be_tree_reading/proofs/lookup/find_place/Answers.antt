@@ -11,7 +11,7 @@ use Rattle.be_tree_reading.proofs.lookup.find_place.Given.{Over}
 use Rattle.be_tree_reading.proofs.lookup.find_place.Goals as goal
 use Rattle.be_tree_reading.proofs.lookup.find_place.Goals.{After-branch_in-at, In-Ok}
 
--- the room after the search is as at first
+-- after the search, the words are those at the call
 words_same : (g : Over) (c : After-branch_in-at g) → g.L.Look.words c.branch_in-at.new.look ≡ g.L.Look.words c.args.look.now
 words_same g c = c.branch_in-at.ensures.unchanged.words ∙ c.loop-level.invariant.unchanged.words
 
@@ -68,7 +68,7 @@ loop-level-preserved g c =
           (unchanged_trans g.L.Look.kept g.L.Look.standing g.L.Look.words c.args.look.now c.loop-level.look c.branch_in-at.new.look c.loop-level.invariant.unchanged c.branch_in-at.ensures.unchanged) c.child_at-page.ensures.unchanged;
     }
 
--- the item that was found
+-- the item with the key
 there : (g : Over) (c : In-Ok g) → IsFoundAt c.args.key.now (g.L.Look.words c.args.look.now c.loop-level.page) c.in-Ok.at
 there g c = subst (λ (w : ℕ → ℕ → ℕ). IsFoundAt c.args.key.now (w c.loop-level.page) c.in-Ok.at) c.loop-level.invariant.unchanged.words c.in-Ok.ensures.found
 

@@ -11,7 +11,7 @@ use Rattle.be_tree_reading.proofs.lookup.rank.Given.{Over}
 use Rattle.be_tree_reading.proofs.lookup.rank.Goals as goal
 use Rattle.be_tree_reading.proofs.lookup.rank.Goals.{After-is_above}
 
--- how the item that is asked compares
+-- how the current item compares
 asked : (g : Over) (c : After-is_above g) (d : Pair) → c.loop-at.at < g.L.Look.words c.args.look.now c.args.page 1
     → is_gt (key_cmp (get_or (items_of (g.L.Look.words c.args.look.now c.args.page)) c.loop-at.at d).key c.args.key.now) ≡ c.is_above.result
 asked g c d lt =

@@ -42,7 +42,7 @@ loop-level-init g c =
       unchanged = record { kept = c.word-level.ensures.kept; standing = c.word-level.ensures.standing; words = c.word-level.ensures.words };
     }
 
--- the room after the search in a page is as at first
+-- after the search on a page, the words are those at the call
 words_same : (g : Over) (c : After-branch_for-at g) → g.L.Look.words c.branch_for-at.new.look ≡ g.L.Look.words c.args.look.now
 words_same g c = c.branch_for-at.ensures.unchanged.words ∙ c.end_of-end.ensures.unchanged.words ∙ c.loop-level.invariant.unchanged.words
 
@@ -87,7 +87,7 @@ overflow_add-at g c =
     let at = (goal.at.overflow_add-at g c).After-branch_for-at in
     omega (arith, at_item g at, (found g at).is_place, c.loop-level.invariant.tree.node.is_page.few)
 
--- the branch after the one that is taken, or the one from above
+-- the pairs below the branches after the one that the descent takes
 after : (g : Over) (c : After-branch_for-at g) → List Pair
 after g c = pairs_below c.loop-level.level (g.L.Look.words c.args.look.now) (drop ((found g c).number + 1) (items_of (g.L.Look.words c.args.look.now c.loop-level.page)))
 
@@ -153,7 +153,7 @@ loop-level-preserved g c =
           (unchanged_trans g.L.Look.kept g.L.Look.standing g.L.Look.words c.args.look.now c.loop-level.look c.end_of-end.new.look i.unchanged c.end_of-end.ensures.unchanged) c.branch_for-at.ensures.unchanged) c.child_at-page.ensures.unchanged;
     }
 
--- the leaf that was come to
+-- the leaf that the descent reached
 pub first_from-at-requires-clause-leaf : goal.first_from-at-requires-clause-leaf
 first_from-at-requires-clause-leaf g c =
     let i = c.loop-level.invariant in

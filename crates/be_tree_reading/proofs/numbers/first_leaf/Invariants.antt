@@ -6,7 +6,7 @@ use Rattle.be_tree_reading.specs.Range.{pairs_from}
 use Rattle.be_tree_reading.specs.Tree.{IsTreeAt, pairs, pairs_at}
 use Rattle.be_tree_reading.proofs.numbers.first_leaf.Given as goal
 
--- what is from the key on below this page, and then the rest, is all that the tree has from it on
+-- what is below this page from the key on, followed by the rest, is everything in the tree from the key on
 abbrev pub invariant-loop-level : goal.invariant-loop-level
 invariant-loop-level g l = record {
   least : ℕ;

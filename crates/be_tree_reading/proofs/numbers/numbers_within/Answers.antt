@@ -15,7 +15,7 @@ use Rattle.be_tree_reading.proofs.numbers.numbers_within.Given.{Over}
 use Rattle.be_tree_reading.proofs.numbers.numbers_within.Goals as goal
 use Rattle.be_tree_reading.proofs.numbers.numbers_within.Goals.{After-first_leaf-leaf, After-push_to}
 
--- what is from the low key on: that in the leaf, and the rest
+-- what is from `low` on: what the leaf has of it, and the rest
 abbrev rest : (g : Over) (c : After-first_leaf-leaf g) → List Pair
 rest g c = c.first_leaf-leaf.ensures.from.0
 
@@ -26,7 +26,7 @@ from g c = c.first_leaf-leaf.ensures.from.1.0
 next : (g : Over) (c : After-first_leaf-leaf g) → IsNext (g.L.Look.standing c.args.look.now) (g.L.Look.words c.args.look.now) c.first_leaf-leaf.result.next.page c.first_leaf-leaf.result.next.place (rest g c)
 next g c = c.first_leaf-leaf.ensures.from.1.1
 
--- the items of the leaf that are from it on
+-- the leaf's items from `low` on
 abbrev here : (g : Over) (c : After-first_leaf-leaf g) → List Pair
 here g c = drop (number_at_place c.first_leaf-leaf.result.at) (items_of (g.L.Look.words c.args.look.now c.first_leaf-leaf.result.page))
 
@@ -34,7 +34,7 @@ parts : (g : Over) (c : After-first_leaf-leaf g) → pairs_from (pairs (g.L.Look
 parts g c =
     (from g c).parts ∙ ap (λ (n : ℕ). drop n (items_of (g.L.Look.words c.args.look.now c.first_leaf-leaf.result.page)) ++ rest g c) (sym (number_back c.first_leaf-leaf.result.at (from g c).number (from g c).is_place))
 
--- no tree
+-- the tree is empty
 pub returns-then-root-eq0-clause-first : goal.returns-then-root-eq0-clause-first
 returns-then-root-eq0-clause-first g c = record {
   left = numbers_to (pairs_from (pairs (g.L.Look.words c.args.look.now) c.args.root) c.args.low.now false) (option_copied c.args.high);
@@ -73,7 +73,7 @@ push_to-requires-clause-long g c =
     (long_left (here g at) (rest g at)
     (subst AreLong (parts g at) (All-filter (λ (x : Pair). is_from c.args.low.now false x.key) (λ (x : Pair). 8 ≤ length x.key) all c.requires.long)))
 
--- what was pushed of the leaf
+-- what was pushed from the leaf
 pushed : (g : Over) (c : After-push_to g) → HasFirst c.args.found.now.items
     (numbers_to (drop (number_at_place c.first_leaf-leaf.result.at) (items_of (g.L.Look.words c.args.look.now c.first_leaf-leaf.result.page))) (option_copied c.args.high)) c.push_to.new.found.items
 pushed g c =
@@ -104,7 +104,7 @@ returns-then-is_last-clause-found g c =
     (sym c.if-is_last.true ∙ c.in_ok-is_last.ensures.past ∙ ap (λ (w : ℕ → ℕ → ℕ). any_past high (drop from (items_of (w page)))) same)
     (c.in_ok-is_last.ensures.found ∙ ap (λ (w : ℕ → ℕ → ℕ). before ++ numbers_to (drop from (items_of (w page))) high) same)
 
--- the words are read only
+-- the words were only read
 read : (g : Over) (c : After-push_to g) → g.L.Look.words c.push_to.new.look ≡ g.L.Look.words c.args.look.now
 read g c = c.push_to.ensures.unchanged.words ∙ c.first_leaf-leaf.ensures.unchanged.words
 
@@ -157,7 +157,7 @@ returns-then-is_end-clause-found g c =
     (c.push_to.ensures.unchanged.standing ∙ c.first_leaf-leaf.ensures.unchanged.standing) (read g (goal.at.returns-then-is_end-clause-found g c).After-push_to)) in
     got_rest before (numbers_to all high) (numbers_to (rest g b) high) mid mid has (sym (ap (λ (ns : List ℕ). mid ++ ns) none ∙ append-nil mid))
 
--- what is asked further on is as at first
+-- what later calls require holds as at the call
 pub push_past-requires-clause-tree : goal.push_past-requires-clause-tree
 push_past-requires-clause-tree g c =
     subst (λ (w : ℕ → ℕ → ℕ). IsTree (g.L.Look.standing c.ends_before-is_end.new.look) w c.args.root)

@@ -37,7 +37,7 @@ push_leaf-requires-clause-long g c =
     subst (λ (w : ℕ → ℕ → ℕ). AreLong (drop c.in-Some.from (items_of (w c.in-Some.page)))) (sym (c.step_leaf.ensures.unchanged.words ∙ same))
     (long_left (drop c.in-Some.from (items_of (words c.in-Some.page))) (remaining words c.step_leaf.new.self) (subst AreLong parts c.leaves.invariant.long))
 
--- the pairs of the leaf, and those past it
+-- the leaf's pairs, and those after it
 parts : (g : Over) (c : After-push_leaf g) → remaining (g.L.Look.words c.args.look.now) c.leaves.cursor
     ≡ drop c.in-Some.from (items_of (g.L.Look.words c.args.look.now c.in-Some.page)) ++ remaining (g.L.Look.words c.args.look.now) c.step_leaf.new.self
 parts g c =

@@ -24,7 +24,7 @@ loop-at-init g c = record {
   unchanged = c.end_of-end.ensures.unchanged;
 }
 
--- the place is that of an item
+-- the place is an item's
 pub is_past_at-requires-clause-in_page : goal.is_past_at-requires-clause-in_page
 is_past_at-requires-clause-in_page g c = omega (arith, c.loop-at.invariant.is_place, c.loop-at-test.true, c.end_of-end.ensures.end, c.requires.leaf.node.is_page.few)
 
@@ -87,7 +87,7 @@ loop-at-preserved g c =
           c.number_at-number.ensures.unchanged;
     }
 
--- the bound stands here
+-- the bound is at this item
 pub returns-then-is_past_at-clause-found : goal.returns-then-is_past_at-clause-found
 returns-then-is_past_at-clause-found g c =
     let at = (goal.at.returns-then-is_past_at-clause-found g c).After-is_past_at in

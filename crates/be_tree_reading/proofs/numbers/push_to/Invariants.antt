@@ -7,7 +7,7 @@ use Rattle.be_tree_reading.specs.Range.{HasGot, numbers_to}
 use Rattle.be_tree_reading.proofs.Reading.Leaves.{any_past}
 use Rattle.be_tree_reading.proofs.numbers.push_to.Given as goal
 
--- the items before this one are within the bound, and their numbers are there
+-- the items before this one are within the bound, and the list has their numbers
 abbrev pub invariant-loop-at : goal.invariant-loop-at
 invariant-loop-at g l = record {
   number : ℕ;

@@ -27,7 +27,7 @@ returns-then-leaf-end-clause-remaining g c = λ rest from.
     ∙ ap (λ (k : List ℕ). pairs_from all k true) key
     ∙ after_pair front all c.args.low.now false y rest (root_rising c.args.root (g.L.Look.standing c.args.look.now) words c.requires.tree) parts
 
--- the leaf has none of them
+-- the leaf has none of the keys
 pub returns-else-leaf-end-clause-remaining : goal.returns-else-leaf-end-clause-remaining
 returns-else-leaf-end-clause-remaining g c = λ rest from.
     let words = g.L.Look.words c.args.look.now in

@@ -10,7 +10,7 @@ use Rattle.be_tree_reading.proofs.ordered.count_within.Goals.{After-place-at}
 pub loop-count-init : goal.loop-count-init
 loop-count-init g c = record { at_most = omega arith; past = λ d lt. absurd (omega (arith, lt)); unchanged = record { kept = refl; standing = refl; words = refl } }
 
--- the last of the items that are left
+-- the last of the items left
 within_leaf : (g : Over) (c : After-place-at g) → c.loop-count.count - 1 < length (items_ahead (g.L.Look.words c.args.look.now) c.args.leaf)
 within_leaf g c = omega (arith, c.loop-count-test.true, c.loop-count.invariant.at_most, c.requires.in_range)
 

@@ -33,7 +33,7 @@ push_ahead-requires-clause-ends g c =
     (subst (StaysFalse (is_on_way way)) (sym c.begin-walk.ensures.ahead)
     (begun_stays way.back way.strict way.low.now (option_copied way.high) (pairs words c.args.root) (root_rising c.args.root (g.L.Look.standing c.args.look.now) words c.requires.tree)))
 
--- what is ahead at first, up to the end of the way, is the walk
+-- what is ahead at the beginning, up to the end of the way, is the whole walk
 same : (g : Over) (c : After-begin-walk g) → on_way c.args.way (ahead (g.L.Look.words c.begin-walk.new.look) c.begin-walk.result) ≡ walk_of c.args.way (pairs (g.L.Look.words c.args.look.now) c.args.root)
 same g c =
     let words = g.L.Look.words c.args.look.now in

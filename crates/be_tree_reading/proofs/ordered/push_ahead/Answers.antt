@@ -32,7 +32,7 @@ step_leaf-requires g c =
       walk = walk_read (g.L.Look.standing c.args.look.now) (g.L.Look.standing c.leaves.look) (g.L.Look.words c.args.look.now) (g.L.Look.words c.leaves.look) c.leaves.walk i.unchanged.standing i.unchanged.words i.walk;
     }
 
--- nothing is ahead
+-- the walk has nothing ahead
 pub returns-in_default-clause-found : goal.returns-in_default-clause-found
 returns-in_default-clause-found g c =
     let words = g.L.Look.words c.args.look.now in
@@ -51,7 +51,7 @@ returns-in_default-clause-last g c =
     subst (λ (xs : List Pair). IsLastOf (g.L.Look.standing c.args.look.now) words c.leaves.last xs)
     (sym (i.parts ∙ ap (λ (xs : List Pair). i.passed ++ xs) (ap (λ (xs : List Pair). take c.leaves.want (on_way way xs)) none ∙ take_nothing c.leaves.want) ∙ append-nil i.passed)) i.last
 
--- the leaf that was come to, and what is ahead of it
+-- the leaf that the walk reached, and what it has ahead
 pub run_in-run-requires-clause-leaf : goal.run_in-run-requires-clause-leaf
 run_in-run-requires-clause-leaf g c =
     leaf_read (g.L.Look.standing c.leaves.look) (g.L.Look.standing c.step_leaf.new.look) (g.L.Look.words c.leaves.look) (g.L.Look.words c.step_leaf.new.look) c.in-Some.leaf
@@ -74,7 +74,7 @@ leaf_is g c =
     leaf_read (g.L.Look.standing c.leaves.look) (g.L.Look.standing c.args.look.now) (g.L.Look.words c.leaves.look) (g.L.Look.words c.args.look.now) c.in-Some.leaf
     (sym c.leaves.invariant.unchanged.standing) (sym c.leaves.invariant.unchanged.words) c.in-Some.ensures.leaf
 
--- the items of the leaf, and what is ahead of it
+-- the leaf's items that the walk has ahead
 abbrev here : (g : Over) (c : After-run_in-run g) → List Pair
 here g c = items_ahead (g.L.Look.words c.args.look.now) c.in-Some.leaf
 
@@ -88,7 +88,7 @@ parts g c =
 in_range : (g : Over) (c : After-run_in-run g) → c.run_in-run.result.count ≤ length (here g c)
 in_range g c = subst (λ (w : ℕ → ℕ → ℕ). c.run_in-run.result.count ≤ length (items_ahead w c.in-Some.leaf)) (read g c) c.run_in-run.ensures.in_range
 
--- of what was wanted the run is the first part
+-- the run is the first part of what was wanted
 step : (g : Over) (c : After-run_in-run g) → take c.leaves.want (on_way c.args.way (ahead (g.L.Look.words c.args.look.now) c.leaves.walk))
     ≡ take c.run_in-run.result.count (here g c) ++ take c.run_in-run.result.want (on_way c.args.way (rest g c))
 step g c =
@@ -190,7 +190,7 @@ leaves-preserved g c =
           c.push_run.ensures.unchanged;
     }
 
--- no more is wanted
+-- nothing more is wanted
 pub returns-clause-found : goal.returns-clause-found
 returns-clause-found g c =
     let words = g.L.Look.words c.args.look.now in

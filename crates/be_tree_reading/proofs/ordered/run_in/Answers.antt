@@ -15,7 +15,7 @@ pub count_within-count-requires-clause-in_range : goal.count_within-count-requir
 count_within-count-requires-clause-in_range g c =
     omega (arith, c.least_of-most.ensures.at_most.0, c.count-ahead.ensures.count, ap (λ (w : ℕ → ℕ → ℕ). length (items_ahead w c.args.leaf)) c.count-ahead.ensures.unchanged.words)
 
--- what was told of the leaf's items
+-- what `count_within` says about the leaf's items
 within : (g : Over) (c : After-count_within-count g) → (d : Pair) → 0 < c.count_within-count.result
     → is_on_way c.args.way (get_or (items_ahead (g.L.Look.words c.args.look.now) c.args.leaf) (c.count_within-count.result - 1) d).key ≡ true
 within g c =

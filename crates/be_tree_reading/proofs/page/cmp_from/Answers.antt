@@ -7,7 +7,7 @@ use Rattle.be_tree_reading.proofs.page.cmp_from.Given.{Over}
 use Rattle.be_tree_reading.proofs.page.cmp_from.Goals as goal
 use Rattle.be_tree_reading.proofs.page.cmp_from.Goals.{After-whole_word-other, After-word_within-other}
 
--- one of two lengths, by other names
+-- one of two lengths, under other names
 either_is : {a b c d e : ℕ} → a ≡ b → c ≡ d → ((b ≡ c) ⊎ (b ≡ e)) → (a ≡ d) ⊎ (a ≡ e)
 either_is ab cd (inl bc) = inl (ab ∙ bc ∙ cd)
 either_is ab cd (inr be) = inr (ab ∙ be)

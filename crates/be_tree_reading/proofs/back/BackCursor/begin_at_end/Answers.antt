@@ -10,7 +10,7 @@ use Rattle.be_tree_reading.proofs.Shape.Heights.{height}
 use Rattle.be_tree_reading.proofs.Shape.Roots.{root_tree, root_some}
 use Rattle.be_tree_reading.proofs.back.BackCursor.begin_at_end.Goals as goal
 
--- a path without a place
+-- an empty path
 empty : (path : List Place) → path ≡ [] → (standing : ℕ → Standing) (words : ℕ → ℕ → ℕ) → IsPath standing words path
 empty path e standing words = subst (IsPath standing words) (sym e) (record { places = λ i d lt. absurd (omega (arith, lt)); short = λ i d lt. absurd (omega (arith, lt)) })
 

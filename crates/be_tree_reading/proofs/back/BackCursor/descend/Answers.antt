@@ -22,7 +22,7 @@ use Rattle.be_tree_reading.proofs.back.BackCursor.descend.Given.{Over}
 use Rattle.be_tree_reading.proofs.back.BackCursor.descend.Goals as goal
 use Rattle.be_tree_reading.proofs.back.BackCursor.descend.Goals.{After-branch_in-at}
 
--- a path without a place
+-- an empty path
 empty : (path : List Place) → path ≡ [] → (standing : ℕ → Standing) (words : ℕ → ℕ → ℕ) → IsPath standing words path
 empty path e standing words = subst (IsPath standing words) (sym e) (record { places = λ i d lt. absurd (omega (arith, lt)); short = λ i d lt. absurd (omega (arith, lt)) })
 
@@ -46,7 +46,7 @@ loop-level-init g c =
       unchanged = record { kept = c.word-level.ensures.kept; standing = c.word-level.ensures.standing; words = c.word-level.ensures.words };
     }
 
--- the room after the search in a page is as at first
+-- after the search on a page, the words are those at the call
 words_same : (g : Over) (c : After-branch_in-at g) → g.L.Look.words c.branch_in-at.new.look ≡ g.L.Look.words c.args.look.now
 words_same g c = c.branch_in-at.ensures.unchanged.words ∙ c.loop-level.invariant.unchanged.words
 
@@ -60,7 +60,7 @@ leads : (g : Over) (c : After-branch_in-at g) → LeadsDown c.loop-level.level (
 leads g c = leads_down c.loop-level.level (c.loop-level.level - 1) (g.L.Look.standing c.args.look.now) (g.L.Look.words c.args.look.now) c.loop-level.invariant.least c.loop-level.page (found g c).number
     (omega (arith, c.loop-level-test.true)) c.loop-level.invariant.tree (at_item g c)
 
--- the number of the branch's place
+-- the number of the branch at its place
 number_is : (g : Over) (c : After-branch_in-at g) → (c.branch_in-at.result - 2) / 42 ≡ (found g c).number
 number_is g c = omega (arith, (found g c).is_place)
 
@@ -146,7 +146,7 @@ overflow_cast-next-2 g c =
     let in_range = subst (λ (w : ℕ → ℕ → ℕ). c.leaf_from-next.result ≤ length (items_of (w c.loop-level.page))) i.unchanged.words c.leaf_from-next.ensures.in_range in
     omega (arith, in_range, items_count (g.L.Look.words c.args.look.now c.loop-level.page), i.tree.node.is_page.few)
 
--- the leaf that was come to
+-- the leaf that the descent reached
 pub returns-clause-cursor : goal.returns-clause-cursor
 returns-clause-cursor g c =
     let standing = g.L.Look.standing c.args.look.now in

@@ -6,7 +6,7 @@ use Rattle.be_tree_reading.specs.Tree.{IsTreeAt, pairs, pairs_at}
 use Rattle.be_tree_reading.specs.Way.{pairs_until}
 use Rattle.be_tree_reading.proofs.back.BackCursor.descend.Given as goal
 
--- what is before the path, and then up to the key below this page, is all that the tree has up to it
+-- what is before the path, followed by what is below this page up to the key, is everything in the tree up to the key
 abbrev pub invariant-loop-level : goal.invariant-loop-level
 invariant-loop-level g l = record {
   least : ℕ;

@@ -18,7 +18,7 @@ use Rattle.be_tree_reading.proofs.cursor.Cursor.descend.Given.{Over}
 use Rattle.be_tree_reading.proofs.cursor.Cursor.descend.Goals as goal
 use Rattle.be_tree_reading.proofs.cursor.Cursor.descend.Goals.{After-branch_in-at}
 
--- a path without a place
+-- an empty path
 empty : (path : List Place) → path ≡ [] → (standing : ℕ → Standing) (words : ℕ → ℕ → ℕ) → IsPath standing words path
 empty path e standing words = subst (IsPath standing words) (sym e) (record { places = λ i d lt. absurd (omega (arith, lt)); short = λ i d lt. absurd (omega (arith, lt)) })
 
@@ -42,7 +42,7 @@ loop-level-init g c =
       unchanged = record { kept = c.word-level.ensures.kept; standing = c.word-level.ensures.standing; words = c.word-level.ensures.words };
     }
 
--- the room after the search in a page is as at first
+-- after the search on a page, the words are those at the call
 words_same : (g : Over) (c : After-branch_in-at g) → g.L.Look.words c.branch_in-at.new.look ≡ g.L.Look.words c.args.look.now
 words_same g c = c.branch_in-at.ensures.unchanged.words ∙ c.loop-level.invariant.unchanged.words
 
@@ -56,7 +56,7 @@ leads : (g : Over) (c : After-branch_in-at g) → LeadsDown c.loop-level.level (
 leads g c = leads_down c.loop-level.level (c.loop-level.level - 1) (g.L.Look.standing c.args.look.now) (g.L.Look.words c.args.look.now) c.loop-level.invariant.least c.loop-level.page (found g c).number
     (omega (arith, c.loop-level-test.true)) c.loop-level.invariant.tree (at_item g c)
 
--- the number of the branch's place
+-- the number of the branch at its place
 number_is : (g : Over) (c : After-branch_in-at g) → (c.branch_in-at.result - 2) / 42 ≡ (found g c).number
 number_is g c = omega (arith, (found g c).is_place)
 
@@ -141,7 +141,7 @@ loop-level-preserved g c =
           (unchanged_trans g.L.Look.kept g.L.Look.standing g.L.Look.words c.args.look.now c.loop-level.look c.branch_in-at.new.look c.loop-level.invariant.unchanged c.branch_in-at.ensures.unchanged) c.child_at-child.ensures.unchanged;
     }
 
--- the leaf that was come to
+-- the leaf that the descent reached
 pub returns-clause-leaf : goal.returns-clause-leaf
 returns-clause-leaf g c =
     let standing = g.L.Look.standing c.args.look.now in

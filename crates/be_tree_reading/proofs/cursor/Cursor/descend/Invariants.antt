@@ -5,7 +5,7 @@ use Rattle.be_tree_reading.specs.Range.{pairs_from}
 use Rattle.be_tree_reading.specs.Tree.{IsTreeAt, pairs, pairs_at}
 use Rattle.be_tree_reading.proofs.cursor.Cursor.descend.Given as goal
 
--- what stands from the key on below this page, and then past the path, is all that the tree has from it on
+-- what is below this page from the key on, followed by what is after the path, is everything in the tree from the key on
 abbrev pub invariant-loop-level : goal.invariant-loop-level
 invariant-loop-level g l = record {
   least : ℕ;

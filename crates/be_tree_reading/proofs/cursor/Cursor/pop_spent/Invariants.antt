@@ -3,7 +3,7 @@ use Rattle.be_pages.specs.Pages.{IsUnchanged}
 use Rattle.be_tree_reading.specs.Cursor.{IsPath, pairs_along}
 use Rattle.be_tree_reading.proofs.cursor.Cursor.pop_spent.Given as goal
 
--- the places that were taken off had no item left
+-- the places removed so far had no item left
 abbrev pub invariant-loop-place : goal.invariant-loop-place
 invariant-loop-place g l = record {
   path : IsPath (g.L.Look.standing l.fn.look) (g.L.Look.words l.fn.look) l.self.path.items;

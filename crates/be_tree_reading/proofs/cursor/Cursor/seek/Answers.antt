@@ -9,7 +9,7 @@ use Rattle.be_tree_reading.proofs.Reading.Cursors.{along_push, path_push}
 use Rattle.be_tree_reading.proofs.Shape.Levels.{kept_not_free}
 use Rattle.be_tree_reading.proofs.cursor.Cursor.seek.Goals as goal
 
--- a path without a place
+-- an empty path
 empty : (path : List Place) → path ≡ [] → (standing : ℕ → Standing) (words : ℕ → ℕ → ℕ) → IsPath standing words path
 empty path e standing words = subst (IsPath standing words) (sym e) (record { places = λ i d lt. absurd (omega (arith, lt)); short = λ i d lt. absurd (omega (arith, lt)) })
 
