@@ -1,14 +1,15 @@
 #!/usr/bin/env python3
-"""How fast workers claim one job each from a queue, beside sqlite3 in memory, from Python: one table in Markdown.
+"""Measures how fast workers claim one job each from a queue in Python, compared with sqlite3 in memory. Prints a table in
+Markdown.
 
     /usr/bin/python3 bench/claims.py                          queues of 500, 2,000 and 16,000 jobs, one worker and eight
-    /usr/bin/python3 bench/claims.py --queued 500 --rounds 1  a trial
-    /usr/bin/python3 bench/claims.py --instructions           instructions a claim of one worker instead, by perf or valgrind
+    /usr/bin/python3 bench/claims.py --queued 500 --rounds 1  a trial run
+    /usr/bin/python3 bench/claims.py --instructions           instead, the instructions per claim of one worker, by perf or valgrind
 
-It needs the package (PYTHONPATH=python). A claim reads a waiting job and marks it as claimed, as one: in bestore by `change`, with
-any job or with the most urgent one, which then loses its urgency, as in examples/python/jobs.py; in SQLite by one UPDATE with RETURNING.
-Jobs that were claimed are queued again between the rounds, so each round finds the queue as long. SQLite's connection is one for all
-workers, guarded by a lock.
+It needs the package (PYTHONPATH=python). A claim reads a waiting job and marks it as claimed in one step. In bestore, that is
+a `change`, for any job or for the most urgent one, which then loses its urgency, as in examples/python/jobs.py. In SQLite, it
+is one UPDATE with RETURNING. Claimed jobs are queued again between rounds, so the queue has the same length each time. All
+workers share one SQLite connection, guarded by a lock.
 """
 
 from __future__ import annotations
@@ -50,7 +51,7 @@ class Bestore:
         self.queue_again(list(self._urgencies))
 
     def any_job(self) -> Claim:
-        """Claims by a pass of its own."""
+        """Claims any job through its own pass."""
         user, waiting = self._store.another(), bestore.prepare("job:state==waiting")
 
         def claim(change: bestore.Change) -> Optional[int]:
@@ -62,7 +63,7 @@ class Bestore:
         return lambda: user.change(claim)
 
     def urgent_job(self) -> Claim:
-        """The same, of a queue in which only waiting jobs have an urgency."""
+        """Claims the most urgent job. Only waiting jobs have an urgency in the index."""
         user, waiting = self._store.another(), bestore.prepare("job:state==waiting")
 
         def claim(change: bestore.Change) -> Optional[int]:
@@ -80,7 +81,7 @@ class Bestore:
 
 
 class Sqlite:
-    """Jobs as rows, with an index of state and urgency."""
+    """Jobs as rows, with an index on state and urgency."""
 
     def __init__(self, queued: int) -> None:
         self._lock = threading.Lock()
@@ -115,7 +116,7 @@ STORES: Dict[str, Callable[[int], Union[Bestore, Sqlite]]] = {"bestore": Bestore
 
 
 def work(claim: Claim, count: int, begin: threading.Barrier, claimed: List[int]) -> None:
-    """Claims this many jobs, once all workers are there."""
+    """Claims this many jobs, once all workers are ready."""
     begin.wait()
     for _ in range(count):
         job = claim()
@@ -125,7 +126,7 @@ def work(claim: Claim, count: int, begin: threading.Barrier, claimed: List[int])
 
 
 def rate(claims: List[Claim], queue_again: Callable[[List[int]], None]) -> float:
-    """How many jobs these workers claim per second."""
+    """Returns how many jobs these workers claim per second."""
     begin = threading.Barrier(len(claims) + 1)
     claimed: List[List[int]] = [[] for _ in claims]
     workers = [threading.Thread(target=work, args=(claim, CLAIMS // len(claims), begin, jobs)) for claim, jobs in zip(claims, claimed)]
@@ -138,7 +139,7 @@ def rate(claims: List[Claim], queue_again: Callable[[List[int]], None]) -> float
 
 
 def measured(queued: int, workers: int, rounds: int) -> Dict[str, float]:
-    """The best rate of each way to claim."""
+    """Returns the best rate of each way to claim."""
     best: Dict[str, float] = {}
     for title, made in STORES.items():
         store = made(queued)
@@ -149,13 +150,13 @@ def measured(queued: int, workers: int, rounds: int) -> Dict[str, float]:
 
 
 def instructions(queued: int) -> Dict[str, str]:
-    """The instructions of a claim of one worker, by each way."""
+    """Returns the instructions per claim of one worker, for each way."""
     own = [sys.executable, os.path.abspath(__file__), "--queued", str(queued), "--one"]
     return {f"{title} {way}": instructions_a_call([*own, title, way], FEW, MANY) for title in STORES for way in WAYS}
 
 
 def claim_some(title: str, way: str, count: int, queued: int) -> None:
-    """Claims so many jobs, and nothing else."""
+    """Claims this many jobs and does nothing else."""
     claim: Claim = getattr(STORES[title](queued), way)()
     for _ in range(count):
         claim()

@@ -1,5 +1,6 @@
 #!/usr/bin/env python3
-"""How fast a kept store of Python takes writes, beside `sqlite3`, and how fast it opens. bench/README.md says more."""
+"""Measures how fast a kept store in Python writes, compared with `sqlite3`, and how fast it opens. bench/README.md explains
+it."""
 
 from __future__ import annotations
 
@@ -28,7 +29,7 @@ Write = Callable[[int], object]
 
 
 def rate(writes: List[Write], seconds: float) -> float:
-    """How many writes these threads make per second. Each keeps calling its function for this time."""
+    """Returns how many writes per second these threads make. Each calls its function repeatedly for this time."""
     counts, start = [0] * len(writes), threading.Barrier(len(writes) + 1)
 
     def work(writer: int, write: Write) -> None:
@@ -44,7 +45,7 @@ def rate(writes: List[Write], seconds: float) -> float:
 
 
 def kept(path: str, writers: int, seconds: float) -> float:
-    """A kept store, with a pass for each thread."""
+    """A kept store, with one pass per thread."""
     with saved.open(path) as store:
         store.new_node()
         passes = [store] + [store.another() for _ in range(writers - 1)]
@@ -55,7 +56,7 @@ def kept(path: str, writers: int, seconds: float) -> float:
 
 
 def connected(path: str, is_exclusive: bool = False) -> sqlite3.Connection:
-    """A connection in WAL mode, each commit of which waits for fsync."""
+    """Opens a connection in WAL mode whose commits wait for fsync."""
     connection = sqlite3.connect(path, timeout=600, isolation_level=None, check_same_thread=False)
     if is_exclusive:
         connection.execute("PRAGMA locking_mode = EXCLUSIVE")
@@ -71,7 +72,7 @@ def inserts(connection: sqlite3.Connection) -> Write:
 
 
 def shared(path: str, writers: int, seconds: float, is_exclusive: bool = False) -> float:
-    """sqlite3 with one connection, before which the threads wait for a lock."""
+    """sqlite3 with one connection, whose lock the threads wait for."""
     with closing(connected(path, is_exclusive)) as connection:
         insert, lock = inserts(connection), threading.Lock()
 
@@ -82,12 +83,12 @@ def shared(path: str, writers: int, seconds: float, is_exclusive: bool = False) 
 
 
 def exclusive(path: str, writers: int, seconds: float) -> float:
-    """The same, with a lock of the file for as long as it is open, as a kept store has it."""
+    """Like `shared`, but the file is locked while it is open, as a kept store's file is."""
     return shared(path, writers, seconds, True)
 
 
 def each(path: str, writers: int, seconds: float) -> float:
-    """sqlite3 with a connection for each thread, which waits while another one writes."""
+    """sqlite3 with one connection per thread. Each waits while another one writes."""
     connections = [connected(path) for _ in range(writers)]
     try:
         return rate([inserts(connection) for connection in connections], seconds)
@@ -128,7 +129,7 @@ def measure(folder: str, rounds: int, seconds: float) -> None:
 
 
 def file_batch(first: int, count: int) -> bestore.Batch:
-    """Files of five attributes, each a node."""
+    """Makes files with five attributes each, one per node."""
     batch = bestore.Batch()
     for node in range(first, first + count):
         batch.new_node().set(node, "name", f"file{node:05d}.txt").set(node, "size", node * 7)
@@ -137,7 +138,7 @@ def file_batch(first: int, count: int) -> bestore.Batch:
 
 
 def measure_opening(folder: str, rounds: int) -> None:
-    """Prints how long a store with many files takes to open: first with its entries, and then with its state alone."""
+    """Prints how long a store with many files takes to open: first with its entries, and then with only its state."""
     path, times = os.path.join(folder, "files"), []
     with saved.open(path, pages=16384, every=3600) as store:
         for name, kind in (("name", bestore.STRING), ("size", bestore.INT64), ("when", bestore.INT64)):

@@ -1,4 +1,4 @@
-/* Runs a program, and then prints the most bytes of memory that it had. */
+/* Runs a program, and then prints its peak memory in bytes. */
 #include <stdio.h>
 #include <sys/resource.h>
 #include <sys/wait.h>

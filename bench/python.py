@@ -1,14 +1,15 @@
 #!/usr/bin/env python3
-"""How fast the package for Python is, beside sqlite3 in memory and lmdb: one table in Markdown.
+"""Measures how fast the package for Python is, compared with sqlite3 in memory and lmdb. Prints a table in Markdown.
 
-    /usr/bin/python3 bench/python.py                    measures in five rounds, one peer after the other in each
-    /usr/bin/python3 bench/python.py --rounds 1 --nodes 1000 --seconds 0.05     a trial
-    /usr/bin/python3 bench/python.py --processor        the processor's time: on a machine on which something else runs
-    /usr/bin/python3 bench/python.py --instructions     instructions a call instead of times, by perf or valgrind
+    /usr/bin/python3 bench/python.py                    measures five rounds, with one peer after another in each
+    /usr/bin/python3 bench/python.py --rounds 1 --nodes 1000 --seconds 0.05     a trial run
+    /usr/bin/python3 bench/python.py --processor        measures processor time, for a machine that runs something else too
+    /usr/bin/python3 bench/python.py --instructions     counts instructions per call instead of time, by perf or valgrind
 
-It needs the package (PYTHONPATH=python, or BESTORE_LIBRARY too), and for LMDB Debian's python3-lmdb. A peer that isn't there is skipped,
-with a line. Each peer does what a program would write: it makes its keys of a node's number and a name, and gives texts as str and
-numbers as int. Each asking has a new text or number, in a random order that is the same for all. The peers' answers are compared.
+It needs the package (PYTHONPATH=python, or also BESTORE_LIBRARY), and for LMDB Debian's python3-lmdb. If a peer is missing, it
+is skipped, and a line says so. Each peer does what a program would do: it makes its keys from a node's number and a name, and
+returns texts as str and numbers as int. Each query has a new text or number, in a random order that is the same for all peers.
+The peers' answers are compared.
 """
 
 from __future__ import annotations
@@ -42,58 +43,58 @@ def name_of(node: int) -> str:
 
 
 class Peer:
-    """A store with a node for each number from 1 on: a name and a size, which are indexed, and five texts."""
+    """A store with a node for each number from 1 on: a name and a size, both indexed, and five texts."""
 
     title = ""
 
     def get(self, node: int) -> Optional[str]:
-        """A node's kind."""
+        """Returns a node's kind."""
         raise NotImplementedError
 
     def set_plain(self, node: int, number: int) -> None:
-        """Sets a number that has no index."""
+        """Sets a number that isn't indexed."""
         raise NotImplementedError
 
     def set_size(self, node: int, size: int) -> None:
-        """Sets a number that has an index, in a transaction of its own."""
+        """Sets an indexed number in its own transaction."""
         raise NotImplementedError
 
     def by_name(self, asked: Any) -> List[int]:
-        """The nodes of this name."""
+        """Returns the nodes with this name."""
         raise NotImplementedError
 
     def by_size(self, asked: Any) -> List[int]:
-        """The nodes of this size."""
+        """Returns the nodes with this size."""
         raise NotImplementedError
 
     def kinds(self, asked: Any) -> List[str]:
-        """The kinds of the nodes of this size."""
+        """Returns the kinds of the nodes with this size."""
         raise NotImplementedError
 
     def five(self, asked: Any) -> List[List[str]]:
-        """Five attributes of the nodes of this size, name by name."""
+        """Returns five attributes of the nodes with this size, name by name."""
         raise NotImplementedError
 
     def containing(self, asked: Any) -> List[int]:
-        """The nodes whose names contain a text."""
+        """Returns the nodes whose names contain a text."""
         raise NotImplementedError
 
     def page(self, asked: Any) -> List[Tuple[Any, ...]]:
-        """The rows with the greatest sizes, or those after a place, by falling sizes and nodes."""
+        """Returns the rows with the largest sizes, or those after a place, in descending order of sizes and nodes."""
         raise NotImplementedError
 
     older = page
 
     def begin(self) -> None:
-        """Begins to read."""
+        """Starts reading."""
 
     def end(self) -> None:
-        """Ends to read."""
+        """Stops reading."""
 
     def close(self) -> None:
         raise NotImplementedError
 
-    # What is asked, made before the time is taken.
+    # The queries, made before the clock starts.
 
     def name(self, node: int) -> Any:
         return name_of(node)
@@ -105,7 +106,7 @@ class Peer:
         return name_of(node)[-5:]
 
     def place(self, size: int, node: int) -> Any:
-        """A place in the order of sizes."""
+        """Returns a place in the order of sizes."""
         return size, node
 
 
@@ -255,7 +256,7 @@ class Lmdb(Peer):
     older = page
 
     def _move_before(self, size: int, node: int) -> bool:
-        """Moves the cursor of sizes to the last place before this one."""
+        """Moves the cursor over sizes to the last place before this one."""
         cursor = self._size_cursor
         if cursor.set_range_dup(struct.pack(">q", size), struct.pack(">Q", node)):
             return cursor.prev()  # type: ignore[no-any-return]
@@ -348,7 +349,7 @@ MOST_ASKED = {"get": 200_000, "set_plain": 200_000, "set_size": 200_000, "by_nam
 
 
 def asked_of(peer: Peer, case: str, nodes: int, count: int, chance: random.Random) -> List[Tuple[Any, ...]]:
-    """The arguments of so many calls of a case."""
+    """Returns the arguments of this many calls of a case."""
     numbers = [chance.randrange(1, nodes + 1) for _ in range(count)]
     sizes = nodes // SIZES
     if case == "get":
@@ -367,7 +368,7 @@ def asked_of(peer: Peer, case: str, nodes: int, count: int, chance: random.Rando
 
 
 def timed(peer: Peer, case: str, asked: List[Tuple[Any, ...]], now: Callable[[], float] = time.perf_counter) -> Any:
-    """The seconds that these calls take, and what the last found."""
+    """Returns the seconds that these calls take, and what the last one found."""
     call, found = getattr(peer, case), None
     if not case.startswith("set"):
         peer.begin()
@@ -381,11 +382,11 @@ def timed(peer: Peer, case: str, asked: List[Tuple[Any, ...]], now: Callable[[],
 
 
 def measured(peers: List[Peer], options: argparse.Namespace) -> Dict[str, Dict[str, List[float]]]:
-    """For each case and peer the seconds a call takes in each round."""
+    """Returns the seconds per call in each round, for each case and peer."""
     now = time.process_time if options.processor else time.perf_counter
     taken: Dict[str, Dict[str, List[float]]] = {case: {peer.title: [] for peer in peers} for case in CASES}
     counts: Dict[str, Dict[str, int]] = {case: {} for case in CASES}
-    for number in range(-1, options.rounds):  # the first one finds how many calls take so long
+    for number in range(-1, options.rounds):  # the first round finds out how many calls fill the time
         for case in CASES:
             for peer in peers:
                 count = counts[case].get(peer.title, 20)
@@ -400,7 +401,7 @@ def measured(peers: List[Peer], options: argparse.Namespace) -> Dict[str, Dict[s
 
 
 def compare(peers: List[Peer], nodes: int) -> None:
-    """Looks that all peers answer alike."""
+    """Checks that all peers answer alike."""
     for case in CASES:
         for seed in range(5):
             answers = [timed(peer, case, asked_of(peer, case, nodes, 1, random.Random(seed)))[1] for peer in peers]
@@ -413,7 +414,8 @@ def rate(seconds: float) -> str:
 
 
 def print_times(taken: Dict[str, Dict[str, List[float]]], peers: List[Peer]) -> None:
-    """The table: calls a second, the best of the rounds; how many times as fast bestore is; and its worst by its best."""
+    """Prints the table: calls per second, the best of the rounds; how many times faster bestore is; and its worst round relative
+    to its best."""
     others = [peer.title for peer in peers if peer.title != "bestore"]
     print("| case | " + " | ".join(others) + " | bestore | spread |\n|---" + "|---" * (len(others) + 2) + "|")
     for case, title in CASES.items():
@@ -424,7 +426,7 @@ def print_times(taken: Dict[str, Dict[str, List[float]]], peers: List[Peer]) -> 
 
 
 def print_instructions(titles: List[str], nodes: int) -> None:
-    """A table of instructions a call."""
+    """Prints a table of instructions per call."""
     print("| case | " + " | ".join(titles) + " |\n|---" + "|---" * len(titles) + "|")
     own = [sys.executable, os.path.abspath(__file__), "--nodes", str(nodes), "--one"]
     for case, title in CASES.items():
@@ -433,7 +435,7 @@ def print_instructions(titles: List[str], nodes: int) -> None:
 
 
 def made(nodes: int) -> List[Peer]:
-    """The peers that are there."""
+    """Returns the peers that are installed."""
     peers: List[Peer] = []
     for title, peer in PEERS.items():
         try:

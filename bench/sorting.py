@@ -1,12 +1,13 @@
 #!/usr/bin/env python3
-"""How long `be query --sort` takes for the first 50 of 84,000 files of a server, and the server alone: one table in Markdown.
+"""Measures how long `be query --sort` takes for the first 50 of a server's 84,000 files, and the server's share. Prints a table
+in Markdown.
 
-    /usr/bin/python3 bench/sorting.py FOLDER                             FOLDER has bestored and be, as rust/target/release
-    /usr/bin/python3 bench/sorting.py FOLDER --files 10000 --rounds 20   a trial
+    /usr/bin/python3 bench/sorting.py FOLDER                             FOLDER has bestored and be, such as rust/target/release
+    /usr/bin/python3 bench/sorting.py FOLDER --files 10000 --rounds 20   a trial run
 
-It needs the package (PYTHONPATH=python). The files have seven attributes, as `be import` gives them, in a volume for 10,000 files each.
-Each asking has a new bound or filter. Times are in milliseconds: the median and the longest. The server's instructions are those that perf
-counts, where it does.
+It needs the package (PYTHONPATH=python). The files have seven attributes, as `be import` sets them, and there is one volume
+for every 10,000 files. Each query has a new bound or filter. Times are in milliseconds: the median and the maximum. The
+server's instructions are counted by perf, if it works.
 """
 from __future__ import annotations
 
@@ -41,7 +42,7 @@ Query = Dict[str, Any]
 
 
 def add_file(batch: Batch, node: int, number: int, chance: random.Random) -> None:
-    """A file with this number, on a node."""
+    """Adds a file with this number as a node."""
     batch.new_node()
     when = NEWEST - chance.randrange(10**8)
     values: Dict[str, Any] = {
@@ -53,7 +54,7 @@ def add_file(batch: Batch, node: int, number: int, chance: random.Random) -> Non
 
 
 def fill(place: str, volumes: int, files: int) -> None:
-    """Makes the files, as many in each volume."""
+    """Makes the files, with equally many in each volume."""
     chance = random.Random(1)
     with bestore.connect(place) as store:
         for name, kind in INDICES.items():
@@ -70,7 +71,7 @@ def fill(place: str, volumes: int, files: int) -> None:
 
 
 def query_of(case: str, chance: random.Random) -> Query:
-    """A page of files by falling dates, of which the bound or the filter is new."""
+    """Returns a query for a page of files, newest first, with a new bound or filter."""
     bound = NEWEST - 10**9 + chance.randrange(10**6)
     query: Query = {"query": f"last_modified>={bound}", "by": "last_modified", "descending": True, "limit": SHOWN}
     if case == "middle":
@@ -89,7 +90,7 @@ CASES = {
 
 
 class Server:
-    """A server in a folder of its own, within a `with`."""
+    """A server in its own folder, during a `with`."""
 
     def __init__(self, programs: Path, volumes: int) -> None:
         self._folder = Path(tempfile.mkdtemp(prefix="bestore-sorting-"))
@@ -114,7 +115,7 @@ class Server:
         check(len(found), query)
 
     def asker(self) -> Callable[[Query], None]:
-        """Asks by a connection of its own."""
+        """Returns a function that sends queries through its own connection."""
         connection = socket.socket(socket.AF_UNIX)
         connection.connect(self.place)
         replies = connection.makefile("rb")
@@ -132,7 +133,7 @@ def check(found: int, query: Query) -> None:
 
 
 def milliseconds(ask: Callable[[Query], None], case: str, rounds: int) -> str:
-    """The median and the longest time of so many askings."""
+    """Returns the median and the maximum time of this many queries."""
     chance, times = random.Random(case), []
     for _ in range(rounds):
         query = query_of(case, chance)
@@ -143,7 +144,7 @@ def milliseconds(ask: Callable[[Query], None], case: str, rounds: int) -> str:
 
 
 def instructions(server: Server, ask: Callable[[Query], None], case: str, rounds: int) -> str:
-    """The server's instructions for an asking, by perf."""
+    """Returns the server's instructions per query, counted by perf."""
     chance = random.Random(case)
     if shutil.which("perf") is None:
         return "not counted"

@@ -1,11 +1,12 @@
-/* Changes between bes_begin_change and bes_end_change: what they collect and refuse, how they read their own operations, how they end, and
- * two threads that use changes to move amounts. Changes in one call of bes_apply_change: which kinds they refuse, and how they end. */
+/* Changes between bes_begin_change and bes_end_change: what they collect and refuse, how they read their own operations, and how
+ * they end. Two threads use changes to move amounts. Changes in one call, bes_apply_change: which kinds they refuse, and how they
+ * end. */
 #include "tests.h"
 #include <pthread.h>
 
 #define NAME(text) (const uint8_t *)(text), strlen(text)
 
-/* A store's pass and a draft, through which a test reads and writes. */
+/* A pass and a draft, through which a test reads and writes a store. */
 typedef struct user {
     bes_pass pass;
     bes_draft draft;
@@ -32,7 +33,7 @@ static user open_user(void)
     return it;
 }
 
-/* Adds the last operation of a batch. */
+/* Adds the batch's last operation to the change. */
 static uint32_t add_last(bes_draft *draft, const bes_batch *batch, uint64_t *node)
 {
     return bes_change_add(draft, &batch->operations[batch->count - 1], batch->bytes, batch->used, node);
@@ -53,7 +54,7 @@ static uint32_t add_remove(bes_draft *draft, uint64_t removed)
     return add_last(draft, &batch, &node);
 }
 
-/* Adds the last operation of a batch, which is a set. If the kind is wrong, the error gives the index's kind. */
+/* Adds the batch's last operation, which is a set. If the kind is wrong, the error has to give the index's kind. */
 static uint32_t add_set(bes_draft *draft, const bes_batch *batch, uint32_t indexed)
 {
     uint64_t node = 7;
@@ -100,7 +101,7 @@ static uint32_t add_no_index(bes_draft *draft, const char *name)
     return add_last(draft, &batch, &node);
 }
 
-/* How many operations the draft has. */
+/* Returns how many operations the draft has. */
 static uint64_t count_of(bes_draft *draft)
 {
     bes_counts counts = {7, 7};
@@ -110,7 +111,7 @@ static uint64_t count_of(bes_draft *draft)
     return counts.operations;
 }
 
-/* Returns a node's number attribute in a change, or -1 if the node has none. */
+/* Returns a node's number attribute as the change sees it, or -1 if the node has none. */
 static int64_t number_in(user *it, uint64_t node, const char *name)
 {
     bes_attribute read = {0, 0, 0};
@@ -120,7 +121,7 @@ static int64_t number_in(user *it, uint64_t node, const char *name)
     return error == BES_OK ? (int64_t)read.number : -1;
 }
 
-/* Returns a node's number attribute in a store. */
+/* Returns a node's number attribute from the store. */
 static int64_t number_of(bes_pass *pass, uint64_t node, const char *name)
 {
     bes_attribute read = {0, 0, 0};
@@ -171,7 +172,7 @@ static void handles(void)
     CHECK(bes_close(&it.pass) == BES_OK);
 }
 
-/* New nodes get their numbers, and a draft takes at most 64 operations. */
+/* New nodes get their numbers, and a draft takes up to 64 operations. */
 static void sizes(uint64_t count)
 {
     user it = open_user();
@@ -190,7 +191,7 @@ static void sizes(uint64_t count)
     CHECK(bes_close(&it.pass) == BES_OK);
 }
 
-/* An invalid operation adds nothing and returns the error that a batch with it would return. */
+/* An invalid operation adds nothing, and returns the same error as a batch with it would. */
 static void invalid(void)
 {
     static const struct {
@@ -221,7 +222,7 @@ static void invalid(void)
     CHECK(bes_abandon_change(&it.pass, &it.draft) == BES_OK && bes_close(&it.pass) == BES_OK);
 }
 
-/* A value must have the kind of the index with its name, as the earlier operations leave that index. */
+/* A value has to be of its index's kind. The change's earlier operations count. */
 static void kinds(void)
 {
     user it = open_user();
@@ -239,7 +240,7 @@ static void kinds(void)
     CHECK(bes_abandon_change(&it.pass, &it.draft) == BES_OK && bes_close(&it.pass) == BES_OK);
 }
 
-/* A read finds the last operation on an attribute or its node, and otherwise the snapshot. */
+/* A read returns the change's last write to the attribute or its node, or what the snapshot has. */
 static void own_reads(void)
 {
     user it = open_user();
@@ -267,7 +268,7 @@ static void own_reads(void)
     CHECK(bes_close(&it.pass) == BES_OK);
 }
 
-/* A draft lists the operations that were added, up to the given sizes. */
+/* bes_change_batch lists the operations that were added, as far as the arrays have room. */
 static void batches(void)
 {
     static bes_batch added, listed;
@@ -288,7 +289,7 @@ static void batches(void)
     CHECK(bes_close(&it.pass) == BES_OK);
 }
 
-/* If another pass writes in between, nothing is written, and the next attempt builds on what that pass wrote. */
+/* If another pass writes in between, nothing is written, and the next attempt builds on that write. */
 static void begins_anew(void)
 {
     static view before;
@@ -308,7 +309,7 @@ static void begins_anew(void)
     CHECK(bes_close(&it.pass) == BES_OK && bes_close(&other) == BES_OK);
 }
 
-/* What the store refuses is reported at the end, and nothing is written. */
+/* If the store refuses something, the change's end reports it and nothing is written. */
 static void refused(void)
 {
     user it = open_user();
@@ -325,7 +326,7 @@ static void refused(void)
     CHECK(bes_close(&it.pass) == BES_OK);
 }
 
-/* If a change made the pin, the change's end removes it; any other pin stays. */
+/* If the change made the pin, its end removes the pin. A pin that was there before stays. */
 static void pins(void)
 {
     user it = open_user();
@@ -350,7 +351,7 @@ static void pins(void)
     CHECK(add_new(&it.draft, &node) == BES_OK);
     CHECK(bes_end_change(&it.pass, &it.draft, &number) == BES_NOT_PINNED && number == 0 && !it.draft.live && is_pinned(&it.pass));
     CHECK(bes_unpin(&it.pass) == BES_OK);
-    /* A second draft of a pass uses the first one's pin. */
+    /* A pass's second draft uses the pin of its first. */
     begin(&it);
     CHECK(bes_begin_change(&it.pass, &second, &number, &node) == BES_OK && number == 1 && node == 2);
     CHECK(bes_abandon_change(&it.pass, &it.draft) == BES_OK && !is_pinned(&it.pass));
@@ -364,7 +365,7 @@ static uint32_t apply_change(bes_pass *pass, const bes_batch *batch, uint64_t *n
     return bes_apply_change(pass, batch->operations, batch->count, batch->bytes, batch->used, number);
 }
 
-/* Opens a store that has an index "a" of texts and node 1, and pins it. */
+/* Opens a store with an index "a" of texts and node 1, and pins it. */
 static bes_pass open_indexed(void)
 {
     bes_pass pass = open_store(1);
@@ -374,7 +375,7 @@ static bes_pass open_indexed(void)
     return pass;
 }
 
-/* The first set whose kind differs from its index's is refused with its position in the batch, wherever that is. */
+/* The first set of the wrong kind is refused with its position in the batch, wherever it is. */
 static void places_of_wrong_kinds(void)
 {
     bes_pass pass = open_indexed();
@@ -393,7 +394,7 @@ static void places_of_wrong_kinds(void)
     CHECK(bes_close(&pass) == BES_OK);
 }
 
-/* A set is compared with the index as the earlier operations leave it, and a refused batch leaves no trace. */
+/* A set is checked against the index as the batch's earlier operations leave it. A refused batch leaves no trace. */
 static void kinds_of_own_indices(void)
 {
     bes_pass pass = open_indexed();
@@ -410,7 +411,8 @@ static void kinds_of_own_indices(void)
     CHECK(bes_close(&pass) == BES_OK);
 }
 
-/* New nodes have the snapshot's next numbers; another write in between is a conflict; what the store refuses comes last. */
+/* New nodes get the snapshot's next numbers. If another write came in between, that is a conflict. What the store refuses is
+ * reported last. */
 static void writes_at_once(void)
 {
     bes_pass pass = open_indexed();
@@ -438,7 +440,7 @@ typedef struct mover {
     unsigned rounds, attempts;
 } mover;
 
-/* One attempt to move an amount, based on what the change reads. */
+/* Tries once to move an amount, based on what the change reads. */
 static uint32_t move_once(mover *it, uint64_t *number)
 {
     user change = {BES_PASS_INIT, BES_DRAFT_INIT, 0, 0};

@@ -1,4 +1,4 @@
-// Runs the lines of ../tests/changes.txt, which say what a change does in each language.
+// Runs the cases of ../tests/changes.txt, which specify what a change does in each language.
 #include "bestore.hpp"
 #include "tests.hpp"
 #include <fstream>
@@ -30,7 +30,7 @@ static Kind kind_named(const std::string &name)
     throw std::invalid_argument(name);
 }
 
-// LONG64 is a text of this many bytes.
+// LONG64 stands for a text of 64 bytes.
 static std::string text_of(const std::string &word)
 {
     return word.compare(0, 4, "LONG") == 0 ? std::string(std::stoul(word.substr(4)), 'x') : word;
@@ -81,7 +81,7 @@ template <class Target> static void collect(Target &target, const Words &words)
         throw std::invalid_argument(what);
 }
 
-// An operation that isn't collected: the words after ! are its error.
+// Checks that the operation is refused with the error after !, and isn't kept.
 static void refused(Change &change, const Words &words, std::size_t mark)
 {
     const auto size = change.batch().size();
@@ -97,7 +97,7 @@ static void refused(Change &change, const Words &words, std::size_t mark)
     CHECK(change.batch().size() == size);
 }
 
-// Runs a line within a change.
+// Runs one line inside a change.
 static void step(Change &change, Pass &other, const Words &words)
 {
     const auto mark = std::find(words.begin(), words.end(), "!");
@@ -121,7 +121,8 @@ static void step(Change &change, Pass &other, const Words &words)
     }
 }
 
-// One attempt at a change that runs the lines up to `end`, which says how it ends. Returns the line after that.
+// Runs the lines up to `end` in a change, with one attempt, and checks that it ends as that line
+// says. Returns the next line.
 static std::size_t change_by(Pass &pass, Pass &other, const Lines &lines, std::size_t at)
 {
     std::size_t end = at;

@@ -1,4 +1,4 @@
-/* The attributes of many nodes in one call, and names that are checked once. Each cell is compared with what bes_get reads. */
+/* Attributes of many nodes in one call, and names that are checked once. Each cell is compared with what bes_get reads. */
 #include "tests.h"
 
 enum { NODES = 40, NAMES = 6 };
@@ -6,7 +6,7 @@ enum { NODES = 40, NAMES = 6 };
 static bes_batch batch;
 static const char *const names[NAMES] = {"flag", "mime", "name", "none", "raw", "size"};
 
-/* Returns whether the node with this number has an attribute with the name. Each node lacks a different attribute, and no node has
+/* Returns whether the node with this number has an attribute with this name. Each node lacks a different attribute, and none has
  * "none". */
 static bool has(uint64_t node, size_t name)
 {
@@ -26,7 +26,7 @@ static void set_attribute(uint64_t node, size_t name)
     }
 }
 
-/* Makes nodes 1 to NODES; every fifth node is removed again. */
+/* Makes nodes 1 to NODES, and removes every fifth again. */
 static void fill(bes_pass *pass)
 {
     uint64_t made[64], number = 0;
@@ -49,7 +49,7 @@ static void hold(bes_name *held, const char *name)
     CHECK(held->length == again.length && memcmp(held->bytes, again.bytes, again.length) == 0);
 }
 
-/* A cell has what bes_get reads, and bes_get_named reads the same. */
+/* Checks that a cell has what bes_get reads, and that bes_get_named reads the same. */
 static void compare(bes_pass *pass, uint64_t node, const char *name, const bes_name *held, const bes_cell *cell, const uint8_t *bytes)
 {
     bes_attribute told = {0, 0, 0}, again = {0, 0, 0};
@@ -67,7 +67,7 @@ static void compare(bes_pass *pass, uint64_t node, const char *name, const bes_n
     }
 }
 
-/* All nodes, some that aren't there, at names in this order. */
+/* Reads all nodes, and some that don't exist, with the names in this order. */
 static void read_all(bes_pass *pass, const size_t *order, size_t width)
 {
     static uint64_t nodes[NODES + 3];
@@ -88,7 +88,7 @@ static void read_all(bes_pass *pass, const size_t *order, size_t width)
     CHECK(count == end);
 }
 
-/* As many cells and bytes are written as fit, and the count covers all bytes. */
+/* The call writes as many cells and bytes as fit, and its count covers all bytes. */
 static void too_little_room(bes_pass *pass)
 {
     static const uint64_t nodes[] = {1, 2, 5};
@@ -113,7 +113,7 @@ static void too_little_room(bes_pass *pass)
     CHECK(bes_columns(pass, nodes, 3, held, 0, cells, 6, bytes, 64, &count) == BES_OK && count == 0);
 }
 
-/* Names that no call has checked name no attribute. */
+/* A name that no call has checked matches no attribute. */
 static void unchecked_names(bes_pass *pass)
 {
     static const uint64_t nodes[] = {1, 5};

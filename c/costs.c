@@ -1,5 +1,5 @@
-/* What calls cost in instructions and stores. tests/costs runs this under valgrind's callgrind, which counts each step of a case by
- * itself, and has the rules: `costs CASE SIZE` runs a case in a store of that size. */
+/* What calls cost in instructions and stores. `costs CASE SIZE` runs a case in a store of that size. tests/costs runs it under
+ * valgrind's callgrind, which counts each step separately, and has the limits. */
 #include "tests.h"
 #include <valgrind/callgrind.h>
 
@@ -29,7 +29,7 @@ static void apply(void)
     bes_batch_clear(&batch);
 }
 
-/* A text of 48 bytes. The texts sort in the order of their numbers. */
+/* Returns a text of 48 bytes. The texts sort in the order of their numbers. */
 static const char *text_of(uint64_t n)
 {
     static char text[TEXT + 10];
@@ -53,7 +53,7 @@ static void open_filled(void)
     }
 }
 
-/* Each node comes once before one comes again, out of order. */
+/* Returns the nodes out of order. Each comes once before any comes again. */
 static uint64_t some_node(void)
 {
     turn += 1;
@@ -62,7 +62,7 @@ static uint64_t some_node(void)
 
 static void set(void) { OK(bes_set_int64(&mine, some_node(), "v", (int64_t)turn)); }
 
-/* Single writes, and the same writes after one was refused. */
+/* Single writes, and the same writes after one that was refused. */
 static void sets(void)
 {
     open_filled();
@@ -90,7 +90,7 @@ static uint32_t count_up(bes_pass *pass, bes_batch *batch, uint64_t next, void *
 
 static void change(void) { OK(bes_change(&mine, 1, count_up, NULL, &number)); }
 
-/* A set of an indexed attribute by itself, and after a read in a change. */
+/* Sets an indexed attribute with a single write, and in a change that reads it first. */
 static void changes(void)
 {
     open_filled();
@@ -123,7 +123,7 @@ static void ranges(void)
     count("range", ask, 1);
 }
 
-/* The first page of a result in an index's order. */
+/* Reads the first page of a result in an index's order. */
 static void ask_page(void)
 {
     enum { PAGE = 50 };
@@ -141,8 +141,9 @@ static void ask_any(void)
     CHECK(found_count == 1);
 }
 
-/* Prepared queries with few nodes in a large store: by a range of texts, and 70 nodes that are asked for another attribute, which all
- * nodes have; and of all nodes a page, any one, and a page where a second index has some of them too. */
+/* Prepared queries in a large store. Two find few nodes: one by a range of texts, and one with 70 nodes that have to be checked
+ * for an attribute that all nodes have. The others find all nodes: a page of them, any one of them, and a page where a second
+ * index finds some of them too. */
 static void queries(void)
 {
     char query[200], after[TEXT + 10];
@@ -184,8 +185,8 @@ static void write_one(uint64_t times)
     OK(bes_pin(&mine, &number));
 }
 
-/* Refreshes of a large result: of the whole result, after a write to one node, and after as many writes to one node as the result has
- * nodes. */
+/* Refreshes of a large result: with the whole query, after a write to one node, and after as many writes to one node as the
+ * result has nodes. */
 static void live(void)
 {
     open_filled();

@@ -1,6 +1,7 @@
-/* What calls store and ask for, counted: words of pages that a write changes, bytes that a call asks malloc for, and blocks that are
- * free again once a handle is closed. No contract bounds these. The sizes are drawn at random; BESTORE_SEED draws those of an earlier
- * run again. Linked by -Wl,--wrap=malloc,--wrap=realloc,--wrap=free, so that each request of the library comes by here. */
+/* Counts what calls store and request: the words of pages that a write changes, the bytes that a call asks malloc for, and the
+ * blocks that are freed once a handle is closed. No contract limits these. The sizes are random; BESTORE_SEED repeats those of an
+ * earlier run. Linked with -Wl,--wrap=malloc,--wrap=realloc,--wrap=free, so that each of the library's requests passes through
+ * here. */
 #include "tests.h"
 #include <time.h>
 
@@ -15,10 +16,10 @@ void *__wrap_malloc(size_t bytes);
 void *__wrap_realloc(void *old, size_t bytes);
 void __wrap_free(void *block);
 
-static uint64_t asked;   /* how many bytes were asked for */
-static uint64_t longest; /* how many by the largest request */
+static uint64_t asked;   /* how many bytes were requested */
+static uint64_t longest; /* how many bytes the largest request was for */
 static int64_t in_use;   /* how many blocks are in use */
-static uint64_t *words;  /* the last block that has room for the words of all pages */
+static uint64_t *words;  /* the last block large enough for the words of all pages */
 static size_t words_count;
 
 static void ask(size_t bytes)
@@ -61,14 +62,14 @@ static void print_seed(void)
         fprintf(stderr, "BESTORE_SEED=%d draws these sizes again\n", (int)seed);
 }
 
-/* A number between two others, each as likely. */
+/* Returns a random number in this range, uniformly. */
 static uint64_t draw(uint64_t least, uint64_t most)
 {
     drawn = drawn * 6364136223846793005u + 1442695040888963407u;
     return least + (drawn >> 33) % (most - least + 1);
 }
 
-/* The same, but as likely a small number as a large one. */
+/* Returns a random number in this range, where small numbers are as likely as large ones. */
 static uint64_t draw_by_power(uint64_t least, uint64_t most)
 {
     uint64_t powers = 1, low = 0;
@@ -89,15 +90,15 @@ static void apply(void)
     bes_batch_clear(&batch);
 }
 
-/* Applies the list if it has no room for so many operations more. */
+/* Applies the batch if it doesn't have room for this many more operations. */
 static void apply_if_full(uint64_t more)
 {
     if (batch.count + more > LIST)
         apply();
 }
 
-/* Opens a store of nodes with the numbers `k`, which is indexed, and `v`, and with a text of any length. It has as many indices as a
- * store may have, under the longest names. */
+/* Opens a store whose nodes have the number `k`, which is indexed, the number `v`, and a text of random length. It has the
+ * maximum number of indices, whose names have the maximum length. */
 static void open_filled(uint64_t pages)
 {
     enum { INDICES = 32 };
@@ -124,7 +125,7 @@ static void set_any(void) { OK(bes_set_int64(&pass, draw(1, nodes_count), "v", (
 static void set_indexed(void) { OK(bes_set_int32(&pass, draw(1, nodes_count), "k", (int32_t)draw(1, 1 << 30))); }
 static void set_text(void) { OK(bes_set_text(&pass, draw(1, nodes_count), "t", "short")); }
 
-/* Writes of three kinds by turns, which copy other pages each. */
+/* Makes writes of three kinds in turn. Each kind copies different pages. */
 static void set_in_turn(void)
 {
     static void (*const kinds[])(void) = {set_any, set_indexed, set_text};
@@ -132,7 +133,7 @@ static void set_in_turn(void)
     kinds[turn++ % 3]();
 }
 
-/* How many words of pages such a write changes on average. A word is stored only if it changes. */
+/* Returns how many words of pages such a write changes on average. A word is stored only if it changes. */
 static double words_of(void (*write)(void))
 {
     enum { TIMES = 60 };
@@ -156,7 +157,7 @@ static void is_at_most(const char *what, double found, double most)
     }
 }
 
-/* Writes until a reader has kept all free pages, so that each was taken for something else; and so on. */
+/* Repeatedly writes until a reader's pin holds every free page. After that, each page has been used for something else. */
 static void wear_out(void)
 {
     bes_pass reader = BES_PASS_INIT;
@@ -178,8 +179,8 @@ static void wear_out(void)
     OK(bes_close(&reader));
 }
 
-/* A single write goes to pages that have most of its words already: to the copies that its pages were made from. It does so after many
- * writes too, when each page of the pool was taken for something else. */
+/* A single write copies its pages to the ones that they were once copied from, which already have most of the words. This holds even
+ * after many writes, when each page in the pool has been used for something else. */
 static void words_stored(uint64_t pages)
 {
     static const struct kind {
@@ -202,7 +203,7 @@ static void words_stored(uint64_t pages)
     }
 }
 
-/* No page but that of the empty version is in use once all is removed, whatever readers kept meanwhile. */
+/* Once everything is removed, only the empty version's page is in use, whatever readers held meanwhile. */
 static void all_pages_are_free(uint64_t pages)
 {
     bes_pass reader = BES_PASS_INIT;
@@ -227,7 +228,7 @@ static void all_pages_are_free(uint64_t pages)
     CHECK(!usage.is_held && usage.retired == 0 && usage.free == pages - 1);
 }
 
-/* An entry is read with memory for itself, however long the journal is. */
+/* Reading an entry takes memory for that entry only, however long the journal is. */
 static void entry_alone(void)
 {
     uint64_t by = 0, next = 0;
@@ -241,7 +242,7 @@ static void entry_alone(void)
     }
 }
 
-/* The state is read list by list, with memory for a list and a node. */
+/* The state is read list by list, with memory for one list and one node. */
 static void lists_of_state(void)
 {
     bes_place place = BES_PLACE_INIT;
@@ -258,7 +259,7 @@ static void lists_of_state(void)
     bes_batch_clear(&batch);
 }
 
-/* Opens a store with as many nodes as an answer may have, whose numbers are the indexed `k`. */
+/* Opens a store with as many nodes as an answer can have, each with its number as the indexed `k`. */
 static void open_large(void)
 {
     words_count = 0;
@@ -272,7 +273,7 @@ static void open_large(void)
     OK(bes_pin(&pass, &number));
 }
 
-/* Prepares a query that so many nodes meet. */
+/* Prepares a query that this many nodes match. */
 static void prepare(bes_prepared *query, uint64_t size)
 {
     char text[20];
@@ -299,7 +300,7 @@ static void refresh(bes_prepared *query)
     found = updates.created;
 }
 
-/* A prepared query gives all its memory back, however many nodes a call found. */
+/* A prepared query frees all its memory, however many nodes a call found. */
 static void queries_are_released(void)
 {
     static void (*const calls[])(bes_prepared *) = {find, find_first, find_any, find_page, refresh};
@@ -316,7 +317,7 @@ static void queries_are_released(void)
         }
 }
 
-/* So does a change that is abandoned, whatever it has collected. */
+/* So does an abandoned change, whatever it has collected. */
 static void changes_are_abandoned(void)
 {
     for (int time = 0; time < 8; time++) {
@@ -337,7 +338,7 @@ static void changes_are_abandoned(void)
     bes_batch_clear(&batch);
 }
 
-/* So do a place in the state, wherever it is left, a witness, and a pass that goes back. */
+/* So do a place in the state, wherever it is left, a witness, and a pass that is returned. */
 static void others_are_closed(void)
 {
     for (int time = 0; time < 8; time++) {
@@ -359,8 +360,8 @@ static void others_are_closed(void)
     bes_batch_clear(&batch);
 }
 
-/* A few nodes of a large answer take memory for themselves. A list that grows to them asks for four times their bytes at most, which is
- * less than the whole answer has. */
+/* Finding a few nodes of a large answer takes memory only for these few. The list grows, which requests at most four times its
+ * bytes. That is less than the whole answer takes. */
 static void any_few(void)
 {
     const uint64_t most = MOST_FOUND / 4;
@@ -375,8 +376,8 @@ static void any_few(void)
     }
 }
 
-/* A refresh by what was written makes no list of the whole answer, up to as many writes as bestore.h names. A shorter answer than these
- * takes no more memory than an entry of the journal. */
+/* A refresh from what was written makes no list of the whole answer, for up to as many writes as bestore.h says. It may request
+ * as much as one journal entry takes, so smaller answers aren't tested. */
 static void refreshed_by_writes(void)
 {
     for (int time = 0; time < 10; time++) {
@@ -397,7 +398,7 @@ static void refreshed_by_writes(void)
     }
 }
 
-/* A write asks for a block of the journal only if the last one is full. */
+/* A write requests a new block for the journal only if the last one is full. */
 static void blocks_of_journal(void)
 {
     uint64_t first = 0;
@@ -413,7 +414,7 @@ static void blocks_of_journal(void)
     OK(bes_close(&pass));
 }
 
-/* How many pages the store takes once it is filled. */
+/* Returns how many pages are in use once the store is filled. */
 static uint64_t pages_for_all(void)
 {
     bes_usage usage;
@@ -422,7 +423,7 @@ static uint64_t pages_for_all(void)
     return usage.pages - usage.free;
 }
 
-/* Closes the store, or also takes its journal's text. All memory is free again. */
+/* Closes the store, in one case after fetching its journal's text. All memory is free afterwards. */
 static void end(bool is_told)
 {
     uint64_t length = 0, count = 0;

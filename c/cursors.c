@@ -1,4 +1,5 @@
-/* The helpers for positions in an index: a position that they make equals the one that bes_ordered leaves, and can be read back. */
+/* The helpers for positions in an index: a position that they make equals the one that bes_ordered leaves, and can be read
+ * back. */
 #include "tests.h"
 
 static const uint32_t codes[] = { BES_STRING_TYPE, BES_INT32_TYPE, BES_INT64_TYPE, BES_UINT32_TYPE, BES_UINT64_TYPE };
@@ -12,7 +13,7 @@ static const uint64_t numbers[5][3] = {
 static char longest[256];
 static const char *const texts[3] = { "", "a", longest };
 
-/* A node's value of a kind. */
+/* Returns a node's value of this kind. */
 static bes_attribute value_of(int kind, int at)
 {
     bes_attribute value = { codes[kind], kind == 0 ? strlen(texts[at]) : 0, numbers[kind][at] };
@@ -39,7 +40,7 @@ static void is_read_back(const bes_cursor *cursor, const bes_attribute *value, c
     CHECK(memcmp(bytes, text, value->length) == 0);
 }
 
-/* Each position in a store whose three nodes have ascending values of one kind. */
+/* Tests each position in a store whose three nodes have ascending values of one kind. */
 static void positions(int kind)
 {
     static bes_batch batch;
@@ -62,14 +63,14 @@ static void positions(int kind)
         CHECK(count == 1 && node == (uint64_t)at + 1 && more == (at < 2));
         CHECK(bes_cursor_at(&value, texts[at], node, &made) == BES_OK && memcmp(&made, &cursor, sizeof made) == 0);
         is_read_back(&cursor, &value, texts[at], node);
-        /* From the value on. */
+        /* Start at the value itself. */
         CHECK(bes_cursor_at(&value, texts[at], 0, &made) == BES_OK);
         CHECK(bes_ordered(&pass, &all, &by, 0, &made, &node, 1, &count, &more) == BES_OK && count == 1 && node == (uint64_t)at + 1);
     }
     CHECK(bes_release(&all) == BES_OK && bes_close(&pass) == BES_OK);
 }
 
-/* Values that no index holds, and cursors that are not a position in an index. */
+/* Values that an index can't have, and cursors that aren't positions in an index. */
 static void refused(void)
 {
     bes_cursor cursor = { 7, 7, { 7 } };

@@ -1,7 +1,7 @@
-/* The calls and helpers that let a pass write based on what it has read: conditional writes, changes, the journal's entries, batches as
- * bytes, waiting after BES_FULL, and handles in a forked child. */
+/* The calls and helpers for writes based on reads: conditional writes, changes, the journal's entries, batches as bytes, waiting
+ * after BES_FULL, and handles in a forked child. */
 #define _POSIX_C_SOURCE 199309L
-#define BES_FULL_SECONDS 60 /* so that a thread comes to unpin also on a loaded machine */
+#define BES_FULL_SECONDS 60 /* so that another thread manages to unpin even on a loaded machine */
 #include "tests.h"
 #include <pthread.h>
 #include <sys/wait.h>
@@ -10,7 +10,7 @@
 
 static bes_batch batch, other_batch;
 
-/* A store of three passes with an index of "count", and node 1. */
+/* Opens a store with three passes, an index on "count", and node 1. */
 static void open_three(bes_pass *passes, uint64_t pages)
 {
     uint64_t node = 0;
@@ -99,7 +99,7 @@ static void conditional(void)
     close_three(passes);
 }
 
-/* A changer that counts up, and how often another write gets in its way. */
+/* What a changer that counts up uses, and how many times another write interferes with it. */
 typedef struct counting {
     bes_pass *disturber;
     unsigned disturbances, runs;
@@ -229,7 +229,7 @@ static void fill(char *text, size_t length)
     text[length] = 0;
 }
 
-/* A batch of any operations. */
+/* Makes a batch of random operations. */
 static void any_batch(void)
 {
     static const uint32_t codes[] = {BES_STRING_TYPE, BES_INT32_TYPE, BES_INT64_TYPE, BES_MIME_STRING_TYPE, BES_RAW_TYPE,
@@ -260,8 +260,8 @@ static bool are_same(const bes_batch *a, const bes_batch *b)
            memcmp(a->operations, b->operations, a->count * sizeof *a->operations) == 0;
 }
 
-/* The written bytes are read back. If they are cut off anywhere, they are refused, with an offset within them. If any byte is changed,
- * they are refused or are another batch. */
+/* The written bytes decode to the same batch. If they are cut off anywhere, the error has an offset within them. If a byte is
+ * changed, they are either refused or decode to a different batch. */
 static void bytes_come_back(void)
 {
     static uint8_t bytes[BES_BATCH_BYTES + 1], again[BES_BATCH_BYTES];
@@ -315,7 +315,7 @@ static void bytes_by_hand(void)
     CHECK(bes_batch_to_bytes(&batch, bytes, 64, &count) == BES_BAD_PART && count == 1);
 }
 
-/* Into arrays: the counts say how much space is needed, and nothing is written beyond the arrays. */
+/* With arrays: the counts say how much space is needed, and nothing is written past an array's end. */
 static void bytes_into_arrays(void)
 {
     uint8_t bytes[200], parts[16], name[64] = {'n'};
@@ -360,7 +360,7 @@ static void *unpin_later(void *pass)
     return NULL;
 }
 
-/* Makes nodes until a try finds no page free. */
+/* Makes nodes until there is no free page. */
 static void fill_up(bes_pass *pass)
 {
     uint64_t number = 0, made = 0;
@@ -373,7 +373,7 @@ static void fill_up(bes_pass *pass)
     CHECK(error == BES_FULL);
 }
 
-/* Another pass has an older snapshot pinned: a write is tried again while tries and seconds are left. */
+/* While another pass pins an older snapshot, a write is retried until its tries or its seconds run out. */
 static void waits_only_so_long(bes_pass *pass, uint64_t number)
 {
     bes_retry retry = {2, 1, 0}, late = {2, 1, time(NULL) - BES_FULL_SECONDS - 2};
@@ -384,8 +384,8 @@ static void waits_only_so_long(bes_pass *pass, uint64_t number)
     CHECK(!bes_again(pass, BES_OK, 0, &late) && !bes_again(pass, BES_CONFLICT, 0, &late));
 }
 
-/* After BES_FULL a write waits for another pass's pin, but not for ever. It doesn't wait for its own pin, or in a store that is full
- * without any pin. */
+/* After BES_FULL, a write waits for another pass's pin, but not for ever. It doesn't wait for its own pin, or if no pin holds
+ * pages. */
 static void waiting(void)
 {
     bes_pass passes[3];
@@ -415,7 +415,7 @@ static void waiting(void)
     close_three(passes);
 }
 
-/* No older snapshot is pinned, and no page is free: that is final. */
+/* If no page is free and no older snapshot is pinned, waiting can't help. */
 static void full_for_good(void)
 {
     bes_pass pass = BES_PASS_INIT;
@@ -488,7 +488,7 @@ static void in_child(void)
         CHECK(bes_dismiss(&witness) == BES_CLOSED && bes_abandon_change(&passes[2], &draft) == BES_CLOSED);
         open_three(passes, 64);
         close_three(passes);
-        execlp("true", "true", (char *)NULL); /* which leaves no leak to be found */
+        execlp("true", "true", (char *)NULL); /* exits without a leak report */
         _exit(1);
     }
     CHECK(waitpid(child, &status, 0) == child && WIFEXITED(status) && WEXITSTATUS(status) == 0);

@@ -1,5 +1,5 @@
 #!/usr/bin/env python3
-"""Prints the manual page bestore(3), which has the words of include/bestore*.h: python3 manual.py >../docs/bestore.3"""
+"""Prints the manual page bestore(3), made from the comments in include/bestore*.h: python3 manual.py >../docs/bestore.3"""
 
 import os
 import re
@@ -47,7 +47,7 @@ does.
 
 
 def read(*path):
-    """A file without the marks of what is written from surface.toml."""
+    """Reads a file, and drops the marks around what surface.toml writes."""
     with open(os.path.join(HERE, "..", *path), encoding="utf-8") as file:
         return re.sub(r"^ *(?:/\*|//) surface\.toml: .*\n", "", file.read(), flags=re.MULTILINE)
 
@@ -58,20 +58,20 @@ ALL = HEADER + "".join(text for _, text in HELPERS)
 
 
 def plain(line):
-    """A line of text that isn't taken for a macro."""
+    """Escapes a line of text, so that it isn't read as a macro."""
     line = line.replace("\\", "\\e")
     return "\\&" + line if line.startswith((".", "'")) else line
 
 
 def macro(name):
-    """The macro that marks a name."""
+    """Returns the macro that marks a name."""
     if name.isupper():
         return "Dv"
     return "Fn" if f" {name}(" in ALL or f"*{name}(" in ALL else "Vt"
 
 
 def marked(text):
-    """A text with each sentence on its own line, and each name from the headers on its own line."""
+    """Puts each sentence and each name from the headers on its own line."""
     lines = []
     for part in re.split(rf"((?:^|(?<= ))\(?{NAME}[.,:;)]*(?= |$))", text):
         name = re.fullmatch(rf"(\(?)({NAME})([.,:;)]*)", part)
@@ -83,12 +83,12 @@ def marked(text):
 
 
 def paragraphs(text):
-    """Parts of a comment. A blank line begins one, and so do a line's first error, a parameter, and a word with a colon."""
+    """Splits a comment into paragraphs. One begins at a blank line, a line's first error, a parameter, or a word with a colon."""
     return re.split(r"\n\n|\n(?=BES_\w+(?:,|:|\.| \()|\[(?:in|out|in,out)\] |(?:Cost|Threads): |Returns )", text, flags=re.MULTILINE)
 
 
 def described(comment):
-    """A comment's paragraphs, its parameters as a list."""
+    """Formats a comment's paragraphs, with its parameters as a list."""
     text = re.sub(r"^ \*(?: |$)", "", comment.strip(), flags=re.MULTILINE)
     page, in_list = "", False
     for part in paragraphs(text):
@@ -114,12 +114,12 @@ def literal(text):
 
 
 def between(begin, end):
-    """The part of the header from one text up to another."""
+    """Returns the part of the header from one text to another."""
     return HEADER[HEADER.index(begin):HEADER.index(end)]
 
 
 def description():
-    """What the beginning of the header says, under its words in capitals."""
+    """Formats the header's introduction, with its words in capitals as headings."""
     text = described(re.match(COMMENT, HEADER)[1].replace("bestore: a", "A", 1))
     titled = re.sub(r"^\.Pp\n([A-Z]{2,})\.\n", lambda word: f".Ss {word[1].capitalize()}\n", text, flags=re.MULTILINE)
     return ".Sh DESCRIPTION\n" + titled
@@ -137,8 +137,8 @@ def types():
 
 
 def helpers(title, header):
-    """The functions that a header defines or declares: what it says about itself, their prototypes, and each function with a
-    comment. Names that end with _ are left out."""
+    """Formats a header's functions: its introduction, their prototypes, and each function with a comment. Names that end with _
+    are left out."""
     listed = re.findall(r"^(?:static inline )?((?!typedef)\w[\w ]* \*?\w+\([^{;]*\))(?:;|\n\{)", header, re.MULTILINE)
     lines = "".join(re.sub(r"\n +", "\n    ", it) + ";\n" for it in listed if "_(" not in it)
     begin = r"(?:(?:static inline )?[\w ]*\w |typedef (?:struct|uint32_t) )\*?"

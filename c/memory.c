@@ -1,6 +1,6 @@
-/* What calls return if malloc returns NULL, and if they are made in the middle of another call. Linked by -Wl,--wrap=malloc,
- * --wrap=realloc,--wrap=sched_yield, so that each request of the library passes through here, and so does each turn that a
- * write leaves to others. */
+/* What calls return if malloc returns NULL, and if they are made in the middle of another call. Linked with -Wl,--wrap=malloc,
+ * --wrap=realloc,--wrap=sched_yield, so that each of the library's requests passes through here, and each time a write yields
+ * too. */
 #include "tests.h"
 
 void *__real_malloc(size_t size);
@@ -9,8 +9,8 @@ void *__wrap_malloc(size_t size);
 void *__wrap_realloc(void *old, size_t size);
 int __wrap_sched_yield(void);
 
-static unsigned requests, refused; /* how many there were, and which of them is refused, counted from 1 */
-static void (*between)(void);      /* what is done at each request */
+static unsigned requests, refused; /* how many requests there were, and which one is refused, counted from 1 */
+static void (*between)(void);      /* is called at each request */
 
 static bool is_refused(void)
 {
@@ -33,7 +33,7 @@ void *__wrap_realloc(void *old, size_t size)
     return is_refused() ? NULL : __real_realloc(old, size);
 }
 
-static unsigned turns; /* how many were left to other threads */
+static unsigned turns; /* how many times a write yielded */
 
 int __wrap_sched_yield(void)
 {
@@ -79,7 +79,7 @@ static uint32_t call_apply_if(void)
 {
     return bes_apply_if(&mine, journal_length, list, 2, parts, 11, out.nodes, 4, &out.number);
 }
-/* A whole change of a pass that isn't pinned before or after it. */
+/* A whole change, on a pass that isn't pinned before or after it. */
 static uint32_t call_change(void)
 {
     bes_draft draft = BES_DRAFT_INIT;
@@ -99,7 +99,7 @@ static uint32_t call_change(void)
     bes_abandon_change(&theirs, &draft);
     return error;
 }
-/* A change at once, of a pass that is pinned for it. */
+/* A change in one call, on a pass that is pinned for it. */
 static uint32_t call_change_at_once(void)
 {
     uint64_t number = 0;
@@ -173,7 +173,7 @@ static uint32_t call_move_witness(void)
 }
 static uint32_t call_move(void) { return bes_move(&mine, &opened) == BES_OK ? bes_move(&opened, &mine) : BES_OPEN; }
 
-/* Whether nothing was written, except 0 as the number of a call. */
+/* Returns whether the call wrote nothing, except 0 as its number or count. */
 static bool is_untouched(void)
 {
     outs seen = out;
@@ -184,8 +184,8 @@ static bool is_untouched(void)
     return memcmp(&seen, &untouched, sizeof seen) == 0;
 }
 
-/* Refuses each of the requests that a call makes, in turn: the call then does nothing, or goes on without the memory where it can. In
- * the end it gets all its memory. Returns how many requests it made. */
+/* Refuses each of a call's requests in turn. The call then does nothing, or, if it may go on, succeeds without the memory. At the
+ * end it gets all its memory. Returns how many requests it made. */
 static unsigned refuse_each_of(uint32_t (*call)(void), bool may_go_on)
 {
     look(&mine, &before);
@@ -240,8 +240,8 @@ static void refuse_all(void)
 
 enum { MADE = 100, MOST = 4 * MADE };
 
-/* Reads a whole state. In each first attempt to read a list, this request is refused. Returns how many operations there were, and
- * how many attempts failed. */
+/* Reads a whole state. Each first attempt to read a list has this request refused. Returns how many operations there were. `vain`
+ * counts the attempts that failed. */
 static size_t read_state(bes_pass *pass, unsigned request, bes_operation *told, unsigned *vain)
 {
     static bes_batch batch;
@@ -266,7 +266,7 @@ static size_t read_state(bes_pass *pass, unsigned request, bes_operation *told, 
     return count;
 }
 
-/* No operation is lost or comes twice if memory is refused between two lists. */
+/* If memory is refused between two lists, no operation is lost or repeated. */
 static void refuse_between_lists(void)
 {
     static bes_operation plain[MOST], told[MOST];
@@ -287,8 +287,8 @@ static void refuse_between_lists(void)
 
 static unsigned accepted, busy;
 
-/* A write is tried again `retries` times, and leaves `left` turns to others in all: one before the second try, twice as many before
- * each further one, up to 1,024. */
+/* A write is retried `retries` times, and yields `left` times in total: once before the second try, and twice as often before
+ * each further one, up to 1,024 times. */
 static void tries_again(uint32_t retries, unsigned left)
 {
     uint64_t number = 7, nodes[4];
@@ -297,7 +297,7 @@ static void tries_again(uint32_t retries, unsigned left)
     CHECK(turns == left);
 }
 
-/* The end of a change is a single attempt, which gives no turn to others and leaves nothing of the change. */
+/* A change's end is a single attempt. It doesn't yield, and leaves nothing of the change. */
 static void ends_busy(void)
 {
     bes_draft draft = BES_DRAFT_INIT;
@@ -309,7 +309,7 @@ static void ends_busy(void)
     CHECK(turns == 0 && bes_next(&theirs, &next) == BES_NOT_PINNED);
 }
 
-/* A change at once is one try too, and its pin stays. */
+/* A change in one call is also a single attempt, and its pin stays. */
 static void change_is_busy(void)
 {
     uint64_t number = 7;
@@ -319,8 +319,8 @@ static void change_is_busy(void)
     CHECK(turns == 0 && bes_unpin(&theirs) == BES_OK);
 }
 
-/* What calls of another pass return: its writes return BES_BUSY while the first is writing, with that pass's number, 1, and its
- * reads return what they always do. */
+/* Makes calls through another pass. While the first pass is writing, writes return BES_BUSY with that pass's number, 1. Reads
+ * return what they always do. */
 static void go_between(void)
 {
     uint64_t number = 7, count = 7, nodes[4];
@@ -345,7 +345,7 @@ static void go_between(void)
     CHECK(count == 1 && nodes[0] == 1 && bes_unpin(&theirs) == BES_OK);
 }
 
-/* The journal's text is made while its pass holds the lock. A write makes some of its requests before it takes the lock. */
+/* While the journal's text is made, its pass holds the lock. A write makes some of its requests before it takes the lock. */
 static void meet_busy(void)
 {
     between = go_between;
@@ -369,7 +369,7 @@ static void meet_between(void)
     met++;
 }
 
-/* A meeting takes no lock: it returns while another pass holds that. */
+/* bes_meet takes no lock: it returns while another pass holds the lock. */
 static void meet_while_locked(void)
 {
     bes_pass first = BES_PASS_INIT, third = BES_PASS_INIT;
@@ -383,7 +383,7 @@ static void meet_while_locked(void)
     CHECK(met > 0 && bes_close(&first) == BES_OK && bes_close(&second) == BES_OK);
 }
 
-/* The last handle stays open, and its store whole, until there is memory for the journal's text. */
+/* Until there is memory for the journal's text, the last handle stays open and its store works. */
 static void finish_later(void)
 {
     bes_pass pass = BES_PASS_INIT, other = BES_PASS_INIT;
@@ -403,7 +403,7 @@ static void finish_later(void)
     CHECK(count == 21 && memcmp(text, "1 by 0 new -> node 1\n", 21) == 0 && bes_close(&other) == BES_CLOSED);
 }
 
-/* A state without a pin: memory for its place is asked for first. */
+/* A state without a pin: the memory for its place is requested first. */
 static void state_without_pin(void)
 {
     bes_pass pass = BES_PASS_INIT;
@@ -429,7 +429,7 @@ int main(void)
     finish_later();
     CHECK(bes_release(&kept) == BES_OK && bes_release(&by_text) == BES_OK && bes_release(&by_items) == BES_OK);
     CHECK(bes_dismiss(&witness) == BES_OK);
-    /* If there is no memory for its handle, a pass that was returned can still be taken again. */
+    /* If there is no memory for its handle, a returned pass can still be taken later. */
     CHECK(bes_close(&theirs) == BES_OK && refuse_each(call_another) > 0);
     CHECK(bes_close(&mine) == BES_OK && bes_close(&theirs) == BES_OK);
     puts("ok");

@@ -1,11 +1,11 @@
-/* Results in parts: pages in an index's order, compared with the plain way, which runs the whole query, reads the values, sorts them and
- * cuts the list; the first nodes by number; any few nodes; and a refresh from what was written. With the argument `short` it runs fewer
- * queries. */
+/* Parts of results. Pages in an index's order are compared with the plain way, which runs the whole query, reads the values,
+ * sorts them and cuts the list. The other parts are the first nodes by number, any few nodes, and a refresh from what was
+ * written. With the argument `short`, fewer queries run. */
 #include "tests.h"
 
 enum { NODES = 300, INDICES = 5, LATE = NODES / 3 };
 
-/* An index of each kind. "word" is made after a third of the nodes have their words, so those have no pair in it. */
+/* An index of each kind. "word" is made after a third of the nodes have their words, so these have no pair in it. */
 static const char *const names[INDICES] = {"big", "count", "size", "when", "word"};
 static const uint32_t kinds[INDICES] = {BES_UINT64_TYPE, BES_UINT32_TYPE, BES_INT32_TYPE, BES_INT64_TYPE, BES_STRING_TYPE};
 static const char *const texts[] = {"size>=-1000", "size<0", "when>=0 && size>-3", "word==\"*a*\" || count<5", "count==7", "size==99"};
@@ -23,7 +23,7 @@ static bool has_word[2 * NODES + 1]; /* whether the node's word was set after it
 static bool is_gone[2 * NODES + 1];
 static uint64_t last_node;
 
-/* A number from 0 to below - 1. */
+/* Returns a random number from 0 to bound - 1. */
 static uint64_t below(uint64_t bound)
 {
     state ^= state << 13;
@@ -32,7 +32,7 @@ static uint64_t below(uint64_t bound)
     return state % bound;
 }
 
-/* Gives the node a value of each name, or takes some away; many nodes have the same value. */
+/* Sets or unsets each of a node's attributes at random. Many nodes share a value. */
 static void set_some(bes_pass *pass, uint64_t node)
 {
     char text[4];
@@ -107,7 +107,7 @@ static int compare_reversed(const void *left, const void *right)
     return compare_rows(right, left);
 }
 
-/* The plain way: the query's nodes that have a pair in the index, in the index's order. Returns how many there are. */
+/* The plain way: lists the query's nodes that have a pair in the index, in the index's order. Returns how many there are. */
 static size_t plain(bes_pass *pass, bes_prepared *prepared, size_t index, bool descending, row *rows)
 {
     static uint64_t nodes[2 * NODES];
@@ -126,7 +126,7 @@ static size_t plain(bes_pass *pass, bes_prepared *prepared, size_t index, bool d
     return kept;
 }
 
-/* The handle keeps what a call wrote. */
+/* Checks that the handle keeps what a call wrote. */
 static void check_kept(bes_prepared *prepared, const uint64_t *nodes, uint64_t count)
 {
     uint64_t again[2 * NODES], kept = 0;
@@ -176,7 +176,7 @@ static void all_pages(bes_pass *pass, bool is_short)
     }
 }
 
-/* A cursor of one direction serves the other: what comes after it one way and the other, and the node itself, is all. */
+/* A cursor from one direction works in the other too. The nodes after it in both directions, and its own node, are all nodes. */
 static void both_ways(bes_pass *pass)
 {
     bes_prepared prepared = BES_PREPARED_INIT;
@@ -220,7 +220,7 @@ static void writes_between(bes_pass *pass)
     CHECK(bes_unpin(pass) == BES_OK && bes_release(&prepared) == BES_OK);
 }
 
-/* Some nodes get other values, and now and then one is removed and another one is made. */
+/* Changes some nodes' values. Now and then removes a node and makes another. */
 static void write_some(bes_pass *pass)
 {
     for (int write = 0; write < 3; write++) {
@@ -235,7 +235,7 @@ static void write_some(bes_pass *pass)
     }
 }
 
-/* Returns where the rows after a row begin; without a row, the first row. */
+/* Returns the index of the first row after `last`, or 0 if `last` is empty. */
 static size_t begin_after(const row *rows, size_t count, const row *last, bool descending)
 {
     size_t at = 0;
@@ -244,7 +244,7 @@ static size_t begin_after(const row *rows, size_t count, const row *last, bool d
     return at;
 }
 
-/* Each page is what its own snapshot's plain list has after the cursor. */
+/* Checks that each page is what its own snapshot's plain list has after the cursor. */
 static void pages_between_writes(bes_pass *pass, bes_prepared *prepared, size_t index, bool descending)
 {
     static row rows[2 * NODES], last;
@@ -288,7 +288,7 @@ static int compare_numbers(const void *left, const void *right)
     return (*a > *b) - (*a < *b);
 }
 
-/* The first by number, from each place on, and any few. */
+/* The first nodes by number, continued until there are no more, and any few nodes. */
 static void first_and_any(bes_pass *pass, const char *text)
 {
     bes_prepared prepared = BES_PREPARED_INIT;
@@ -318,7 +318,7 @@ static void first_and_any(bes_pass *pass, const char *text)
     CHECK(bes_release(&prepared) == BES_OK);
 }
 
-/* What a call on a snapshot leaves when it is refused: no number of nodes, and the rest as it was. */
+/* Checks what a refused call leaves: no number of nodes, and everything else unchanged. */
 static void refuse_page(uint32_t error, bes_pass *pass, bes_prepared *prepared, const bes_name *by, const bes_cursor *from, size_t room)
 {
     uint64_t nodes[4] = {1, 2, 3, 4}, count = 7, kept = 7;
@@ -393,8 +393,8 @@ static void errors(bes_pass *pass)
     CHECK(bes_release(&prepared) == BES_OK && bes_release(&uncovered) == BES_OK);
 }
 
-/* A refresh from what was written finds what a refresh of the whole query finds, with just as many nodes, and while another pass reads.
- * */
+/* A refresh from what was written finds the same as a refresh with the whole query, at every size and while another pass
+ * reads. */
 static void refresh_changed(bes_pass *pass)
 {
     bes_prepared whole = BES_PREPARED_INIT, changed = BES_PREPARED_INIT;

@@ -1,4 +1,4 @@
-// Pages in the order of an index, in C++, compared with the whole answer, sorted and cut.
+// Pages in an index's order, in C++, compared with the whole answer, sorted and cut.
 #include "tests.hpp"
 #include <algorithm>
 #include <atomic>
@@ -14,7 +14,7 @@ using bestore::Order;
 
 namespace {
 
-// A value as an index compares it: a number with its sign, or a text.
+// A value as an index compares it: a number and its sign, or a text.
 using Rank = std::tuple<bool, std::uint64_t, std::string>;
 using Keys = std::vector<std::pair<Rank, Node>>;
 
@@ -64,7 +64,7 @@ struct Written {
     std::vector<Node> nodes;
 };
 
-// Makes a node with some values, or gives a node other ones, or removes it.
+// Makes a node with some values, or changes a node's values, or removes a node.
 void write(Written &store)
 {
     auto &[pass, chance, nodes] = store;
@@ -86,7 +86,7 @@ void write(Written &store)
     pass.apply(batch);
 }
 
-// The whole answer in an order.
+// Returns the whole answer in an order.
 Keys plain(bestore::Snapshot &snapshot, bestore::Prepared &query, const Order &order)
 {
     Keys keys;
@@ -99,7 +99,7 @@ Keys plain(bestore::Snapshot &snapshot, bestore::Prepared &query, const Order &o
     return keys;
 }
 
-// The page after a cursor that the whole answer has, and whether there is more.
+// Returns the page after a cursor, cut from the whole answer, and whether there is more.
 std::pair<std::vector<Node>, bool> cut(const Keys &keys, const Cursor &after, std::size_t most)
 {
     std::vector<Node> nodes;
@@ -116,7 +116,7 @@ std::pair<std::vector<Node>, bool> cut(const Keys &keys, const Cursor &after, st
     return {nodes, more};
 }
 
-// All pages of a query in an order, with writes in between.
+// Reads all pages of a query in an order, and writes in between.
 void page_on(Written &store, bestore::Prepared &query, const Order &order)
 {
     Cursor after(query, order);
@@ -155,7 +155,7 @@ void pages()
     }
 }
 
-// The first nodes by number, and any.
+// The first nodes by number, and any nodes.
 void parts()
 {
     bestore::Store pass;
@@ -201,7 +201,7 @@ void refusals()
     refused(BES_BAD_CURSOR, [&] { later.page(query, cursor, 1); });
 }
 
-// A store in which size>=0 finds at least 96 nodes, as a refresh from what was written needs, and a write to it.
+// A store in which size>=0 finds at least 96 nodes, which a refresh from what was written needs, and a write to it.
 constexpr unsigned sized = 300;
 
 void resize(bestore::Pass &pass, std::mt19937 &chance)
@@ -228,7 +228,8 @@ void compare(bestore::Live &whole, bestore::Live &changed, bestore::Snapshot &sn
     CHECK(one.created == other.created && one.removed == other.removed);
 }
 
-// A refresh from what was written returns the same as one of the whole query, even in another store and while another thread writes.
+// A refresh from what was written returns the same as one with the whole query, even in another store and while another thread
+// writes.
 void refreshes()
 {
     std::mt19937 chance(0x11fe);

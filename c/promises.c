@@ -1,11 +1,11 @@
-/* Three promises of the library as checks, while threads write:
+/* Checks three of the library's promises while threads write:
  *
- * - a new handle sees what was written by the handle that made it, before it was made;
+ * - a new handle sees what the handle that made it had written before;
  * - a pinned handle reads one prefix of the journal until it is unpinned;
- * - what any handle has written is in the journal that bes_finish returns, at its commit number, if the last handle has joined its
+ * - everything that a handle wrote is in the journal that bes_finish returns, at its commit number, if the last handle has joined its
  *   witness.
  *
- * Each round opens a store, closes it, and checks all three. The argument is the number of rounds; `short` means a few. */
+ * Each round opens a store, checks all three, and closes it. The argument is the number of rounds; `short` means a few. */
 #include "tests.h"
 #include <pthread.h>
 
@@ -14,11 +14,11 @@ enum { WRITERS = 3, WRITES = 8, TEXT = 1 << 16 };
 typedef struct writer {
     bes_pass pass;
     bes_witness seen;
-    uint64_t made, number;          /* the commit number of what its maker wrote before it was made; its own pass's number */
+    uint64_t made, number;          /* the commit number of its maker's last write before it was made; its own pass's number */
     uint64_t written[WRITES];       /* the commit number of each of its writes */
 } writer;
 
-/* Counts the pinned snapshot's nodes by a query, by reading the list of nodes page by page, and by the next node's number. */
+/* Counts the pinned snapshot's nodes in three ways: by a query, by listing them page by page, and by the next node's number. */
 static uint64_t nodes_counted(bes_pass *pass)
 {
     uint64_t nodes[8 * WRITERS * WRITES], found = 0, listed = 0, next = 0;
@@ -38,7 +38,7 @@ static void read_one_prefix(bes_pass *pass, uint64_t least)
     CHECK(bes_unpin(pass) == BES_OK);
 }
 
-/* Makes a node with the writer's number, and returns the commit number. */
+/* Makes a node that holds the writer's number, and returns the commit number. */
 static uint64_t write_node(writer *it)
 {
     bes_batch batch;
@@ -55,7 +55,7 @@ static uint64_t write_node(writer *it)
     return number;
 }
 
-/* Looks for what the pass that made it wrote, then writes and reads, and leaves a witness of it all. */
+/* Looks for the write of the pass that made it, then writes and reads, and leaves a witness of all this. */
 static void *run(void *arg)
 {
     writer *it = arg;
@@ -91,7 +91,7 @@ static void find_writes(bes_pass *last, writer *writers)
             CHECK(is_by(journal, writers[i].written[j], writers[i].number));
 }
 
-/* One store. Each handle is made after another write of its maker, while the threads before it already write. */
+/* Plays one store. Each handle is made after another write by its maker, while the earlier threads are already writing. */
 static void play(void)
 {
     static writer writers[WRITERS];

@@ -1,5 +1,5 @@
-/* Two threads write to a store, each through its own pass, and both write to an unguarded variable. That is a race. ThreadSanitizer must
- * report this race and none in the library: test.sh checks the report. */
+/* Two threads write to a store, each through its own pass, and both write to an unguarded variable. That is a race.
+ * ThreadSanitizer must report this race and none in the library; test.sh checks its report. */
 #include "tests.h"
 #include <pthread.h>
 

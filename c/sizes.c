@@ -1,6 +1,6 @@
-/* Each list, text and number that a call takes or writes, at the sizes that tests/sizes gives: what grows, and then sizes or ranges,
- * ascending, such as `sizes nodes 1-255 256 511-513`. malloc refuses nothing here, so no call has a reason to return
- * BES_NO_MEMORY. */
+/* Tests each list, text and number that a call takes or writes, at the sizes that tests/sizes gives. The arguments are what
+ * grows, and then ascending sizes or ranges, such as `sizes nodes 1-255 256 511-513`. malloc refuses nothing here, so no call has
+ * a reason to return BES_NO_MEMORY. */
 #include "tests.h"
 
 #define OK(call) CHECK((call) == BES_OK)
@@ -41,7 +41,7 @@ static bool are_from_one(const uint64_t *list, uint64_t count)
     return true;
 }
 
-/* A query that `count` nodes match: by its text, by its items, prepared and refreshed. */
+/* Checks a query that `count` nodes match: as a text, as items, prepared and refreshed. */
 static void found(bes_pass *pass, const char *query, const bes_item *items, size_t items_count, uint64_t count)
 {
     bes_prepared prepared = BES_PREPARED_INIT, other = BES_PREPARED_INIT;
@@ -74,7 +74,7 @@ static void found(bes_pass *pass, const char *query, const bes_item *items, size
     OK(bes_unpin(pass));
 }
 
-/* Appends one more comparison to the query in `text`, which asks for any of them, and to `expected`. */
+/* Appends a comparison to the query in `text`, joined with ||, and to `expected`. */
 static void add_comparison(const char *attribute, uint64_t value)
 {
     size_t at = strlen(text), length = strlen(expected);
@@ -82,7 +82,7 @@ static void add_comparison(const char *attribute, uint64_t value)
     snprintf(expected + length, sizeof expected - length, "%s\"%s\"==\"%d\"", at > 0 ? " || " : "", attribute, (int)value);
 }
 
-/* What the query in `text` is answered from: its canonical text, as expected, followed by this score. */
+/* Checks what bes_explain returns for the query in `text`: its expected canonical text, and this score. */
 static void explained(bes_pass *pass, uint64_t score)
 {
     bes_prepared prepared = BES_PREPARED_INIT;
@@ -101,8 +101,8 @@ static void explained(bes_pass *pass, uint64_t score)
 
 static const bes_item K = {BES_ITEM_ATTRIBUTE, 0, 1, 0}, EQ = {BES_ITEM_EQ, 0, 0, 0}, OR = {BES_ITEM_OR, 0, 0, 0};
 
-/* Opens a store in which node i has the attribute k with the number i, and the first node j with 1. So `k<=n` finds n nodes. With `d`,
- * node i has -i as d instead of j, in a second index. */
+/* Opens a store in which node i has the number i as `k`, and the first node has 1 as `j`. So `k<=n` finds n nodes. With `d`, node
+ * i has -i as `d` in a second index, instead of `j`. */
 static void open_numbered(bes_pass *pass, bool has_d)
 {
     OK(bes_open(16384, 1, 2000, pass) || bes_make_index(pass, "k", BES_INT32_TYPE));
@@ -116,7 +116,7 @@ static void open_numbered(bes_pass *pass, bool has_d)
     }
 }
 
-/* What a prepared query finds, also at its first refresh, and then loses in an empty store. */
+/* Checks what a prepared query finds, what its first refresh finds, and what it loses in an empty store. */
 static void came_and_went(bes_pass *pass, bes_pass *empty, const char *query, uint64_t count)
 {
     bes_prepared live = BES_PREPARED_INIT;
@@ -132,7 +132,7 @@ static void came_and_went(bes_pass *pass, bes_pass *empty, const char *query, ui
     CHECK(are_from_one(others, count));
 }
 
-/* Nodes in a result, and what a live query finds and loses. */
+/* Nodes in a result, and nodes that a live query finds and loses. */
 static void many_nodes(void)
 {
     bes_pass pass = BES_PASS_INIT, empty = BES_PASS_INIT;
@@ -152,7 +152,7 @@ static void many_nodes(void)
     OK(bes_close(&pass) || bes_close(&empty));
 }
 
-/* What a prepared query finds in the order of an index, in one page and in two. */
+/* Checks a prepared query's nodes in an index's order, in one page and in two. */
 static void paged(bes_pass *pass, bes_prepared *prepared, const char *index, uint32_t descending, uint64_t size)
 {
     bes_name by = {0, {0}};
@@ -169,8 +169,8 @@ static void paged(bes_pass *pass, bes_prepared *prepared, const char *index, uin
     CHECK(front + count == size && more == 0 && are_from_one(nodes, size));
 }
 
-/* The same nodes in the order of the index that finds them and of another one, from the first on, and as any few; and as what a refresh
- * from what was written adds. */
+/* The same nodes in the order of the index that finds them and in another's, as the first nodes, as any few, and as what a
+ * refresh from what was written adds. */
 static void nodes_in_parts(void)
 {
     bes_pass pass = BES_PASS_INIT;
@@ -193,14 +193,14 @@ static void nodes_in_parts(void)
     OK(bes_close(&pass));
 }
 
-/* Returns whether a size is at most one away from a power of two, where lists grow. */
+/* Returns whether a size is at most one away from a power of two. Lists grow there. */
 static bool is_by_power(uint64_t size)
 {
     return ((size - 1) & size) == 0 || (size & (size + 1)) == 0 || (size > 1 && ((size - 2) & (size - 1)) == 0);
 }
 
-/* Nodes that two picks find, and those at which a look at another attribute leaves one or none: beyond the first sizes the last of
- * these alone, but where lists grow. */
+/* Nodes that two picks find, and candidates of which checking another attribute leaves one or none. Past the first sizes, only
+ * the last of these is tested, except where lists grow. */
 static void many_candidates(void)
 {
     bes_pass pass = BES_PASS_INIT;
@@ -220,7 +220,7 @@ static void many_candidates(void)
     OK(bes_close(&pass));
 }
 
-/* The list of the last nodes in a store, and of the first nodes. */
+/* Lists the last nodes of a store, and the first nodes. */
 static void listed_nodes(void)
 {
     bes_pass pass = BES_PASS_INIT;
@@ -230,7 +230,7 @@ static void listed_nodes(void)
         OK(bes_new_node(&pass, &number));
     OK(bes_pin(&pass, &number));
     AT_EACH_SIZE {
-        /* Both lists are equally long, so beyond the first sizes one of them is enough. */
+        /* Both lists have the same length, so past the first sizes one of them is enough. */
         uint64_t first = size > 1024 && size % 2 == 0 ? 1 : MOST_NODES + 1 - size;
         OK(bes_nodes(&pass, first, nodes, size, &count));
         CHECK(count == size && nodes[0] == first && nodes[count - 1] == first + size - 1);
@@ -242,14 +242,14 @@ static void listed_nodes(void)
     OK(bes_close(&pass));
 }
 
-/* A name of three bytes, which stays in `name` until the next one. */
+/* Returns a name of three bytes. It stays in `name` until the next call. */
 static const char *name_of(char letter, uint64_t number)
 {
     snprintf(name, sizeof name, "%c%02d", letter, (int)number);
     return name;
 }
 
-/* What a call wrote to `listed` and `told` has `size` names of this letter. */
+/* Checks that a call wrote `size` names with this letter to `listed` and `told`. */
 static void are_listed(const bes_counts *counts, uint32_t kind, char letter, uint64_t size)
 {
     CHECK(counts->operations == size && counts->bytes == 3 * size);
@@ -259,7 +259,7 @@ static void are_listed(const bes_counts *counts, uint32_t kind, char letter, uin
     }
 }
 
-/* Sets that many attributes of node 1 again, in a change on a pinned pass. */
+/* Sets this many attributes of node 1 again, in a change on a pinned pass. */
 static void set_by_change(bes_pass *pass, uint64_t size)
 {
     bes_draft draft = BES_DRAFT_INIT;
@@ -277,7 +277,7 @@ static void set_by_change(bes_pass *pass, uint64_t size)
     CHECK(number == 3);
 }
 
-/* Sets these attributes once more, by a change in one call. */
+/* Sets these attributes once more, with a change in one call. */
 static void set_at_once(bes_pass *pass, uint64_t size)
 {
     uint64_t number = 0;
@@ -318,7 +318,7 @@ static void many_operations(void)
     }
 }
 
-/* The comparisons in a text `k==1||k==2..`, each with its position. */
+/* Checks the comparisons in a text `k==1||k==2..`, and each one's position. */
 static void compared(uint64_t size)
 {
     static bes_compared found[256];
@@ -333,7 +333,7 @@ static void compared(uint64_t size)
     CHECK(at == strlen(text) && counts.bytes == found[size - 1].plain_end);
 }
 
-/* The one comparison of the query in `text`: its form, and how many bytes its value has. */
+/* Checks the only comparison of the query in `text`: its form, and how many bytes its value has. */
 static void compares_with(uint32_t form, uint64_t length)
 {
     bes_compared found;
@@ -343,7 +343,7 @@ static void compares_with(uint32_t form, uint64_t length)
     CHECK(found.plain_end == found.plain_value_at + length && counts.bytes == found.plain_end);
 }
 
-/* Comparisons of a query, all of which are picked. */
+/* Comparisons in a query, all of which are picked. */
 static void many_comparisons(void)
 {
     static bes_item items[4 * 256];
@@ -369,7 +369,7 @@ static void many_comparisons(void)
     }
 }
 
-/* Bytes in a text that is escaped, and made a pattern that matches any case. */
+/* Bytes of a text that is escaped, or made a pattern that matches any case. */
 static void long_made_texts(void)
 {
     AT_EACH_SIZE {
@@ -414,7 +414,7 @@ static void long_queries(void)
     }
 }
 
-/* Bytes of a text that is an item of a predicate: as what an attribute contains, begins with or ends with, and as a pattern. */
+/* Bytes of a text in a predicate's item: as what an attribute contains, begins with or ends with, and as a pattern. */
 static void long_items(void)
 {
     const uint32_t kinds[] = {BES_ITEM_CONTAINS, BES_ITEM_BEGINS_WITH, BES_ITEM_ENDS_WITH, BES_ITEM_EQ};
@@ -494,7 +494,7 @@ static void long_values(void)
     }
 }
 
-/* A change knows the index of this name, so it refuses another kind. */
+/* A change finds the index with this name, so it refuses another kind. */
 static void refuse_by_index(bes_pass *pass)
 {
     bes_draft draft = BES_DRAFT_INIT;
@@ -506,7 +506,7 @@ static void refuse_by_index(bes_pass *pass)
     OK(bes_abandon_change(pass, &draft));
 }
 
-/* Indices, each of which is picked. */
+/* Indices, all of which a query picks. */
 static void many_indices(void)
 {
     AT_EACH_SIZE {
@@ -532,8 +532,8 @@ static void many_indices(void)
     }
 }
 
-/* Takes all further passes of a store, each of which writes and reads; and one more is refused. Unused ones wait with the first
- * handle, and any handle may hand out the others. */
+/* Takes all other passes of a store, and writes and reads with each. One more is refused. Unused passes wait with the first
+ * handle; any handle may hand out the others. */
 static void take_all(bes_pass *passes, uint64_t size, bool are_unused, uint64_t node, uint64_t *written)
 {
     bes_pass none = BES_PASS_INIT;
@@ -550,7 +550,7 @@ static void take_all(bes_pass *passes, uint64_t size, bool are_unused, uint64_t 
     CHECK(bes_another(&passes[0], &none) == BES_NO_PASS);
 }
 
-/* Passes that are taken, given back in another order, met and taken again. Closing the last pass frees the store, and closing another pass
+/* Passes that are taken, returned in another order, met and taken again. Closing the last pass frees the store; closing any other
  * doesn't. */
 static void many_passes(void)
 {
@@ -577,7 +577,7 @@ static void many_passes(void)
     }
 }
 
-/* The number of bytes of `told`, each of which is `letter`. */
+/* Checks that this value in `told` has this length, and only this letter. */
 static void are_all(const bes_operation *part, uint8_t letter, uint64_t length)
 {
     CHECK(part->value_length == length);
@@ -585,7 +585,7 @@ static void are_all(const bes_operation *part, uint8_t letter, uint64_t length)
         CHECK(told[part->value_at + i] == letter);
 }
 
-/* Fills the batch with this many values of 255 bytes, under names of 63 bytes. */
+/* Fills the batch with this many values of 255 bytes, with names of 63 bytes. */
 static void fill_batch(uint64_t size, uint8_t letter)
 {
     uint8_t value[LONGEST_VALUE];
@@ -597,7 +597,7 @@ static void fill_batch(uint64_t size, uint8_t letter)
     }
 }
 
-/* What a call wrote to `listed` and `told` are the values of fill_batch. */
+/* Checks that a call wrote fill_batch's values to `listed` and `told`. */
 static void are_filled(const bes_counts *counts, uint64_t size, uint8_t letter)
 {
     CHECK(counts->operations == size && counts->bytes == size * (LONGEST_NAME + LONGEST_VALUE));
@@ -605,7 +605,7 @@ static void are_filled(const bes_counts *counts, uint64_t size, uint8_t letter)
         are_all(&listed[i], letter, LONGEST_VALUE);
 }
 
-/* Reads the state of a pinned pass, which is a node with `size` long values. */
+/* Reads the state of a pinned pass, which is one node with `size` long values. */
 static void state_is_filled(bes_pass *pass, uint64_t size)
 {
     bes_place reading = BES_PLACE_INIT;
@@ -620,8 +620,8 @@ static void state_is_filled(bes_pass *pass, uint64_t size)
     OK(bes_leave(&reading));
 }
 
-/* A list with names and values of maximum length, in each call that takes or writes such lists: bes_apply, bes_apply_if, bes_attributes,
- * bes_state, bes_journal_from and bes_journal, whose lines have up to 38 KB. */
+/* A list with names and values of maximum length, in each call that takes or writes such lists: bes_apply, bes_apply_if,
+ * bes_attributes, bes_state, bes_journal_from and bes_journal. The journal's lines have up to 38 KB. */
 static void long_batches(void)
 {
     AT_EACH_SIZE {
@@ -647,7 +647,7 @@ static void long_batches(void)
     }
 }
 
-/* Names of an index, of 63 bytes each. */
+/* Names of indices, with 63 bytes each. */
 static void long_index_names(void)
 {
     AT_EACH_SIZE {
@@ -667,7 +667,7 @@ static void long_index_names(void)
     }
 }
 
-/* Pages of a store, and of one of 64 passes. */
+/* Pages of a store with one pass, and of one with 64 passes. */
 static void many_pages(void)
 {
     AT_EACH_SIZE {
@@ -683,7 +683,7 @@ static void many_pages(void)
     }
 }
 
-/* The fields that an operation doesn't use are 0, so two readers of one state get the same bytes. */
+/* Fields that an operation doesn't use are 0, so everyone who reads a state gets the same bytes. */
 static void has_no_more(const bes_operation *it)
 {
     const bool is_set = it->kind == BES_SET, has_name = is_set || it->kind == BES_MAKE_INDEX;
@@ -693,7 +693,7 @@ static void has_no_more(const bes_operation *it)
     CHECK(is_set || (it->number == 0 && it->value_length == 0));
 }
 
-/* Attributes of each node of a state, which is read whole. */
+/* Attributes of each node in a state, which is read whole. */
 static void many_states(void)
 {
     AT_EACH_SIZE {
@@ -721,7 +721,7 @@ static void many_states(void)
     }
 }
 
-/* The other pass of a store is taken and given back, and then met. */
+/* Takes the store's other pass, returns it, and meets it. */
 static void met(bes_pass *pass, uint64_t written)
 {
     bes_pass other = BES_PASS_INIT;
@@ -730,7 +730,7 @@ static void met(bes_pass *pass, uint64_t written)
     CHECK(seen == written);
 }
 
-/* The journal while it gets many writes: its text, and each entry; and a pass that is met then. */
+/* The journal during many writes: its text, each entry, and a pass that is met then. */
 static void many_entries(void)
 {
     bes_pass pass = BES_PASS_INIT;
@@ -762,7 +762,7 @@ static void many_entries(void)
     CHECK(count == length && memcmp(told, expected, length) == 0);
 }
 
-/* What grows, by the names that tests/growth.txt has. */
+/* What grows, under the names that tests/growth.txt uses. */
 static const struct row {
     const char *name;
     void (*run)(void);
@@ -774,7 +774,7 @@ static const struct row {
     {"batches", long_batches}, {"state", many_states}, {"entries", many_entries}
 };
 
-/* Appends a size, or a range of them as 3-7, to `sizes`. */
+/* Appends a size to `sizes`, or a range of sizes such as 3-7. */
 static void add_sizes(const char *word)
 {
     char *end = NULL;

@@ -1,10 +1,10 @@
-/* Every export and every kind of wrong use, from one thread; threads.c tests calls from four. Each error that bestore.h lists comes
- * here or in memory.c: BES_NO_MEMORY there, and BES_BUSY where it has to come. */
+/* Every export and every kind of wrong use, from one thread; threads.c tests calls from four. Each error that bestore.h lists is
+ * tested here, except that memory.c tests BES_NO_MEMORY, and BES_BUSY where it has to be returned. */
 #include "tests.h"
 
 static view before;
 
-/* A call that returns this error, and leaves the store and the pin as they were. */
+/* Checks that a call returns this error, and leaves the store and the pin as they were. */
 #define LEAVES(pass, call, answer) do { \
         look(pass, &before); \
         CHECK((call) == (answer) && is_as_it_was(pass, &before)); \
@@ -38,7 +38,7 @@ static void closed_handle(void)
     CHECK(bes_apply_or_retry(&pass, &op, 1, bytes, 0, 1, nodes, 2, &number) == BES_CLOSED && nodes[0] == 7);
 }
 
-/* A prepared query whose handle is closed, or that is asked through a closed pass. */
+/* A prepared query whose handle is closed, or that is run through a closed pass. */
 static void closed_prepared(void)
 {
     bes_pass pass = BES_PASS_INIT;
@@ -93,7 +93,8 @@ static void opening(void)
     CHECK(bes_close(&third) == BES_CLOSED);
 }
 
-/* Any handle of a store hands out its returned passes, unpinned. Those that wait with one handle are handed out only by it. */
+/* Any handle of a store hands out its returned passes, which have no pin. Passes that wait with one handle are handed out only by
+ * it. */
 static void giving_back(void)
 {
     bes_pass mine = BES_PASS_INIT, theirs = BES_PASS_INIT, third = BES_PASS_INIT, fourth = BES_PASS_INIT;
@@ -107,7 +108,7 @@ static void giving_back(void)
     CHECK(bes_close(&third) == BES_OK && bes_close(&mine) == BES_OK && bes_close(&theirs) == BES_OK);
 }
 
-/* Through a returned pass, one pass sees what another has seen. */
+/* Through a returned pass, a pass sees what another has seen. */
 static void meeting(void)
 {
     bes_pass mine = BES_PASS_INIT, theirs = BES_PASS_INIT, third = BES_PASS_INIT;
@@ -122,8 +123,8 @@ static void meeting(void)
     CHECK(bes_close(&mine) == BES_OK && bes_close(&theirs) == BES_OK);
 }
 
-/* Writes `count` operations, the first `right` of which are valid, and the others are this one. Returns the error. If the list is
- * invalid, the error comes with the index of the first of these. */
+/* Writes `count` operations: the first `right` are valid, and all others are `op`. Returns the error. If the list is invalid, the
+ * error gives the index of the first invalid operation. */
 static uint32_t wrong_behind(bes_pass *pass, size_t right, bes_operation op, size_t count, size_t size)
 {
     static const uint8_t bytes[300] = "k\0\xff";
@@ -190,7 +191,7 @@ static void wrong_writes(void)
     CHECK(bes_close(&pass) == BES_OK);
 }
 
-/* A node with all the attributes that it may have, and a store with all the indices. */
+/* A node with as many attributes as allowed, and a store with as many indices as allowed. */
 static void most(void)
 {
     static bes_batch batch;
@@ -206,7 +207,7 @@ static void most(void)
     CHECK(bes_batch_apply(&pass, &batch, 1, made, 64, &number) == BES_OK && number == 2);
     CHECK(bes_pin(&pass, &number) == BES_OK);
     LEAVES(&pass, bes_set_int32(&pass, 1, "a64", 64), BES_TOO_MANY_ATTRS);
-    /* An error in its last operation refuses the whole list. */
+    /* If its last operation fails, the whole list is refused. */
     bes_batch_clear(&batch);
     CHECK(bes_batch_new_node(&batch) == BES_OK && bes_batch_set_int32(&batch, 1, "a64", 64) == BES_OK);
     made[0] = 7;
@@ -226,7 +227,7 @@ static void most(void)
     CHECK(bes_close(&pass) == BES_OK);
 }
 
-/* What a batch has no room for. */
+/* What doesn't fit into a batch. */
 static void full_batch(void)
 {
     static bes_batch batch;
@@ -240,7 +241,7 @@ static void full_batch(void)
     CHECK(bes_batch_new_node(&batch) == BES_BAD_COUNT && batch.count == 64);
 }
 
-/* A pin keeps the pages of its snapshot, until a write finds no free page. */
+/* A pin holds its snapshot's pages until a write finds no free page. */
 static void no_page_is_free(void)
 {
     static bes_batch batch;
@@ -255,7 +256,7 @@ static void no_page_is_free(void)
     CHECK(answer == BES_FULL);
     LEAVES(&pass, bes_new_node(&pass, &count), BES_FULL);
     CHECK(count == 7);
-    /* The number of the pinned snapshot goes with the error. */
+    /* The error comes with the number of the pinned snapshot. */
     bes_batch_clear(&batch);
     CHECK(bes_batch_new_node(&batch) == BES_OK);
     LEAVES(&pass, bes_batch_apply(&pass, &batch, 1, &count, 1, &number), BES_FULL);
@@ -403,7 +404,7 @@ static void no_query(bes_pass *pass, const char *text, size_t length, uint32_t a
     CHECK(bes_prepare(query, length, &prepared, &place) == answer && place == byte && bes_release(&prepared) == BES_CLOSED);
 }
 
-/* The same with items: this is the wrong one. */
+/* The same for items: `item` is the index of the wrong one. */
 static void no_items(bes_pass *pass, const bes_item *items, size_t items_count, const char *bytes, uint32_t answer, uint64_t item)
 {
     const uint8_t *parts = (const uint8_t *)bytes;
@@ -415,7 +416,7 @@ static void no_items(bes_pass *pass, const bes_item *items, size_t items_count, 
     CHECK(bes_release(&prepared) == BES_CLOSED);
 }
 
-/* A pinned store with a node of size 0. */
+/* Opens and pins a store with one node of size 0. */
 static void open_size(bes_pass *pass)
 {
     uint64_t number = 0;
@@ -453,7 +454,7 @@ static void no_queries(void)
     CHECK(bes_close(&pass) == BES_OK);
 }
 
-/* Items: a value that isn't a valid pattern, 65 nested ones, 257 comparisons, and parts that aren't within the bytes. */
+/* Wrong items: a value that isn't a valid pattern, 65 nested ones, 257 comparisons, and parts that aren't within the bytes. */
 static void no_query_of_items(void)
 {
     static const bes_item size = {BES_ITEM_ATTRIBUTE, 0, 4, 0}, one = {BES_ITEM_UINT64, 0, 0, 1}, less = {BES_ITEM_LT, 0, 0, 0};
@@ -483,14 +484,14 @@ static void no_query_of_items(void)
         items[4 * i] = size, items[4 * i + 1] = one, items[4 * i + 2] = less;
         items[4 * i + 3] = (bes_item){BES_ITEM_OR, 0, 0, 0};
     }
-    /* The first has nothing before it to be joined with. */
+    /* The first item has nothing before it to be joined with. */
     items[3] = (bes_item){BES_ITEM_NOT, 0, 0, 0};
     CHECK(bes_query_items(&pass, items, 4 * 256, (const uint8_t *)bytes, 64, nodes, 2, &count) == BES_OK && count == 1);
     no_items(&pass, items, 4 * 257, bytes, BES_TOO_MANY, 0);
     CHECK(bes_close(&pass) == BES_OK);
 }
 
-/* Prepares size < -1, by items. */
+/* Prepares `size < -1` from items. */
 static void prepare_less(bes_prepared *prepared)
 {
     const bes_item less[3] = {{BES_ITEM_ATTRIBUTE, 0, 4, 0}, {BES_ITEM_INT64, 0, 0, (uint64_t)-1}, {BES_ITEM_LT, 0, 0, 0}};
@@ -503,8 +504,7 @@ static void prepare_less(bes_prepared *prepared)
     CHECK(bes_prepare_items(less, 3, (const uint8_t *)"size", 4, prepared, &place) == BES_OPEN && place == 0);
 }
 
-/* Queries that are parsed once, as text and as items, and which nodes come and go. */
-/* What a prepared query found: it is read again in parts, and stays at a refresh. */
+/* Reads again, in parts, what a prepared query found. A refresh doesn't change it. */
 static void read_found(bes_pass *pass, bes_prepared *query)
 {
     bes_prepared uncovered = BES_PREPARED_INIT;
@@ -523,7 +523,7 @@ static void read_found(bes_pass *pass, bes_prepared *query)
     CHECK(bes_found(query, 1, nodes, 1, &count) == BES_OK && count == 3 && nodes[0] == 2);
     CHECK(bes_release(&uncovered) == BES_OK);
 }
-
+/* Queries that are parsed once, as text or as items, and the nodes that join and leave their results. */
 static void prepared_queries(void)
 {
     bes_pass pass = BES_PASS_INIT;
@@ -598,7 +598,7 @@ static void nodes_by_number(void)
 
 enum { MOST_BYTES = 64 * (63 + 255) };
 
-/* The operations that rebuild a snapshot. A list for which there was no room is returned by the next call. */
+/* The operations that rebuild a snapshot. If there isn't room for a list, the next call returns it. */
 static void states(void)
 {
     static const uint8_t expected[] = "nameannsizesize";
@@ -668,7 +668,7 @@ static void joining(void)
     CHECK(bes_dismiss(&later) == BES_CLOSED && bes_dismiss(&moved) == BES_OK && bes_dismiss(&moved) == BES_CLOSED);
 }
 
-/* Which pages are free, which wait for a pin, and whose pin that is. */
+/* Which pages are free, which wait for a pin, and which pass has that pin. */
 static void usage(void)
 {
     bes_pass mine = BES_PASS_INIT, theirs = BES_PASS_INIT;
@@ -709,7 +709,7 @@ static void journal(void)
     CHECK(bes_close(&pass) == BES_OK);
 }
 
-/* The last handle closes the store, pinned or not, and only if there is room for the whole journal. */
+/* The last handle closes the store, pinned or not, but only if there is room for the whole journal. */
 static void finishing(void)
 {
     static const char all[] = "1 by 2 new -> node 1\n2 by 1 new -> node 2\n3 by 2 new -> node 3\n";
@@ -734,7 +734,7 @@ static void finishing(void)
     CHECK(bes_close(&mine) == BES_CLOSED);
 }
 
-/* If two errors hold, the one that bestore.h lists first is returned. */
+/* If two errors apply, the one that bestore.h lists first is returned. */
 static void order_of_reads(void)
 {
     static const uint8_t long_text[4097] = {0xff};
@@ -803,7 +803,7 @@ static void spent(void)
     CHECK(bes_version() == BES_VERSION_NUMBER && strcmp(BES_VERSION, "0.4.0") == 0);
 }
 
-/* No pass is lost by closing or meeting it: 64 are taken, closed and taken again, with the first handle and with another one. */
+/* Closing or meeting loses no pass: 64 are taken, closed and taken again, through the first handle and through another. */
 static void all_passes(void)
 {
     static bes_pass taken[65];
@@ -825,14 +825,14 @@ static void all_passes(void)
     CHECK(take_passes(&last, taken) == 63);
     close_passes(taken, 63);
     CHECK(bes_close(&last) == BES_OK);
-    /* Unused passes are returned with the handle that they wait with. */
+    /* Unused passes are returned along with the handle that they wait with. */
     CHECK(bes_open(64, 64, 10, &first) == BES_OK && bes_another(&first, &last) == BES_OK && bes_close(&first) == BES_OK);
     CHECK(take_passes(&last, taken) == 63);
     close_passes(taken, 63);
     CHECK(bes_close(&last) == BES_OK);
 }
 
-/* The last pass closes a store of 64, whichever it is, with the writes of all. */
+/* Whichever of 64 passes is the last, it closes the store, and the journal has everyone's writes. */
 static void finishing_all(void)
 {
     static bes_pass taken[65];

@@ -1,4 +1,4 @@
-/* What the tests in C share. */
+/* What the C tests share. */
 #ifndef TESTS_H
 #define TESTS_H
 
@@ -8,7 +8,7 @@
 
 #define CHECK(e) do { if (!(e)) { fprintf(stderr, "%s:%d: %s\n", __FILE__, __LINE__, #e); exit(1); } } while (0)
 
-/* Everything observable about a small store and a pass's pin. */
+/* Everything that can be observed of a small store and of a pass's pin. */
 typedef struct view {
     uint32_t has_indices, has_node;
     uint64_t length;
@@ -17,7 +17,7 @@ typedef struct view {
     uint8_t bytes[2][64 * (63 + 255)], journal[1 << 16];
 } view;
 
-/* Looks at the store, and at node 1. */
+/* Reads the store and node 1. */
 static inline void look(bes_pass *pass, view *seen)
 {
     memset(seen, 0, sizeof *seen);
@@ -26,7 +26,7 @@ static inline void look(bes_pass *pass, view *seen)
     CHECK(bes_journal(pass, seen->journal, sizeof seen->journal, &seen->length) == BES_OK && seen->length <= sizeof seen->journal);
 }
 
-/* Looks again, and compares. */
+/* Reads again, and compares. */
 static inline bool is_as_it_was(bes_pass *pass, const view *before)
 {
     static view after;
@@ -34,7 +34,7 @@ static inline bool is_as_it_was(bes_pass *pass, const view *before)
     return memcmp(before, &after, sizeof after) == 0;
 }
 
-/* Takes as many passes as this pass can get. Returns how many there were. */
+/* Takes as many passes as this pass can get. Returns how many that was. */
 static inline int take_passes(bes_pass *pass, bes_pass *taken)
 {
     for (int i = 0;; i++) {
@@ -45,7 +45,7 @@ static inline int take_passes(bes_pass *pass, bes_pass *taken)
     }
 }
 
-/* Gives all these passes back. */
+/* Closes all these passes. */
 static inline void close_passes(bes_pass *taken, int count)
 {
     for (int i = 0; i < count; i++)

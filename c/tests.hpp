@@ -1,4 +1,4 @@
-// What the tests in C++ share.
+// What the C++ tests share.
 #ifndef TESTS_HPP
 #define TESTS_HPP
 
@@ -16,7 +16,7 @@
 
 using Carried = std::optional<std::uint64_t>;
 
-// The details of a refusal.
+// A refusal's details.
 struct With {
     Carried offset = {}, item = {}, operation = {}, least = {}, pass_number = {}, length = {};
 };

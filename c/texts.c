@@ -1,4 +1,4 @@
-/* The helpers over indices and texts of queries, tried on random texts against what the library parses and finds. */
+/* Tests the helpers for indices and query texts on random texts, against what the library parses and finds. */
 #include "tests.h"
 
 static uint64_t seed = 7;
@@ -9,7 +9,7 @@ static uint64_t below(uint64_t most)
     return (seed >> 33) % most;
 }
 
-/* Appends one of the texts, which are separated by blanks. */
+/* Appends one of these texts, which are separated by blanks. */
 static void append_one(char *text, size_t room, const char *choices)
 {
     size_t count = 1, length;
@@ -39,7 +39,7 @@ static void append_comparison(char *text, size_t room)
     append_one(text, room, "1 -5 abc \"a*\" '&&' \"\" [a-d] \"[^\\\"]\" \\* \"x\\\\\" 'a\"b' \xc3\xa9? \"||\" \\>\\= 12x");
 }
 
-/* A random query, or nearly one. */
+/* Makes a random text that is a query, or nearly one. */
 static void random_query(char *text, size_t room)
 {
     size_t count = 1 + below(6), open = 0;
@@ -63,7 +63,7 @@ static void random_query(char *text, size_t room)
         text[below(strlen(text))] = "()!=<>&|\"'\\ a"[below(13)];
 }
 
-/* The canonical text of a query, or none. */
+/* Writes a query's canonical text. Returns its length, or 0 if the text isn't a query. */
 static size_t canonical_of(const char *text, size_t length, char *canonical, size_t room)
 {
     bes_prepared prepared = BES_PREPARED_INIT;
@@ -81,7 +81,7 @@ static uint32_t opposite(uint32_t kind)
     return kinds[kind - BES_ITEM_EQ];
 }
 
-/* A comparison in the user's text and its canonical text mean the same, except for a ! before the first. */
+/* Checks that a comparison in the user's text means the same as in the canonical text, except for a ! before the first. */
 static void is_same_comparison(const char *text, const bes_comparison *mine, const char *canonical, const bes_comparison *theirs)
 {
     static char alone[4096];
@@ -94,7 +94,7 @@ static void is_same_comparison(const char *text, const bes_comparison *mine, con
     CHECK(memcmp(alone + only.value_at, canonical + theirs->value_at, only.value_length) == 0);
 }
 
-/* The helper reads from a text what the library reads from it: the same comparisons in the same order. */
+/* The helper finds the comparisons that the library parses, in the same order. */
 static void comparisons(void)
 {
     static char text[512], canonical[1 << 14];
@@ -116,7 +116,7 @@ static void comparisons(void)
     CHECK(accepted > 5000);
 }
 
-/* A text that isn't a query is still read to its end, and not beyond. */
+/* A text that isn't a query is read up to its end, and not past it. */
 static void any_bytes(void)
 {
     for (int round = 0; round < 20000; round++) {
@@ -146,7 +146,7 @@ static void prepared_text(void)
     CHECK(bes_release(&prepared) == BES_OK);
 }
 
-/* A pinned store with an index of each kind that can have one, and a node with 0 or "zero" under each. */
+/* Opens and pins a store with an index of each possible kind, and a node with 0 or "zero" in each. */
 static void open_store(bes_pass *pass)
 {
     uint64_t number = 0, node = 0;
@@ -199,7 +199,7 @@ typedef struct whole {
     uint64_t magnitude;
 } whole;
 
-/* Reads a number with an optional - and 1 to 20 digits. Backslashes are passed over. */
+/* Reads a number with an optional - and 1 to 20 digits. Backslashes are skipped. */
 static bool spells_number(const char *text, whole *number)
 {
     size_t digits = 0;
@@ -216,7 +216,7 @@ static bool spells_number(const char *text, whole *number)
     return digits > 0 && digits <= 20 && (!number->is_negative || number->magnitude <= (uint64_t)1 << 63);
 }
 
-/* Whether every integer of a kind with this many bits is above the number, or every one is below. */
+/* Returns whether every integer of a kind with this many bits is above the number, or every one is below it. */
 static bool is_out_of_range(whole number, unsigned bits, bool is_signed)
 {
     uint64_t greatest = UINT64_MAX >> (64 - bits + is_signed);
@@ -225,8 +225,8 @@ static bool is_out_of_range(whole number, unsigned bits, bool is_signed)
     return number.magnitude > greatest;
 }
 
-/* A value that isn't a number makes a comparison with an integer false, and one that is makes either <= or >= true. The helper finds
- * what is false for each integer of the index's kind. */
+/* A value that isn't a number makes any comparison with an integer false. A value that is one makes either <= or >= true. The
+ * helper finds comparisons that are false for every integer of the index's kind. */
 static void never_true(void)
 {
     static const char *const by_hand[] = {
@@ -284,7 +284,7 @@ static void pairs(void)
     CHECK(bes_close(&pass) == BES_OK);
 }
 
-/* An index that was made late has all values of its kind after bes_reindex. */
+/* An index that is made late has all values of its kind after bes_reindex. */
 static void reindexed(void)
 {
     static const char *const names[] = {"a", "b"};
@@ -309,7 +309,7 @@ static void reindexed(void)
     CHECK(bes_read(&pass, 7, "a", &read, bytes, 0) == BES_OK && read.code == BES_INT32_TYPE && bes_close(&pass) == BES_OK);
 }
 
-/* A text of up to 12 characters, with those that mean something in a query. */
+/* Makes a text of up to 12 characters, including those that are special in queries. */
 static void random_text(char *text)
 {
     size_t length = 1 + below(12);
@@ -344,7 +344,7 @@ static void escapes(void)
         bes_escape(other, escaped, sizeof escaped);
         snprintf(query, sizeof query, "text==\"%s\"", escaped);
         CHECK(found(&pass, query) == (strcmp(value, other) == 0));
-        /* As a name: it is read, and has no index. */
+        /* Use the text as a name: it is parsed, and has no index. */
         snprintf(query, sizeof query, "%s==1", escaped);
         uncovered_at(&pass, query, 0);
     }
@@ -377,7 +377,7 @@ static void any_case(void)
     CHECK(bes_close(&pass) == BES_OK);
 }
 
-/* Any bytes become a text that the library takes; a text that it takes already stays as it is. */
+/* Any bytes become a text that the library accepts. A text that it already accepts stays as it is. */
 static void valid_texts(void)
 {
     static char bytes[400 + 1], valid[256], again[256];

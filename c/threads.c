@@ -4,11 +4,11 @@
 #include <pthread.h>
 #include <time.h>
 
-/* Four threads, one pass each: two write, and two run queries. Each writer has its own nodes in pairs, one from ann and the other from
- * bob, and swaps the two of a pair in one write. So each snapshot has as many nodes from ann as from bob. */
+/* Four threads with one pass each: two write, and two run queries. Each writer has its own pairs of nodes, one from ann and one
+ * from bob, and swaps a pair in one write. So every snapshot has as many nodes from ann as from bob. */
 enum { PAIRS = 100, NODES = 4 * PAIRS };
 
-static double seconds = 3; /* fewer if the argument is short */
+static double seconds = 3; /* fewer with the argument `short` */
 
 static struct timespec end;
 
@@ -25,8 +25,8 @@ typedef struct user {
     uint64_t rounds; /* writes that were accepted, or snapshots that were queried */
 } user;
 
-/* Writes a pair, the first node of which is then from ann, or else from bob. A pin of another thread may hold all free pages
- * for a while. */
+/* Writes a pair, whose first node is then from ann if `ann` is set, otherwise from bob. Another thread's pin may hold all free
+ * pages for a while. */
 static uint64_t write_pair(bes_pass *pass, uint64_t node, bool is_new, bool ann)
 {
     bes_batch batch;
@@ -59,7 +59,7 @@ static void *writer(void *arg)
         written = write_pair(&it->pass, node, false, ann[pair]);
         if (it->rounds % 16 != 0)
             continue;
-        /* A pin includes everything that its pass wrote. Then a rest: the journal keeps every write. */
+        /* A pin includes everything that its pass wrote. Then rest, since the journal keeps every write. */
         CHECK(bes_pin(&it->pass, &number) == BES_OK && number >= written);
         CHECK(bes_read(&it->pass, node + 1, "MAIL:from", &told, from, 3) == BES_OK && told.length == 3);
         CHECK(memcmp(from, ann[pair] ? "bob" : "ann", 3) == 0);
@@ -69,7 +69,7 @@ static void *writer(void *arg)
     return NULL;
 }
 
-/* A refresh from what is being written meanwhile finds the same as a refresh of the whole query. */
+/* A refresh from what is being written finds the same as a refresh with the whole query. */
 static void refresh_as(user *it, bes_prepared *whole, const bes_updates *updates, bes_prepared *changed)
 {
     bes_updates others = {0, 0};
@@ -146,7 +146,7 @@ static void threads(void)
            (unsigned long long)(users[2].rounds + users[3].rounds), seconds);
 }
 
-/* Repeatedly takes a pass that no thread has, writes through it and gives it back. Counts the writes. */
+/* Repeatedly takes a pass that no thread has, writes through it and returns it. Counts the writes. */
 static void *taker(void *arg)
 {
     user *it = arg;
@@ -165,7 +165,7 @@ static void *taker(void *arg)
     return NULL;
 }
 
-/* Four threads take `count` passes in turn, each after another has given it back. All are there at the end. */
+/* Four threads take `count` passes in turn, each after another has returned it. In the end, all passes are there. */
 static void takers(int count)
 {
     static user users[4];
@@ -190,7 +190,7 @@ static void takers(int count)
         CHECK(bes_close(&users[i].pass) == BES_OK);
 }
 
-/* Takes a pass and gives it back, over and over. There are many more passes than threads, so one is always free: if another thread is
+/* Repeatedly takes a pass and returns it. There are many more passes than threads, so one is always free. If another thread is
  * using a pass, the next place is tried. */
 static void *hander(void *arg)
 {
@@ -216,8 +216,7 @@ static void always_one_waits(void)
         CHECK(pthread_join(running[i], NULL) == 0 && bes_close(&users[i].pass) == BES_OK);
 }
 
-/* Sets its node's number and makes a node, in one write, again and again. A pin of another thread may hold all free pages for a while.
- * */
+/* Repeatedly sets its node's number and makes a node, in one write. Another thread's pin may hold all free pages for a while. */
 static void *grower(void *arg)
 {
     user *it = arg;
@@ -266,7 +265,7 @@ static bool are_alike(bes_pass *mine, bes_pass *theirs)
     return alike;
 }
 
-/* Carries the state to a new store and closes the new store, while a pinned pass still reads the old store as before. */
+/* Carries the state on to a new store and closes that store, while a pinned pass still reads the old store as before. */
 static void carry_and_compare(bes_pass *pass)
 {
     bes_pass next = BES_PASS_INIT;
@@ -279,7 +278,7 @@ static void carry_and_compare(bes_pass *pass)
     CHECK(bes_unpin(pass) == BES_OK && bes_close(&next) == BES_OK);
 }
 
-/* Two threads write while a third carries the state on. At last a live query goes on in the new store. */
+/* Two threads write while a third carries the state on. At the end, a live query continues in the new store. */
 static void carrying(void)
 {
     static user users[3];
@@ -312,7 +311,7 @@ static void carrying(void)
         CHECK(bes_close(&users[i].pass) == BES_OK);
 }
 
-/* A prepared query that moves from thread to thread, each with its own pass. */
+/* A prepared query that moves from thread to thread. Each thread has its own pass. */
 typedef struct handed {
     bes_pass pass;
     bes_prepared prepared;
@@ -339,7 +338,7 @@ static void *releaser(void *arg)
     return NULL;
 }
 
-/* Made here, refreshed in a second thread, and released in a third. */
+/* A query that is prepared here, refreshed in a second thread, and released in a third. */
 static void handed_on(void)
 {
     static handed it;

@@ -1,12 +1,13 @@
-/* Two threads that tell each other through pipes what they have written: a commit number, and a witness. The receiver joins the witness,
- * and finds the sender's write in its next snapshot; its next write has a later number. A third thread writes meanwhile. */
+/* Two threads tell each other through pipes what they have written, by a commit number and a witness. The receiver joins the
+ * witness, and finds the sender's write in its next snapshot. Its next write has a later number. A third thread writes
+ * meanwhile. */
 #define _POSIX_C_SOURCE 200112L
 #include "tests.h"
 #include <pthread.h>
 #include <sched.h>
 #include <unistd.h>
 
-/* The message sent through a pipe. The witness's memory goes with the message. */
+/* The message sent through a pipe. It carries the witness's memory along. */
 typedef struct message {
     uint64_t number, node;
     bes_witness *witness;
@@ -17,7 +18,7 @@ typedef struct user {
     int from, to;
 } user;
 
-static unsigned rounds = 2000; /* fewer if the argument is short */
+static unsigned rounds = 2000; /* fewer with the argument `short` */
 
 /* Makes a node of this size, and returns the commit number. */
 static uint64_t write_node(bes_pass *pass, uint64_t size, uint64_t *node)

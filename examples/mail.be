@@ -1,4 +1,4 @@
-# A mail folder. Each letter is a node, and what a mail program shows of it are the node's attributes.
+# A mail folder. Each letter is a node, and what a mail program shows are the node's attributes.
 
 # An index takes the attributes that are set after it was made, so the indices come first.
 mkindex MAIL:from CSTR
@@ -30,17 +30,17 @@ set 3 MAIL:when LLNG 1700007200
 set 3 MAIL:status CSTR Read
 commit
 
-# Unread letters, what Ada wrote, and what she wrote since a given second.
+# Unread letters, letters from Ada, and her letters after a given second.
 query MAIL:status==New
 query MAIL:from=="Ada*"
 query MAIL:from=="Ada*" && MAIL:when>1700000000
 explain MAIL:from=="Ada*" && MAIL:when>1700000000
 
-# A subject has no index: alone it is no way to find letters, beside a comparison that is covered it is.
+# Subjects have no index, so a query for a subject by itself is refused. Together with a comparison that has an index, it works.
 query MAIL:subject=="*engine*"
 query MAIL:status==New && MAIL:subject=="*engine*"
 
-# A letter is read, and another is thrown away.
+# One letter is read, and another is thrown away.
 set 1 MAIL:status CSTR Read
 drop 2
 query MAIL:status==New

@@ -3,7 +3,7 @@ mkindex Media:Title CSTR
 mkindex Media:Year ULNG
 mkindex Media:Length LONG
 
-# A type is no value that an index takes.
+# An index can't hold MIME types, so this is refused.
 mkindex Media:Type MIMS
 
 new
@@ -25,26 +25,26 @@ set 3 Media:Year ULNG 1927
 set 3 Media:Length LONG 9180
 set 3 Media:Type MIMS video/quicktime
 
-# Blue ones, the fifties, and all that isn't long.
+# Titles with Blue, the fifties, and everything that isn't long.
 query Media:Title=="*Blue*"
 query Media:Year>=1950 && Media:Year<1960
 query !(Media:Length>=600)
 
-# Sound only, of any year that is known.
+# Only sound, from any known year.
 query Media:Year>0 && Media:Type=="audio/*"
 
-# A character set, a single character, and one that a backslash makes ordinary.
+# A set of characters, any single character, and a character that a backslash makes literal.
 query Media:Title=="[BK]*"
 query Media:Title=="Metropoli?"
 query Media:Title=="Blue\*"
 
-# The length of a node becomes a text. The index keeps numbers, so the node leaves it.
+# A node's length becomes a text. The index holds numbers, so the node leaves the index.
 set 3 Media:Length CSTR "2 h 33 min"
 query Media:Length>0
 get 3 Media:Length
 get 1 Media:Cover
 
-# A year is forgotten, and an index is made again: it is empty.
+# A year is removed. An index is removed and made again, so it is empty.
 unset 3 Media:Year
 rmindex Media:Title
 mkindex Media:Title CSTR

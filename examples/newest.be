@@ -1,4 +1,4 @@
-# A mail folder, newest first, two letters at a time. A letter that comes in between moves no other one to another page.
+# A mail folder, newest first, two letters at a time. A letter that arrives in between doesn't move others to another page.
 mkindex MAIL:to CSTR
 mkindex MAIL:when LLNG
 
@@ -20,10 +20,10 @@ new
 set 5 MAIL:to CSTR ann
 commit
 
-# The first page. Its last line says that there are more letters, and after which place they come.
+# The first page. Its last line says that there are more letters, and the position that they come after.
 page by MAIL:when descending limit 2 MAIL:to==ann
 
-# A new letter comes. It is before that place, so the second page goes on as if it hadn't come.
+# A new letter arrives. It comes before that position, so the second page continues as if the letter weren't there.
 begin
 new
 set 6 MAIL:to CSTR ann
@@ -31,15 +31,15 @@ set 6 MAIL:when LLNG 1700000180
 commit
 page by MAIL:when descending after LLNG 1700000120 3 limit 2 MAIL:to==ann
 
-# The first page, asked again, begins with the new letter.
+# The first page, read again, begins with the new letter.
 page by MAIL:when descending limit 2 MAIL:to==ann
 
-# The oldest first, of all letters since a given second.
+# All letters since a given second, oldest first.
 page by MAIL:when limit 3 MAIL:when>=1700000060
 
-# A letter without a time is in no page; a query finds it.
+# A letter without a time isn't on any page, but a query finds it.
 query MAIL:to==ann
 
-# An order needs an index of its name, of the kind of the value after which a page begins.
+# An order needs an index with its name. A value that a page begins after has to be of that index's kind.
 page by MAIL:subject limit 2 MAIL:to==ann
 page by MAIL:when after LONG 5 1 limit 2 MAIL:to==ann

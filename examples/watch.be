@@ -6,15 +6,15 @@ new
 set 1 MAIL:from CSTR "Ada <ada@example.org>"
 set 1 MAIL:status CSTR New
 
-# The window asks once. From then on each refresh returns what came and what went.
+# The window runs its query once. From then on, each refresh returns what joined the result and what left it.
 live MAIL:status==New
 refresh
 
-# A listing begins: it pins the version with one letter.
+# A listing begins. It pins the version with one letter.
 pin
 query MAIL:from=="*"
 
-# Meanwhile a letter arrives, all at once, and the first one is read.
+# Meanwhile a letter arrives in one write, and the first one is read.
 begin
 new
 set 2 MAIL:from CSTR "Grace <grace@example.org>"
@@ -22,12 +22,12 @@ set 2 MAIL:status CSTR New
 commit
 set 1 MAIL:status CSTR Read
 
-# The listing still reads its version, and while it is pinned so does the window.
+# The listing still reads its version. So does the window while that version is pinned.
 query MAIL:from=="*"
 get 1 MAIL:status
 refresh
 
-# It is done. Now each line reads what is there, and the window learns what changed.
+# The listing is finished. Now each line reads the current version, and the window gets what has changed.
 unpin
 query MAIL:from=="*"
 refresh

@@ -181,13 +181,13 @@ enum {
 /* What an operation does. An index holds an attribute only if the attribute was set after the index was made and has the index's kind. */
 enum {
     /* surface.toml: operations */
-    BES_NEW_NODE = 0,     /* makes a node, with the next number; the first is 1, and no number is
-                           * used again */
+    BES_NEW_NODE = 0,     /* makes a node with the next number; the first is 1, and no number is
+                           * reused */
     BES_REMOVE_NODE = 1,  /* removes the node and all its attributes */
-    BES_SET = 2,          /* sets the node's attribute of this name */
-    BES_UNSET = 3,        /* removes the node's attribute of this name */
-    BES_MAKE_INDEX = 4,   /* makes an index of this name, for values of the kind of the type code */
-    BES_REMOVE_INDEX = 5  /* removes the index of this name */
+    BES_SET = 2,          /* sets the node's attribute with this name */
+    BES_UNSET = 3,        /* removes the node's attribute with this name */
+    BES_MAKE_INDEX = 4,   /* makes an index with this name, for values of this type code's kind */
+    BES_REMOVE_INDEX = 5  /* removes the index with this name */
     /* surface.toml: end */
 };
 
@@ -653,7 +653,8 @@ uint32_t bes_changes(bes_prepared *prepared, uint64_t *created, size_t created_r
 
 /* Explains a query: writes the comparisons whose indices the query reads, joined by " || ", and the cost, such as "size"<"0" score 3.
  * [out] bytes    the first bytes of the explanation; at most bytes_room. No zero byte follows them.
- * [out] count    how many bytes the explanation has Returns the errors that bes_query returns.
+ * [out] count    how many bytes the explanation has
+ * Returns the errors that bes_query returns.
  * Cost: the time to parse the query, and to find the indices of its names. Memory for the plan and the text. No node is read. */
 uint32_t bes_explain(bes_pass *pass, const uint8_t *text, size_t text_length, uint8_t *bytes, size_t bytes_room, uint64_t *count);
 

@@ -76,7 +76,7 @@ private:
     Node add(const detail::Edit &edit)
     {
         std::uint64_t made = 0;
-        handle(); // which throws in a forked child
+        handle(); // throws in a forked child
         parts_.assign(edit.name).append(edit.value);
         const auto name_length = static_cast<std::uint32_t>(edit.name.size());
         const bes_operation operation{edit.kind,   edit.code,   edit.node, edit.number, 0, name_length, name_length,
@@ -176,12 +176,7 @@ struct Status {
 class Pass : public detail::Writes<Pass> {
 public:
     // Returns the pass's number, which the journal and errors use.
-    std::uint64_t number() const
-    {
-        std::uint64_t number = 0;
-        detail::check(bes_number(handle(), &number));
-        return number;
-    }
+    std::uint64_t number() const { return detail::number_from(bes_number, handle()); }
 
     // Returns a pass of the same store, for another thread. Unused passes stay with the Store; any pass can hand out a pass that was
     // closed.
@@ -193,12 +188,7 @@ public:
     }
 
     // Meets a pass that was closed: afterwards both have seen what either had seen. Returns how many transactions both have seen.
-    std::uint64_t meet()
-    {
-        std::uint64_t seen = 0;
-        detail::check(bes_meet(handle(), &seen));
-        return seen;
-    }
+    std::uint64_t meet() { return detail::number_from(bes_meet, handle()); }
 
     // Returns a witness that records all transactions that the pass has seen so far, including its own. Move the witness to another
     // thread, whose pass joins it.
@@ -214,11 +204,9 @@ public:
     // those transactions. Returns how many transactions both have seen. Throws std::invalid_argument if the witness is from another store.
     std::uint64_t join(Witness &witness)
     {
-        std::uint64_t seen = 0;
         if (witness.store_ != store_)
             throw std::invalid_argument("the witness belongs to another store");
-        detail::check(bes_join(handle(), witness.handle(), &seen));
-        return seen;
+        return detail::number_from(bes_join, handle(), witness.handle());
     }
 
     // Reads and writes atomically. Pins the current snapshot, runs f on a Change, and writes the Change's operations as one transaction if
@@ -256,7 +244,7 @@ public:
         }
     }
 
-    // Writes all operations or none. Tries again as bes_apply_or_retry does, with `tries` tries in all, and at least one.
+    // Writes all operations or none. Like bes_apply_or_retry, makes up to `tries` tries, and at least one.
     Written apply(const Batch &batch, std::uint32_t tries = BES_TRIES)
     {
         return written(batch, tries, [&](auto... list) { return bes_apply(handle(), list...); });
@@ -284,9 +272,7 @@ public:
     // attributes that were set before the index was made. Returns how many attributes were set.
     std::uint64_t reindex(std::string_view name, std::uint32_t attempts = BES_TRIES)
     {
-        std::uint64_t count = 0;
-        detail::check(bes_reindex(handle(), std::string(name).c_str(), attempts, &count));
-        return count;
+        return detail::number_from(bes_reindex, handle(), std::string(name).c_str(), attempts);
     }
     template <class T> std::uint64_t reindex(const Attribute<T> &attribute, std::uint32_t attempts = BES_TRIES)
     {

@@ -1,8 +1,8 @@
 /* Helpers over the calls of bestore.h. Include bestore.h, which includes this file.
  *
- * Helpers that have a body here are inline functions. The others are in libbestore, in plain C beside the proved calls. If a helper's
+ * Helpers that have a body here are inline functions. The others are in libbestore, in plain C next to the proved calls. If a helper's
  * comment names no errors, the helper returns the errors of the call that it makes. Names that end with _ are only for these headers. */
-#include "bestore.h" /* which includes this file once more, and then nothing here is left */
+#include "bestore.h" /* which includes this file again; then the rest is skipped here */
 
 #ifndef BESTORE_HELPERS_H
 #define BESTORE_HELPERS_H
@@ -22,7 +22,7 @@ const char *bes_strerror(uint32_t error);
 const char *bes_error_name(uint32_t error);
 
 /* Returns what a program can do about an error: BES_CLASS_RETRY, BES_CLASS_MINE, BES_CLASS_FULL or BES_CLASS_GONE. For BES_OK it returns
- * BES_CLASS_NONE. For an unknown number it returns BES_CLASS_MINE, since nothing says that the same call may succeed later. */
+ * BES_CLASS_NONE. For an unknown number it returns BES_CLASS_MINE: it is assumed that the same call won't succeed later. */
 uint32_t bes_class(uint32_t error);
 
 /* Returns whether values with this type code are integers. */
@@ -210,7 +210,7 @@ static inline unsigned bes_stand_back(unsigned turns)
 /* What bes_again knows about the tries so far. */
 typedef struct bes_retry {
     uint32_t left;     /* how many more tries are allowed */
-    unsigned turns;    /* as bes_stand_back takes them */
+    unsigned turns;    /* for bes_stand_back */
     time_t full_since; /* when BES_FULL first came, or 0 */
 } bes_retry;
 
@@ -246,8 +246,8 @@ static inline bool bes_again(bes_pass *pass, uint32_t error, uint64_t number, be
     return true;
 }
 
-/* Writes as bes_apply does, and tries again as bes_again says, up to `retries` times after the first. With 0 retries it is
- * the same as bes_apply. */
+/* Writes like bes_apply, and tries again when bes_again says so, up to `retries` times after the first try. With 0 retries it is the
+ * same as bes_apply. */
 static inline uint32_t bes_apply_or_retry(bes_pass *pass, const bes_operation *operations, size_t operations_count,
                                           const uint8_t *bytes, size_t bytes_count, uint32_t retries, uint64_t *made,
                                           size_t made_room, uint64_t *number)
@@ -338,7 +338,7 @@ static inline uint32_t bes_change(bes_pass *pass, uint32_t attempts, bes_changer
 }
 
 /* Replaces the batch with the next operations that rebuild the pinned snapshot, for bes_batch_apply on a pass of another store. When no
- * operations are left, and after an error, the batch is empty. The errors are as for bes_state. */
+ * operations are left, and after an error, the batch is empty. The errors are those of bes_state. */
 static inline uint32_t bes_batch_state(bes_pass *pass, bes_place *place, bes_batch *batch)
 {
     bes_counts counts = {0, 0};
@@ -381,7 +381,7 @@ uint32_t bes_operations_from_bytes(const uint8_t *bytes, size_t length, bes_coun
 /* The maximum number of bytes that bes_batch_to_bytes writes. */
 #define BES_BATCH_BYTES (5 + 64 * (1 + 8 + 1 + 63 + 4 + 1 + 255))
 
-/* Writes a batch as bytes, to be kept or sent, in the format that bestore's KEPT.md describes. bes_batch_from_bytes reads these bytes.
+/* Writes a batch as bytes, to keep or send, in the format that bestore's KEPT.md describes. bes_batch_from_bytes reads these bytes.
  * [out] bytes    the first bytes; at most bytes_room, and BES_BATCH_BYTES suffice
  * [out] count    how many bytes there are, or the index of the operation that has an error
  * BES_BAD_COUNT: the batch is empty. BES_BAD_PART, BES_NO_OPERATION, BES_NO_KIND: the batch has an operation that no call accepts. */

@@ -290,8 +290,8 @@ class Live : public Prepared {
 public:
     using Prepared::Prepared;
 
-    // Runs the query in the snapshot, and returns what changed. Use snapshots of one store, or of another store to which its state was
-    // carried on. This call runs the whole query and takes no lock, so it never causes BES_BUSY in another pass's write.
+    // Runs the query in the snapshot, and returns what changed. Use snapshots of one store, or of another store that its state was
+    // carried on to. This call runs the whole query and takes no lock, so it never causes BES_BUSY in another pass's write.
     Updates refresh(Snapshot &snapshot);
 
     // Returns what refresh() does, but calls bes_refresh_changed, which reads what was written since the last refresh, and checks only the
@@ -302,7 +302,7 @@ public:
 private:
     Updates refreshed(Snapshot &snapshot, decltype(bes_refresh) *call);
 
-    std::optional<std::uint64_t> store_; // that of the last refresh
+    std::optional<std::uint64_t> store_; // the store of the last refresh
 };
 
 // The operations that rebuild a snapshot on an empty store, as batches of 1 to 64 operations, each for one write. Iterate over the batches
@@ -533,9 +533,7 @@ public:
     // Returns how many nodes have an attribute with this name that the index holds.
     std::uint64_t pairs(std::string_view name)
     {
-        std::uint64_t count = 0;
-        detail::check(bes_pairs(handle(), std::string(name).c_str(), &count));
-        return count;
+        return detail::number_from(bes_pairs, handle(), std::string(name).c_str());
     }
 
 protected:
@@ -603,7 +601,7 @@ private:
         return detail::whole<std::vector<Node>>(256, place, call);
     }
 
-    // Reads the nodes' attributes with the names into the cells. The last name and the last cell are unused. Returns the values' bytes.
+    // Reads the attributes that have these names into the cells. The last name and the last cell are unused. Returns the values' bytes.
     std::string read_columns(const std::vector<Node> &nodes, const std::vector<bes_name> &names, std::vector<bes_cell> &cells)
     {
         const auto call = [&](char *bytes, std::size_t room, std::uint64_t *count) {

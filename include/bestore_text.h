@@ -2,7 +2,7 @@
  * positions in an index. Include bestore.h, which includes this file.
  *
  * The library itself reads the text of a query: bes_query_comparisons lists its comparisons. */
-#include "bestore.h" /* which includes this file once more, and then nothing here is left */
+#include "bestore.h" /* which includes this file again; then the rest is skipped here */
 
 #ifndef BESTORE_TEXT_H
 #define BESTORE_TEXT_H

@@ -205,6 +205,14 @@ inline void check(std::uint32_t error, std::uint64_t carried = 0, Place place = 
         throw Refusal(error, carried, place);
 }
 
+// Makes a call that writes one number, and returns that number.
+template <class Call, class... Arguments> std::uint64_t number_from(Call call, Arguments... arguments)
+{
+    std::uint64_t number = 0;
+    check(call(arguments..., &number));
+    return number;
+}
+
 // Returns a pointer to the text's bytes. The library needs a pointer that isn't null, even if there are no bytes.
 inline const std::uint8_t *bytes_of(std::string_view text)
 {
@@ -456,7 +464,7 @@ public:
         return operations;
     }
 
-    // Returns the batch as bytes, to be kept or sent, as bes_batch_to_bytes writes it.
+    // Returns the batch as bytes, to keep or send, as bes_batch_to_bytes writes it.
     Raw to_bytes() const
     {
         Raw bytes(BES_BATCH_BYTES);
@@ -535,7 +543,7 @@ struct Written {
     std::vector<Node> made;
 };
 
-// What an item of a predicate does, by the names of BeOS.
+// What an item of a predicate does, with BeOS's names.
 enum query_op : std::uint32_t {
     B_EQ = BES_ITEM_EQ, B_NE = BES_ITEM_NE, B_LT = BES_ITEM_LT, B_LE = BES_ITEM_LE, B_GT = BES_ITEM_GT, B_GE = BES_ITEM_GE,
     B_CONTAINS = BES_ITEM_CONTAINS, B_BEGINS_WITH = BES_ITEM_BEGINS_WITH, B_ENDS_WITH = BES_ITEM_ENDS_WITH,

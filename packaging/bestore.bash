@@ -1,4 +1,4 @@
-# Completes the command bestore in bash.
+# Bash completion for the command bestore.
 
 # Sets COMPREPLY to the files whose names begin with the word.
 _bestore_files() {
@@ -6,7 +6,7 @@ _bestore_files() {
     mapfile -t COMPREPLY < <(compgen -f -- "$1")
 }
 
-# Sets COMPREPLY to the words with which the command line may go on.
+# Sets COMPREPLY to the words that can come next on the command line.
 _bestore() {
     local word=${COMP_WORDS[COMP_CWORD]} before=${COMP_WORDS[COMP_CWORD-1]} options
     COMPREPLY=()

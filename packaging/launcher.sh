@@ -1,7 +1,7 @@
 #!/bin/sh
-# Starts the program bestore. For `bestore shell` at a terminal it has Ctrl-C typed as a character that ends a line, which the
-# program takes for a line that is cancelled; so Ctrl-C doesn't end the program, whose store would be lost. At the end the
-# terminal has its settings again. Anything else is the program at once.
+# Starts the program bestore. For `bestore shell` at a terminal, this script makes Ctrl-C a character that ends a line, and the
+# program takes that line as cancelled. So Ctrl-C doesn't end the program, which would lose its store. At the end the script
+# restores the terminal's settings. For anything else, it only runs the program.
 
 program=${0%/*}/@RELATIVE@
 [ -x "$program" ] || program='@ABSOLUTE@'
@@ -13,7 +13,7 @@ set_keys() {
     stty intr undef eol2 '^C'
 }
 
-# Ends the program, and then this.
+# Ends the program, and then this script.
 stop() {
     kill "$child" 2>/dev/null
     wait "$child"
@@ -22,7 +22,7 @@ stop() {
 
 trap 'stty "$saved" 2>/dev/null' EXIT
 set_keys
-# A program in the background has no standard input unless it is given one. The traps run while it is waited for.
+# A background program has no standard input unless it is given one. The traps run while this script waits for the program.
 exec 3<&0
 "$program" "$@" <&3 3<&- &
 child=$!
@@ -34,6 +34,6 @@ trap set_keys CONT
 while :; do
     wait "$child"
     status=$?
-    # A signal ends the wait too, and then the program is still there.
+    # A signal ends the wait too, but the program is then still running.
     kill -0 "$child" 2>/dev/null || exit "$status"
 done

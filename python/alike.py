@@ -1,10 +1,10 @@
-"""Random batches have the same outcomes through the library and through `bestore run`.
+"""Checks that random batches have the same outcomes through the library and through `bestore run`.
 
     python3 alike.py PROGRAM [LISTS [SEED]]
 
-PROGRAM is crates/bestore/out/bestore. Each list is a batch of 1 to 6 operations, followed by a query and by what the
-store has. The journals have to be the same too, and `bestore check` has to accept the library's. Any difference
-is printed with the file of its script, and the status is 1.
+PROGRAM is crates/bestore/out/bestore. Each list is a batch of 1 to 6 operations, then a query and a look at the store's
+content. The journals have to be the same too, and `bestore check` has to accept the library's. If anything differs, it prints
+what, with the script's file, and the status is 1.
 """
 
 import os
@@ -22,7 +22,7 @@ LISTS_A_SCRIPT = 500
 
 
 def value_of(chance, kind):
-    """A value of this kind, and how a script writes it."""
+    """Returns a random value of this kind, and how a script writes it."""
     if kind in (bestore.STRING, bestore.MIME):
         text = chance.choice(["", "ann", "Ann B", "x" * 255, "é"])
         return text, f'"{text}"'
@@ -36,7 +36,7 @@ def value_of(chance, kind):
 
 
 def written(value):
-    """A value as a reply has it, after its kind."""
+    """Writes a value as a reply shows it after the kind."""
     if isinstance(value, str):
         return f'"{value}"'
     if isinstance(value, bytes):
@@ -69,12 +69,12 @@ def add(chance, batch, nodes):
 
 
 def refused(error):
-    """The part of a script's reply that the library returns too."""
+    """Returns the part of a script's error reply that the library reports too."""
     return f"refused {error.number}"
 
 
 def one_list(chance, store, nodes):
-    """The lines of a list, and the replies that the library gives."""
+    """Returns a list's lines, and the replies that the library gives."""
     batch, lines, replies = bestore.Batch(), ["begin"], ["ok"]
     for _ in range(chance.randrange(1, 7)):
         lines.append(add(chance, batch, nodes))
@@ -110,7 +110,7 @@ def one_list(chance, store, nodes):
 
 
 def script(chance, count):
-    """This many lists, on a store of their own, and its journal."""
+    """Returns the lines of this many lists, run on their own store, with their replies and the store's journal."""
     lines, replies, nodes = [], [], 0
     with bestore.open(1024, 1, 1000000) as store:
         for _ in range(count):
@@ -121,24 +121,24 @@ def script(chance, count):
 
 
 def agrees(reply, said):
-    """For an error only the number is compared."""
+    """Compares replies; for an error, only its number."""
     return (said + " ").startswith(reply + " ") if reply.startswith("refused ") else reply == said
 
 
 def told(program, *words):
-    """What the program prints, including its errors."""
+    """Returns what the program prints, including its errors."""
     return subprocess.run([program, *words], stdout=subprocess.PIPE, stderr=subprocess.STDOUT, check=False).stdout.decode()
 
 
 def file_of(text):
-    """A new file with this text."""
+    """Makes a file with this text."""
     with tempfile.NamedTemporaryFile("w", encoding="utf-8", newline="", delete=False) as file:
         file.write(text)
     return file.name
 
 
 def compare(program, lines, replies, journal):
-    """What is wrong, if anything is, once the script has run."""
+    """Runs the script, and returns what is wrong, or None."""
     name, checked = file_of("\n".join(lines) + "\n"), file_of(journal)
     said, _, rest = told(program, "run", "--journal", name).rpartition("\njournal ")
     said = said.splitlines()

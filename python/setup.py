@@ -1,7 +1,8 @@
-"""Compiles the extension, puts the shared object of the library into the wheel, and names the platform that both need.
+"""Compiles the extension, puts the library's shared object into the wheel, and names the platform that both need.
 
-BESTORE_LIBRARY names the shared object. Without it, in the repository, it is the one that `make -C c` leaves. If the variable is
-empty, or in an unpacked source distribution, the wheel has none inside: the package then loads the system's libbestore.so.0.
+BESTORE_LIBRARY names the shared object. Without it, in the repository, setup takes the one that `make -C c` builds. If the
+variable is empty, or in an unpacked source distribution, the wheel has none. The package then loads the system's
+libbestore.so.0.
 """
 
 import glob
@@ -16,17 +17,17 @@ from setuptools.command.build_py import build_py
 
 try:
     from setuptools.command.bdist_wheel import bdist_wheel
-except ImportError:  # setuptools before 70.1
+except ImportError:  # setuptools older than 70.1
     from wheel.bdist_wheel import bdist_wheel
 
 SONAME = "libbestore.so.0"
 HERE = os.path.dirname(os.path.abspath(__file__))
 REPOSITORY = os.path.join(HERE, "..", "c")
-OLDEST = "cp310"  # the Python whose limited API native/native.h asks for
+OLDEST = "cp310"  # the Python whose limited API native/native.h uses
 
 
 def library() -> Optional[str]:
-    """The path of the shared object that goes inside, or None."""
+    """Returns the path of the shared object to include, or None."""
     named = os.environ.get("BESTORE_LIBRARY")
     if named == "":
         return None
@@ -39,7 +40,7 @@ def library() -> Optional[str]:
 
 
 def platform_tag(paths: List[str]) -> str:
-    """The tag of the oldest GNU libc that has every symbol version that these shared objects ask for."""
+    """Returns the tag of the oldest GNU libc that has every symbol version these shared objects need."""
     asked: List[Tuple[int, int]] = []
     for path in paths:
         with open(path, "rb") as file:
@@ -53,8 +54,8 @@ def platform_tag(paths: List[str]) -> str:
 
 
 def extension() -> Extension:
-    """The part that is written in C. It calls the library at the addresses that were loaded, and isn't linked with it. As it has
-    no folder names in it, two builds are the same."""
+    """The part that is written in C. It calls the library at the addresses where it was loaded, and isn't linked with it. It
+    contains no folder names, so that builds are reproducible."""
     folders = [folder for folder in ("include", os.path.join("..", "include")) if os.path.isdir(os.path.join(HERE, folder))]
     sources = sorted(os.path.relpath(path, HERE) for path in glob.glob(os.path.join(HERE, "native", "*.c")))
     return Extension(
@@ -63,7 +64,7 @@ def extension() -> Extension:
 
 
 class BuildWithLibrary(build_py):
-    """Copies the shared object beside the modules."""
+    """Copies the shared object next to the modules."""
 
     def run(self) -> None:
         super().run()
@@ -73,7 +74,7 @@ class BuildWithLibrary(build_py):
 
 
 class PlatformWheel(bdist_wheel):
-    """A wheel of one platform, for the Python whose limited API the extension uses and those after it."""
+    """A wheel for one platform, and for Pythons from the one whose limited API the extension uses."""
 
     def finalize_options(self) -> None:
         self.py_limited_api = OLDEST

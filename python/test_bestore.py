@@ -1,4 +1,4 @@
-"""Tests of the module: python3 -m unittest, in this folder, once the library is built in ../c."""
+"""Tests of the module. Build the library in ../c first, then run `python3 -m unittest` in this folder."""
 
 import gc
 import os
@@ -10,7 +10,7 @@ import threading
 import unittest
 
 import bestore
-import bestore._library  # which a store of this process loads
+import bestore._library  # loaded when a store opens in this process
 
 
 class Values(unittest.TestCase):
@@ -78,7 +78,7 @@ class Values(unittest.TestCase):
 
 
 class OutOfRange(unittest.TestCase):
-    """A number that doesn't fit into 64 bits isn't a node's. Cut down to them, some of these would be node 1."""
+    """A number that doesn't fit in 64 bits isn't a node's number. If it were truncated, some of these would become node 1."""
 
     numbers = (-1, 1 - 2**64, 2**64, 2**64 + 1)
 
@@ -149,7 +149,7 @@ class Versions(unittest.TestCase):
                 self.assertEqual(second.attributes(1), {})
 
     def test_gone(self):
-        """A version that nothing refers to any more leaves no pin, and one that was refused takes no pin away."""
+        """A version that nothing refers to is unpinned. A refused pin doesn't end the version that was pinned before."""
         with bestore.open(64, 1, 100) as store:
             self.assertEqual(store.pin().nodes(), [])
             gc.collect()
@@ -326,7 +326,7 @@ class WrongUse(unittest.TestCase):
 
 
 class WhatIsMissing(unittest.TestCase):
-    """Errors name the node and the attribute that aren't there, and the kinds that there are."""
+    """Errors name the missing node or attribute, and the kinds involved."""
 
     def refused(self, error, said, call):
         with self.assertRaises(error) as fault:
@@ -425,14 +425,14 @@ class Whole(unittest.TestCase):
 
 
 def carried_on(version, store):
-    """The store, which was empty, once it has the version's state."""
+    """Writes the version's state into an empty store, and returns the store."""
     for batch in version.state():
         store.apply(batch, tries=1)
     return store
 
 
 def operations_of(version):
-    """Everything that rebuilds a version."""
+    """Returns all operations that rebuild a version."""
     told = []
     for batch in version.state():
         for it in batch._operations:
@@ -444,7 +444,8 @@ def operations_of(version):
 
 class States(unittest.TestCase):
     def test_carried_on(self):
-        """Next number, nodes, attributes of each kind, indices, and attributes that their index lacks."""
+        """The state has the next node number, the nodes, attributes of each kind, the indices, and attributes missing from their
+        index."""
         with bestore.open(64, 1, 100) as store, bestore.open(64, 1, 100) as other:
             store.apply(bestore.Batch().new_node().new_node().new_node().remove_node(2))
             store.apply(bestore.Batch().set(1, "k", "before").set(1, "r", b"\0\xff"))
@@ -476,7 +477,7 @@ class States(unittest.TestCase):
                 next(second)
 
     def test_while_others_write(self):
-        """A pin of the old store goes on reading; a query asked there and then in the new store finds no change."""
+        """The old store's pin can still be read. A query first refreshed there finds no change in the new store."""
         with bestore.open(4096, 3, 100000) as store, store.another() as first, store.another() as second:
             store.apply(bestore.Batch().make_index("n", bestore.INT64).new_node().new_node().set(1, "n", 1).set(2, "n", 2))
 
@@ -526,7 +527,7 @@ class WhatIsCarried(unittest.TestCase):
             self.assertEqual(full.exception.least, 1)
 
     def test_busy(self):
-        """The pass that is writing is the other one, number 1, if there is one."""
+        """Busy names the pass that is writing: here always the other one, pass 1."""
         with bestore.open(64, 2) as store, store.another() as other:
             node, holders = store.new_node(), set()
 
@@ -570,8 +571,8 @@ class Threads(unittest.TestCase):
                 self.assertEqual(version.number, 200)
 
     def test_one_pass(self):
-        """Calls on one pass, and on one prepared query, wait for one another. A version that was given up isn't read
-        through a later pin."""
+        """Concurrent calls on one pass, or on one prepared query, wait for one another. A later pin doesn't make an ended version
+        readable."""
         with bestore.open(4096, 1) as store, bestore.prepare("k >= 0") as query:
             store.apply(bestore.Batch().make_index("k", bestore.INT64).new_node().set(1, "k", 0))
             faults = []
@@ -596,7 +597,7 @@ class Threads(unittest.TestCase):
                 self.assertEqual((faults, version.number), ([], 401))
 
     def test_gone_beside_a_call(self):
-        """A version that is dropped while another thread uses its pass doesn't wait for that thread, which ends the
+        """If a version is dropped while another thread is using its pass, dropping it doesn't wait. That thread then ends the
         pin."""
         with bestore.open(64, 1, 10) as store:
             version = store.pin()

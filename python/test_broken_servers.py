@@ -1,4 +1,4 @@
-"""Tests of connections to servers that break the protocol, or the connection."""
+"""Tests of connections to servers that break the protocol or drop the connection."""
 
 import contextlib
 import json
@@ -25,7 +25,7 @@ HELLO = {
 
 
 class Fake:
-    """A server that sends what a test wants after each request: bytes, pauses in seconds, and None for the end of the
+    """A server that sends what a test specifies after each request: bytes, or a pause in seconds, or None to close the
     connection."""
 
     def __init__(self, *answers, hello=None):
@@ -39,7 +39,7 @@ class Fake:
         self.thread.start()
 
     def serve(self):
-        """Serves one connection after the other, until the test ends."""
+        """Serves one connection after another until the test ends."""
         while True:
             connection, _ = self.listening.accept()
             with connection, connection.makefile("rb") as requests, contextlib.suppress(ConnectionError):
@@ -64,7 +64,7 @@ class Fake:
         requests.readline()
 
     def connect(self, timeout=PATIENCE):
-        """A pass. On a busy machine the first reply may come too late."""
+        """Connects, and retries if the first reply is late on a busy machine."""
         until = time.monotonic() + PATIENCE
         while True:
             try:
@@ -95,10 +95,10 @@ def push(commit, created, removed, **others):
 
 
 class Broken(unittest.TestCase):
-    """Servers that break the protocol or the connection."""
+    """Servers that break the protocol or drop the connection."""
 
     def fault(self, call, answer, timeout=PATIENCE):
-        """What a call raises. The connection can't be used after that."""
+        """Returns the error that a call raises. After it, the connection can't be used."""
         with Fake(answer) as fake, fake.connect(timeout) as store:
             with self.assertRaises(bestore.Error) as fault:
                 call(store)
@@ -183,7 +183,7 @@ class Broken(unittest.TestCase):
                 {"query": "k==1"}, {"query": "k==1", "from": 4}, {"query": "k==1", "from": 9}])
 
     def test_columns(self):
-        """Rows may come in several replies, and each reply has rows of the requested nodes."""
+        """Rows may arrive in several replies. Each reply has rows only for nodes that were requested."""
         pinned = [line(2, {"commit": 0, "next": 1})]
         with Fake(pinned, [line(3, {"commit": 0, "rows": [[1, "a"], [2, None]]})], [line(4, {"commit": 0, "rows": [[3, "c"]]})],
                   [line(5, {})]) as fake, fake.connect() as store:
@@ -196,7 +196,7 @@ class Broken(unittest.TestCase):
                     version.columns([1, 2], ["k", "name"])
 
     def test_pushes_between_replies(self):
-        """Pushes come before a reply, after it in the same bytes, and in parts."""
+        """Pushes may arrive before a reply, right after it in the same bytes, or in pieces."""
         with Fake(
             [line(2, {"watch": 1, "commit": 1, "nodes": [1], "more": True}) + push(1, [2], [])],
             [push(2, [3], [1])[:20], 0.02, push(2, [3], [1])[20:] + line(3, {"commit": 3, "nodes": [9]}) + push(3, [1], [2])[:9],
@@ -213,7 +213,7 @@ class Broken(unittest.TestCase):
 
 
     def test_push_at_once(self):
-        """A new watch gets what is pushed while its call ends the pin of a version that was dropped meanwhile."""
+        """A new watch receives a push even if it arrives while the same call ends a dropped version's pin."""
         read_first, pinned = connected.ConnectedWatch._read_first, []
 
         def forget_and_read(watch, ok):
@@ -232,7 +232,7 @@ class Broken(unittest.TestCase):
 
 
     def test_more_nodes_than_the_server_has_room_for(self):
-        """A page has 512 words, and a node takes one at least. So no server has more nodes than that."""
+        """A page has 512 words, and a node takes at least one, so a push with more nodes is an error."""
         for pushed, error in [(push(2, list(range(8 * 512)), []), None), (push(2, list(range(8 * 512 + 1)), []), bestore.ProtocolError),
                               (push(2, [], list(range(8 * 512 + 1))), bestore.ProtocolError)]:
             with Fake([line(2, {"watch": 1, "commit": 1, "nodes": []}) + pushed]) as fake, fake.connect() as store:
@@ -245,7 +245,8 @@ class Broken(unittest.TestCase):
                 self.assertRaises(bestore.Disconnected, store.new_node)
 
     def reach(self, within, times, *answers):
-        """What `reach` returns, how long the server was asked to wait, and what is raised. The clock shows these times."""
+        """Returns what `reach` returned, how long it asked the server to wait each time, and what it raised. The clock shows
+        `times`."""
         clock = mock.Mock(monotonic=mock.Mock(side_effect=times))
         with Fake(*([json.dumps({"id": number, **answer}).encode() + b"\n"] for number, answer in enumerate(answers, 2))) as fake:
             with fake.connect(timeout=PATIENCE) as store:
@@ -260,7 +261,7 @@ class Broken(unittest.TestCase):
                 return reached, [it["reach"] for it in fake.asked[1:]], raised
 
     def test_reach(self):
-        """The server is asked again and again, so no reply comes after the connection's time limit."""
+        """`reach` asks the server repeatedly, so that each reply comes within the connection's timeout."""
         later = {"error": {"name": "NotReached", "message": "why", "expected": 7, "found": 5}}
         reached, asked, raised = self.reach(2.5, [10, 10, 11, 12], later, later, later)
         self.assertEqual((reached, [it["within"] for it in asked]), (None, [1000, 1000, 500]))
@@ -272,8 +273,8 @@ class Broken(unittest.TestCase):
 
 
 class Interrupt:
-    """Raises KeyboardInterrupt once, as a signal may: in the package for Python where its functions begin, and in those that take
-    pushes at each line too."""
+    """Raises KeyboardInterrupt once, as a signal might: at the start of a function of the package, or at a line of one that takes
+    pushes."""
 
     files = {_connection.__file__, connected.__file__}
     taking = {it.__code__ for it in (
@@ -281,7 +282,7 @@ class Interrupt:
         _connection.Connection._receive, _connection.Connection._take_other, connected.ConnectedWatch._take)}
 
     def __init__(self, place):
-        self.left = place  # how many places it passes by
+        self.left = place  # how many places to pass before it raises
 
     def __enter__(self):
         sys.settrace(self.trace)
@@ -298,9 +299,9 @@ class Interrupt:
 
 
 class Interrupted(unittest.TestCase):
-    """Calls that an exception ends somewhere."""
+    """Calls that an exception interrupts at every possible place."""
 
-    answers = {1: {1}, 2: {2}, 3: {3, 4}, 4: {5}}  # what the watched query finds at each commit
+    answers = {1: {1}, 2: {2}, 3: {3, 4}, 4: {5}}  # what the watched query finds at each commit number
     pushes = push(2, [2], [1]) + push(3, [3], [2], more=True) + push(3, [4], []), push(4, [5], [3, 4])
 
     def fake(self):
@@ -308,8 +309,8 @@ class Interrupted(unittest.TestCase):
         return Fake([line(2, {"watch": 1, "commit": 1, "nodes": [1]}), 0.002, first + last[:9], 0.002, last[9:]])
 
     def waits(self, place):
-        """Waits for what is pushed, and is interrupted at a place. Returns whether it was, and whether the connection still
-        exists."""
+        """Waits for pushes, and is interrupted at this place. Returns whether that happened, and whether the connection is still
+        open."""
         found, was_interrupted = set(), False
         with self.fake() as fake, fake.connect() as store, store.watch("k==1") as watch:
             while watch.commit < 4 or not found:
@@ -327,7 +328,7 @@ class Interrupted(unittest.TestCase):
             return was_interrupted, store._is_open
 
     def test_waits(self):
-        """What was pushed is either read completely, or the connection is closed."""
+        """After an interrupt, either all pushes are still read, or the connection is closed."""
         kept, place, was_interrupted = [], 0, True
         while was_interrupted:
             was_interrupted, is_open = self.waits(place)
@@ -337,7 +338,7 @@ class Interrupted(unittest.TestCase):
         self.assertIn(False, kept)
 
     def test_asks(self):
-        """After that the pass can be used, or is disconnected."""
+        """After an interrupt, the pass either works or is disconnected."""
         place, was_interrupted = 0, True
         while was_interrupted:
             was_interrupted = False
@@ -352,7 +353,7 @@ class Interrupted(unittest.TestCase):
             place += 1
 
     def test_a_handler_that_raises(self):
-        """Its error may be one that the system raises too."""
+        """If a push handler raises, the pass is disconnected, even if the error is one that the system raises too."""
         with self.fake() as fake, fake.connect(timeout=None) as store, store.watch("k==1") as watch:
             store._connection._take_push = lambda push: self.fail_by(TimeoutError("by a handler"))
             watch.wait(0)

@@ -1,4 +1,4 @@
-"""Runs the lines of tests/changes.txt, which say what a change does in each language."""
+"""Runs the cases of tests/changes.txt, which specify what a change does in each language."""
 
 import os
 import unittest
@@ -9,7 +9,7 @@ CASES = os.path.join(os.path.dirname(os.path.abspath(__file__)), "..", "tests", 
 
 
 def cases():
-    """The lines of each case, by its text."""
+    """Returns each case's lines by its title."""
     found = {}
     with open(CASES, encoding="utf-8") as file:
         for line in file:
@@ -22,7 +22,7 @@ def cases():
 
 
 def value_of(kind, text):
-    """A value of this kind, from its text. LONG64 is a text of this many bytes."""
+    """Converts a text to a value of this kind. LONG64 stands for a text of 64 bytes."""
     if text.startswith("LONG"):
         text = "x" * int(text[4:])
     if kind in ("STRING", "MIME"):
@@ -31,7 +31,7 @@ def value_of(kind, text):
 
 
 def collect(target, words):
-    """Adds an operation to a change, or writes it by a pass."""
+    """Adds an operation to a change, or writes it through a pass."""
     what, *rest = words
     if what == "new":
         node = target.new() if isinstance(target, bestore.Change) else target.new_node()
@@ -51,7 +51,7 @@ def collect(target, words):
 
 
 class Case:
-    """A store, and what the lines of a case do with it."""
+    """A store, and the steps that a case's lines take on it."""
 
     def __init__(self, test, store, other):
         self.test, self.store, self.other = test, store, other
@@ -76,7 +76,7 @@ class Case:
                 collect(self.other, words[1:])
 
     def change(self, lines, end):
-        """One attempt at a change that runs the lines."""
+        """Runs the lines in a change, with one attempt."""
         numbers = []
 
         def function(change):
@@ -94,7 +94,7 @@ class Case:
                 self.test.assertEqual(version.number, self.store.status().entries)
 
     def step(self, change, words):
-        """Does a line within a change."""
+        """Runs one line inside a change."""
         if words[0] == "write":
             collect(self.other, words[1:])
         elif words[0] == "fill":
@@ -113,7 +113,7 @@ class Case:
             collect(change, words)
 
     def refused(self, change, words, error):
-        """An operation that isn't collected."""
+        """Checks that an operation is refused, and that the change doesn't keep it."""
         before = change.room
         with self.test.assertRaises(bestore.Error, msg=words) as fault:
             collect(change, words)

@@ -1,4 +1,4 @@
-"""Tests of writes that are based on what was read: `change`, `apply_if`, and what is made of them."""
+"""Tests of writes that are based on reads: `change`, `apply_if`, and the functions built on them."""
 
 import sys
 import threading
@@ -11,7 +11,7 @@ WRITERS, ROUNDS = 4, 60
 
 
 def counted(store, name="count"):
-    """A node with a counter at 0."""
+    """Makes a node with a counter at 0."""
     node = store.new_node()
     store.set(node, name, 0)
     return node
@@ -235,7 +235,7 @@ class Reindexing(unittest.TestCase):
                 store.reindex("name")
 
     def test_beside_a_writer(self):
-        """What another pass sets meanwhile stays."""
+        """A value that another pass sets meanwhile isn't overwritten."""
         with bestore.open(4096, 2, 100000) as store, store.another() as other:
             nodes = store.new_nodes(100)
             for node in nodes:
@@ -255,8 +255,7 @@ class Reindexing(unittest.TestCase):
 
 
 class Writers(unittest.TestCase):
-    """Four threads make nodes with two attributes, and each time add 1 to a counter that they share. They switch
-    as often as they can."""
+    """Four threads make nodes with two attributes, and add 1 to a shared counter each time. They switch as often as possible."""
 
     def setUp(self):
         self.addCleanup(sys.setswitchinterval, sys.getswitchinterval())
@@ -294,8 +293,7 @@ class Writers(unittest.TestCase):
         self.assertEqual(self.run_writers(write), (0, 0, WRITERS * ROUNDS))
 
     def test_guess(self):
-        """If the node's number is guessed, nodes get mixed up. With a plain `set` of what was read, increments are
-        lost."""
+        """Guessing the next node number mixes nodes up. A plain `set` of a value based on a read loses increments."""
         def write(user, counter, name):
             with user.pin() as version:
                 node, count = version.next_node, version.get(counter, "count")
@@ -313,7 +311,7 @@ class Writers(unittest.TestCase):
 
 class AtFull(unittest.TestCase):
     def fill(self, store):
-        """Writes until no page is free, while some pass is pinned."""
+        """Writes until no page is free, while another pass is pinned."""
         with self.assertRaises(bestore.Full):
             for _ in range(1000):
                 store.apply(bestore.Batch().new_node(), tries=1)

@@ -1,7 +1,7 @@
-"""Tests of a server's stores. BESTORED names the program bestored; without it they are skipped.
+"""Tests of a server's stores. BESTORED names the program bestored; without it, they are skipped.
 
-The tests of the store in this process are run on servers too, where they apply. Then come those of what only a server has,
-and programs that are run both ways."""
+Tests for stores in this process also run against servers, if they apply. Then come tests for what only servers have, and
+programs that run both ways."""
 
 import contextlib
 import os
@@ -31,7 +31,7 @@ EXAMPLES = os.path.join(HERE, "..", "examples", "python")
 
 _open = bestore.open
 
-# Tests that don't apply, and why.
+# Tests that don't apply to servers, and why.
 UNFIT = {
     "test_limits": "the limits are the server's",
     "test_passes_if_nothing_is_said": "the limits are the server's",
@@ -50,7 +50,7 @@ UNFIT = {
 
 
 def over_server(cls):
-    """The tests of a class, on servers."""
+    """Makes test classes run against servers."""
     def unfit(reason):
         return lambda self: self.skipTest(reason)
     members = {name: unfit(reason) for name, reason in UNFIT.items() if hasattr(cls, name)}
@@ -73,7 +73,7 @@ del _made
 
 
 class WithServer(unittest.TestCase):
-    """Each test has a server with an index of sizes."""
+    """Each test has a server with an index on `size`."""
 
     options = ()
 
@@ -87,7 +87,7 @@ class WithServer(unittest.TestCase):
         self.store.make_index("size", bestore.INT64)
 
     def sized(self, store, *sizes):
-        """Makes nodes of these sizes."""
+        """Makes nodes with these sizes."""
         def make(change):
             nodes = []
             for size in sizes:
@@ -122,7 +122,7 @@ class Connecting(WithServer):
                 self.store.another()
         other = self.store.another()
         version, watch = other.pin(), other.watch()
-        del other, version, watch  # the pass goes with what names it
+        del other, version, watch  # the pass is closed once nothing refers to it
         self.server.connect().close()
 
     def test_no_server(self):
@@ -168,7 +168,7 @@ class Connecting(WithServer):
         self.assertEqual(str(bestore.Unavailable("p", "meet")), "p: `meet` can't be called through a server; only a store of this process has it")
 
     def test_copies_of_a_child_keep_no_pass(self):
-        """The server sees that a pass is closed, though a forked child had a copy of its socket."""
+        """The server sees that a pass is closed, even if a forked child has a copy of its socket."""
         child = os.fork()
         if child == 0:
             time.sleep(PATIENCE)
@@ -185,7 +185,7 @@ class Connecting(WithServer):
 
 class Reading(WithServer):
     def test_several_pages(self):
-        """The journal and the state have several pages of 1 MiB."""
+        """The journal and the state take several replies of 1 MiB."""
         raw = bestore.Batch()
         for node in self.store.new_nodes(64):
             raw.set(node, "r", bytes(255))
@@ -203,7 +203,7 @@ class Reading(WithServer):
             self.assertEqual(sum(isinstance(it, bestore.SetAttribute) for it in operations), 24 * 64)
 
     def test_columns(self):
-        """They are the same as in a store of this process."""
+        """Columns are the same as those of a store in this process."""
         def columns(store):
             store.apply(bestore.Batch().new_node().new_node().set(1, "a", "x").set(2, "a", 2).set(2, "b", b"\0"))
             nodes, names = [2, 1, 3, 2], ["b", "a", "none"]
@@ -236,7 +236,7 @@ class Reading(WithServer):
 
     @contextlib.contextmanager
     def asked(self):
-        """The commands of the requests that are sent meanwhile."""
+        """Collects the commands of the requests that are sent during the `with`."""
         commands, ask = [], _connection.Connection.ask
 
         def listed(connection, command, *others, **named):
@@ -252,7 +252,7 @@ class Reading(WithServer):
             self.assertEqual(version.columns([1], ["size"]), [[None]])
 
     def test_rows(self):
-        """They are the same as in a store of this process, even if they come in several replies."""
+        """Rows are the same as those of a store in this process, even if they arrive in several replies."""
         names = ["b", "a", "none"]
 
         def rows(store):
@@ -357,15 +357,15 @@ class Writing(WithServer):
 
 
 class Dying(WithServer):
-    """The server stops or is killed while a call waits for its reply."""
+    """The server is stopped or killed while a call waits for its reply."""
 
     def stop(self):
-        """Stops the server, so that it no longer replies."""
+        """Stops the server's process, so that it no longer replies."""
         self.server.process.send_signal(signal.SIGSTOP)
         os.waitpid(self.server.process.pid, os.WUNTRACED)
 
     def in_call(self, call, end, error):
-        """The error of a call that is waiting when the server ends."""
+        """Returns the error of a call that is waiting when the server ends."""
         self.stop()
         timer = threading.Timer(0.1, end)
         timer.start()
@@ -426,7 +426,7 @@ class Dying(WithServer):
             timer.join()
 
     def test_signals_again_and_again(self):
-        """They don't make a reply take longer."""
+        """Repeated signals don't extend a call's timeout."""
         self.store = self.server.connect(timeout=0.5)
         self.addCleanup(signal.signal, signal.SIGALRM, signal.signal(signal.SIGALRM, lambda *_: None))
         self.addCleanup(signal.setitimer, signal.ITIMER_REAL, 0)
@@ -436,7 +436,7 @@ class Dying(WithServer):
             self.store.status()
 
     def test_interrupted(self):
-        """A call that an exception ends doesn't leave half a reply to the next one."""
+        """If an exception interrupts a call, the next call doesn't read the rest of its reply."""
         def interrupt(*_):
             raise KeyboardInterrupt
         before = signal.signal(signal.SIGALRM, interrupt)
@@ -456,11 +456,11 @@ class Dying(WithServer):
 
 
 class Following(WithServer):
-    """Live queries beside a second writer."""
+    """Live queries while a second client writes."""
 
     def test_refresh_in_versions(self):
-        """A prepared query returns what the version has, no matter where it was refreshed before: here, through another
-        pass, or in a store in this process."""
+        """A refresh finds what the version has, wherever the query was last refreshed: here, through another pass, or in a store
+        in this process."""
         self.sized(self.store, 5, 1)
         with bestore.prepare("size>=5") as live, self.store.another() as other, _open(64, 1, 100) as local:
             with self.store.pin() as version:
@@ -485,8 +485,8 @@ class Following(WithServer):
                         call(live)
 
     def test_prepare(self):
-        """A query that the server has parsed can be asked of servers' stores, even another server's. An older server doesn't
-        parse it."""
+        """A query that a server has parsed works on any server's store. If the server is too old to parse one, the library
+        does."""
         self.sized(self.store, 5, 1)
         with self.store.prepare("size>=5 && size>=4") as query, _open(64, 1, 100) as local:
             self.assertEqual((query.source, query.names), ("size>=5 && size>=4", ["size"]))
@@ -514,7 +514,7 @@ class Following(WithServer):
             self.assertEqual(query.text, '"size">="5"')
 
     def test_names_of_a_query(self):
-        """A query of many names that was refreshed in this process continues on a server."""
+        """A query on many names that was refreshed in this process can be refreshed on a server next."""
         names = [f"n{number}" for number in range(30)]
         with _open(1024, 1, 200) as local, bestore.prepare(" || ".join(f"{name}==1" for name in names)) as live:
             for store in (local, self.store):
@@ -547,7 +547,7 @@ class Following(WithServer):
         self.assertEqual(self.store.watch("size>=9").wait(PATIENCE).created, [5])
 
     def after(self, seconds, call, value):
-        """The value, and the call is made later by a thread."""
+        """Lets a thread make the call later, and returns the value."""
         timer = threading.Timer(seconds, call)
         timer.start()
         self.addCleanup(timer.join)
@@ -562,7 +562,7 @@ class Following(WithServer):
             self.assertEqual((watch.refresh(), watch.commit), (([], []), 3))
 
     def test_select(self):
-        """The descriptor can be read once something was pushed."""
+        """`select` reports the descriptor as readable after a push."""
         with self.store.another() as other, self.store.watch("size>=5") as watch:
             self.assertIsNone(watch.wait(0))
             self.assertEqual(select.select([self.store], [], [], 0)[0], [])
@@ -584,7 +584,7 @@ class Following(WithServer):
         self.assertEqual(self.store.new_node(), 1)
 
     def test_how_many(self):
-        """Watches that nothing refers to any more are ended when a new one begins."""
+        """Watches that nothing refers to are closed when a new one begins."""
         for _ in range(70):
             self.store.watch("size>=5")
         kept = [self.store.watch() for _ in range(32)]
@@ -594,7 +594,7 @@ class Following(WithServer):
         self.store.watch().close()
 
     def test_adds_up(self):
-        """While two others write, each refresh leads to the version's answer, whatever was pushed meanwhile."""
+        """While two others write, each refresh adds up to the version's answer, whatever was pushed meanwhile."""
         def write(store, ending):
             nodes = []
             while not ending.is_set():
@@ -702,7 +702,7 @@ print(reader.fault, reader.left_out)
 
 @unittest.skipUnless(BESTORED, "BESTORED names no bestored")
 class Programs(unittest.TestCase):
-    """Programs for a store in this process, and the same with one changed line."""
+    """Programs give the same output with a store in this process and, with one line changed, with a server's."""
 
     def run_program(self, folder, text, *arguments):
         path = os.path.join(folder, "program.py")
@@ -714,7 +714,7 @@ class Programs(unittest.TestCase):
         return run.stdout.decode()
 
     def changed(self, text, opened, path):
-        """The text with `connect` in the first line that opens a store."""
+        """Puts `connect` into the first line that opens a store."""
         self.assertIn(opened, text)
         return text.replace(opened, f"bestore.connect({path!r})", 1)
 
@@ -731,7 +731,7 @@ class Programs(unittest.TestCase):
                 self.assertTrue(self.run_both_ways(file.read(), opened))
 
     def test_unread(self):
-        """The example of a watch prints what another program writes."""
+        """The example of a watch prints changes that another program writes."""
         with Server() as server, server.connect() as store:
             store.make_index("MAIL:status", bestore.STRING)
             words = [sys.executable, "-W", "error", os.path.join(EXAMPLES, "unread.py"), server.path]
@@ -747,7 +747,8 @@ class Programs(unittest.TestCase):
         self.assertIn("\n73 NewNode(", self.run_both_ways(FOLLOWED, "bestore.open()"))
 
     def test_journal_and_another_store(self):
-        """It prints the number of its pass. With one client that is the same as for a store in this process with one pass."""
+        """The program prints its pass's number. A server's only client gets the same number as the only pass of a store in this
+        process."""
         with open(os.path.join(EXAMPLES, "follow.py"), encoding="utf-8") as file:
             text = file.read()
         opened = "bestore.open(passes=1)"
@@ -757,7 +758,7 @@ class Programs(unittest.TestCase):
             self.assertEqual(self.run_program(folder, self.changed(text, opened, server.path)), printed)
 
     def test_folder(self):
-        """A live query over files that a second pass writes."""
+        """A live query runs on files that a second pass writes."""
         printed = []
         for is_changed in (False, True):
             with tempfile.TemporaryDirectory() as folder, Server("--pages", 64) as server:

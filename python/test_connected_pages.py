@@ -1,6 +1,6 @@
-"""Pages of a server's store in the order of an index. BESTORED names the program bestored; without it they are skipped.
+"""Tests of pages in an index's order from a server's store. BESTORED names the program bestored; without it, they are skipped.
 
-A failed test of random pages shows its seed; `SEED=NUMBER` runs the same again."""
+If a test of random pages fails, it shows its seed. `SEED=NUMBER` repeats that run."""
 
 import os
 import random
@@ -18,7 +18,7 @@ QUERIES = ['text=="*"', 'text=="[ab]*"', "int32>=0", "int64<2 || uint32==1", "ui
 
 
 def value_of(chance, kind):
-    """A value of this kind. Many nodes share one."""
+    """Returns a value of this kind. The choice is small, so many nodes share a value."""
     if kind == bestore.STRING:
         return chance.choice(["", "a", "ab", "b", "ö", "é" * 127])
     low, high = bestore.values.RANGES[kind][0], bestore.values.RANGES[kind][-1]
@@ -51,7 +51,7 @@ class OfServer(unittest.TestCase):
 
 
 class OfFour(OfServer):
-    """There are four nodes."""
+    """The store has four nodes."""
 
     def setUp(self):
         super().setUp()
@@ -172,7 +172,7 @@ class RandomPages(OfServer):
         self.nodes = []
 
     def write(self):
-        """Makes, changes or removes a node."""
+        """Makes, changes or removes a node at random."""
         chance = self.chance
         some = {name: value_of(chance, kind) for name, kind in KINDS.items() if chance.randrange(6)}
         if chance.randrange(3) or len(self.nodes) < 9:
@@ -192,7 +192,7 @@ class RandomPages(OfServer):
         self.store = self.server.connect()
 
     def compare(self):
-        """All pages of a query, each compared with the plain way, with writes in between."""
+        """Compares every page of a query with the plain way, and writes in between."""
         chance = self.chance
         order = pages.Order(chance.choice(list(KINDS)), bool(chance.randrange(2)))
         query, limit, after = chance.choice(QUERIES), chance.randrange(1, 30), None
@@ -213,7 +213,7 @@ class RandomPages(OfServer):
                 self.restart()
 
     def test_cursors_of_no_page(self):
-        """A position may be one where there is no node, or where there can't be one."""
+        """A cursor may name a position that no node has, or that none can have."""
         for _ in range(60):
             self.write()
         for _ in range(150):

@@ -1,4 +1,4 @@
-"""Tests of what errors contain and say."""
+"""Tests of errors' fields and messages."""
 
 import os
 import pickle
@@ -14,7 +14,7 @@ ROOT = os.path.join(os.path.dirname(os.path.abspath(__file__)), "..")
 
 
 def text_of(*path):
-    """A file for C."""
+    """Reads a file of the C library."""
     with open(os.path.join(ROOT, *path), encoding="utf-8") as file:
         return file.read()
 
@@ -107,7 +107,7 @@ class Carets(unittest.TestCase):
             None, SYNTAX))
 
     def test_of_a_wide_query(self):
-        """What is shown is never wider than was asked for, and the caret is under the same character."""
+        """The excerpt is never wider than requested, and the caret points to the same character."""
         text = "".join(chr(0x4e00 + place) if place % 7 == 0 else chr(ord("a") + place % 26) for place in range(300)) + "!"
         for column in (0, 1, 20, 150, 299, 300, 301):
             for width in (4, 10, 40, 333, 1000):

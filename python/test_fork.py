@@ -18,7 +18,7 @@ class Forks(unittest.TestCase):
         """Runs this in a forked child, which has to succeed within 20 seconds."""
         reading, writing = os.pipe()
         with warnings.catch_warnings():
-            warnings.simplefilter("ignore")  # of a fork beside threads, from Python 3.12 on
+            warnings.simplefilter("ignore")  # Python 3.12 and later warn about forking beside threads
             child = os.fork()
         if child == 0:
             try:
@@ -90,7 +90,7 @@ class Forks(unittest.TestCase):
             self.assertEqual(store.join(kept[0]), 1)
 
     def test_lock_of_a_thread_that_is_not_there(self):
-        """A thread of the parent is in a call as the child is forked. The child doesn't wait for it."""
+        """If a thread of the parent is in a call during the fork, the child doesn't wait for it."""
         with bestore.open(64, 1, 100) as store:
             def work():
                 with self.assertRaises(bestore.Forked):

@@ -1,4 +1,4 @@
-"""Tests of query texts: what is put into one, what one compares, and what hints say about one."""
+"""Tests of query texts: inserting names and values, finding a text's comparisons, and hints."""
 
 import random
 import unittest
@@ -11,7 +11,7 @@ SPECIAL = "*?[]^-\\\"' =!<>&|()\n\tné漢a"
 
 
 def store_of(values, kind=bestore.STRING):
-    """A store whose node n has the value n of these as `k`, with an index."""
+    """Makes a store with an index on `k`, whose node n has the nth of these values."""
     store = bestore.open(256, 1, 1000)
     store.make_index("k", kind)
     for node, value in zip(store.new_nodes(len(values)), values):
@@ -20,7 +20,7 @@ def store_of(values, kind=bestore.STRING):
 
 
 def quoted(chance, text):
-    """A text in quotes, or as a plain word if that means the same."""
+    """Quotes a text, or leaves it as a plain word if that means the same."""
     quote = chance.choice("\"'")
     return quote + "".join("\\" + it if it in (quote, "\\") or chance.random() < 0.1 else it for it in text) + quote
 
@@ -30,7 +30,7 @@ def random_text(chance, least=0):
 
 
 def random_query(chance, depth=3):
-    """The text of a query, and its comparisons: name and operator."""
+    """Returns a random query's text, and its comparisons as names and operators."""
     if depth > 0 and chance.random() < 0.5:
         left, some = random_query(chance, depth - 1)
         right, more = random_query(chance, depth - 1)
@@ -75,8 +75,7 @@ class Texts(unittest.TestCase):
             ("größe", "==", "[ä]", 0), ("(x", "!=", 'a\\"b', 19)])
 
     def test_against_the_parser(self):
-        """The comparisons of a text are those that the library parses: the same names and operators, from left to
-        right."""
+        """The comparisons found in a text are those that the library parses: the same names and operators, from left to right."""
         chance = random.Random(2)
         for _ in range(1000):
             text, expected = random_query(chance)
@@ -103,7 +102,7 @@ class Texts(unittest.TestCase):
             prepared.names
 
     def test_long_canonical(self):
-        """The canonical text may be too long for a query; the names are read from the text or the items."""
+        """The canonical text may be too long to be a query. The names are then read from the source text, or from the items."""
         items = [bestore.Name("name0"), "12345678", bestore.Operator.LT]
         for number in range(1, 200):
             items += [bestore.Name(f"name{number % 3}"), "12345678", bestore.Operator.LT, bestore.Operator.OR]
@@ -119,7 +118,7 @@ class Texts(unittest.TestCase):
 
 class Covered(unittest.TestCase):
     def not_covered(self, ask, query):
-        """The place of the comparison that isn't covered, its name, and the text."""
+        """Returns the place and the name of the comparison that isn't covered, and the query's text."""
         with self.assertRaises(bestore.NotCovered) as fault:
             ask(query)
         return fault.exception.offset, fault.exception.missing, fault.exception.query
@@ -173,7 +172,7 @@ class Counts(unittest.TestCase):
                         version.pairs("none")
 
     def test_room(self):
-        """A query has room for all nodes that there can be, and so does the next one."""
+        """A query has room for as many nodes as there can be, and the next query does too."""
         with bestore.open(4096, 1, 1000) as store:
             store.make_index("k", bestore.INT64)
             for _ in range(160):
@@ -218,7 +217,7 @@ class Hints(unittest.TestCase):
                     version.hints("size>")
 
     def test_is_never_true(self):
-        """A comparison with a hint finds nothing, and one without finds one of these numbers."""
+        """A comparison that gets a hint finds nothing. One that gets no hint finds at least one of these numbers."""
         chance = random.Random(4)
         for kind in (bestore.INT32, bestore.INT64, bestore.UINT32, bestore.UINT64):
             bits = 32 if kind in (bestore.INT32, bestore.UINT32) else 64

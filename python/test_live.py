@@ -1,4 +1,4 @@
-"""Tests of refreshes from what was written, compared with refreshes that ask the whole query."""
+"""Tests of refreshes that look only at what was written, compared with refreshes that run the whole query."""
 
 import random
 import threading
@@ -13,8 +13,8 @@ NODES = 300
 
 
 def change(store, chance):
-    """Writes once: sets a value that the query finds or doesn't, on a node that may be gone, or removes it, or makes or
-    removes a node."""
+    """Writes once at random. Sets, which may match the query or not, go to new or existing nodes; the others unset a value or
+    remove a node."""
     node = chance.randrange(1, NODES)
     try:
         what = chance.random()
@@ -31,7 +31,7 @@ def change(store, chance):
 
 
 def fill(store, chance):
-    """A store whose queries find 96 nodes and more."""
+    """Fills a store, so that queries find 96 nodes or more."""
     store.make_index("size", bestore.INT64)
     while store.new_node() < NODES:
         pass
@@ -40,7 +40,7 @@ def fill(store, chance):
 
 
 class Refreshes(unittest.TestCase):
-    """At each step the results of both ways are compared, and what they add up to is compared with the query's answer."""
+    """Each step compares the results of both ways, and compares what they add up to with the query's answer."""
 
     def setUp(self):
         super().setUp()
@@ -52,11 +52,25 @@ class Refreshes(unittest.TestCase):
         self.found = set()
 
     def compare(self, version):
-        """Refreshes both queries in this version."""
+        """Refreshes both queries in this version, and compares the results."""
         created, removed = version.refresh_changed(self.changed)
         self.assertEqual((created, removed), version.refresh(self.whole))
         self.found = self.found.difference(removed).union(created)
         self.assertEqual(sorted(self.found), version.query("size>=0"))
+
+    def compare_now(self, store):
+        with store.pin() as version:
+            self.compare(version)
+
+    def compare_both(self, other):
+        """Compares while now one store is written and read, now the other."""
+        self.addCleanup(other.close)
+        fill(other, self.chance)
+        for _ in range(30):
+            store = self.chance.choice((self.store, other))
+            for _ in range(self.chance.randrange(4)):
+                change(store, self.chance)
+            self.compare_now(store)
 
     def test_few_and_many_writes_between(self):
         for at in range(120):
@@ -64,32 +78,21 @@ class Refreshes(unittest.TestCase):
                 change(self.store, self.chance)
             if at % 40 == 39:
                 self.store.make_index(f"other{at}", bestore.INT64)
-            with self.store.pin() as version:
-                self.compare(version)
+            self.compare_now(self.store)
         self.assertGreater(len(self.found), 96)
 
     def test_the_index_goes_and_comes(self):
-        with self.store.pin() as version:
-            self.compare(version)
+        self.compare_now(self.store)
         self.store.remove_index("size")
         with self.store.pin() as version:
             self.assertRaises(bestore.NotCovered, version.refresh_changed, self.changed)
         self.store.make_index("size", bestore.INT64)
         for _ in range(3):
             change(self.store, self.chance)
-            with self.store.pin() as version:
-                self.compare(version)
+            self.compare_now(self.store)
 
     def test_versions_of_several_stores(self):
-        other = bestore.open()
-        self.addCleanup(other.close)
-        fill(other, self.chance)
-        for _ in range(30):
-            store = self.chance.choice((self.store, other))
-            for _ in range(self.chance.randrange(4)):
-                change(store, self.chance)
-            with store.pin() as version:
-                self.compare(version)
+        self.compare_both(bestore.open())
 
     def test_in_a_change(self):
         self.store.change(self.compare)
@@ -108,8 +111,7 @@ class Refreshes(unittest.TestCase):
         writer.start()
         try:
             for _ in range(200):
-                with self.store.pin() as version:
-                    self.compare(version)
+                self.compare_now(self.store)
         finally:
             is_over.set()
             writer.join()
@@ -124,7 +126,7 @@ class Refreshes(unittest.TestCase):
                 if at % 2:
                     created, removed = watch.refresh()
                 else:
-                    other.apply(bestore.Batch().set(other.new_node(), "size", 5))  # which comes
+                    other.apply(bestore.Batch().set(other.new_node(), "size", 5))  # a node that joins the answer
                     created, removed = watch.wait(PATIENCE)
                 self.found = self.found.difference(removed).union(created)
                 if at % 2:
@@ -139,17 +141,10 @@ class Refreshes(unittest.TestCase):
 
 
 class OfServer(OverServer, Refreshes):
-    """The same with a server's store, whose watcher refreshes from what was written."""
+    """The same tests with a server's store, whose watcher refreshes from what was written."""
 
     def test_in_both_stores(self):
-        here = local.open()
-        self.addCleanup(here.close)
-        fill(here, self.chance)
-        for _ in range(20):
-            store = self.chance.choice((self.store, here))
-            change(store, self.chance)
-            with store.pin() as version:
-                self.compare(version)
+        self.compare_both(local.open())
 
 
 if __name__ == "__main__":

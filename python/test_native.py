@@ -13,7 +13,7 @@ import threading
 import unittest
 
 import bestore
-import bestore._library  # which a store of this process loads
+import bestore._library  # loaded when a store opens in this process
 from busy_passes import used_by_a_thread
 
 try:
@@ -23,7 +23,7 @@ except ImportError:
 
 
 def fill(store, first, last):
-    """Makes nodes in a range of numbers, each with an indexed number and a text."""
+    """Makes nodes for this range of numbers, each with its number in an index and a text."""
     for begin in range(first, last + 1, 20):
         batch = bestore.Batch()
         for node in range(begin, min(begin + 20, last + 1)):
@@ -153,7 +153,7 @@ class Arguments(unittest.TestCase):
             self.assertEqual((list(made)[:3], len(batch), len(made)), (list(batch), 3, 4))
 
     def test_batch_that_is_changed_at_once(self):
-        """Calls of two threads on one batch, and a write of what it has, don't disturb one another."""
+        """Two threads can add to one batch while a third writes it, without disturbing one another."""
         with bestore.open(256, 1) as store:
             batch, faults = bestore.Batch(), []
 
@@ -179,7 +179,7 @@ class Arguments(unittest.TestCase):
 
 class Queries(unittest.TestCase):
     def test_asked_once(self):
-        """A query is asked once, however many nodes it finds."""
+        """A query runs only once, however many nodes it finds."""
         addresses, rooms = bestore._library.addresses(), []
         kind = ctypes.CFUNCTYPE(
             ctypes.c_uint32, ctypes.c_void_p, ctypes.c_void_p, ctypes.c_void_p, ctypes.c_size_t, ctypes.c_void_p)
@@ -205,7 +205,7 @@ class Queries(unittest.TestCase):
 
 class Guards(unittest.TestCase):
     def test_one_version_in_many_threads(self):
-        """Reads with the GIL and without it, and the end of the pin."""
+        """Threads read with and without the GIL, while the pin ends."""
         with bestore.open(4096, 1) as store, bestore.prepare("k > 0") as query:
             filled(store, 2000)
             version, faults = store.pin(), []
@@ -258,7 +258,7 @@ class Guards(unittest.TestCase):
             del version
 
     def test_interrupted_wait(self):
-        """A signal ends the wait for a thread that is using the pass."""
+        """A signal interrupts waiting for a thread that is using the pass."""
         def interrupt(number, frame):
             raise KeyboardInterrupt
         with bestore.open(64, 1, 100) as store:
@@ -285,7 +285,7 @@ class Guards(unittest.TestCase):
                 version.column([1, Node(), 1], "k")
 
     def test_in_a_cycle(self):
-        """A version that only a cycle refers to is unpinned with it."""
+        """A version that only a cycle refers to is unpinned when the cycle is collected."""
         with bestore.open(64, 1, 100) as store:
             holder = [store.pin()]
             holder.append(holder)
@@ -320,7 +320,7 @@ with bestore.open(64, 1, 100) as store:
 
     @unittest.skipIf(_testcapi is None, "there is no _testcapi")
     def test_each_request(self):
-        """Each request for memory that Python refuses is a MemoryError, and the next call is as before."""
+        """If Python is refused memory, each such request raises MemoryError, and the next call works as before."""
         with bestore.open(1024, 2) as store, store.another() as other, bestore.prepare("k > 0") as query:
             filled(store, 60)
             with store.pin() as version:
@@ -341,7 +341,7 @@ with bestore.open(64, 1, 100) as store:
                                 found = call()
                             finally:
                                 _testcapi.remove_mem_hooks()
-                        except (MemoryError, ctypes.ArgumentError):  # ctypes makes the second of the first
+                        except (MemoryError, ctypes.ArgumentError):  # ctypes turns a MemoryError into an ArgumentError
                             refused += 1
                         else:
                             self.assertEqual(found, expected)
@@ -349,7 +349,7 @@ with bestore.open(64, 1, 100) as store:
                 self.assertGreater(refused, 50)
 
     def test_nothing_is_left(self):
-        """What a call makes is freed after it, even after an error."""
+        """A call frees what it allocates, even after an error."""
         with bestore.open(256, 1) as store, bestore.prepare("k > 0") as query:
             filled(store, 100)
 
@@ -373,7 +373,7 @@ with bestore.open(64, 1, 100) as store:
             for _ in range(600):
                 use()
             gc.collect()
-            self.assertLess(sys.getallocatedblocks() - before, 600)  # as many as one object of one call
+            self.assertLess(sys.getallocatedblocks() - before, 600)  # about what one leaked object per call would add
 
 
 if __name__ == "__main__":

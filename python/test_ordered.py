@@ -1,4 +1,4 @@
-"""Pages in the order of an index agree with the whole answer, sorted and cut, in one store and in a shelf."""
+"""Pages in an index's order agree with the whole answer, sorted and cut, in one store and in a shelf."""
 
 import random
 import threading
@@ -20,7 +20,7 @@ QUERIES = ["i64>=-3", 'text=="*a*"', "u32<2", 'text>"a" && i64<2', "text!=ab && 
 
 
 def opened(volumes):
-    """A store, or a shelf of this many, with an index of each kind, and nodes that were made before the indices."""
+    """Opens a store, or a shelf of this many, with an index of each kind, and nodes that were made before the indices."""
     store = bestore.open() if volumes == 0 else bestore.open_shelf(volumes)
     for volume in range(max(volumes, 1)):
         store.apply(bestore.Batch().new_node().set(store.pin()._next_in(volume), "i64", 5), **({"volume": volume} if volumes else {}))
@@ -31,7 +31,7 @@ def opened(volumes):
 
 
 def write(store, chance, volumes, count):
-    """A few writes: nodes are made and removed, and get other values."""
+    """Makes a few writes: makes and removes nodes, and changes values."""
     for _ in range(count):
         volume = chance.randrange(max(volumes, 1))
         with store.pin() as version:
@@ -45,7 +45,7 @@ def write(store, chance, volumes, count):
             if chance.randrange(3) > 0:
                 batch.set(node, name, chance.choice(VALUES[name]), kind)
         if chance.randrange(12) == 0:
-            batch.set(node, "text", 5)  # its kind isn't the index's, so the index lacks the node
+            batch.set(node, "text", 5)  # not the index's kind, so the node isn't in the index
         batch.set(node, "other", chance.randrange(3))
         if chance.randrange(12) == 0:
             batch.remove_node(node)
@@ -53,12 +53,12 @@ def write(store, chance, volumes, count):
 
 
 def keyed(name, value):
-    """A value that compares like those of its index."""
+    """Returns a sort key that orders values as the index does."""
     return value.encode() if name == "text" else value
 
 
 def plain(version, query, order):
-    """The whole answer in an order: keys and nodes."""
+    """Returns the whole answer in this order, as pairs of key and node."""
     everything = f'{order.by}=="*"' if order.by == "text" else f"{order.by}>={min(VALUES[order.by])}"
     indexed = set(version.query(everything))
     found = [(keyed(order.by, version.get(node, order.by)), node) for node in version.query(query) if node in indexed]
@@ -66,7 +66,7 @@ def plain(version, query, order):
 
 
 def cut(found, order, after, limit):
-    """The page after a cursor, and whether there is more."""
+    """Returns the page after a cursor, and whether there are more."""
     if after is not None and after.node is not None:
         at = keyed(order.by, after.value), after.node
         found = [it for it in found if (it < at if order.descending else it > at)]
@@ -75,7 +75,7 @@ def cut(found, order, after, limit):
 
 class Random(unittest.TestCase):
     def alike(self, volumes, seed):
-        """Each page of all queries and orders, with writes in between, compared with the whole answer in its version."""
+        """Compares each page of all queries and orders with the whole answer in its version, and writes in between."""
         chance = random.Random(seed)
         with opened(volumes) as store:
             write(store, chance, volumes, 120)
@@ -173,7 +173,7 @@ class Parts(unittest.TestCase):
 
         for job in (2, 4, 3):
             size = self.store.pin().get(job, "size")
-            claimed = job, [(job, [size])], [job], [5], [(job, [0])]  # the query reads the snapshot alone
+            claimed = job, [(job, [size])], [job], [5], [(job, [0])]  # queries in a change read only the snapshot
             self.assertEqual(self.store.change(claim), claimed)
 
     def test_an_empty_store(self):
@@ -264,7 +264,7 @@ class Parts(unittest.TestCase):
 
 
 class Cursors(unittest.TestCase):
-    def test_a_text_is_as_the_format_says(self):  # Rust's tests have the same one
+    def test_a_text_is_as_the_format_says(self):  # Rust's tests check the same text
         cursor = Cursor(Order("MAIL:when", True), check_of('"MAIL:to"=="ann"'), bestore.INT64, 1_700_000_000, 17)
         self.assertEqual(str(cursor), "AQEDCU1BSUw6d2hlbrFkq6-AAAAAZVPxAAAAAAAAAAARURq1_A")
         self.assertEqual(Cursor.parse(str(cursor)), cursor)
@@ -294,7 +294,7 @@ class Cursors(unittest.TestCase):
 
 class Threads(unittest.TestCase):
     def test_pages_beside_writes(self):
-        """Each page of a version has what that version has, while others write."""
+        """Each page of a version shows that version, while others write."""
         chance, ends = random.Random(9), threading.Event()
         with opened(0) as store, store.another() as other:
             write(store, chance, 0, 60)

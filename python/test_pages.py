@@ -1,6 +1,8 @@
-"""What a store frees: pages that no version has are free again, whatever was written and read meanwhile.
+"""Tests of freeing pages: pages that no version has become free again, whatever was written and
+read meanwhile.
 
-Each run makes different writes. If one fails, the seed is in the message: BESTORE_SEED=seed repeats that run.
+Each run makes different writes. If one fails, the message has the seed: BESTORE_SEED=seed
+repeats that run.
 """
 
 from __future__ import annotations
@@ -25,7 +27,8 @@ class Pages(unittest.TestCase):
         self.chance = random.Random(self.seed)
 
     def empty(self, store: bestore.Store, nodes: List[int]) -> None:
-        """Removes everything from the store, and writes once more, so that the retired pages are free."""
+        """Removes everything from the store, and writes once more, so that the retired pages become
+        free."""
         for node in nodes:
             store.remove_node(node)
         store.remove_index("a")
@@ -34,7 +37,7 @@ class Pages(unittest.TestCase):
             store.remove_index("a")
 
     def write(self, store: bestore.Store, nodes: List[int]) -> None:
-        """One write of any kind."""
+        """Makes one random write."""
         kind = self.chance.random()
         if kind < 0.3 and len(nodes) < NODES or not nodes:
             nodes.append(store.new_node())
@@ -47,13 +50,13 @@ class Pages(unittest.TestCase):
             store.set(self.chance.choice(nodes), name, "x" * self.chance.randrange(256))
 
     def test_pages_come_back(self) -> None:
-        """Readers stay pinned until most of the pages are retired or in use."""
+        """Readers stay pinned until most pages are retired or in use."""
         with bestore.open(PAGES, 4) as store:
             store.make_index("a", bestore.STRING)
             self.empty(store, [])
             free = store.status().free
             readers = [store.another() for _ in range(3)]
-            pinned = [reader.pin() for reader in readers]  # a version that nothing refers to is unpinned
+            pinned = [reader.pin() for reader in readers]  # keeps references, since a version without any is unpinned
             nodes: List[int] = []
             store.make_index("a", bestore.STRING)
             for _ in range(ROUNDS):

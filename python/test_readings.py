@@ -1,6 +1,6 @@
-"""The comparisons of query texts, checked against the library's canonical texts.
+"""Tests a query text's comparisons against the library's canonical text.
 
-Each run takes different texts. If one fails, the seed is in the message: BESTORE_SEED=seed repeats that run.
+Each run uses different texts. If one fails, the message has the seed: BESTORE_SEED=seed repeats that run.
 """
 
 from __future__ import annotations
@@ -26,7 +26,7 @@ VALUES = [*NAMES, "1", "-5", "a*", "[a-c]?", "[^\\]]", '"&&"', '"||)"', '""', "'
 
 
 def some_query(chance: random.Random, depth: int = 3) -> str:
-    """A text that is a query."""
+    """Returns a valid query."""
     kind = chance.random() if depth > 0 else 1.0
     if kind < 0.3:
         sign = chance.choice(["&&", "||"])
@@ -41,7 +41,7 @@ def some_query(chance: random.Random, depth: int = 3) -> str:
 
 
 def some_text(chance: random.Random) -> str:
-    """A text that may be a query: pieces of one, or a query with one piece changed."""
+    """Returns a text that may be a query: pieces of one, or a query with one piece changed."""
     if chance.random() < 0.3:
         return "".join(chance.choice(PIECES) for _ in range(chance.randrange(12)))
     text = some_query(chance)
@@ -52,7 +52,7 @@ def some_text(chance: random.Random) -> str:
 
 
 def canonical(text: str) -> Optional[str]:
-    """The canonical text of a query, or None if the library refuses it."""
+    """Returns a query's canonical text, or None if the library refuses it."""
     try:
         with bestore.prepare(text) as prepared:
             return prepared.text
@@ -61,7 +61,7 @@ def canonical(text: str) -> Optional[str]:
 
 
 def in_quotes(text: str) -> str:
-    """A name or a value as it was in the query's text, in double quotes."""
+    """Puts a name or a value from the query's text into double quotes."""
     pieces, escaped = [], False
     for character in text:
         pieces.append("\\" + character if character == '"' and not escaped else character)
@@ -70,7 +70,7 @@ def in_quotes(text: str) -> str:
 
 
 def written(comparison: Comparison) -> str:
-    """A comparison as a text of its own."""
+    """Writes a comparison as a query of its own."""
     name = comparison.name.replace("\\", "\\\\")
     return in_quotes(name) + comparison.operator + in_quotes(comparison.value)
 
@@ -81,7 +81,7 @@ class Readings(unittest.TestCase):
         self.chance = random.Random(self.seed)
 
     def test_comparisons_of_what_the_library_takes(self) -> None:
-        """The comparisons of a query are those of its canonical text, in the same order, apart from a `!` before them. Each is
+        """A query has the same comparisons as its canonical text, in the same order, apart from any `!` before them. Each is
         written as it would be by itself."""
         queries = 0
         for _ in range(TEXTS):

@@ -1,4 +1,5 @@
-"""Tests of writes that are sent again until a server answers. BESTORED names the program bestored; without it they are skipped."""
+"""Tests of writes that a client repeats until a server replies. BESTORED names the program bestored; without it, they are
+skipped."""
 
 import threading
 import time
@@ -11,7 +12,7 @@ from servers import BESTORED, PATIENCE, Server
 
 @unittest.skipUnless(BESTORED, "BESTORED names no bestored")
 class Repeats(unittest.TestCase):
-    """A server that is killed and started again while clients write."""
+    """A server is killed and restarted while clients write."""
 
     def setUp(self):
         self.server = Server("--pages", 256, "--keep", "FOLDER/kept")
@@ -27,13 +28,13 @@ class Repeats(unittest.TestCase):
             try:
                 return self.server.connect(repeat=repeat)
             except (connected.Disconnected, bestore.NoServer):
-                # The server was killed before it had answered, or isn't started again yet.
+                # The server was killed before it replied, or hasn't been restarted yet.
                 if time.monotonic() > until:
                     raise
                 time.sleep(0.002)
 
     def test_each_write_is_made_once(self):
-        """Four threads write with `apply` and `change`, and the server is killed six times."""
+        """Four threads write with `apply` and `change`, while the server is killed six times."""
         writes, done = 24, []
 
         def write(number):
@@ -61,7 +62,7 @@ class Repeats(unittest.TestCase):
             self.assertEqual(made, 4 * writes + 1)
 
     def test_numbers_of_an_earlier_run(self):
-        """A change whose server was started again between its pin and its commit runs again."""
+        """If the server is restarted between a change's pin and its commit, the change runs again."""
         runs = []
 
         def change_it(change):
@@ -77,7 +78,7 @@ class Repeats(unittest.TestCase):
             self.assertEqual(store.new_node(), 2)
 
     def test_what_would_be_lost_is_not(self):
-        """A pin or a watch ends with the connection, so a pass that has one isn't connected again."""
+        """A pin or a watch ends with the connection, so a pass that has one doesn't reconnect."""
         with self.connect() as pinned, self.connect() as watching, self.connect() as other:
             version, watch = pinned.pin(), watching.watch()
             self.start_again()
@@ -88,14 +89,14 @@ class Repeats(unittest.TestCase):
             del version, watch
 
     def test_given_up(self):
-        """A server that stays away."""
+        """The server doesn't come back in time."""
         store = self.connect(repeat=0.2)
         self.server.kill()
         with self.assertRaises(connected.Disconnected):
             store.new_node()
 
     def test_without_it(self):
-        """Nobody asked for it."""
+        """Without `repeat`, a write isn't repeated."""
         store = self.server.connect()
         self.start_again()
         with self.assertRaises(connected.Disconnected):

@@ -1,4 +1,4 @@
-"""Tests of stores that are kept in a file: opened again, refused, on a full disk, and after the process was killed."""
+"""Tests of stores that are kept in a file: reopening, errors, full disks, and killed processes."""
 
 import gc
 import glob
@@ -26,9 +26,9 @@ from bestore._saved_file import File
 from bestore._saved_line import Line, Turn
 
 HERE = os.path.dirname(os.path.abspath(__file__))
-MEMORY = "/dev/shm" if os.access("/dev/shm", os.W_OK) else None  # a place where a commit doesn't wait for a disk
+MEMORY = "/dev/shm" if os.access("/dev/shm", os.W_OK) else None  # a folder where commits don't wait for a disk
 PATIENCE = 30  # seconds that anything may take on a busy machine
-WRITERS, ROUNDS = 3, 6  # of the processes that are killed
+WRITERS, ROUNDS = 3, 6  # for the processes that are killed
 
 
 def say(line):
@@ -36,14 +36,14 @@ def say(line):
 
 
 def run(work, *arguments):
-    """Runs a function of this file in a process of its own."""
+    """Runs a function of this file in its own process."""
     code = f"import sys, test_saved; test_saved.{work}(*sys.argv[1:])"
     return subprocess.Popen(
         [sys.executable, "-c", code, *map(str, arguments)], cwd=HERE, stdout=subprocess.PIPE, universal_newlines=True)
 
 
 def write_for_ever(path, round_number):
-    """Writes in threads, prints each write that has returned, and rewrites the state now and then."""
+    """Writes from several threads, prints each write that has returned, and rewrites the state now and then."""
     store = saved.open(path)
 
     def write(user, writer):
@@ -73,7 +73,7 @@ def hold(path):
 
 
 def end_without_close(path):
-    """Ends with an exception, and leaves a store open."""
+    """Ends with an exception while a store is open."""
     store = saved.open(path, every=3600)
     store.new_nodes(3)
     sys.modules["kept till the end"] = store
@@ -81,8 +81,8 @@ def end_without_close(path):
 
 
 def fork_and_write(path, every):
-    """Forks, lets the child end as Python does, and writes after that."""
-    warnings.simplefilter("ignore")  # of a fork beside threads, from Python 3.12 on
+    """Forks, lets the child exit as Python does, and then writes."""
+    warnings.simplefilter("ignore")  # Python 3.12 and later warn about forking beside threads
     store = saved.open(path, 64, every=float(every) or None)
     store.new_node()
     store.flush()
@@ -104,7 +104,7 @@ def sql(path, *statements):
 
 
 def remove_checksums(path):
-    """Turns the file into one of the first format, so that changes aren't found by a checksum."""
+    """Converts the file to the first format, which has no checksums that would reveal changes."""
     sql(path, *(f"ALTER TABLE {table} DROP COLUMN checksum" for table in ("about", "state", "entry")), "PRAGMA user_version = 1")
 
 
@@ -124,9 +124,17 @@ def three(path):
             file_size(store, size)
 
 
-def four_writers(store, write):
-    """Threads that call `write`, each with a pass of its own."""
-    return [threading.Thread(target=write, args=(store.another(),)) for _ in range(4)]
+def four_writers(store):
+    """Threads that make nodes until one isn't saved, each with a pass of its own, and the list that their errors go into."""
+    refused = []
+
+    def write(user):
+        try:
+            while True:
+                user.new_node()
+        except (saved.NotSaved, saved.Stopped) as error:
+            refused.append(error)
+    return [threading.Thread(target=write, args=(store.another(),)) for _ in range(4)], refused
 
 
 def sizes(store):
@@ -143,7 +151,7 @@ class Files(unittest.TestCase):
         self.folder, self.path = folder.name, os.path.join(folder.name, "test.bestore")
 
     def refusal(self, path=None, **limits):
-        """The error, with everything that its traceback keeps alive."""
+        """Returns the error, along with everything that its traceback keeps alive."""
         try:
             saved.open(path or self.path, **{"pages": 64, **limits}).close()
         except saved.SavedError as error:
@@ -151,7 +159,7 @@ class Files(unittest.TestCase):
         self.fail("the file is opened")
 
     def skip(self, reason):
-        """Skips the test, with a line that a quiet run shows too."""
+        """Skips the test, and prints a line that a quiet run shows too."""
         print(f"{self.id()}: skipped, {reason}", file=sys.stderr)
         self.skipTest(reason)
 
@@ -184,13 +192,13 @@ class Kept(Files):
         with saved.open(self.path, pages=64) as store:
             store.new_node()
             self.assertEqual(modes(), dict.fromkeys(("test.bestore", "test.bestore-last", "test.bestore-wal"), 0o600))
-        os.chmod(self.path, 0o640)  # a mode that somebody has chosen stays
+        os.chmod(self.path, 0o640)  # a mode that someone has chosen isn't changed
         with saved.open(self.path, pages=64) as store:
             store.new_node()
             self.assertEqual(modes(), {"test.bestore": 0o640, "test.bestore-last": 0o600, "test.bestore-wal": 0o640})
 
     def test_each_call(self):
-        """Each call that writes is saved, from each pass, even the node that is gone."""
+        """Each call that writes is saved, from every pass, even a pass that is gone."""
         with saved.open(self.path, 64) as store, store.another() as other, other.another() as third:
             nodes = other.new_nodes(65)
             third.apply(bestore.Batch().set(1, "k", "é").set(1, "r", b"\0").new_node())
@@ -213,7 +221,7 @@ class Kept(Files):
             self.assertEqual(store.new_node(), 67)
 
     def test_rows(self):
-        """The rows that writers hand in are the journal's entries, in their order, even if the last one hands in first."""
+        """The rows that writers hand in match the journal's entries, in order, even if the last writer hands in first."""
         batches = [
             bestore.Batch().new_node().new_node(), bestore.Batch().make_index("i", bestore.INT32).make_index("k", bestore.STRING),
             bestore.Batch().set(1, "i", bestore.Int32(-5)).set(2, "u", bestore.UInt64(2**64 - 1)).set(2, "k", "é"),
@@ -277,7 +285,7 @@ class Kept(Files):
         self.assertEqual(os.listdir(self.folder), ["test.bestore"])
 
     def test_compact_comes_first(self):
-        """Waiting writers let a state be written first. It saves their writes."""
+        """If a state is waiting to be written, it goes before the waiting writers, and saves their writes too."""
         ran, append, write_state = [], File.append, File.write_state
 
         def recorded(call):
@@ -317,7 +325,7 @@ class Kept(Files):
         other.close()
 
     def test_last_pass(self):
-        """A store that nothing refers to any more stays open while one of its passes is used."""
+        """A store that nothing refers to stays open as long as one of its passes is used."""
         other = saved.open(self.path, 64).another()
         other.new_node()
         self.assertIsInstance(self.refusal(), saved.Held)
@@ -370,7 +378,7 @@ class Timed(Files):
         self.assertEqual(self.count(), 10)
 
     def test_write_beside_close(self):
-        """A write that comes too late for the last commit fails."""
+        """A write that is too late for the last commit fails."""
         store = saved.open(self.path, 64, every=3600)
         other, save_all = store.another(), saved._Saver._save_all
 
@@ -393,7 +401,7 @@ class Timed(Files):
         self.assertEqual((refused, self.count()), ([f"{self.path}: write 1 is not saved: the file is closed"], 0))
 
     def test_close_that_fails(self):
-        """The thread that saves ends, and nothing keeps the closed store alive."""
+        """If closing fails, the saving thread still ends, and nothing keeps the closed store alive."""
         others = self.threads()
         store = saved.open(self.path, 64, every=3600)
         store.new_node()
@@ -410,7 +418,7 @@ class Timed(Files):
         return {it for it in threading.enumerate() if it.name == "bestore-saving"}
 
     def test_saving_that_ends(self):
-        """After an error the thread that saves is gone, and writes are refused."""
+        """After an error, the saving thread ends, and writes are refused."""
         with self.assertRaises(saved.Stopped), saved.open(self.path, every=0) as store:
             with mock.patch.object(saved._Saver, "_save_all", side_effect=bestore.NoMemory()):
                 with self.assertRaises(saved.Stopped) as stopped:
@@ -426,7 +434,7 @@ class Timed(Files):
         self.assertEqual(self.count(), 50)
 
     def test_left_open(self):
-        """A store that is dropped, and one that is open when Python ends."""
+        """A store that is dropped is closed, and so is one that is still open when Python exits."""
         saved.open(self.path, 64, every=3600).new_node()
         for _ in range(2000):
             try:
@@ -466,7 +474,7 @@ class Refused(Files):
             self.assertIn("unable to open", str(refused))
 
     def test_names(self):
-        """Names that SQLite doesn't take for files."""
+        """SQLite doesn't treat these names as plain file names."""
         before = os.getcwd()
         os.chdir(self.folder)
         try:
@@ -508,7 +516,7 @@ class Refused(Files):
         self.assertIsInstance(small.__cause__, bestore.CommitsSpent)
 
     def test_errors_of_older_pythons(self):
-        """Before 3.11 an SQLite error has only a message."""
+        """Before Python 3.11, an SQLite error has only a message."""
         for message, kind in [
             ("database is locked", saved.Held), ("database or disk is full", saved.DiskFull),
             ("file is not a database", saved.Foreign), ("disk I/O error", saved.SqliteError),
@@ -520,7 +528,7 @@ class Refused(Files):
 class Failures(Files):
     @contextmanager
     def broken(self, error, after=0):
-        """Makes each commit fail, after this many that succeed."""
+        """Makes every commit fail, after this many that succeed."""
         append, left = File.append, [after]
 
         def break_off(file, rows):
@@ -551,16 +559,8 @@ class Failures(Files):
 
     def test_each_that_waits(self):
         with self.assertRaises(saved.Stopped), saved.open(self.path, 64) as store:
-            refused = []
-
-            def write(user):
-                try:
-                    while True:
-                        user.new_node()
-                except (saved.NotSaved, saved.Stopped) as error:
-                    refused.append(error)
             with self.broken(saved.DiskFull(self.path), 10):
-                running = four_writers(store, write)
+                running, refused = four_writers(store)
                 for thread in running:
                     thread.start()
                 for thread in running:
@@ -573,7 +573,7 @@ class Failures(Files):
         self.assertEqual(len(sql(self.path, "SELECT number FROM entry")), store._saver._line.saved)
 
     def test_interrupted(self):
-        """A write whose wait is interrupted is saved by the next one, even if it was in the file already."""
+        """If a write's wait is interrupted, the next write saves it, unless it is already in the file."""
         for after in (False, True):
             append = File.append
 
@@ -589,7 +589,7 @@ class Failures(Files):
             self.assertEqual((version.nodes(), store.number_in_file(version.number)), ([1, 2, 3, 4], 4))
 
     def test_interrupted_transaction(self):
-        """A transaction that was interrupted while it was rolled back is rolled back by the next one."""
+        """If a transaction's rollback was interrupted, the next write rolls it back."""
         with saved.open(self.path, 64) as store:
             store._saver._file._run("BEGIN")
             store._saver._file._run("INSERT INTO entry VALUES (1, 1, x'00', 0)")
@@ -598,16 +598,9 @@ class Failures(Files):
             self.assertEqual(version.nodes(), [1])
 
     def test_each_of_one_commit(self):
-        """When a commit of several rows fails, each of its writers is refused, and nobody hangs."""
+        """If a commit of several rows fails, each of its writers gets an error, and none hangs."""
         with self.assertRaises(saved.Stopped), saved.open(self.path, 64) as store:
-            refused = []
-
-            def write(user):
-                try:
-                    user.new_node()
-                except saved.NotSaved as error:
-                    refused.append((error.number, type(error.__cause__)))
-            running = four_writers(store, write)
+            running, refused = four_writers(store)
             with self.broken(saved.DiskFull(self.path)):
                 with store._saver._line.turn():
                     for thread in running:
@@ -616,11 +609,12 @@ class Failures(Files):
                         time.sleep(0.001)
                 for thread in running:
                     thread.join()
-            self.assertEqual(sorted(refused), [(number, saved.DiskFull) for number in range(1, 5)])
+            found = sorted((error.number, type(error.__cause__)) for error in refused)
+            self.assertEqual(found, [(number, saved.DiskFull) for number in range(1, 5)])
         self.assertEqual(sql(self.path, "SELECT count(*) FROM entry"), [(0,)])
 
     def test_interrupted_before_it_is_handed_in(self):
-        """An interrupt between a write and its row leaves no gap: the next commit reads it from the journal."""
+        """An interrupt between a write and handing in its row leaves no gap: the next commit reads the entry from the journal."""
         with saved.open(self.path, 64) as store:
             store.new_node()
             with mock.patch.object(saved._Saver, "keep", side_effect=KeyboardInterrupt), self.assertRaises(KeyboardInterrupt):
@@ -635,7 +629,7 @@ class Failures(Files):
             self.assertEqual((version.nodes(), version.attributes(1)), ([1, 2, 3], {"k": "é"}))
 
     def test_interrupted_wait(self):
-        """A writer that leaves the line because of an interrupt leaves it intact, even if it was given the file meanwhile."""
+        """An interrupted writer leaves the line intact, even if the file was handed to it meanwhile."""
         for has_file in (False, True):
             line = Line(0)
             owner, gone, last = Turn(1), Turn(2), Turn(3)
@@ -654,7 +648,7 @@ class Failures(Files):
             self.assertEqual((line._owner, line._writers), (None, []))
 
     def test_compact(self):
-        """A state that can't be written leaves the file as it was."""
+        """If a state can't be written, the file stays as it was."""
         with saved.open(self.path, 64) as store:
             store.new_nodes(3)
             with mock.patch.object(bestore.Batch, "to_bytes", side_effect=saved.DiskFull(self.path)):
@@ -689,7 +683,7 @@ class Failures(Files):
 
 class Processes(Files):
     def killed(self, round_number):
-        """Lets a process write, kills it at some moment, and returns the keys of the writes that had returned."""
+        """Lets a process write, kills it at a random moment, and returns the keys of the writes that had returned."""
         child = run("write_for_ever", self.path, round_number)
         keys = [child.stdout.readline().strip()]
         self.assertIsInstance(self.refusal(), saved.Held)
@@ -723,7 +717,7 @@ class Processes(Files):
             self.assertEqual(version.nodes(), list(range(1, 11)))
 
     def test_rust(self):
-        """The test program of the crate for Rust opens a file that Python made, and Python opens it after that."""
+        """The Rust crate's test program opens a file that Python made, and then Python opens it again."""
         target = os.environ.get("CARGO_TARGET_DIR", os.path.join(HERE, "..", "rust", "target"))
         built = [it for it in glob.glob(os.path.join(target, "debug", "deps", "saved-*")) if os.access(it, os.X_OK)]
         there = {**os.environ, "LD_LIBRARY_PATH": os.path.dirname(_path())}
@@ -752,11 +746,11 @@ class Processes(Files):
 @unittest.skipUnless(hasattr(os, "fork"), "there is no fork")
 class Forks(Files):
     def test_dead(self):
-        """The child's handles are dead, and closing them leaves the file to the parent. The child has a file of its own."""
+        """The child's handles are dead, and closing them leaves the file to the parent. The child can keep its own file."""
         with saved.open(self.path, 64) as store:
             node, other = store.new_node(), store.another()
             with warnings.catch_warnings():
-                warnings.simplefilter("ignore")  # of a fork beside threads, from Python 3.12 on
+                warnings.simplefilter("ignore")  # Python 3.12 and later warn about forking beside threads
                 child = os.fork()
             if child == 0:
                 self.in_child(store, other)
@@ -782,7 +776,7 @@ class Forks(Files):
             os._exit(ended)
 
     def test_end_of_the_child(self):
-        """When Python ends in the child, with all destructors, the file is left to the parent."""
+        """When Python exits in the child and runs all destructors, the file still belongs to the parent."""
         for every in (0, 3600):
             with self.subTest(every):
                 path = f"{self.path}{every}"

@@ -1,4 +1,4 @@
-"""Tests of kept files in which something was changed or is missing."""
+"""Tests of kept files with changed or missing parts."""
 
 import os
 import random
@@ -10,7 +10,7 @@ from bestore import saved
 from bestore._saved_checks import of_entry, of_token
 from test_saved import Files, remove_checksums, sql, three
 
-CHANGES = 200  # bytes, each changed in a copy of the file
+CHANGES = 200  # bytes to change, each in its own copy of the file
 
 
 class Damaged(Files):
@@ -18,7 +18,7 @@ class Damaged(Files):
         return self.path + ending
 
     def image(self) -> Dict[str, bytes]:
-        """The file and those that belong to it, by the ends of their names."""
+        """Returns the contents of the file and its companion files, by their suffixes."""
         found = {}
         for ending in ("", "-wal", "-last"):
             if os.path.exists(self.beside(ending)):
@@ -35,7 +35,7 @@ class Damaged(Files):
                 os.remove(self.beside(ending))
 
     def killed(self, entries: int) -> Dict[str, bytes]:
-        """A file with this many entries and as many nodes, as `kill -9` leaves it."""
+        """Returns a file with this many entries and as many nodes, as `kill -9` would leave it."""
         with saved.open(self.path, 64) as store:
             for _ in range(entries):
                 store.new_node()
@@ -51,7 +51,7 @@ class Damaged(Files):
         self.put({**image, ending: bytes(data)})
 
     def test_any_changed_byte(self) -> None:
-        """The change is found, or changes nothing."""
+        """A changed byte is either found, or makes no difference."""
         image, chosen, refused = self.killed(150), random.Random(1), 0
         for change in range(CHANGES):
             ending = ("", "-wal")[change % 2]
@@ -85,7 +85,7 @@ class Damaged(Files):
                                        "be restore --until 5")
 
     def test_parts(self) -> None:
-        """Each part of a row is checked."""
+        """Every part of a row is checked."""
         image = self.killed(3)
         self.put(image)
         self.nodes()
@@ -118,7 +118,7 @@ class Damaged(Files):
         self.assertEqual(len(self.nodes()), 8)
 
     def test_last(self) -> None:
-        """The number is there while the file is open. If it can't be kept, the file works without it."""
+        """The file `-last` has the number while the store is open. If it can't be written, the store works without it."""
         image = self.killed(2)
         self.assertEqual(image["-last"].split()[1], b"%020d" % 2)
         self.assertEqual(os.listdir(self.folder), [os.path.basename(self.path)])

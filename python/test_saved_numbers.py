@@ -9,7 +9,7 @@ LAST = 2**63 - 1
 
 class Numbers(Files):
     def has_entries(self, number: int) -> None:
-        """Says in the file that its state contains the entries up to this number."""
+        """Makes the file say that its state includes the entries up to this number."""
         remove_checksums(self.path)
         sql(self.path, f"UPDATE about SET number = {number} WHERE what = 'entries'")
 
@@ -29,7 +29,7 @@ class Numbers(Files):
                 store.compact()
 
     def test_limit_of_the_caller(self) -> None:
-        """A smaller limit stays."""
+        """The caller's lower limit still applies."""
         three(self.path)
         saved.open(self.path, 64).close()
         self.has_entries(LAST - 2)

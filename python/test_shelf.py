@@ -1,4 +1,4 @@
-"""Tests of shelves: of stores in this process, kept in files, and of a server that BESTORED names."""
+"""Tests of shelves: of stores in this process, of kept ones, and of a server that BESTORED names."""
 
 import os
 import random
@@ -18,7 +18,7 @@ from servers import BESTORED, MEMORY, Server
 
 
 class InProcess:
-    """Shelves of this process."""
+    """Shelves of stores in this process."""
 
     def shelf(self, volumes, pages=256, passes=8):
         store = bestore.open_shelf(volumes, pages, passes)
@@ -27,7 +27,7 @@ class InProcess:
 
 
 class OfServer:
-    """Shelves of servers."""
+    """Shelves of a server's volumes."""
 
     def setUp(self):
         super().setUp()
@@ -43,7 +43,7 @@ class OfServer:
 
 
 class Indexed:
-    """Shelves with an index of sizes."""
+    """Shelves with an index on `size`."""
 
     def indexed(self, volumes):
         store = self.shelf(volumes)
@@ -59,7 +59,7 @@ class Indexed:
 
 
 class Unions(Indexed):
-    """What is read, compared with a plain model."""
+    """Compares reads with a plain model."""
 
     def write(self, store, model, chance):
         node = chance.choice(list(model) or [77])
@@ -426,7 +426,7 @@ class Kept(Indexed, unittest.TestCase):
         self.assertEqual(self.found(self.shelf()), made)
 
     def test_index_that_is_not_made(self):
-        """The files are free after that, even while the error exists with everything that it refers to."""
+        """The files are free afterwards, even while the error and everything it refers to still exist."""
         made = self.three()
         try:
             with mock.patch.object(File, "append", side_effect=saved.DiskFull("disk")):
@@ -437,7 +437,7 @@ class Kept(Indexed, unittest.TestCase):
         self.assertEqual((refused.path, refused.number), (os.path.join(self.path, "3.bestore"), 1))
 
     def refused(self, name, call):
-        """The error of a call while the files' method of this name fails in all volumes but the second one."""
+        """Returns the error of a call while the file's method of this name fails in every volume except the second."""
         do = getattr(File, name)
 
         def fail(file, *given):
@@ -449,7 +449,7 @@ class Kept(Indexed, unittest.TestCase):
         return type(refused.exception), os.path.basename(refused.exception.path)
 
     def test_volumes_that_are_not_saved(self):
-        """The error is that of the first one, and the others are saved."""
+        """The first volume's error is raised, and the other volumes are saved."""
         self.three()
         store = saved.open_shelf(self.path, pages=64, every=3600)
         for volume in range(3):
@@ -473,7 +473,7 @@ class Kept(Indexed, unittest.TestCase):
             self.assertRaises(OSError, saved.open_shelf, file.name, 2)
 
     def test_killed(self):
-        """A process that counts in each volume is killed: what it printed is there."""
+        """A process that counts in each volume is killed: every number that it printed is there."""
         program = """if True:
             import sys
             from bestore import Batch, saved
@@ -505,7 +505,7 @@ class Kept(Indexed, unittest.TestCase):
 
 
 class ShelfOfOne(test_changes.Changes):
-    """The tests of changes, on a shelf of one volume."""
+    """The tests of changes, on a shelf with one volume."""
 
     def setUp(self):
         patched = mock.patch.object(bestore, "open", lambda *limits, **named: bestore.open_shelf(1, *limits, **named))

@@ -1,5 +1,5 @@
-"""Tests of watches and of waiting for a commit: in this process, over several volumes, kept in a file, and of a server that BESTORED
-names."""
+"""Tests of watches and of waiting for a commit: in this process, over several volumes, kept in a file, and with a server that
+BESTORED names."""
 
 import os
 import shutil
@@ -15,7 +15,7 @@ from servers import BESTORED, MEMORY, PATIENCE, Server
 
 
 class Stores:
-    """A store with an index of sizes, and another pass of it."""
+    """A store with an index on `size`, and a second pass."""
 
     def setUp(self):
         self.store = self.opened()
@@ -25,7 +25,7 @@ class Stores:
         self.store.make_index("size", bestore.INT64)
 
     def sized(self, size):
-        """Makes a node of this size by the other pass."""
+        """Makes a node of this size through the other pass."""
         def make(change):
             node = change.new()
             change[node]["size"] = size
@@ -33,7 +33,7 @@ class Stores:
         return self.other.change(make)
 
     def later(self, write):
-        """Writes in another thread, once this one waits."""
+        """Writes from another thread, once this one is waiting."""
         waits, wait = threading.Event(), commits.Waiter.wait
 
         def waited(waiter, left):
@@ -115,7 +115,7 @@ class Watches(Stores):
 
 class OfThisProcess(Watches):
     def test_nobody_looks_again_and_again(self):
-        """It looks at the beginning, after a commit and when the time is up."""
+        """A waiting watch looks only at the start, after a commit, and when the time is up."""
         with self.store.watch("size>=5") as watch, mock.patch.object(local.LocalPass, "pin", autospec=True,
                                                                      side_effect=local.LocalPass.pin) as pin:
             self.assertIsNone(watch.wait(0.2))
@@ -169,7 +169,7 @@ class InProcess(OfThisProcess, unittest.TestCase):
         return bestore.open(256)
 
     def test_write_of_a_signal(self):
-        """A write within the handler of a signal wakes the thread that it has interrupted."""
+        """A write in a signal handler wakes the thread that the signal interrupted."""
         before = signal.signal(signal.SIGALRM, lambda *_: self.other.new_node())
         self.addCleanup(signal.signal, signal.SIGALRM, before)
         with self.store.watch() as watch:
@@ -198,7 +198,7 @@ class OfServer(Watches, unittest.TestCase):
 
 
 class OfPassesOfAServer(OfServer):
-    """A shelf of passes whose stores wake nobody looks again from time to time."""
+    """A shelf of passes whose stores can't wake it looks again from time to time."""
 
     def opened(self):
         servers = [Server("--pages", 256) for _ in range(2)]

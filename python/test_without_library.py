@@ -110,11 +110,11 @@ class Clients(unittest.TestCase):
 
 
 class PlainBatch(bestore.Batch):
-    """A batch that the extension doesn't make."""
+    """A batch that isn't made by the extension."""
 
 
 class Plain:
-    """Batches are those without the extension."""
+    """Batches are made without the extension."""
 
     def setUp(self):
         super().setUp()
@@ -132,10 +132,10 @@ class PlainBytes(Plain, Bytes):
 
 
 class Batches(unittest.TestCase):
-    """Both sorts of batches work alike."""
+    """Both sorts of batch behave alike."""
 
     def setUp(self):
-        local.open(64, 1, 100).close()  # from then on the extension makes them
+        local.open(64, 1, 100).close()  # after this, the extension makes batches
         self.native, self.plain = bestore.Batch(EACH), PlainBatch(EACH)
 
     def test_alike(self):

@@ -1,12 +1,12 @@
 #!/usr/bin/env bash
-# Runs all tests of the crates over the library in the folder that BESTORE_LIB_DIR names, otherwise ../c: plain, in the
-# documentation, by clippy and rustfmt, and under what finds faults of memory. What isn't there is skipped, and said to be.
+# Runs all tests of the crates with the library in the folder that BESTORE_LIB_DIR names, or ../c: the plain tests, the
+# documentation's, clippy, rustfmt, and the tools that find memory errors. Whatever is missing is skipped, and a line says so.
 #
-# test.sh --build only builds the crates with their programs, and runs nothing. test.sh --dependencies only compiles what they need of
-# others' crates, silently. For that the library needn't be there yet.
+# test.sh --build only builds the crates with their programs, and runs nothing. test.sh --dependencies only compiles the
+# third-party crates that they need, and prints nothing. The library needn't exist yet for that.
 #
-# The crates that these need come from Debian's packages librust-*-dev if they are installed, otherwise from what cargo has
-# already fetched. Nothing is fetched.
+# The third-party crates come from Debian's packages librust-*-dev if these are installed, and otherwise from what cargo has already
+# fetched. The script fetches nothing.
 set -euo pipefail
 cd "$(dirname "$0")"
 debian=/usr/share/cargo/registry
@@ -36,7 +36,8 @@ fi
 work=$(mktemp -d)
 trap 'rm -rf "$work"' EXIT
 
-# What it is that is run, and the arguments of cargo; those after -- go to what cargo runs.
+# run WHAT ARGUMENT...: runs cargo with the arguments, and reports it as WHAT. The arguments after -- go to the program that cargo
+# runs.
 run() {
     local what=$1 all=() begin=$SECONDS
     shift
@@ -57,7 +58,8 @@ run() {
     grep -h "skipped\|^killed\|^[0-9]* requests\|^[0-9]* runs" "$work/said" || true
 }
 
-# Cargo resolves the dependencies of all features, so without rusqlite it finds no way. For the log's crates there are empty ones.
+# Cargo resolves the dependencies of all features, so without rusqlite it can't resolve anything. The crates for the log have
+# empty replacements in absent/.
 resolves() { cargo metadata --format-version 1 "${options[@]}" >/dev/null 2>"$work/said"; }
 missing() { grep -m1 -o 'no matching package named.*\|searched package name.*' "$work/said" || tail -1 "$work/said"; }
 features=saved,log
@@ -72,7 +74,8 @@ fi
 
 case $only in
     --dependencies)
-        # In a folder without the library bestore-sys isn't built, nor what needs it. --keep-going compiles the rest all the same.
+        # bestore-sys, and whatever needs it, isn't built in a folder without the library. --keep-going compiles the rest all the
+        # same.
         for command in build clippy; do
             BESTORE_LIB_DIR=$work cargo $command --workspace --all-targets --features $features --keep-going "${options[@]}" || true
         done
@@ -105,7 +108,7 @@ else
 fi
 RUSTDOCFLAGS="-D warnings" run "Rust, documentation" doc --workspace --no-deps --features $features
 
-# The client for Python, by the server that was built above; and a kept file that Rust and Python open in turn.
+# Tests the client for Python with the server that was built above, and a saved file that Rust and Python open in turn.
 if ! command -v python3 >/dev/null; then
     echo "Python, over the server: skipped, there is no python3"
 elif [ ! -f "$(python3 -c 'import sysconfig; print(sysconfig.get_path("include"))')/Python.h" ]; then
@@ -135,7 +138,7 @@ else
     fi
 fi
 
-# What clients of servers that are killed have seen, by scripts that share no code with the server.
+# Checks what the clients of killed servers have seen, with scripts that share no code with the server.
 if ! command -v python3 >/dev/null; then
     echo "histories of servers: skipped, there is no python3"
 elif ! (cd bestored/history && timeout -k 10 600 env BESTORED="$(realpath "$CARGO_TARGET_DIR/debug/bestored")" PYTHONDONTWRITEBYTECODE=1 \
@@ -148,7 +151,7 @@ else
     grep -h "skipped '" "$work/said" || true
 fi
 
-# How the library is found: by pkg-config, in an archive, and not at all.
+# Tests how the library is found: by pkg-config, as an archive, and not at all.
 found="$CARGO_TARGET_DIR/found"
 if command -v pkg-config >/dev/null; then
     version=$(sed -n 's/^version = "\(.*\)"$/\1/p' bestore-sys/Cargo.toml)
@@ -169,8 +172,9 @@ if CARGO_TARGET_DIR=$found BESTORE_LIB_DIR=$work cargo check -q -p bestore-sys "
 fi
 echo "Rust, no library: ok"
 
-# A nightly compiler has AddressSanitizer, which looks at the library's memory too, as it takes over malloc. ThreadSanitizer
-# would need the standard library and libbestore built with it. Debian's ahash, which rusqlite needs, is too old for it.
+# A nightly compiler has AddressSanitizer. It also watches the library's memory, since it replaces malloc. ThreadSanitizer would
+# need the standard library and libbestore to be built with it. Debian's ahash, which rusqlite needs, is too old for a nightly
+# compiler.
 host=$(rustc -vV | sed -n 's/^host: //p')
 if cargo +nightly --version >/dev/null 2>&1; then
     RUSTFLAGS="-Zsanitizer=address" CARGO_TARGET_DIR="$CARGO_TARGET_DIR/address" \

@@ -1,6 +1,6 @@
-// Counts how often a program lets other threads run (LD_PRELOAD). A request for memory by a thread other than the first takes 2 ms more;
-// so one that is made by the holder of a lock lets the others find it held. YIELD_COUNT names a file of a 64-bit word, which is the count
-// however the program ends.
+// Counts how many times a program lets other threads run (LD_PRELOAD). A request for memory by any thread except the first takes
+// 2 ms longer, so if a thread makes one while it holds a lock, others find the lock held. YIELD_COUNT names a file with a 64-bit
+// word, which has the count however the program ends.
 
 #define _GNU_SOURCE
 #include <fcntl.h>

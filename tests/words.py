@@ -1,10 +1,10 @@
 #!/usr/bin/env python3
-"""Tries tools/check-words --names on a small repository: which names of sources, definitions, proofs, edits, files and folders it
-refuses, which it lets through, and that it reads neither comments nor texts.
+"""Tests tools/check-words --names on a small repository: which names in sources, definitions, proofs, edits, files and folders it
+refuses, which it accepts, and that it reads neither comments nor texts.
 
 usage: tests/words.py
 
-It reports what isn't as it has to be, and ends with status 1 then.
+If something is wrong, it says what and ends with status 1.
 """
 from __future__ import annotations
 
@@ -41,7 +41,7 @@ PASSED = {
 
 
 class Repository:
-    """A repository with the tool and these files of crates/."""
+    """A repository with the tool and these files in crates/."""
 
     def __init__(self, folder: Path, files: dict[str, str]) -> None:
         self.folder = folder
@@ -54,18 +54,18 @@ class Repository:
         subprocess.run(["git", "init", "--quiet"], cwd=folder, check=True)
 
     def check(self, *words: str) -> tuple[int, str, str]:
-        """The status of a run of the tool, what it printed, and its last line of errors."""
+        """Returns the tool's status, its output, and its last line of errors."""
         ran = subprocess.run(["tools/check-words", *words], cwd=self.folder, capture_output=True, text=True, check=False)
         return ran.returncode, ran.stdout, (ran.stderr.splitlines() or [""])[-1]
 
 
 def names_in(printed: str, file: str) -> list[str]:
-    """The names that were found in a file, each with its line."""
+    """Returns the names that were found in a file, each with its line."""
     return [f"{it[0]} {it[1]}" for it in re.findall(rf"^crates/{re.escape(file)}:(\d+): '(\S+)': write ", printed, re.M)]
 
 
 def check_refused(folder: Path, faults: list[str]) -> None:
-    """Each name that is to be refused is, in all files at once and in its file alone."""
+    """Each name that should be refused is, in all files at once and in its own file."""
     repository = Repository(folder, {name: text for name, (text, _) in REFUSED.items()})
     status, printed, last = repository.check("--names")
     wanted = {name: sorted({*names}) for name, (_, names) in REFUSED.items()}
@@ -79,7 +79,7 @@ def check_refused(folder: Path, faults: list[str]) -> None:
 
 
 def check_passed(folder: Path, faults: list[str]) -> None:
-    """Names that are let through; and without --names no name is refused but by its own list."""
+    """These names are accepted. Without --names, only names in their own list are refused."""
     repository = Repository(folder, PASSED)
     count = sum(not name.endswith(".md") for name in PASSED)
     passed = f"words: {count} files, and none has a name that isn't used here\n"
@@ -89,7 +89,7 @@ def check_passed(folder: Path, faults: list[str]) -> None:
 
 
 def check_prose(folder: Path, faults: list[str]) -> None:
-    """Without --names it reads prose, and of names only those of its own list."""
+    """Without --names, the tool reads prose, and only those names that are in their own list."""
     repository = Repository(folder, {"low/src/calls.rt": "// `told` is a name.\nfn told() {}\n"})
     check(faults, "names, where prose is read", repository.check()[0], 0)
     repository = Repository(folder / "second", {"low/src/calls.rt": "// What it told.\nfn left_behind() {}\n"})

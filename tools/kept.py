@@ -1,6 +1,8 @@
-"""What earlier runs on this machine have passed, by the checksums of all that was read: files in a folder, each named by a checksum.
+"""Remembers what earlier runs on this machine have passed, by the checksum of everything that was read. Each is a file named by
+its checksum.
 
-The folder is $BESTORE_KEPT, or else bestore in the user's cache. So a run in a fresh clone finds what another clone has passed.
+The folder is $BESTORE_KEPT, or else bestore in the user's cache. So a run in a fresh clone finds what another clone has
+passed.
 """
 from __future__ import annotations
 
@@ -11,13 +13,13 @@ from typing import Iterable
 
 
 def folder() -> Path:
-    """The folder, which may not be there yet."""
+    """Returns the folder, which may not exist yet."""
     cache = Path(os.environ.get("XDG_CACHE_HOME") or Path.home() / ".cache")
     return Path(os.environ.get("BESTORE_KEPT") or cache / "bestore")
 
 
 def checksum(files: Iterable[Path], words: Iterable[str] = ()) -> str:
-    """The checksum of these files, of their names, and of these words."""
+    """Returns the checksum of these files, of their names, and of these words."""
     whole = hashlib.sha256()
     for word in words:
         whole.update(f"{len(word)} {word} ".encode())
@@ -33,7 +35,7 @@ def has(what: str, sum_of_all: str) -> bool:
 
 
 def text(what: str, sum_of_all: str) -> str:
-    """The text that was kept with it, or an empty one."""
+    """Returns the text that was kept with this checksum, or an empty one."""
     try:
         return (folder() / what / sum_of_all).read_text()
     except OSError:
@@ -41,7 +43,7 @@ def text(what: str, sum_of_all: str) -> str:
 
 
 def keep(what: str, sum_of_all: str, text: str = "") -> None:
-    """Keeps that all of this has passed, with a text. Where the folder can't be made or written, nothing is kept."""
+    """Records that all of this has passed, with a text. If the folder can't be made or written, nothing is recorded."""
     try:
         place = folder() / what
         place.mkdir(parents=True, exist_ok=True)

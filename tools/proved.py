@@ -1,4 +1,4 @@
-"""The crates of crates.txt, and how the command `rattle` is told to read one over the proved form of those below it."""
+"""The crates of crates.txt, and how to make `rattle` read one on the proved form of those below it."""
 from __future__ import annotations
 
 import shutil
@@ -9,13 +9,13 @@ ROOT = Path(__file__).resolve().parent.parent
 
 
 def read_libraries() -> dict[str, list[str]]:
-    """The libraries that each crate names in crates.txt, of this repository and of the toolchain."""
+    """Returns the libraries that crates.txt lists for each crate, of this repository and of the toolchain."""
     lines = (it.partition("#")[0].partition(":") for it in (ROOT / "crates.txt").read_text().splitlines())
     return {names.split()[0]: libraries.split() for names, _, libraries in lines if names.strip()}
 
 
 def below(crate: str, libraries: dict[str, list[str]]) -> set[str]:
-    """The repository's libraries that a crate stands on."""
+    """Returns the repository's libraries that a crate needs, directly or not."""
     found: set[str] = set()
     for it in libraries[crate]:
         if it in libraries:
@@ -24,7 +24,7 @@ def below(crate: str, libraries: dict[str, list[str]]) -> set[str]:
 
 
 def folder_of(crate: str) -> Path:
-    """Where the gate, or a check, leaves the proved form of a library."""
+    """Returns where the gate, or a check, leaves a library's proved form."""
     return ROOT / f"crates/{crate}/out/rlib"
 
 
@@ -33,7 +33,7 @@ def find_rt() -> Path:
 
 
 def rattle_words(command: str, crate: str, source: str, libraries: dict[str, list[str]]) -> list[str]:
-    """`rattle COMMAND` of a crate whose source this is."""
+    """Returns the words of `rattle COMMAND` for a crate with this source."""
     rt = find_rt()
     kit = rt.parent.parent
 

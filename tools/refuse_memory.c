@@ -1,9 +1,9 @@
-// An allocator that refuses one request for memory. Preloaded into a program (LD_PRELOAD), it counts the program's requests
-// in the order in which they come, from 1, answers one of them by a null pointer, and leaves all others to the C library.
+// An allocator that refuses one request for memory. Preloaded into a program (LD_PRELOAD), it numbers the program's requests from
+// 1 in the order in which they come. It returns a null pointer for one of them, and passes all others to the C library.
 //
-//   REFUSE_REQUEST  the number of the request that is refused; with 0, or without it, none is
-//   REFUSE_COUNT    a file of two 64-bit words: the requests so far, which stand there however the program ends, and 1 once
-//                   this allocator is there
+//   REFUSE_REQUEST  the number of the request to refuse; 0, or no number, refuses none
+//   REFUSE_COUNT    a file of two 64-bit words: the number of requests so far, which is there however the program ends, and 1
+//                   once this allocator runs
 
 #define _GNU_SOURCE
 #include <errno.h>
@@ -20,7 +20,7 @@ void *__libc_calloc(size_t count, size_t size);
 void *__libc_realloc(void *old, size_t size);
 void *__libc_memalign(size_t alignment, size_t size);
 
-// Requests before `begin` are those of the loader: they are counted here, and never refused.
+// Requests before `begin` come from the loader: they are counted here, and never refused.
 static _Atomic uint64_t of_loader;
 static _Atomic uint64_t *requests = &of_loader;
 static uint64_t refused;

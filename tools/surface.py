@@ -1,11 +1,11 @@
 #!/usr/bin/env python3
-"""Writes what all languages share of surface.toml into the sources and documents, or looks whether they have it.
+"""Writes what all languages share from surface.toml into the sources and documents, or checks that they have it.
 
-usage: tools/surface.py            writes the regions and files anew
-       tools/surface.py --check    says which of them differ, and exits with 1 if one does
+usage: tools/surface.py            rewrites the regions and files
+       tools/surface.py --check    prints which of them differ, and ends with status 1 if any does
 
-A region begins after a line with "surface.toml: NAME" and ends before one with "surface.toml: end". What programs were built with
-never changes: to c/abi/ it only adds lines, and a number there that the table has otherwise is an error.
+A region begins after a line with "surface.toml: NAME" and ends before one with "surface.toml: end". What programs were built
+with never changes. So this only adds lines to c/abi/, and a number there that differs from the table is an error.
 """
 from __future__ import annotations
 
@@ -29,7 +29,7 @@ END = re.compile(r"^[^\w\n]*surface\.toml: end[^\w\n]*$", re.M)
 
 
 def with_region(path: str, text: str, name: str, body: str) -> str:
-    """The text of a file with what is between the marks of a region replaced."""
+    """Returns a file's text with the part between a region's marks replaced."""
     begins = list(re.finditer(rf"^[^\w\n]*surface\.toml: {re.escape(name)}[^\w\n]*\n", text, re.M))
     if len(begins) != 1:
         raise Wrong(f"{path}: the line \"surface.toml: {name}\" has to be there once, and is there {len(begins)} times")
@@ -41,18 +41,18 @@ def with_region(path: str, text: str, name: str, body: str) -> str:
 
 
 def types_of(parameters: str) -> str:
-    """The types of a call's parameters."""
+    """Returns the types of a call's parameters."""
     types = [re.sub(r"(?<=[ *])\w+$", "", it.strip()).strip() for it in parameters.split(",")]
     return "void" if parameters == "void" else ", ".join(types)
 
 
 def prototypes(header: str) -> dict[str, str]:
-    """The calls that the header declares, with the types of their parameters."""
+    """Returns the calls that the header declares, with their parameters' types."""
     return {name: types_of(parameters) for name, parameters in re.findall(r"^uint32_t (bes_\w+)\(([^;]*)\);", header, re.M)}
 
 
 def helpers_in(texts: Iterable[str]) -> dict[str, str]:
-    """The lines that describe the helpers which the headers declare, by their names."""
+    """Returns the lines that describe the helpers declared in the headers, by name."""
     found = {}
     for text in texts:
         for kind, name, parameters in re.findall(r"^((?:const )?\w+ \*?)(bes_\w+)\(([^;{]*)\);", text, re.M):
@@ -61,7 +61,7 @@ def helpers_in(texts: Iterable[str]) -> dict[str, str]:
 
 
 def without_planned(surface: Surface, header: str) -> Surface:
-    """The table without the calls of versions after that of the header which the header doesn't declare yet."""
+    """Returns the table without calls of later versions than the header's that the header doesn't declare yet."""
     declared = prototypes(header)
     found = re.search(r'#define BES_VERSION "([\d.]+)"', header)
     if found is None:
@@ -73,12 +73,12 @@ def without_planned(surface: Surface, header: str) -> Surface:
 
 
 def numbers_of(version: str) -> list[int]:
-    """The numbers of a version, as 0.3.0."""
+    """Returns the numbers of a version such as 0.3.0."""
     return [int(part) for part in version.split(".")]
 
 
 def check_calls(where: str, called: Iterable[str], part: str, listed: Iterable[str]) -> None:
-    """Refuses a file that has other calls than a part of the table."""
+    """Raises an error if a file's calls aren't those of a part of the table."""
     for name in sorted(set(called) - set(listed)):
         raise Wrong(f"{where} has {name}, and [{part}] of surface.toml doesn't: add it to the version that brings it")
     for name in sorted(set(listed) - set(called)):
@@ -86,7 +86,7 @@ def check_calls(where: str, called: Iterable[str], part: str, listed: Iterable[s
 
 
 def described(surface: Surface) -> dict[str, str]:
-    """The numbers that the ABI has, by their names."""
+    """Returns the ABI's numbers, by name."""
     rows = [("BES_OK", "0"), *((it.constant, str(it.number)) for it in surface.faults)]
     rows += [(it.c, str(it.number)) for it in surface.classes]
     rows += [(it.c, f"0x{it.type_code:08x}") for it in surface.kinds]
@@ -97,7 +97,7 @@ def described(surface: Surface) -> dict[str, str]:
 
 
 def with_abi(surface: Surface, text: str, calls: dict[str, str], helpers: dict[str, str]) -> str:
-    """The description of the ABI, with a line for each number, call and helper that it lacks."""
+    """Returns the description of the ABI, with a line added for each number, call and helper that it lacks."""
     numbers = dict(re.findall(r"^NUMBER\((\w+), (\w+)\)", text, re.M))
     wanted = described(surface)
     for name, number in numbers.items():
@@ -115,12 +115,12 @@ def with_abi(surface: Surface, text: str, calls: dict[str, str], helpers: dict[s
 
 
 def manual() -> str:
-    """The manual page that is made from the header, as it is now."""
+    """Returns the manual page that is made from the header as it is now."""
     return subprocess.run([sys.executable, ROOT / "c/manual.py"], check=True, stdout=subprocess.PIPE, text=True).stdout
 
 
 def wanted_files(surface: Surface) -> dict[str, str]:
-    """What each file has to have, but for the manual page, which is made from the header."""
+    """Returns what each file has to contain, except for the manual page, which is made from the header."""
     wanted = {path: render(surface) for path, render in FILES.items()}
     for (path, name), render in REGIONS.items():
         text = wanted.get(path) or (ROOT / path).read_text()
@@ -136,7 +136,7 @@ def wanted_files(surface: Surface) -> dict[str, str]:
 
 
 def differs(path: str, wanted: str) -> bool:
-    """Whether a file has something else, which is shown."""
+    """Returns whether a file differs, and prints the difference."""
     file = ROOT / path
     found = file.read_text() if file.exists() else ""
     shown = unified_diff(found.splitlines(), wanted.splitlines(), path, f"{path} by surface.toml", lineterm="", n=1)
@@ -146,7 +146,7 @@ def differs(path: str, wanted: str) -> bool:
 
 
 def write(path: str, wanted: str) -> bool:
-    """Writes a file if it has something else."""
+    """Writes a file if it differs."""
     file = ROOT / path
     if file.exists() and file.read_text() == wanted:
         return False

@@ -1,4 +1,4 @@
-"""The table surface.toml: what its rows have, and what has to be true of them."""
+"""The table surface.toml: the fields of its rows, and the rules that they have to follow."""
 from __future__ import annotations
 
 import re
@@ -13,7 +13,7 @@ MOST_OF_A_TEXT = 90
 
 
 class Wrong(Exception):
-    """The table or a file that is made from it isn't as it has to be."""
+    """The table, or a file that is made from it, breaks a rule."""
 
 
 @dataclass(frozen=True)
@@ -31,7 +31,7 @@ class Class:
 
 @dataclass(frozen=True)
 class Kind:
-    """A kind of values."""
+    """A kind of value."""
 
     number: int
     code: str
@@ -66,7 +66,7 @@ class Kind:
 
 @dataclass(frozen=True)
 class Fault:
-    """An error of the library."""
+    """One of the library's errors."""
 
     number: int
     c: str
@@ -87,7 +87,7 @@ class Fault:
 
     @property
     def exception(self) -> str:
-        """The exception of Python."""
+        """The exception in Python."""
         return self.python or self.name
 
     @property
@@ -98,7 +98,7 @@ class Fault:
 
 @dataclass(frozen=True)
 class ServerFault:
-    """An error of a server that the library doesn't have."""
+    """A server error that the library doesn't have."""
 
     name: str
     klass: str
@@ -139,17 +139,17 @@ class Surface:
 
     @property
     def all_faults(self) -> list[Fault | ServerFault]:
-        """Those of the library, and then those of a server."""
+        """The library's errors, and then the server's."""
         return [*self.faults, *self.server_faults]
 
     @property
     def calls(self) -> list[str]:
-        """The calls of the library, which are proved."""
+        """The library's calls, which are proved."""
         return [call for calls in self.exports.values() for call in calls]
 
     @property
     def all_helpers(self) -> list[str]:
-        """The helpers of the library, which are plain C."""
+        """The library's helpers, which are plain C."""
         return [call for calls in self.helpers.values() for call in calls]
 
 
@@ -157,7 +157,7 @@ Row = TypeVar("Row", Class, Kind, Fault, ServerFault, Numbered)
 
 
 def rows_of(kind: type[Row], part: str, found: Iterable[dict[str, Any]]) -> list[Row]:
-    """The rows of one part of the table."""
+    """Returns the rows of one part of the table."""
     known, rows = {field.name for field in fields(kind)}, []
     for at, row in enumerate(found):
         values = {"klass" if key == "class" else key: value for key, value in row.items()}
@@ -171,12 +171,12 @@ def rows_of(kind: type[Row], part: str, found: Iterable[dict[str, Any]]) -> list
 
 
 def named(key: str, found: dict[str, dict[str, Any]]) -> Iterable[dict[str, Any]]:
-    """The rows of a part whose keys are the names."""
+    """Returns the rows of a part whose keys are the names."""
     return ({key: name, **row} for name, row in found.items())
 
 
 def once(part: str, what: str, values: Iterable[object]) -> None:
-    """Refuses a value that two rows have."""
+    """Raises an error if two rows have the same value."""
     seen: set[object] = set()
     for value in values:
         if value in seen:
@@ -185,7 +185,7 @@ def once(part: str, what: str, values: Iterable[object]) -> None:
 
 
 def check_texts(surface: Surface) -> None:
-    """Looks at the classes and the texts of errors."""
+    """Checks the classes and the errors' texts."""
     classes = {it.name for it in surface.classes}
     for it in surface.all_faults:
         if it.klass not in classes:
@@ -197,7 +197,7 @@ def check_texts(surface: Surface) -> None:
 
 
 def check(surface: Surface) -> None:
-    """Looks whether the rows are those of one table."""
+    """Checks that the rows fit together."""
     for kind in surface.kinds:
         if not re.fullmatch("[A-Z]{4}", kind.code):
             raise Wrong(f"surface.toml: a type code has four capitals, and that of {kind.name} is {kind.code!r}")

@@ -1,4 +1,4 @@
-"""What surface.toml is written as in each language: a function for each region and for each whole file."""
+"""How surface.toml is written in each language: a function for each region and for each whole file."""
 from __future__ import annotations
 
 import textwrap
@@ -11,17 +11,17 @@ NOTE = "Written by tools/surface.py from surface.toml: change that, and run it."
 
 
 def lines(rows: Iterable[str]) -> str:
-    """The rows, each on lines of its own."""
+    """Writes each row on its own lines."""
     return "".join(f"{row}\n" for row in rows)
 
 
 def escaped(text: str) -> str:
-    """A text as C, Rust and Python have it between quotation marks."""
+    """Escapes a text for quotation marks in C, Rust and Python."""
     return text.replace("\\", "\\\\")
 
 
 def enumerator(name: str, value: str, about: str, width: int, is_last: bool) -> str:
-    """A line of an enum of C, with its comment at the same column as the others', on several lines if it is long."""
+    """Returns a line of a C enum, with its comment aligned with the others. A long comment takes several lines."""
     front = f"    {name} = {value}{'' if is_last else ','}"
     if not about:
         return front
@@ -32,7 +32,7 @@ def enumerator(name: str, value: str, about: str, width: int, is_last: bool) -> 
 
 
 def enum(rows: list[tuple[str, str, str]]) -> str:
-    """The rows of an enum of C: name, value, comment."""
+    """Returns the rows of a C enum, given as name, value and comment."""
     width = max(len(f"    {name} = {value}, ") for name, value, about in rows if about)
     last = len(rows) - 1
     return lines(enumerator(name, value, about, width, at == last) for at, (name, value, about) in enumerate(rows))
@@ -65,7 +65,7 @@ def c_forms(surface: Surface) -> str:
 
 
 def c_meaning(fault: Fault) -> str:
-    """A row of the table of bes_strerror."""
+    """Returns a row of bes_strerror's table."""
     texts = [f"{fault.what}; ", fault.advice] if fault.advice else [fault.what]
     quoted = "\n      ".join(f'"{escaped(text)}"' for text in texts)
     return f'    {{ {fault.constant}, BES_CLASS_{fault.klass.upper()}, "{fault.constant}",\n      {quoted} }},'
@@ -76,7 +76,7 @@ def c_meanings(surface: Surface) -> str:
 
 
 def cases(kinds: Iterable[Kind]) -> str:
-    """The labels of a switch over type codes."""
+    """Returns the labels of a switch over type codes."""
     return lines(f"    case {it.c}:" for it in kinds)
 
 
@@ -89,8 +89,8 @@ def c_never_true(surface: Surface) -> str:
 
 
 def c_setters(prefix: str, first: str, call: str, last: str) -> Callable[[Surface], str]:
-    """Functions that set an attribute to an integer: how their names begin, their first parameter, what they call, and its last
-    arguments."""
+    """Returns functions that set an attribute to an integer. The arguments are the beginning of their names, their first
+    parameter, the call that they make, and its last arguments."""
     def setter(it: Kind) -> str:
         number = "value" if not it.sign else "(uint64_t)value" if it.bits == 64 else "(uint64_t)(int64_t)value"
         return (f"static inline uint32_t {prefix}{it.tool}({first}, uint64_t node, const char *name, {it.tool}_t value)\n{{\n"
@@ -99,7 +99,7 @@ def c_setters(prefix: str, first: str, call: str, last: str) -> Callable[[Surfac
 
 
 def c_map(surface: Surface) -> str:
-    """The map by which the shared library exports its calls and helpers."""
+    """Returns the map by which the shared library exports its calls and helpers."""
     parts = [f"        /* {version}{what} */\n" + lines(f"        {call};" for call in calls)
              for what, table in (("", surface.exports), (", helpers", surface.helpers)) for version, calls in table.items()]
     return f"/* {NOTE} */\n{{\n    global:\n{''.join(parts)}    local: *;\n}};\n"
@@ -141,7 +141,7 @@ def capital(name: str) -> str:
 
 
 def sentence(text: str) -> str:
-    """A text as a sentence."""
+    """Turns a text into a sentence."""
     return f"{text[0].upper()}{text[1:]}."
 
 
@@ -213,7 +213,7 @@ def python_classes(surface: Surface) -> str:
 
 
 def python_surface(surface: Surface) -> str:
-    """The module with the numbers and texts."""
+    """Returns the module with the numbers and texts."""
     numbers = lines(f"    {it.c} = {it.number}" for it in surface.faults)
     meanings = lines(f"    ErrorNumber.{it.c}: {python_meaning(it)}" for it in surface.faults)
     of_server = lines(f'    "{it.name}": {python_meaning(it)}' for it in surface.server_faults)
@@ -278,12 +278,12 @@ KIND_MEMBERS: Tuple[str, ...] = (
 
 
 def python_exceptions(surface: Surface) -> str:
-    """The exceptions that carry nothing of their own."""
+    """Returns the exceptions that have no fields of their own."""
     return lines(f"class {it.exception}({it.bases}, number=ErrorNumber.{it.c}): ..." for it in surface.faults if it.bases)
 
 
 def wrapped(words: Iterable[str]) -> str:
-    """A list over as many lines as it needs."""
+    """Wraps a list over as many lines as it needs."""
     text = ", ".join(words) + ","
     return textwrap.fill(text, COLUMNS, initial_indent="    ", subsequent_indent="    ", break_on_hyphens=False) + "\n"
 
@@ -307,7 +307,7 @@ def python_server_imports(surface: Surface) -> str:
 
 
 def python_server_exceptions(surface: Surface) -> str:
-    """The exceptions of a server's own errors."""
+    """Returns the exceptions for the server's own errors."""
     rows = [f'class {it.name}(ServerRefusal):\n    """{it.about}"""\n' for it in surface.server_faults if it.python]
     names = wrapped_names(it.name for it in surface.server_faults if it.python)
     return "\n\n".join(rows) + f"\n\n_REFUSALS = {{kind.__name__: kind for kind in (\n{names})}}\n"
@@ -360,7 +360,7 @@ def table_of_script_kinds(surface: Surface) -> str:
 
 
 def table_of_server_errors(surface: Surface) -> str:
-    """A row for the errors that have one class and carry the same."""
+    """Returns a row for each group of errors with the same class and details."""
     rows: dict[tuple[str, str], list[str]] = {}
     for it in surface.all_faults:
         if it.protocol is not None:
@@ -371,7 +371,7 @@ def table_of_server_errors(surface: Surface) -> str:
 
 
 def manual_errors(surface: Surface) -> str:
-    """The list of what a script's line is refused by."""
+    """Returns the list of errors that a script's line can get."""
     def row(it: Fault) -> str:
         argument = f" Ar {it.argument}" if it.argument else ""
         *words, last = (it.script_about or it.what).split("`") if it.script_about.endswith("`") else [it.script_about or it.what]

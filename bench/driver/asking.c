@@ -34,13 +34,13 @@ static uint64_t use_all(struct pass *pass, struct block *block, use *use_it) {
     return sum;
 }
 
-/* The next block of queries, each asked before where the case has it so. */
+/* Makes the next block of queries. If the case says so, each is run once first. */
 static void make_next(struct block *block, struct pass *pass, const struct data *data, const struct asking *asking, uint64_t *state) {
     make_block(block, pass, data, asking, state);
     if (asking->asked_before) use_all(pass, block, count_found);
 }
 
-/* The blocks that are timed, after the first one. What came of all. */
+/* Runs the blocks that are timed, after the first. Returns the sum of the results. */
 static uint64_t time_blocks(struct pass *pass, const struct data *data, const char *name, const struct asking *asking, use *use_it, uint64_t state) {
     static struct block block;
     uint64_t rounds = share(data, asking->rounds), sum = 0;

@@ -1,4 +1,4 @@
-/* Cases that ask: new texts at each asking, prepared before in blocks. */
+/* Cases that run queries. The texts are new each time, and are prepared in blocks beforehand. */
 #ifndef ASKING_H
 #define ASKING_H
 #include "asked.h"
@@ -6,8 +6,8 @@
 #define BLOCK 1024
 #define FOUND_MOST 32768
 
-/* What a case asks: in each of `rounds` so many texts of a shape, up to BLOCK. Each has `hits` nodes, where that isn't 0. If they
- * are asked before, each is asked once before the time is taken, as a query is that is kept. */
+/* What a case runs: in each of `rounds`, this many texts of a shape, up to BLOCK. If `hits` isn't 0, each has to find that many
+ * nodes. If `asked_before` is set, each query runs once before the clock starts, like a query that is kept. */
 struct asking {
     enum shape shape;
     uint64_t width, hits;
@@ -16,7 +16,7 @@ struct asking {
     bool asked_before;
 };
 
-/* Kept queries that have one node. They are so many that what the last one left in caches is gone. */
+/* Kept queries that find one node. There are so many that what the previous run left in the caches is gone. */
 #define KEPT_ONES(shape, width) ((struct asking){shape, width, 1, BLOCK, 20, true})
 
 struct block {
@@ -25,21 +25,21 @@ struct block {
     struct query queries[BLOCK];
 };
 
-/* New texts, parsed, and what each peer prepares for a text before it is asked; and lets go of that. */
+/* Makes new texts, parses them, and makes what each peer prepares for a text beforehand. drop_block releases all this. */
 void make_block(struct block *block, struct pass *pass, const struct data *data, const struct asking *asking, uint64_t *state);
 void drop_block(struct block *block);
 
-/* What a case does with one query, and what came of it: for most cases how many nodes it has. */
+/* What a case does with one query. Returns a result: in most cases, how many nodes it found. */
 typedef uint64_t use(struct pass *pass, struct query *query);
 
-/* The nodes of the last query that was asked by `count_found`. */
+/* The nodes that `count_found` found last. */
 extern uint64_t nodes_found[FOUND_MOST];
 uint64_t count_found(struct pass *pass, struct query *query);
 
-/* The mean of an asking. A first block isn't timed, and what it finds is taken into `answers`. Ends the process where a text
- * has other than `hits` nodes. */
+/* Measures the mean time of a query. The first block isn't timed, but its results go into `answers`. If a text doesn't find
+ * `hits` nodes, the process ends. */
 void ask_each(struct pass *pass, const struct data *data, const char *name, struct asking asking, uint64_t *answers);
 
-/* The same, for queries with which more is done. What came of the first block is taken. */
+/* Does the same for queries that are put to a further use. The first block's results go into `answers`. */
 void use_each(struct pass *pass, const struct data *data, const char *name, struct asking asking, use *use_it, uint64_t *answers);
 #endif

@@ -1,4 +1,4 @@
-/* Time by the clock, and the lines that are printed: `CASE VALUE`, where the value is nanoseconds, bytes or a rate, and of a mean
+/* Elapsed time, and the lines that are printed: `CASE VALUE`, where the value is nanoseconds, bytes or a rate. For a mean, it is
  * `CASE VALUE COUNT`. */
 #ifndef CLOCK_H
 #define CLOCK_H
@@ -7,7 +7,7 @@
 #include <stdlib.h>
 #include <time.h>
 
-/* Seconds. */
+/* Returns the time in seconds. */
 static inline double now(void) {
     struct timespec time;
     clock_gettime(CLOCK_MONOTONIC, &time);
@@ -16,15 +16,15 @@ static inline double now(void) {
 
 static inline void say_value(const char *name, double value) { printf("%s %.3f\n", name, value); }
 
-/* The nanoseconds of one of `count`, which have taken this many seconds. */
+/* Prints the nanoseconds for each of `count`, which took this many seconds in total. */
 static inline void say_spent(const char *name, double seconds, uint64_t count) {
     printf("%s %.3f %llu\n", name, seconds / count * 1e9, (unsigned long long)count);
 }
 
-/* The nanoseconds of one of `count` since `start`. */
+/* Prints the nanoseconds for each of `count` since `start`. */
 static inline void say_each(const char *name, double start, uint64_t count) { say_spent(name, now() - start, count); }
 
-/* So many in a second, in `seconds`. */
+/* Prints how many there were per second. */
 static inline void say_rate(const char *name, uint64_t count, double seconds) { say_value(name, count / seconds); }
 
 static inline int by_size(const void *left, const void *right) {

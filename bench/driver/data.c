@@ -15,7 +15,7 @@ uint64_t below(uint64_t *state, uint64_t bound) { return next_random(state) % bo
 
 void take_answer(uint64_t *answers, uint64_t number) { *answers = (*answers ^ number) * 1099511628211u; }
 
-/* The upper bits, which every number has changed: so few that a double holds them. */
+/* Prints the upper bits, which every number has changed. They are few enough for a double. */
 void say_answers(uint64_t answers) { printf("answers %llu\n", (unsigned long long)(answers >> 12)); }
 
 static uint32_t *shuffled(uint64_t count, uint64_t *state) {

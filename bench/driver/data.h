@@ -1,4 +1,4 @@
-/* What is stored: nodes with a name and a size, which are indexed, and a kind, which isn't. */
+/* The stored data: nodes with a name and a size, which are indexed, and a kind, which isn't. */
 #ifndef DATA_H
 #define DATA_H
 #include <stdint.h>
@@ -10,8 +10,8 @@
 #define SIZE TEXT("size")
 #define KIND TEXT("kind")
 
-/* Numbers below `nodes`, shuffled: of the names, and of the sizes, which are ten times these. `parts`: of what a case usually
- * does, one part in so many, or all where it is 0. `only`: the only case that is done, or none. */
+/* `names` and `sizes` are the numbers below `nodes`, shuffled; the sizes are ten times these. `parts`: do one part in this many
+ * of what a case usually does, or all if it is 0. `only`: the only case to run, or NULL. */
 struct data {
     uint64_t nodes, random, parts;
     const char *only;
@@ -20,36 +20,36 @@ struct data {
 
 struct data make_data(uint64_t nodes);
 
-/* How often something is done that is usually done so often: at least once. */
+/* Returns how many times to do something that is usually done `usual` times: at least once. */
 uint64_t share(const struct data *data, uint64_t usual);
 bool has_case(const struct data *data, const char *name);
 
 uint64_t next_random(uint64_t *state);
 uint64_t below(uint64_t *state, uint64_t bound);
 
-/* What was answered, as one number: starts with NO_ANSWERS, takes each number in turn, and is printed as the case `answers`. */
+/* All answers as one number: it starts with NO_ANSWERS, mixes in each number in turn, and is printed as the case `answers`. */
 #define NO_ANSWERS 14695981039346656037u
 void take_answer(uint64_t *answers, uint64_t number);
 void say_answers(uint64_t answers);
 
 struct text kind_text(uint64_t number);
 
-/* Ends the process where a write was refused. */
+/* Ends the process if a write was refused. */
 void must(enum outcome outcome);
 
-/* A store with both indices. */
+/* Opens a store with both indices. */
 struct store *open_store(int passes);
 
-/* Indices of names that no node has, so that there are so many in all. */
+/* Makes indices for names that no node has, so that there are this many in total. */
 void make_more_indices(struct pass *pass, uint64_t indices);
 
-/* Makes the nodes 1 to data->nodes, by the store's first pass. */
+/* Makes the nodes 1 to data->nodes through the store's first pass. */
 void fill(struct store *store, const struct data *data);
 
-/* A random size for a random node. */
+/* Sets a random node to a random size. */
 enum outcome set_random_size(struct pass *pass, uint64_t nodes, uint64_t *state);
 
-/* Sets so many sizes at random. */
+/* Sets this many random sizes. */
 #define SETS 20000
 void set_sizes(struct pass *pass, const struct data *data, uint64_t sets);
 #endif

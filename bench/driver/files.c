@@ -33,7 +33,7 @@ struct store *open_files(int passes) {
     return store;
 }
 
-/* Sets the five attributes of the file at a place of the lists, on a node. */
+/* Sets a node's five attributes to those of the file at this place in the lists. */
 static void set_file(struct pass *pass, const struct data *data, uint64_t at, uint64_t node) {
     static const struct text names[ATTRIBUTES] = {NAME, SIZE, MODIFIED, KIND, OWNER};
     char name[NAME_MOST];
@@ -57,7 +57,7 @@ void import_singly(struct pass *pass, const struct data *data) {
     }
 }
 
-/* Nodes are numbered from 1, so a list can name those that it makes itself. */
+/* Nodes are numbered from 1, so a batch can refer to the nodes that it makes. */
 void import_in_lists(struct pass *pass, const struct data *data, uint64_t files) {
     uint64_t each = files ? files : data->nodes, node;
     for (uint64_t i = 0; i < data->nodes; i += each) {

@@ -1,4 +1,4 @@
-/* Files that come in, what they take, and sets where something makes them slower. */
+/* Importing files, the space that they take, and sets in situations that make them slower. */
 #include "clock.h"
 #include "files.h"
 #include "workloads.h"
@@ -14,7 +14,7 @@ static void time_singles(const struct data *data) {
     store_close(store);
 }
 
-/* So many files in each commit, or all in one. */
+/* Imports with this many files per commit, or all in one. */
 static void time_lists(const struct data *data, const char *name, uint64_t files) {
     struct store *store = open_files(1);
     double start = now();
@@ -44,7 +44,8 @@ void run_sets(const struct data *data, uint64_t indices) {
     store_close(store);
 }
 
-/* While another pass is pinned all the time: so few that the pages suffice, since none that is given up meanwhile is free again. */
+/* Sets sizes while another pass stays pinned. There are so few sets that the pages suffice, since no page given up meanwhile
+ * becomes free. */
 void run_held(const struct data *data) {
     struct store *store = open_store(2);
     fill(store, data);

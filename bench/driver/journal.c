@@ -1,4 +1,4 @@
-/* What a journal costs: the memory that commits leave, and how long the worst of many takes. */
+/* What a journal costs: the memory that commits leave, and how long the slowest of many commits takes. */
 #include <stdio.h>
 #include <stdlib.h>
 
@@ -9,7 +9,7 @@
 #define RUNS 2
 #define LONG_TIME 1e9
 
-/* The bytes of memory that the process has, or 0 where the system doesn't tell. */
+/* Returns how many bytes of memory the process has, or 0 if the system doesn't say. */
 static uint64_t memory(void) {
     unsigned long long kilobytes = 0;
     char line[128];
@@ -20,7 +20,7 @@ static uint64_t memory(void) {
     return kilobytes * 1024;
 }
 
-/* Sets a node's size to 5 again and again, in so many lists of this many operations. */
+/* Sets a node's size to 5 again and again, in this many batches of this many operations. */
 static void set_often(struct pass *pass, uint64_t node, uint64_t lists, uint64_t operations) {
     struct value value = number_value(5);
     for (uint64_t i = 0; i < lists; i++) {
@@ -42,7 +42,7 @@ void run_journal(uint64_t lists, uint64_t operations) {
     store_close(store);
 }
 
-/* Sets sizes at random in a new store, and keeps how long each commit took where that is less than what is kept. */
+/* Sets random sizes in a new store. Records how long each commit took if that is less than the recorded time. */
 static void time_each(const struct data *data, double *least, uint64_t commits) {
     struct store *store = open_store(1);
     struct pass *pass = store_pass(store, 0);

@@ -1,8 +1,8 @@
 /* The driver: `PEER writes|reads|indices|patterns|order|shared|held|mixed NODES`, `PEER import FILES`, `PEER sets NODES INDICES`,
  * `PEER threads NODES MILLISECONDS`, `PEER open PAGES`, `PEER journal LISTS OPERATIONS`, `PEER pauses NODES COMMITS`.
  *
- * A fourth word, after a second number that may be 0, says how small a part of each case is done: 20 for a twentieth. A fifth
- * names the only case that is asked. */
+ * A fourth word, after a second number that may be 0, says how small a part of each case to run: 20 for a twentieth. A fifth word
+ * names the only case to run. */
 #include <stdio.h>
 #include <stdlib.h>
 #include <string.h>

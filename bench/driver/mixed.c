@@ -1,4 +1,4 @@
-/* Four threads that each read and write, 19 reads to a write: how long each took. */
+/* Four threads that read and write, with 19 reads per write: how long each read and write took. */
 #include <pthread.h>
 #include <sched.h>
 #include <stdlib.h>
@@ -11,7 +11,7 @@
 #define BLOCKS 400
 #define TEXTS 64
 
-/* What a thread has done: the nanoseconds of each read and of each write. */
+/* What a thread did: the nanoseconds of each read and of each write. */
 struct worker {
     _Alignas(64) struct pass *pass;
     const struct data *data;
@@ -30,7 +30,7 @@ static void read_one(struct worker *worker, struct query *query) {
     unpin(worker->pass);
 }
 
-/* Asks each query of a block, but for one in 20 sets a size in its place. */
+/* Runs each query of a block, but for one in 20 sets a size instead. */
 static void work_on(struct worker *worker, struct block *block) {
     for (int i = 0; i < block->count; i++) {
         bool is_write = below(&worker->random, 20) == 0;
@@ -62,7 +62,7 @@ static void start_worker(struct worker *worker, struct pass *pass, const struct 
     *worker = (struct worker){pass, data, random, blocks, 0, 0, malloc(room), malloc(room)};
 }
 
-/* The median of some times, what 99 of 100 don't go beyond, and the longest. */
+/* Prints the median, the 99th percentile and the maximum of some times. */
 static void say_spread(const char *what, double *times, size_t count) {
     char name[32];
     sort_times(times, count);

@@ -1,4 +1,4 @@
-/* Pages of an answer in the order of an index: by falling sizes, or names. */
+/* Pages of an answer in an index's order: by descending sizes, or names. */
 #include <stdio.h>
 
 #include "asking.h"
@@ -11,7 +11,7 @@
 /* Where a page is: at the beginning, anywhere, or at the end. */
 enum where { NEWEST, ANYWHERE, OLDEST };
 
-/* What a case asks: texts of a shape, each with about this many nodes, and a page of each. */
+/* What a case runs: texts of a shape, each with about this many nodes, and a page of each. */
 struct paging {
     enum shape shape;
     uint64_t width, hits;
@@ -19,7 +19,7 @@ struct paging {
     enum where where;
 };
 
-/* The place after which a page begins. The sizes are 0 to 10 * (nodes - 1), in steps of ten. */
+/* Returns the place after which a page begins. The sizes are 0 to 10 * (nodes - 1), in steps of ten. */
 static const struct place *place_of(const struct paging *it, uint64_t nodes, uint64_t *state, struct place *place) {
     if (it->where == NEWEST) return NULL;
     place->number = it->where == OLDEST ? 10 * SHOWN : (int64_t)below(state, 10 * nodes);
@@ -27,7 +27,7 @@ static const struct place *place_of(const struct paging *it, uint64_t nodes, uin
     return place;
 }
 
-/* Asks for a page of each query. Takes the nodes, if they are to be taken. */
+/* Reads a page of each query. Mixes the nodes into `answers`, unless it is NULL. */
 static void ask_block(struct pass *pass, const struct data *data, struct block *block, const struct paging *it, uint64_t *state, uint64_t *answers) {
     struct place place;
     for (int i = 0; i < block->count; i++) {
@@ -37,7 +37,7 @@ static void ask_block(struct pass *pass, const struct data *data, struct block *
     }
 }
 
-/* The mean of a page. A first block isn't timed, and its nodes are taken. */
+/* Measures the mean time of a page. The first block isn't timed, but its nodes go into `answers`. */
 static void time_pages(struct pass *pass, const struct data *data, const char *name, struct paging it, uint64_t *answers) {
     static struct block block;
     const struct asking asking = {it.shape, it.width, 0, 16, 40, false};
@@ -57,7 +57,7 @@ static void time_pages(struct pass *pass, const struct data *data, const char *n
     say_spent(name, spent, rounds * asking.texts);
 }
 
-/* A store in which a second number divides the nodes into ten parts. */
+/* Opens a store in which a second number divides the nodes into ten parts. */
 static struct store *open_tenths(const struct data *data) {
     struct store *store = open_store(1);
     struct pass *pass = store_pass(store, 0);

@@ -1,4 +1,4 @@
-/* Queries over files, and over names that share their fronts. */
+/* Queries over files, and over names that share a prefix. */
 #include <stdio.h>
 
 #include "asking.h"
@@ -15,18 +15,18 @@ static void time_patterns(struct pass *pass, const struct data *data, uint64_t *
     ask_each(pass, data, "contains-from", (struct asking){CONTAINS_FROM, 0, 0, 5, 10, false}, answers);
 }
 
-/* The attributes of each node that a query finds, summed up. */
+/* Sums up the attributes of the nodes that a query finds. */
 static uint64_t read_found(struct pass *pass, struct query *query) {
     return has_joined_reads ? ask_joined(pass, query) : read_each(pass, nodes_found, count_found(pass, query));
 }
 
-/* The last of the first nodes that a query finds. */
+/* Returns the last of the first nodes that a query finds. */
 static uint64_t look_at_first(struct pass *pass, struct query *query) {
     size_t count = count_found(pass, query);
     return count < SHOWN ? 0 : nodes_found[SHOWN - 1];
 }
 
-/* So many of the nodes that a query finds, whichever a peer has first. */
+/* Returns how many nodes a query finds when any will do, whichever a peer finds first. */
 static uint64_t look_at_any(struct pass *pass, struct query *query) { return ask_some(pass, query, nodes_found, SHOWN); }
 
 void run_patterns(const struct data *data) {
@@ -44,7 +44,7 @@ void run_patterns(const struct data *data) {
     store_close(store);
 }
 
-/* Sets names with a front of this many bytes, in an index of their own. */
+/* Sets names with a prefix of this length, in a separate index. */
 static void fill_front(struct pass *pass, const struct data *data, uint64_t length) {
     char called[16], text[NAME_MOST];
     struct text name = {called, snprintf(called, sizeof called, "name%u", (unsigned)length)};

@@ -1,4 +1,4 @@
-/* What a peer that has it not by itself offers. */
+/* Defaults for what a peer doesn't implement itself. */
 #include "peer.h"
 
 #define WEAK __attribute__((weak))

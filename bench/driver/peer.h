@@ -1,5 +1,5 @@
-/* What a peer offers to the driver: a store of nodes with attributes, indices, snapshots and queries.
- * A peer that finds no memory, or is refused by the library that it stands on, ends the process. */
+/* What a peer offers the driver: a store of nodes with attributes, indices, snapshots and queries. If a peer is out of memory, or
+ * its library refuses something, it ends the process. */
 #ifndef PEER_H
 #define PEER_H
 #include <stdbool.h>
@@ -8,21 +8,21 @@
 #include "text.h"
 
 struct store;
-struct pass; /* one thread's hold on a store */
+struct pass; /* one thread's handle on a store */
 
-/* BUSY: another pass is writing. FULL: pins keep the pages that are needed. */
+/* BUSY: another pass is writing. FULL: pins hold the pages that are needed. */
 enum outcome { DONE, BUSY, FULL };
 
-/* A store, and its pass of a number below `passes`. Closing takes the passes back. */
+/* Opens a store; its passes have numbers below `passes`. Closing the store takes the passes back. */
 struct store *store_open(uint64_t pages, int passes);
 struct pass *store_pass(struct store *store, int number);
 void store_close(struct store *store);
 
-/* How many bytes the store's pages have that aren't free. */
+/* Returns how many bytes the store's pages have, except for free ones. */
 uint64_t bytes_used(struct store *store);
 
-/* Each write is a commit of its own; between begin and commit up to 64 operations are one, or any number where
- * `has_long_lists`. A node that is made there has the next number, and `node` may stay as it was. */
+/* Each write is a separate commit. Between begin and commit, up to 64 operations are one commit, or any number if
+ * `has_long_lists` is set. A node that is made there gets the next number, and `node` may stay unset. */
 extern const bool has_long_lists;
 enum outcome begin(struct pass *pass);
 enum outcome commit(struct pass *pass);
@@ -31,17 +31,17 @@ enum outcome make_node(struct pass *pass, uint64_t *node);
 enum outcome drop_node(struct pass *pass, uint64_t node);
 enum outcome set(struct pass *pass, uint64_t node, struct text name, const struct value *value);
 
-/* A snapshot, on which the pass then asks. */
+/* Pins a snapshot, which the pass then reads. */
 void pin(struct pass *pass);
 void unpin(struct pass *pass);
 
-/* Makes ready what a query needs once, for a pass that asks it then. */
+/* Prepares once what a query needs, for the pass that then runs it. */
 void prepare(struct pass *pass, struct query *query);
 
-/* The nodes of a query, ascending: up to `most` of them. How many there are. */
+/* Writes a query's nodes in ascending order, up to `most` of them. Returns how many there are. */
 size_t ask(struct pass *pass, struct query *query, uint64_t *nodes, size_t most);
 
-/* Any `most` of a query's nodes, in any order, where there are so many. How many there are. */
+/* Writes any `most` of a query's nodes, in any order, or all if there are fewer. Returns how many. */
 size_t ask_some(struct pass *pass, struct query *query, uint64_t *nodes, size_t most);
 
 /* A place in an order: a number, or none in an order of texts, and a node. */
@@ -50,18 +50,19 @@ struct place {
     uint64_t node;
 };
 
-/* A page: the first `most` nodes of a query by falling numbers, or texts, of a name that has an index, and then by falling nodes;
- * those after a place, if there is one. `hits`: about how many nodes the query has, so that a peer may choose its way. */
+/* Reads a page: a query's first `most` nodes by descending numbers, or texts, of an indexed name, and then by descending nodes.
+ * If there is a place, only the nodes after it count. `hits` is about how many nodes the query has, so that a peer can choose its
+ * method. */
 size_t ask_page(struct pass *pass, struct query *query, struct text by, const struct place *after, uint64_t hits, uint64_t *nodes, size_t most);
 
-/* All attributes of each of some nodes, or of those that a query finds where a peer is faster so: numbers, and the lengths of
- * texts, summed up. */
+/* Reads all attributes of each of these nodes, or of those that a query finds if that is faster for a peer. Returns the sum of
+ * the numbers and the lengths of the texts. */
 extern const bool has_attributes, has_joined_reads;
 uint64_t read_each(struct pass *pass, const uint64_t *nodes, size_t count);
 uint64_t ask_joined(struct pass *pass, struct query *query);
 
 bool get_number(struct pass *pass, uint64_t node, struct text name, int64_t *number);
 
-/* Lets go of what `ask` has prepared for a query. */
+/* Releases what `ask` has prepared for a query. */
 void forget(struct query *query);
 #endif

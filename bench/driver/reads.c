@@ -1,4 +1,4 @@
-/* Queries and reads of one thread on one pin, and pins. */
+/* Queries and reads by one thread on one pin, and pins. */
 #include <stdlib.h>
 
 #include "asking.h"
@@ -69,7 +69,7 @@ void run_reads(const struct data *data) {
     store_close(store);
 }
 
-/* One node by its text again, with 32 indices in the store. */
+/* Again one node by its text, with 32 indices in the store. */
 void run_indices(const struct data *data) {
     struct store *store = open_store(1);
     struct pass *pass = store_pass(store, 0);

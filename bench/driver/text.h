@@ -1,4 +1,4 @@
-/* Texts and values, as the driver hands them to a peer. */
+/* Texts and values as the driver passes them to a peer. */
 #ifndef TEXT_H
 #define TEXT_H
 #include <stddef.h>

@@ -1,4 +1,4 @@
-/* Readers and writers at once, each on a thread of its own, for this many seconds. */
+/* Readers and writers at the same time, each in its own thread, for a number of seconds. */
 #include <pthread.h>
 #include <sched.h>
 #include <stdio.h>
@@ -12,7 +12,7 @@
 #define TEXTS 1024
 #define MOST 4096
 
-/* What a thread does until `end`, and how often it did so: on a line of the cache of its own. */
+/* What a thread does until `end`, and how many times it did it. Each job has its own cache line. */
 struct job {
     _Alignas(64) struct pass *pass;
     const struct data *data;
@@ -20,7 +20,7 @@ struct job {
     uint64_t random, count;
 };
 
-/* Sets a size at last, however often it is refused meanwhile, if time isn't over before. */
+/* Sets a size, retrying until it is accepted or the time is over. Returns whether it was. */
 static bool set_at_last(struct job *job) {
     do {
         switch (set_random_size(job->pass, job->data->nodes, &job->random)) {
@@ -39,7 +39,7 @@ static void *write_on(void *argument) {
     return NULL;
 }
 
-/* Pins, asks for a hundred nodes, and unpins. */
+/* Repeatedly pins, runs a query for a hundred nodes, and unpins. */
 static void *ask_on(void *argument) {
     struct job *job = argument;
     struct asked *texts = malloc(TEXTS * sizeof *texts);
@@ -75,7 +75,7 @@ static void *pin_on(void *argument) {
 
 typedef void *work(void *argument);
 
-/* So many readers and writers at once, the writers by the first passes. The counts of reads and of commits. */
+/* Runs this many readers and writers at once; the writers have the first passes. Counts the reads and the commits. */
 static void play(struct store *store, const struct data *data, double seconds, work *reading, int readers, int writers, uint64_t counts[2]) {
     pthread_t threads[READERS + 2];
     struct job jobs[READERS + 2];

@@ -1,4 +1,4 @@
-/* The workloads. Each opens a store of its own and prints its cases. */
+/* The workloads. Each opens its own store and prints its cases. */
 #ifndef WORKLOADS_H
 #define WORKLOADS_H
 #include "data.h"
@@ -16,9 +16,11 @@ void run_held(const struct data *data);
 void run_threads(const struct data *data, double seconds);
 void run_open(uint64_t pages);
 
-/* How much the process's memory grows by an operation: of so many lists, after as many before. */
+/* Measures how much the process's memory grows per operation, over this many batches after as many
+ * before. */
 void run_journal(uint64_t lists, uint64_t operations);
 
-/* The median and the worst of so many commits. They are made twice, and of each the shorter time counts. */
+/* Measures the median and the maximum of this many commits. They are made twice, and each one's
+ * shorter time counts. */
 void run_pauses(const struct data *data, uint64_t commits);
 #endif

@@ -1,4 +1,4 @@
-/* Writes of one thread, each a commit of its own, or 64 in one. */
+/* Writes by one thread, as one commit each, or 64 in one commit. */
 #include <stdlib.h>
 
 #include "asked.h"
@@ -35,7 +35,7 @@ static void set_lists(struct pass *pass, const struct data *data) {
     say_each("list", start, 64 * lists);
 }
 
-/* As many new names in each list as it has sets, on a node of its own each time. */
+/* Makes batches that set only new names, each on its own node. */
 static void set_new_names(struct pass *pass, const struct data *data, const char *label, int names) {
     uint64_t nodes[LISTS], lists = share(data, LISTS);
     for (uint64_t i = 0; i < lists; i++) must(make_node(pass, &nodes[i]));
@@ -53,7 +53,7 @@ static void set_new_names(struct pass *pass, const struct data *data, const char
     for (uint64_t i = 0; i < lists; i++) must(drop_node(pass, nodes[i]));
 }
 
-/* What the writes have made: each node's size, and the nodes by the index of sizes. */
+/* Reads what the writes have made: each node's size, and the nodes by the index on size. */
 static void look_at_all(struct pass *pass, const struct data *data) {
     uint64_t answers = NO_ANSWERS, *found = malloc(data->nodes * sizeof *found);
     struct query query;

@@ -1,5 +1,5 @@
-/* bestore through its library for C: what bestore.h costs beside the same calls in Rattle. A query's text is parsed by bestore
- * and kept prepared; each write outside begin and commit is a write of one operation, and those between are one batch. */
+/* bestore through its C library: what bestore.h costs on top of the same calls in Rattle. bestore parses a query's text and keeps
+ * it prepared. Each write outside begin and commit is a write of one operation; those in between are one batch. */
 #include "../../include/bestore.h"
 
 #include <stdio.h>
@@ -28,7 +28,7 @@ static void must_do(uint32_t answer) {
     exit(1);
 }
 
-/* What a write came to. Only these two refusals are expected. */
+/* Converts a write's result. Only these two errors are expected. */
 static enum outcome outcome_of(uint32_t answer) {
     if (answer == BES_BUSY) return BUSY;
     if (answer == BES_FULL) return FULL;
@@ -63,7 +63,7 @@ uint64_t bytes_used(struct store *store) {
 
 static uint32_t kind_code(enum kind kind) { return kind == IS_NUMBER ? BES_INT64_TYPE : BES_STRING_TYPE; }
 
-/* An operation, whose name and value stand side by side in bytes. */
+/* Makes an operation whose name and value are next to each other in `bytes`. */
 static bes_operation operation_of(uint32_t kind, uint64_t node, size_t name_length) {
     bes_operation it = {.kind = kind, .node = node, .name_length = name_length, .value_at = name_length};
     return it;
@@ -179,12 +179,12 @@ size_t ask_page(struct pass *pass, struct query *query, struct text by, const st
     return count;
 }
 
-/* A number, or how long a text is; 0 where there is none. */
+/* Returns a number, or a text's length, or 0 if there is no value. */
 static uint64_t weight_of(const bes_cell *cell) { return cell->code == BES_INT64_TYPE ? cell->number : cell->length; }
 
 enum { WIDTH = 5, PART = 128 };
 
-/* The names of a file's attributes, by ascending bytes. */
+/* Returns the names of a file's attributes, in ascending order of bytes. */
 static const bes_name *checked_names(void) {
     static const char *const names[WIDTH] = {"kind", "modified", "name", "owner", "size"};
     static bes_name checked[WIDTH];

@@ -1,9 +1,9 @@
-/* What LMDB's adapter and the model share: numbers in keys, and how far a walk over an index goes. */
+/* What LMDB's adapter and the model share: numbers in keys, and the bounds of a walk over an index. */
 #ifndef KEYS_H
 #define KEYS_H
 #include "../driver/query.h"
 
-/* Keys have numbers with the highest byte first, so that they sort as the numbers do. */
+/* Keys store numbers with the highest byte first, so that they sort as the numbers do. */
 static inline void put_number(uint8_t *to, uint64_t number) {
     number = __builtin_bswap64(number);
     __builtin_memcpy(to, &number, 8);
@@ -15,7 +15,7 @@ static inline uint64_t take_number(const uint8_t *from) {
     return __builtin_bswap64(number);
 }
 
-/* The first key of a walk, and the bytes that no key of it goes beyond. How long both are. */
+/* Writes a walk's first key, and the bytes that none of its keys exceeds. Returns the length of both. */
 static inline size_t walk_bounds(const struct query *query, enum kind kind, uint8_t *from, uint8_t *to) {
     const struct comparison *pick = &query->comparisons[query->pick];
     size_t length = is_scan(pick) ? 0 : pick->text.length;
@@ -32,11 +32,11 @@ static inline size_t walk_bounds(const struct query *query, enum kind kind, uint
     return length;
 }
 
-/* Whether a comparison is asked of each node that a walk finds: it isn't picked, and doesn't bound the walk. */
+/* Whether a comparison has to be checked at each node that a walk finds: it isn't picked, and doesn't bound the walk. */
 static inline bool is_asked(const struct query *query, int i) {
     return !query->is_any && i != query->pick && i != query->low && i != query->high;
 }
 
-/* The text in an index key, before a zero and the node. */
+/* Returns the text in an index key, which is followed by a zero byte and the node. */
 static inline struct text key_text(const uint8_t *key, size_t length) { return (struct text){(const char *)key, length - 9}; }
 #endif

@@ -1,5 +1,5 @@
-/* LMDB: an environment in memory (/dev/shm), with no syncs. A catalog of (node, name) to value, and a database for each
- * index, with keys (value, node). A commit is a transaction, a pin a reading one. */
+/* LMDB: an environment in memory (/dev/shm), without syncs. A catalog maps (node, name) to value, and each index has a database
+ * with keys (value, node). A commit is a transaction, and a pin is a read transaction. */
 #include <lmdb.h>
 #include <stdio.h>
 #include <stdlib.h>
@@ -51,7 +51,7 @@ static MDB_val catalog_key(uint8_t *to, uint64_t node, struct text name) {
     return (MDB_val){8 + name.length, to};
 }
 
-/* A stored value: its kind, and then the number or the text. */
+/* Encodes a stored value: its kind, and then the number or the text. */
 static MDB_val stored(uint8_t *to, const struct value *value) {
     to[0] = value->kind;
     if (value->kind == IS_NUMBER) {
@@ -62,7 +62,7 @@ static MDB_val stored(uint8_t *to, const struct value *value) {
     return (MDB_val){1 + value->text.length, to};
 }
 
-/* An index key of a stored value: in the order of the values, and then of the nodes. */
+/* Encodes an index key for a stored value. Keys sort by value, and then by node. */
 static MDB_val index_key(uint8_t *to, MDB_val stored, uint64_t node) {
     const uint8_t *from = stored.mv_data;
     size_t length = stored.mv_size - 1;
@@ -203,7 +203,7 @@ enum outcome set(struct pass *pass, uint64_t node, struct text name, const struc
     MDB_dbi catalog = pass->store->catalog;
     uint8_t key_bytes[80], bytes[KEY_MOST];
     MDB_val key = catalog_key(key_bytes, node, (struct text){"", 0}), old, new = stored(bytes, value);
-    must_do(mdb_get(writing, catalog, &key, &old)); /* the node is there */
+    must_do(mdb_get(writing, catalog, &key, &old)); /* the node exists */
     key = catalog_key(key_bytes, node, name);
     struct index *index = index_of(pass->store, name);
     if (index) {
@@ -243,7 +243,7 @@ void pin(struct pass *pass) {
 
 void unpin(struct pass *pass) { mdb_txn_reset(pass->reading); }
 
-/* A cursor that the pass keeps, at the pin. */
+/* Returns a cursor that the pass keeps, moved to the pin's snapshot. */
 static MDB_cursor *renewed(struct pass *pass, MDB_cursor **cursor, MDB_dbi database) {
     if (*cursor) must_do(mdb_cursor_renew(pass->reading, *cursor));
     else must_do(mdb_cursor_open(pass->reading, database, cursor));
@@ -261,7 +261,7 @@ static bool holds(struct pass *pass, const struct comparison *it, uint64_t node)
     return value_holds(it, value.mv_data, value.mv_size);
 }
 
-/* The nodes that a walk over the picked index finds, in its order, behind `count` of them; no more than `stop` in all. */
+/* Appends the nodes that a walk over the picked index finds, in its order, after `count` of them. It stops at `stop` in total. */
 static size_t walk(struct pass *pass, const struct query *query, uint64_t *nodes, size_t count, size_t most, size_t stop) {
     const struct comparison *pick = &query->comparisons[query->pick];
     const struct index *index = index_of(pass->store, pick->name);
@@ -296,7 +296,7 @@ static uint64_t keys_in(struct pass *pass, struct text by) {
     return stat.ms_entries;
 }
 
-/* Moves a cursor to the last key before a place, or to the last one of all. */
+/* Moves a cursor to the last key before a place, or to the last of all. */
 static int move_before(MDB_cursor *cursor, const struct place *after, MDB_val *key, MDB_val *value) {
     uint8_t from[16];
     if (!after) return mdb_cursor_get(cursor, key, value, MDB_LAST);
@@ -326,7 +326,7 @@ size_t ask_page(struct pass *pass, struct query *query, struct text by, const st
     return page(pass, query, by, after, hits, nodes, most);
 }
 
-/* By a cursor, which is set to each node. */
+/* Uses a cursor, which it sets to each node. */
 uint64_t read_each(struct pass *pass, const uint64_t *nodes, size_t count) {
     MDB_cursor *cursor = renewed(pass, &pass->attributes, pass->store->catalog);
     uint64_t sum = 0;

@@ -1,6 +1,6 @@
-/* SQLite: rows (node, name, value), with a partial index for each indexed name.
- * By default one connection to a database in memory, so for one thread. With -DWAL a file in memory (/dev/shm) in WAL mode,
- * with a connection for each pass. A pin is a reading transaction. */
+/* SQLite: rows (node, name, value), with a partial index for each indexed name. By default it has one connection to a database in
+ * memory, and so only one thread. With -DWAL it uses a file in memory (/dev/shm) in WAL mode, with a connection for each pass. A
+ * pin is a read transaction. */
 #include <sqlite3.h>
 #include <stdarg.h>
 #include <stdio.h>
@@ -28,7 +28,7 @@ static const char *const texts[STATEMENTS] = {
     [GET] = "SELECT value FROM attribute WHERE node = ?1 AND name = ?2",
 };
 
-/* What a query needs once: a statement by its text. */
+/* What a query needs once: a statement, by its text. */
 struct kept {
     char *text;
     sqlite3_stmt *statement;
@@ -177,7 +177,7 @@ uint64_t bytes_used(struct store *store) { return pragma(store, "PRAGMA page_cou
 
 /* Reads */
 
-/* The snapshot is taken by the first read. */
+/* The first read takes the snapshot. */
 void pin(struct pass *pass) {
     run(pass, PIN);
     run(pass, LOOK);
@@ -198,7 +198,7 @@ static void add(struct words *words, const char *form, ...) {
     if (words->length >= (int)sizeof words->text) exit(1);
 }
 
-/* Case matters in GLOB and in instr. */
+/* GLOB and instr are case-sensitive. */
 static void add_comparison(struct words *words, const struct comparison *it, char table) {
     static const char *const signs[] = {[EQUAL] = "=", [OTHER] = "<>", [BELOW] = "<", [UP_TO] = "<=", [ABOVE] = ">", [FROM] = ">="};
     int at = ++words->arguments;
@@ -216,7 +216,7 @@ static void add_other(struct words *words, const struct comparison *it) {
     add(words, ")");
 }
 
-/* All comparisons of one name, joined by OR. */
+/* Adds all comparisons of one name, joined by OR. */
 static void add_any(struct words *words, const struct query *query) {
     for (int i = 0; i < query->count; i++) {
         add(words, i ? " OR " : " AND (");
@@ -251,7 +251,7 @@ static void bind_text(sqlite3_stmt *statement, int at, struct text text) {
     sqlite3_bind_text(statement, at, text.bytes, text.length, SQLITE_STATIC);
 }
 
-/* The text of a front, and the first after all that have it. */
+/* Binds a prefix, and the first text after all texts that have it. */
 static void bind_front(sqlite3_stmt *statement, struct text text, int *at) {
     char above[256];
     memcpy(above, text.bytes, text.length);
@@ -273,7 +273,7 @@ static sqlite3_stmt *compile(struct pass *pass, const struct words *words) {
     return statement;
 }
 
-/* The statement with such a text that the pass keeps. */
+/* Returns the statement with this text that the pass keeps. */
 static sqlite3_stmt *kept_statement(struct pass *pass, const struct words *words) {
     for (int i = 0; i < pass->kept_count; i++)
         if (!strcmp(pass->kept[i].text, words->text)) return pass->kept[i].statement;
@@ -292,7 +292,7 @@ void prepare(struct pass *pass, struct query *query) {
     query->is_kept = true;
 }
 
-/* The query's own statement, with its values. */
+/* Returns the query's own statement, with its values bound. */
 static sqlite3_stmt *bound(struct pass *pass, struct query *query) {
     int at = 1;
     if (!query->prepared) {
@@ -323,7 +323,7 @@ size_t ask_some(struct pass *pass, struct query *query, uint64_t *nodes, size_t 
     return step_through(pass, bound(pass, query), nodes, most, most);
 }
 
-/* One statement for each form of query, with the order and the limit. */
+/* Uses one statement for each form of query, with the order and the limit. */
 size_t ask_page(struct pass *pass, struct query *query, struct text by, const struct place *after, uint64_t hits, uint64_t *nodes, size_t most) {
     static const char *const joined = "SELECT a.node FROM attribute a JOIN attribute o ON o.node = a.node AND o.name = 'size'";
     bool is_picked = pick_name(query, by);
@@ -342,7 +342,7 @@ size_t ask_page(struct pass *pass, struct query *query, struct text by, const st
     return step_through(pass, statement, nodes, most, most);
 }
 
-/* One statement for the query and the attributes of what it finds: faster than one for each node. */
+/* Uses one statement for the query and the attributes of what it finds. This is faster than one per node. */
 uint64_t ask_joined(struct pass *pass, struct query *query) {
     struct words words = words_of(query, values_selected);
     sqlite3_stmt *statement = kept_statement(pass, &words);

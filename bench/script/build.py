@@ -1,5 +1,5 @@
-"""Builds the peers by the C compiler, and bestore's program over what the gate has proved, or else by the command rt in a copy of
-the repository."""
+"""Builds the peers with the C compiler. Builds bestore's program on what the gate has proved, or else with the command rt in a
+copy of the repository."""
 from __future__ import annotations
 
 import glob
@@ -23,7 +23,7 @@ LINE = "bench_store tests_may=Threads+Wait: arrayvec be_value be_query be_volume
 
 
 def built_programs(folder: str, given: dict[str, str], names: Iterable[str] = TITLES) -> dict[str, str]:
-    """The path of each of the named peers' programs that could be built. Those that are given are taken as they are."""
+    """Returns the path of each named peer's program that could be built. Given programs are used as they are."""
     os.makedirs(folder, exist_ok=True)
     programs = dict(given)
     for peer in PEERS:
@@ -38,7 +38,7 @@ def built_programs(folder: str, given: dict[str, str], names: Iterable[str] = TI
 
 
 def built_peak(folder: str) -> str:
-    """The program that tells of another one's memory."""
+    """Returns the program that measures another one's memory."""
     program = os.path.join(folder, "peak")
     compile_c(program, [f"{BENCH}/peak.c"])
     return program
@@ -49,7 +49,7 @@ def compile_c(program: str, words: list[str]) -> None:
 
 
 def has_library(peer: Peer) -> bool:
-    """Whether the compiler finds the peer's library."""
+    """Returns whether the compiler finds the peer's library."""
     words = ["cc", "-x", "c", "-", "-o", "/dev/null", f"-l{peer.library}"]
     return subprocess.run(words, input=b"int main(void) { return 0; }", stderr=subprocess.DEVNULL).returncode == 0
 
@@ -66,10 +66,10 @@ def build_peer(peer: Peer, folder: str) -> str | None:
 
 
 def build_ours(folder: str) -> str | None:
-    """Proves and builds the program. RT may say how the command is called.
+    """Proves and builds the program. RT may name the command.
 
-    The gate leaves libraries without the stamp by which rt knows what its own checks have kept, so rt would prove all of them once
-    more: if they are such, the program alone is proved.
+    The gate leaves libraries without the stamp that shows rt what its own checks have kept, so rt would prove all of them
+    again. With such libraries, only the program is proved.
     """
     rt = shlex.split(os.environ.get("RT", "rt"))
     if not shutil.which(rt[0]):
@@ -84,7 +84,7 @@ def build_ours(folder: str) -> str | None:
 
 
 def build_over_gate(crate: str, libraries: dict[str, list[str]]) -> str:
-    """Proves and builds the program alone, over the libraries that the gate has proved."""
+    """Proves and builds only the program, on the libraries that the gate has proved."""
     name, kit = name_in(LINE), find_rt().parent.parent
     lay_folder(f"{BENCH}/store", crate, ending=".txt")
     os.makedirs(f"{crate}/out", exist_ok=True)
@@ -99,7 +99,7 @@ def build_over_gate(crate: str, libraries: dict[str, list[str]]) -> str:
 
 
 def lay_copy(copy: str) -> str:
-    """Lays the repository and the program into a folder of their own. The program's folder there."""
+    """Copies the repository and the program into a separate folder. Returns the program's folder there."""
     names = needed_crates()
     for name in names:
         lay_folder(f"{REPOSITORY}/crates/{name}", f"{copy}/crates/{name}")
@@ -114,7 +114,7 @@ def lay_copy(copy: str) -> str:
 
 
 def lay_folder(source: str, target: str, ending: str = "") -> None:
-    """Makes a folder the same as another one, whose names lose an ending. A folder out/ stays as it is."""
+    """Makes a folder the same as another, whose file names lose a suffix. A folder out/ stays as it is."""
     os.makedirs(target, exist_ok=True)
     there = {name.removesuffix(ending): f"{source}/{name}" for name in os.listdir(source) if name != "out"}
     for name in set(os.listdir(target)) - {*there, "out"}:
@@ -134,14 +134,14 @@ def remove(path: str) -> None:
 
 
 def lay_proved(source: str, target: str) -> None:
-    """Copies what is proved of a crate, where the copy's is older."""
+    """Copies what is proved of a crate, if the copy's is older."""
     if last_proved(source) > last_proved(target):
         shutil.rmtree(f"{target}/out", ignore_errors=True)
         shutil.copytree(f"{source}/out", f"{target}/out")
 
 
 def last_proved(crate: str) -> float:
-    """When a crate was checked last, or 0."""
+    """Returns when a crate was last checked, or 0."""
     kept = glob.glob(f"{crate}/out/incremental/*") + glob.glob(f"{crate}/out/rlib/stamp")
     return max(map(os.path.getmtime, kept), default=0)
 
@@ -165,7 +165,7 @@ def libraries_in(line: str) -> list[str]:
 
 
 def needed_crates() -> set[str]:
-    """The repository's crates that the program stands on."""
+    """Returns the repository's crates that the program needs."""
     below = {name_in(line): libraries_in(line) for line in crate_lines()}
     needed: set[str] = set()
     waiting = libraries_in(LINE)

@@ -1,4 +1,4 @@
-"""Programs that are built already."""
+"""Programs that are already built."""
 from __future__ import annotations
 
 import argparse
@@ -14,6 +14,6 @@ def _given(word: str) -> tuple[str, str]:
 
 
 def add_given(parser: argparse.ArgumentParser) -> None:
-    """The option by which a program is taken as it is, in place of one that is built."""
+    """Adds the option that makes a program be used as it is instead of being built."""
     parser.add_argument("--program", type=_given, action="append", default=[], metavar="NAME=PATH",
                         help="takes this program for a peer, and builds none for it")

@@ -18,7 +18,7 @@ COMMITS = 1_000_000
 
 
 class Results:
-    """The values of each round, by peer, number of nodes and case; and how busy the machine was."""
+    """The values of each round, by peer, number of nodes and case, and how busy the machine was."""
 
     def __init__(self, nodes: int) -> None:
         self.values: defaultdict[tuple[str, int, str], list[float]] = defaultdict(list)
@@ -29,11 +29,11 @@ class Results:
         self.values[peer, nodes, case].append(value)
 
     def of(self, peer: str, case: str, nodes: int | None = None) -> list[float]:
-        """The values of a case, for the number of nodes that the table is of, or for another one."""
+        """Returns a case's values, for the table's number of nodes or for another."""
         return self.values.get((peer, nodes or self.nodes, case), [])
 
     def best(self, peer: str, case: str, nodes: int | None = None) -> float | None:
-        """The best of the rounds, or none."""
+        """Returns the best of the rounds, or None."""
         values = self.of(peer, case, nodes)
         if not values:
             return None
@@ -58,7 +58,7 @@ class Results:
 
 
 def is_rate(case: str) -> bool:
-    """Whether a case's value is so many in a second, and not a time or a size."""
+    """Returns whether a case's value is a rate per second, not a time or a size."""
     return case.startswith(("readers-", "commits-", "writers-", "mixed-rate"))
 
 
@@ -71,7 +71,7 @@ def all_workloads(most: int, milliseconds: int) -> list[Workload]:
 
 
 def measure(programs: dict[str, str], peak: str, rounds: int, milliseconds: int, most: int) -> Results:
-    """What the programs print, each workload by one peer after the other. `peak` tells of a program's memory."""
+    """Returns what the programs print. For each workload, the peers run one after another. `peak` measures a program's memory."""
     results = Results(min(most, NODES))
     peers = [peer for peer in PEERS if peer.name in programs]
     for number in range(1, rounds + 1):
@@ -91,7 +91,7 @@ def measure(programs: dict[str, str], peak: str, rounds: int, milliseconds: int,
 
 
 def keep_workload(results: Results, peer: Peer, workload: Workload, said: Said) -> None:
-    """Cases of the sizes that the plot shows are kept by their number of nodes, all others as of that of the table."""
+    """Cases of the sizes that the plot shows are kept by their number of nodes. All others count for the table's number."""
     nodes = workload.nodes if workload.name in ("writes", "reads") else results.nodes
     if workload.case:
         said = [(workload.case, value) for _, value in said]
@@ -99,7 +99,7 @@ def keep_workload(results: Results, peer: Peer, workload: Workload, said: Said) 
 
 
 def measure_opening(results: Results, name: str, program: list[str]) -> None:
-    """The time that opening takes, and the process's memory at its peak."""
+    """Measures how long opening takes, and the process's peak memory."""
     for pages in POOLS:
         said = dict(run([*program, "open", str(pages)]))
         results.add(name, results.nodes, f"open-{pages}", said["open"])
@@ -107,7 +107,7 @@ def measure_opening(results: Results, name: str, program: list[str]) -> None:
 
 
 def measure_journal(results: Results, name: str, program: str) -> None:
-    """The memory that an operation leaves, by how many there are in a list, and the worst of many commits."""
+    """Measures the memory that an operation leaves, by the number of operations in a batch, and the slowest of many commits."""
     for count in LISTS:
         said = dict(run([program, "journal", str(OPERATIONS // count), str(count)]))
         results.add(name, results.nodes, f"journal-{count}", said["journal"])
@@ -120,7 +120,7 @@ def keep(results: Results, name: str, nodes: int, workload: str, said: Said) -> 
 
 
 def stop_on_other_answers(results: Results) -> None:
-    """Ends where a peer, or a round, has answered otherwise than the first one."""
+    """Ends the program if a peer, or a round, has answered differently from the first."""
     first: dict[tuple[int, str], tuple[str, float]] = {}
     for (peer, nodes, case), values in results.values.items():
         if case.endswith("-answers"):
@@ -130,7 +130,7 @@ def stop_on_other_answers(results: Results) -> None:
 
 
 def run(words: list[str]) -> Said:
-    """The cases and values that a program prints."""
+    """Returns the cases and values that a program prints."""
     ended = subprocess.run(words, stdout=subprocess.PIPE, text=True)
     if ended.returncode != 0:
         sys.exit(f"{' '.join(words)} has ended with status {ended.returncode}")
@@ -138,5 +138,5 @@ def run(words: list[str]) -> Said:
 
 
 def values_in(lines: Iterable[str]) -> Said:
-    """Of lines `CASE VALUE`, or `CASE VALUE COUNT`."""
+    """Parses lines `CASE VALUE` or `CASE VALUE COUNT`."""
     return [(fields[0], float(fields[1])) for fields in map(str.split, lines)]

@@ -1,4 +1,4 @@
-"""The peers, and how each is built; and the workloads."""
+"""The peers, how each is built, and the workloads."""
 from dataclasses import dataclass, field
 
 OURS = "bestore"
@@ -24,7 +24,7 @@ class Peer:
 
 @dataclass(frozen=True)
 class Workload:
-    """What a program is called with. Where `case` has a text, it is the name of the only case that the program prints."""
+    """What a program is called with. If `case` has a text, it names the only case that the program prints."""
 
     name: str
     nodes: int
@@ -36,12 +36,12 @@ class Workload:
         return [self.name, str(self.nodes), str(self.other)]
 
     def fits(self, peer: Peer) -> bool:
-        """Whether a peer has what the workload needs."""
+        """Returns whether a peer has what the workload needs."""
         return peer.has_threads or not self.needs_threads
 
 
 def single_workloads(most: int) -> list[Workload]:
-    """The workloads that run with one number of nodes: at most so many."""
+    """Returns the workloads that run with one number of nodes: up to this many."""
     nodes = min(NODES, most)
     return [
         Workload("indices", nodes),

@@ -1,4 +1,4 @@
-"""A plot of speed by the number of nodes and by the number of readers, as SVG."""
+"""Plots speed by the number of nodes and by the number of readers, as SVG."""
 from __future__ import annotations
 
 import math
@@ -13,7 +13,7 @@ READERS = [1, 2, 4]
 
 
 class Panel:
-    """Lines over places on a line, both axes by logarithms. Values are thousands in a second."""
+    """Lines in a plot with two logarithmic axes. Values are thousands per second."""
 
     def __init__(self, title: str, below: str, places: Sequence[int]) -> None:
         self.title, self.below, self.places = title, below, places
@@ -53,7 +53,7 @@ class Panel:
 
 
 def ticks(low: float, high: float) -> Iterator[float]:
-    """1, 2, 5, 10 and so on, between two powers of ten."""
+    """Yields 1, 2, 5, 10 and so on, between two powers of ten."""
     for power in range(math.floor(low), math.ceil(high) + 1):
         for digit in (1, 2, 5):
             if 10**low <= digit * 10**power <= 10**high:

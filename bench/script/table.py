@@ -1,4 +1,4 @@
-"""The table: a row for each case, a column for each peer."""
+"""The table: a row for each case and a column for each peer."""
 from __future__ import annotations
 
 import sys
@@ -95,12 +95,12 @@ CASES = {
 
 
 def number(value: float) -> str:
-    """Three digits, or all before the point."""
+    """Formats three digits, or all digits before the point."""
     return f"{value:.0f}" if value >= 100 else f"{value:.3g}"
 
 
 def shown(case: str, value: float) -> str:
-    """A value with its unit."""
+    """Formats a value with its unit."""
     if is_rate(case):
         return f"{number(value / 1e3)} k/s"
     if case.startswith("peak-"):
@@ -114,7 +114,7 @@ def shown(case: str, value: float) -> str:
 
 
 def gain(case: str, ours: float, other: float) -> float:
-    """How many times as fast, or as small, bestore is."""
+    """Returns how many times faster, or smaller, bestore is."""
     return ours / other if is_rate(case) else other / ours
 
 
@@ -128,7 +128,7 @@ def cell(results: Results, peer: str, case: str) -> str:
 
 
 def spread(results: Results, case: str) -> str:
-    """The worst of bestore's rounds by the best."""
+    """Returns bestore's worst round relative to its best."""
     values = results.of(OURS, case)
     return f"{max(values) / min(values):.2f}" if values and min(values) > 0 else ""
 
@@ -148,12 +148,12 @@ def table_lines(results: Results) -> Iterator[str]:
 
 
 def write_table(results: Results, path: str) -> None:
-    """Puts the table between the two marks of a document that are its own."""
+    """Puts the table between its two marks in a document."""
     write_between(path, "table", list(table_lines(results)))
 
 
 def write_between(path: str, name: str, lines: list[str]) -> None:
-    """Puts lines in the place of those between the two marks with a name, in a document."""
+    """Replaces the lines between the two marks with this name in a document."""
     first, last = f"<!-- {name} -->\n", f"<!-- end of the {name} -->\n"
     with open(path) as file:
         before, mark, rest = file.read().partition(first)

@@ -1,6 +1,6 @@
-/* What programs that were built with an earlier libbestore.so.0 rely on: its calls, the layout of the structs that they take,
- * and the numbers of its constants. tests/abi compiles this with the header and links it with the library. A line may be
- * added, when the library gets a call or a constant. A line that has to change or go needs a new soname, and so a new file. */
+/* What programs built with an earlier libbestore.so.0 rely on: its calls, the layout of the structs that they take, and the
+ * values of its constants. tests/abi compiles this with the header and links it with the library. Lines may be added when the
+ * library gets a call or a constant. If a line has to change or go, the library needs a new soname, and so a new file. */
 #include "bestore.h"
 
 #define CALL(name, ...) \

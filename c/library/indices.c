@@ -8,19 +8,27 @@ bool bes_is_number_code(uint32_t code)
     return bits_of(code) > 0;
 }
 
+/* Finds an index in a list of the pinned snapshot's indices, which it fills. */
+static uint32_t find_index(bes_pass *pass, const char *name, bes_index_list *list, const bes_operation **index)
+{
+    uint32_t error = bes_list_indices(pass, list);
+    if (error != BES_OK)
+        return error;
+    *index = bes_index_named(list, name, strlen(name));
+    return *index == NULL ? BES_NO_INDEX : BES_OK;
+}
+
 uint32_t bes_pairs(bes_pass *pass, const char *name, uint64_t *count)
 {
     bes_item items[3] = {{BES_ITEM_ATTRIBUTE, 0, 0, 0}, {BES_ITEM_TEXT, 0, 1, 0}, {BES_ITEM_EQ, 0, 0, 0}};
     uint8_t bytes[1 + 63] = "*";
     bes_index_list list;
-    const bes_operation *index;
+    const bes_operation *index = NULL;
     uint64_t none = 0;
-    uint32_t error = bes_list_indices(pass, &list);
+    uint32_t error = find_index(pass, name, &list, &index);
     *count = 0;
     if (error != BES_OK)
         return error;
-    if ((index = bes_index_named(&list, name, strlen(name))) == NULL)
-        return BES_NO_INDEX;
     items[0].at = 1;
     items[0].length = index->name_length;
     memcpy(bytes + 1, name, index->name_length);
@@ -68,18 +76,16 @@ uint32_t bes_reindex(bes_pass *pass, const char *name, uint32_t attempts, uint64
 {
     reindexing it = {name, 0, 0, 0, 0};
     bes_index_list list;
-    const bes_operation *index;
+    const bes_operation *index = NULL;
     uint64_t number = 0;
     uint32_t error = bes_pin(pass, &number);
     *count = 0;
+    if (error == BES_OK) {
+        error = find_index(pass, name, &list, &index);
+        bes_unpin(pass);
+    }
     if (error != BES_OK)
         return error;
-    error = bes_list_indices(pass, &list);
-    bes_unpin(pass);
-    if (error != BES_OK)
-        return error;
-    if ((index = bes_index_named(&list, name, strlen(name))) == NULL)
-        return BES_NO_INDEX;
     it.code = index->code;
     do {
         it.from = it.after;

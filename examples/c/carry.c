@@ -1,5 +1,5 @@
-/* A long-running process: two threads write more letters than one store's journal can hold. When a store is full, its state is carried to
- * a new store, and the threads continue there. A snapshot of the first store can still be read. */
+/* A long-running process: two threads write more letters than one store's journal can hold. When a store is full, its state is
+ * carried on to a new store, and the threads continue there. A snapshot of the first store can still be read. */
 #include "bestore.h"
 #include <pthread.h>
 #include <stdio.h>
@@ -46,7 +46,7 @@ static void carry_on(bes_pass *old, bes_pass *next)
     bes_leave(&place);
 }
 
-/* Gives the writers passes of a new store, while none of them writes. */
+/* Gives the writers passes of a new store while none of them writes. */
 static void move(office *it)
 {
     bes_pass next = BES_PASS_INIT;
@@ -94,7 +94,7 @@ static uint32_t letter_from(bes_pass *pass, bes_batch *batch, uint64_t next, voi
     return error != BES_OK ? error : bes_batch_set_text(batch, next, "MAIL:from", name);
 }
 
-/* Writes each letter by itself, and writes it again in the next store if this store is full. */
+/* Writes each letter by itself. If this store is full, writes the letter again in the next one. */
 static void *write_letters(void *arg)
 {
     writer *it = arg;

@@ -53,7 +53,7 @@ static void *watcher(void *arg)
     return NULL;
 }
 
-/* The fields that are kept for a mail. A header may have any bytes and any length; a text has only what a value may have. */
+/* A mail's fields that are kept. A header may have any bytes and any length; a text has only what a value may have. */
 typedef struct mail {
     char texts[TEXTS][256];
     bool has_text[TEXTS];

@@ -1,4 +1,4 @@
-/* A live query: prints which letters enter its result and which leave it, snapshot by snapshot. */
+/* A live query: prints which letters join its result and which leave it, snapshot by snapshot. */
 #include "bestore.h"
 #include <stdio.h>
 

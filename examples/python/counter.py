@@ -1,5 +1,5 @@
-"""Two threads file letters and count them in one attribute. By `change` no count is lost, and no letter gets the sender of the
-other thread."""
+"""Two threads file letters and count them in one attribute. With `change`, no count is lost, and no letter gets the other
+thread's sender."""
 
 import threading
 

@@ -1,4 +1,5 @@
-"""A first program of the library for Python: files a letter, and asks who wrote."""
+"""A first program with the library for Python: files a letter, and queries letters by
+sender."""
 
 import bestore
 

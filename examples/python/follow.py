@@ -4,8 +4,8 @@ import bestore
 
 
 def print_changes(store, unread, seen):
-    """Prints which letters became unread or no longer are, and what was written after the last commit number that was
-    seen. Returns the newest one."""
+    """Prints which letters became unread or no longer are, and what was written after the last commit number seen. Returns the
+    newest number."""
     with store.pin() as version:
         came, went = version.refresh(unread)
         print("unread:", "came", came, "went", went)
@@ -16,7 +16,7 @@ def print_changes(store, unread, seen):
 
 
 def carry_on(store):
-    """A new store with the same contents and its own journal."""
+    """Returns a store with the same contents and its own journal."""
     other = bestore.open()
     with store.pin() as version:
         for batch in version.state():

@@ -1,4 +1,5 @@
-"""A queue: workers claim one job each, by a change, until none is left. No two claim the same one."""
+"""A queue: workers claim one job each with a change, until none is left. No two workers claim the
+same job."""
 
 import threading
 
@@ -21,7 +22,7 @@ def claim(change):
 
 
 def work(store, claimed):
-    """Claims job after job."""
+    """Claims jobs until none is left."""
     with store:
         job = store.change(claim)
         while job is not None:

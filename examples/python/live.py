@@ -1,4 +1,4 @@
-"""Waits for what another thread writes: a live query of a store in this process.
+"""Waits for another thread's writes with a live query on a store in this process.
 
     PYTHONPATH=python BESTORE_LIBRARY=c/libbestore.so python3 examples/python/live.py
 """

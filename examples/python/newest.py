@@ -1,10 +1,11 @@
-"""The newest 20 letters of a mailbox, and then the next 20. A letter that arrives in between doesn't move others to another page."""
+"""Prints the newest 20 letters of a mailbox, and then the next 20. A letter that arrives in between doesn't move any to another
+page."""
 
 import bestore
 
 
 def file_letters(store, first, count):
-    """Files letters to ann and bob in turn, one every minute."""
+    """Files letters to ann and bob in turn, one a minute."""
     def file(change):
         letter = change.new()
         change[letter]["MAIL:to"] = "ann" if minute % 2 == 0 else "bob"

@@ -1,4 +1,5 @@
-"""Prints which letters of a server's store become unread or no longer are, as other programs write them.
+"""Prints which letters in a server's store become unread or no longer are, as other programs write
+them.
 
     PYTHONPATH=python python3 examples/python/unread.py SOCKET
 """

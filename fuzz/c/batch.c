@@ -1,14 +1,14 @@
-/* Batches of any operations: what bes_apply accepts is in the journal as it was given, what it refuses leaves nothing, and the state of
- * the store makes the same store again. An input is batches one after the other: how many operations, 12 bytes for each, how many bytes
- * they have, and these. */
+/* Random batches. What bes_apply accepts is in the journal as it was given, what it refuses leaves nothing, and the store's state
+ * rebuilds the same store. An input is a sequence of batches: the number of operations, 12 bytes for each, how many bytes they
+ * have, and these bytes. */
 #include "fuzz.h"
 
 enum { APPLIED, APPLIED_WHAT, JOURNAL };
 
-/* One more than a batch may have. */
+/* One more than a batch can have. */
 #define MOST 65
 
-/* What the parts of a batch lie in. */
+/* What the parts of a batch are in. */
 typedef struct fuzz_batch {
     bes_operation operations[MOST];
     size_t count;
@@ -64,7 +64,7 @@ static bool is_part(const bes_batch *entry, uint32_t at, uint32_t length, const 
            memcmp(entry->bytes + at, expected, expected_length) == 0;
 }
 
-/* An operation in the journal is the one that was applied, in the fields that it uses. */
+/* Checks that an operation in the journal is the one that was applied, in the fields that it uses. */
 static void is_kept(const bes_batch *entry, const bes_operation *kept, const fuzz_batch *batch, const bes_operation *it, uint64_t made)
 {
     bool has_name = it->kind >= BES_SET, has_node = it->kind <= BES_UNSET, sets = it->kind == BES_SET;
@@ -78,7 +78,7 @@ static void is_kept(const bes_batch *entry, const bes_operation *kept, const fuz
         CHECK(is_part(entry, kept->value_at, kept->value_length, batch->bytes + it->value_at, it->value_length));
 }
 
-/* The last entry of the journal is this batch, and goes as bytes and comes back. */
+/* Checks that the journal's last entry is this batch, and that it can be encoded and decoded again. */
 static void is_last_entry(bes_pass *pass, const fuzz_batch *batch, const uint64_t *made, uint64_t number)
 {
     static bes_batch entry, again;
@@ -116,7 +116,7 @@ static void apply(bes_pass *pass, const fuzz_batch *batch)
         saw(APPLIED_WHAT, batch->operations[i].kind * 8 + batch->operations[i].code % 8);
 }
 
-/* All batches of a pass's state one after another, as bytes. */
+/* Encodes all batches of a pass's state, one after another. */
 static size_t state_of(bes_pass *pass, uint8_t *bytes, size_t room)
 {
     static bes_batch batch;
@@ -131,7 +131,7 @@ static size_t state_of(bes_pass *pass, uint8_t *bytes, size_t room)
     return all;
 }
 
-/* The store's state makes a store with the same state. */
+/* Checks that the store's state makes a store with the same state. */
 static void carries_on(bes_pass *pass)
 {
     static uint8_t state[1 << 20], again[1 << 20];

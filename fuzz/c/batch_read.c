@@ -1,4 +1,5 @@
-/* Bytes of a batch by the helpers: those that are read are written again as they were, and an error is within the bytes. */
+/* Bytes of a batch, read by the helpers. If they are valid, they are encoded to the same bytes. An error has an offset within the
+ * bytes. */
 #include "fuzz.h"
 
 enum { READ, PLACED, COUNTED };

@@ -1,7 +1,7 @@
-/* What the fuzz targets in C share: how an input is taken apart, and how a run ends that shows a fault.
+/* What the C fuzz targets share: how an input is taken apart, and how a run that finds a fault ends.
  *
- * The library carries no marks of the coverage, so a target shows libFuzzer by `saw` what came of a call. An input that shows
- * something new is kept, as one that takes a new branch in the helpers is. */
+ * The library isn't instrumented for coverage, so a target reports to libFuzzer with `saw` what a call returned. An input that
+ * shows something new is kept, just as one that takes a new branch in the helpers is. */
 #ifndef FUZZ_H
 #define FUZZ_H
 
@@ -11,7 +11,7 @@
 #include <stdlib.h>
 #include <string.h>
 
-/* Ends the run with the place if the condition doesn't hold. */
+/* Ends the run and names this place if the condition doesn't hold. */
 #define CHECK(condition)                                                          \
     do {                                                                          \
         if (!(condition)) {                                                       \
@@ -25,13 +25,13 @@ int LLVMFuzzerTestOneInput(const uint8_t *input, size_t length);
 /* libFuzzer counts these as it counts branches, and clears them before each input. */
 __attribute__((used, section("__libfuzzer_extra_counters"))) static uint8_t seen[1 << 12];
 
-/* Says that a call came to something: which call it was, and a number for what came of it. */
+/* Reports a call's result: which call it was, and a number for its result. */
 static inline void saw(unsigned call, uint64_t what)
 {
     seen[(call * 128u + (unsigned)(what % 128u)) % sizeof seen] = 1;
 }
 
-/* How many bits a number has: a coarse size for `saw`. */
+/* Returns how many bits a number has: a coarse size for `saw`. */
 static inline uint64_t size_of(uint64_t number)
 {
     uint64_t bits = 0;
@@ -40,7 +40,7 @@ static inline uint64_t size_of(uint64_t number)
     return bits;
 }
 
-/* What is left of an input. At its end all that is taken is 0. */
+/* What is left of an input. At its end, everything taken is 0. */
 typedef struct fuzz_input {
     const uint8_t *bytes;
     size_t length;
@@ -54,13 +54,23 @@ static inline uint64_t take(fuzz_input *input, size_t length)
     return number;
 }
 
-/* A copy in memory of just this size, so that a read beyond its end is found. */
+/* Makes a copy of exactly this size, so that a read past its end is found. */
 static inline char *copy_of(const void *bytes, size_t length)
 {
     char *copy = malloc(length > 0 ? length : 1);
     CHECK(copy != NULL);
     memcpy(copy, bytes, length);
     return copy;
+}
+
+/* Opens a store with an index "a" of texts and an index of numbers, and with nodes 1 to 20, which have the numbers -5 to 14. */
+static inline void open_indexed(bes_pass *pass, const char *numbers)
+{
+    uint64_t node = 0;
+    CHECK(bes_open(256, 1, 1000, pass) == BES_OK);
+    CHECK(bes_make_index(pass, "a", BES_STRING_TYPE) == BES_OK && bes_make_index(pass, numbers, BES_INT64_TYPE) == BES_OK);
+    for (int64_t number = -5; number < 15; number++)
+        CHECK(bes_new_node(pass, &node) == BES_OK && bes_set_int64(pass, node, numbers, number) == BES_OK);
 }
 
 #endif

@@ -1,6 +1,6 @@
-/* A predicate's items, whatever their numbers and parts are: each call takes or refuses them alike, and those that are taken have a
- * canonical text that stands for the same query. An item has six bytes: its kind, and three for where its bytes are and how many, or its
- * number; the bytes follow the last one. */
+/* A predicate's items with any numbers and parts. Each call accepts or refuses them alike, and the accepted ones have a canonical
+ * text for the same query. An item has six bytes: its kind, and its number or the position and length of its bytes. The bytes
+ * follow the last item. */
 #include "fuzz.h"
 
 enum { PREPARED, QUERIED, PLACED };
@@ -12,17 +12,14 @@ static bes_pass pass = BES_PASS_INIT;
 
 static void open_store(void)
 {
-    uint64_t node = 0, number = 0;
-    CHECK(bes_open(256, 1, 1000, &pass) == BES_OK);
-    CHECK(bes_make_index(&pass, "a", BES_STRING_TYPE) == BES_OK && bes_make_index(&pass, "b", BES_INT64_TYPE) == BES_OK);
-    for (int64_t i = 0; i < 20; i++) {
-        CHECK(bes_new_node(&pass, &node) == BES_OK && bes_set_int64(&pass, node, "b", i - 5) == BES_OK);
-        CHECK(bes_set_text(&pass, node, "a", i % 2 == 0 ? "ab*" : "[b]\"") == BES_OK);
-    }
+    uint64_t number = 0;
+    open_indexed(&pass, "b");
+    for (uint64_t node = 1; node <= 20; node++)
+        CHECK(bes_set_text(&pass, node, "a", node % 2 == 1 ? "ab*" : "[b]\"") == BES_OK);
     CHECK(bes_pin(&pass, &number) == BES_OK);
 }
 
-/* Reads the items. Most kinds are those that there are, and a part begins most often within the bytes. */
+/* Reads the items. Most are of valid kinds, and most parts begin within the bytes. */
 static size_t take_items(fuzz_input *input, bes_item *items)
 {
     size_t count = (size_t)take(input, 2) % MOST, all = 0;
@@ -42,7 +39,8 @@ static bool has_place(uint32_t error)
            error == BES_NO_ITEM || error == BES_BAD_RPN || error == BES_BAD_PATTERN;
 }
 
-/* The canonical text of a predicate, if it isn't too long, is a query with that canonical text, which finds the same nodes. */
+/* Checks that a predicate's canonical text, unless it is too long, is a query with the same canonical text that finds the same
+ * nodes. */
 static void is_same_query(bes_prepared *prepared, const uint64_t *nodes, uint64_t count, uint32_t error)
 {
     static uint8_t text[ROOM], again[ROOM];

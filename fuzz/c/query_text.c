@@ -1,24 +1,22 @@
-/* A query's text: what the library parses and what the helpers read of it are the same, and its canonical text stands for itself. */
+/* A query's text: the library and the helpers read the same from it, and its canonical text is its own canonical text. */
 #include "fuzz.h"
 
 enum { PREPARED, QUERIED, COMPARED, FOUND };
 
-/* The most bytes of a canonical text that is read. */
+/* The maximum length of a canonical text that is read. */
 #define ROOM (1 << 16)
 
 static bes_pass pass = BES_PASS_INIT;
 
-/* A pinned store in which some comparisons find some nodes. */
+/* Opens and pins a store in which some comparisons find some nodes. */
 static void open_store(void)
 {
-    uint64_t node = 0, number = 0;
-    CHECK(bes_open(256, 1, 1000, &pass) == BES_OK);
-    CHECK(bes_make_index(&pass, "a", BES_STRING_TYPE) == BES_OK && bes_make_index(&pass, "size", BES_INT64_TYPE) == BES_OK);
-    for (int64_t i = 0; i < 20; i++) {
+    uint64_t number = 0;
+    open_indexed(&pass, "size");
+    for (uint32_t i = 0; i < 20; i++) {
         char text[8];
         snprintf(text, sizeof text, "a%d*b", (int)i);
-        CHECK(bes_new_node(&pass, &node) == BES_OK && bes_set_int64(&pass, node, "size", i - 5) == BES_OK);
-        CHECK(bes_set_text(&pass, node, "a", text) == BES_OK && bes_set_uint32(&pass, node, "b", (uint32_t)i) == BES_OK);
+        CHECK(bes_set_text(&pass, i + 1, "a", text) == BES_OK && bes_set_uint32(&pass, i + 1, "b", i) == BES_OK);
     }
     CHECK(bes_pin(&pass, &number) == BES_OK);
 }
@@ -33,7 +31,7 @@ static bool is_of_text(uint32_t error)
     return has_place(error) || error == BES_NOT_UTF8 || error == BES_TOO_LONG || error == BES_TOO_MANY || error == BES_TOO_DEEP;
 }
 
-/* The canonical text of a prepared query, in memory of just its size. */
+/* Returns a prepared query's canonical text, in memory of exactly its size. */
 static char *canonical_of(bes_prepared *prepared, size_t *length)
 {
     static uint8_t text[ROOM];
@@ -46,7 +44,7 @@ static char *canonical_of(bes_prepared *prepared, size_t *length)
     return copy_of(text, *length);
 }
 
-/* The helper reads any bytes to their end, and no further. Returns how many comparisons it finds. */
+/* Checks that the helper reads any bytes to their end, and no further. Returns how many comparisons it finds. */
 static size_t count_comparisons(const char *text, size_t length)
 {
     bes_comparison found;
@@ -66,15 +64,15 @@ static uint32_t opposite(uint32_t kind)
     return kinds[kind - BES_ITEM_EQ];
 }
 
-/* The parts of the bytes of two lists are the same. */
+/* Returns whether these parts of the bytes of two lists are the same. */
 static bool is_same(const bes_comparison_list *mine, uint64_t at, uint64_t end, const bes_comparison_list *theirs, uint64_t their_at,
                     uint64_t their_end)
 {
     return end - at == their_end - their_at && memcmp(mine->bytes + at, theirs->bytes + their_at, (size_t)(end - at)) == 0;
 }
 
-/* A query and its canonical text have the same comparisons in the same order; a ! turns their operators. A canonical text may be too
- * long to be a query. */
+/* Checks that a query and its canonical text have the same comparisons in the same order. A ! negates their operators. A
+ * canonical text may be too long to be a query. */
 static void compare(const char *text, size_t length, const char *canonical, size_t canonical_length)
 {
     static bes_comparison_list mine, theirs;
@@ -92,7 +90,7 @@ static void compare(const char *text, size_t length, const char *canonical, size
     }
 }
 
-/* A canonical text that isn't too long is a query, whose canonical text it is. */
+/* Checks that a canonical text, unless it is too long, is a query with this canonical text. */
 static void is_canonical(const char *canonical, size_t length)
 {
     bes_prepared prepared = BES_PREPARED_INIT;
@@ -108,7 +106,7 @@ static void is_canonical(const char *canonical, size_t length)
     }
 }
 
-/* A query asked by its text finds what it finds prepared, and nothing is written beyond the room. */
+/* Checks that a query finds the same nodes as a text and prepared, and that nothing is written past the array. */
 static void ask(const char *text, size_t length, bes_prepared *prepared)
 {
     uint64_t nodes[21], again[21], count = 0, prepared_count = 0;
@@ -138,7 +136,7 @@ static void is_prepared(const char *text, size_t length, bes_prepared *prepared)
     free(canonical);
 }
 
-/* A text that is refused is refused alike by each call, at one place. */
+/* Checks that each call refuses a text with the same error, at the same place. */
 static void is_refused(const char *text, size_t length, uint32_t error, uint64_t place)
 {
     uint64_t node = 7, count = 0;

@@ -1,10 +1,10 @@
-/* Any bytes as a name or a value of a query: the helpers make of them what the library takes and reads as itself, and write nothing
- * beyond their room. The first two bytes say how much room there is. */
+/* Any bytes as a name or a value in a query: the helpers make texts of them that the library accepts and reads as the same, and
+ * write nothing past their arrays. The first two bytes say how much room there is. */
 #include "fuzz.h"
 
 enum { CHARACTERS, NUMBER, PATTERN };
 
-/* The text of a value in a query whose only comparison it is, without its backslashes. */
+/* Returns the text of the value in a query's only comparison, without its backslashes. */
 static size_t plain_value(const char *query, size_t length, char *plain, size_t room)
 {
     static bes_comparison_list list;
@@ -18,7 +18,7 @@ static size_t plain_value(const char *query, size_t length, char *plain, size_t 
     return count;
 }
 
-/* An escaped text stands for itself in each of the ways to write it. */
+/* Checks that an escaped text is read as itself in each way to write it. */
 static void stands_for_itself(const char *text, const char *escaped)
 {
     static const char *const forms[] = {"a>=\"%s\"", "a>='%s'", "a>=%s"};
@@ -31,7 +31,7 @@ static void stands_for_itself(const char *text, const char *escaped)
     }
 }
 
-/* A helper that writes into too little room writes the front of the text, a zero byte, and no more. */
+/* Checks that a helper with too little room writes the start of the text, a zero byte, and nothing more. */
 static void is_cut(size_t (*helper)(const char *, char *, size_t), const char *text, size_t room)
 {
     char whole[3100], cut[3101];
@@ -45,7 +45,7 @@ static void is_cut(size_t (*helper)(const char *, char *, size_t), const char *t
     }
 }
 
-/* A text in either case is a pattern that the library takes. */
+/* Checks that a text in either case is a pattern that the library accepts. */
 static void is_pattern(const char *text)
 {
     bes_prepared prepared = BES_PREPARED_INIT;
@@ -62,7 +62,7 @@ static bool is_digit(char c)
     return c >= '0' && c <= '9';
 }
 
-/* What spells a number has an optional - and up to 20 digits, and is printed by the C library as the same number. */
+/* Checks that what is read as a number has an optional - and up to 20 digits, and that the C library prints the same number. */
 static void spells(const char *text, const char *escaped)
 {
     static bes_comparison_list list;

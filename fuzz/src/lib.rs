@@ -6,16 +6,16 @@ use std::os::raw::c_int;
 #[macro_export]
 macro_rules! target {
     (|$input:ident| $body:block) => {
-        /// What libFuzzer calls.
+        /// The function that libFuzzer calls.
         ///
         /// # Safety
-        /// `bytes` has `length` bytes to read.
+        /// `bytes` has to have `length` readable bytes.
         #[no_mangle]
         pub unsafe extern "C" fn LLVMFuzzerTestOneInput(bytes: *const u8, length: usize) -> std::os::raw::c_int {
             fn run($input: &[u8]) $body
             let input = match length {
                 0 => &[][..],
-                // SAFETY: libFuzzer hands over as many bytes.
+                // SAFETY: libFuzzer passes this many bytes.
                 _ => unsafe { std::slice::from_raw_parts(bytes, length) },
             };
             $crate::call(run, input)
@@ -23,13 +23,13 @@ macro_rules! target {
     };
 }
 
-/// Runs a target on an input, and returns what libFuzzer takes for its end.
+/// Runs a target on an input, and returns what libFuzzer expects.
 pub fn call(run: fn(&[u8]), input: &[u8]) -> c_int {
     run(input);
     0
 }
 
-/// Takes an input apart. At its end all that is taken is 0 or empty.
+/// Takes an input apart. At its end, everything taken is 0 or empty.
 #[derive(Debug)]
 pub struct Input<'a> {
     rest: &'a [u8],
@@ -62,7 +62,7 @@ impl<'a> Input<'a> {
         u64::from_le_bytes(all)
     }
 
-    /// Takes a part, whose length is in the two bytes before it.
+    /// Takes a part. The two bytes before it are its length.
     pub fn part(&mut self) -> &'a [u8] {
         let length = u16::from_le_bytes([self.byte(), self.byte()]);
         self.bytes(length.into())

@@ -1,4 +1,4 @@
-//! Bytes of a batch, as kept files and logs have them: those that are read are written again as they were, and what a store accepts of
+//! Bytes of a batch, as in kept files and logs. If they are valid, they are encoded to the same bytes. What a store accepts of
 //! them is in its journal.
 #![no_main]
 
@@ -20,7 +20,7 @@ bestore_fuzz::target!(|input| {
     }
 });
 
-/// What an empty store accepts is in its journal, and what it refuses has left nothing.
+/// Checks that what an empty store accepts is in its journal, and that what it refuses leaves nothing.
 fn applies(batch: &Batch) {
     let limits = Limits {
         pages: 64,

@@ -1,7 +1,7 @@
-//! The rows of a kept file: a file that opens is opened again as it was left, and one that doesn't is refused with the place.
+//! The rows of a kept file. If the file opens, it opens again as it was left. If it doesn't, the error has the place.
 //!
-//! An input has the two numbers of the table `about`, the number of batches in `state`, those batches, and then the entries: what is
-//! added to the number that is due, and the batch.
+//! An input has the two numbers of the table `about`, the number of batches in `state`, and those batches. Then come the entries:
+//! what is added to the next number, and the batch.
 #![no_main]
 
 use bestore::saved::{self, Error, Saved};
@@ -24,7 +24,7 @@ bestore_fuzz::target!(|input| {
     let folder = Folder::new();
     let path = folder.0.join("fuzz.bestore");
     if write_file(&path, &mut Input::new(input)).is_err() {
-        // Two entries have one number.
+        // Two entries have the same number.
         return;
     }
     let read = bestore_types::saved::read(&path);
@@ -64,7 +64,7 @@ fn open(path: &Path) -> saved::Result<Saved> {
     saved::Options::new().limits(limits).open(path)
 }
 
-/// What is written to an opened file is there when it is opened again.
+/// Checks that what is written to an opened file is there when it is opened again.
 fn goes_on(saved: Saved, path: &Path) {
     let pass = saved.pass().expect("there is a pass");
     let written = pass.apply(Batch::new().new_node());
@@ -75,7 +75,7 @@ fn goes_on(saved: Saved, path: &Path) {
     assert_eq!(shown(&saved), before, "after the write {written:?}");
 }
 
-/// The snapshot as batches.
+/// Returns the snapshot as batches.
 fn shown(saved: &Saved) -> Vec<Batch> {
     let mut pass = saved.pass().expect("there is a pass");
     let snapshot = pass.pin().expect("the pass is pinned");
@@ -89,7 +89,7 @@ thread_local! {
     static COUNT: RefCell<u64> = RefCell::default();
 }
 
-/// A folder in memory if there is one, which is removed at the end.
+/// A folder, in memory if possible, which is removed when the run ends.
 struct Folder(PathBuf);
 
 impl Folder {

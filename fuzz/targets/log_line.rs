@@ -1,6 +1,7 @@
 //! Entries of a log: what a leader adds makes the same store at a follower, entry by entry.
 //!
-//! An input has the number of entries that the log has already, and batches as bytes, each after its length.
+//! An input has the number of entries that the log already has, and batches as bytes, each after
+//! its length.
 #![no_main]
 
 use bestore::{Batch, Limits, Store};

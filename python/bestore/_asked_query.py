@@ -41,7 +41,7 @@ class AskedQuery(LockOwner, Prepared):
 
     @property
     def text(self) -> str:
-        """Returns the canonical text, for which the library is loaded."""
+        """Returns the canonical text. This loads the library."""
         with prepare(self._asked_text()) as prepared:
             return prepared.text
 

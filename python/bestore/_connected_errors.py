@@ -2,6 +2,7 @@
 
 from __future__ import annotations
 
+from dataclasses import dataclass
 from typing import Callable, Dict, List, Optional, Tuple
 
 from . import _saved_errors
@@ -13,46 +14,39 @@ class ServerError(_OfPath):
     """The base class for errors from a connection, except errors that the library also has."""
 
 
+@dataclass(eq=False, repr=False)
 class NoServer(ServerError, ConnectionError):
     """No server can be reached at the socket. The system's error is in `__cause__`."""
 
     error_class = ErrorClass.GONE
+    _summary = "no server can be reached: {reason}; start it with `bestored --background`"
 
-    def __init__(self, path: str, reason: str) -> None:
-        super().__init__(path, reason)
-        self.reason = reason
-
-    @property
-    def summary(self) -> str:
-        return f"no server can be reached: {self.reason}; start it with `bestored --background`"
+    reason: str
 
 
+@dataclass(eq=False, repr=False)
 class OtherUser(ServerError, PermissionError):
     """The server at a default path runs neither as the effective user nor as root. Nothing was sent to it."""
 
-    def __init__(self, path: str, server_user: int, user: int) -> None:
-        super().__init__(path, server_user, user)
-        self.server_user = server_user
-        """The user that the server runs as."""
-        self.user = user
-        """The effective user of this process."""
+    _summary = (
+        "the server runs as user {server_user}, and has to run as user {user} or as root; BESTORE_SOCKET or a parameter can name the "
+        "socket of a server that you trust")
 
-    @property
-    def summary(self) -> str:
-        return (f"the server runs as user {self.server_user}, and has to run as user {self.user} or as root; BESTORE_SOCKET or a "
-                "parameter can name the socket of a server that you trust")
+    server_user: int
+    """The user that the server runs as."""
+    user: int
+    """The effective user of this process."""
 
 
+@dataclass(eq=False, repr=False)
 class BrokenConnection(ServerError):
     """The connection failed, and is closed. Each later call on its pass raises `Disconnected`."""
 
     error_class = ErrorClass.GONE
 
-    def __init__(self, path: str, reason: str, may_be_done: bool = False) -> None:
-        super().__init__(path, reason, may_be_done)
-        self.reason = reason
-        self.may_be_done = may_be_done
-        """Whether the call was a write that the server may have made. Otherwise nothing was written."""
+    reason: str
+    may_be_done: bool = False
+    """Whether the call was a write that the server may have made. Otherwise nothing was written."""
 
     @property
     def summary(self) -> str:
@@ -71,45 +65,38 @@ class ProtocolError(BrokenConnection):
     """The server sent a line that doesn't follow the protocol, or speaks another version of it."""
 
 
+@dataclass(eq=False, repr=False)
 class LineTooLong(ServerError):
     """The request is larger than 1 MiB. It wasn't sent."""
 
-    def __init__(self, path: str, length: int) -> None:
-        super().__init__(path, length)
-        self.length = length
-        """The bytes of the request."""
+    _summary = "a request has up to 1 MiB, and this one has {length} bytes; write or ask less at a time"
 
-    @property
-    def summary(self) -> str:
-        return f"a request has up to 1 MiB, and this one has {self.length} bytes; write or ask less at a time"
+    length: int
+    """The bytes of the request."""
 
 
+@dataclass(eq=False, repr=False)
 class Unavailable(ServerError):
     """The call can't be made through a server."""
 
-    def __init__(self, path: str, call: str) -> None:
-        super().__init__(path, call)
-        self.call = call
-        """The name of the call."""
+    _summary = "`{call}` can't be called through a server; only a store of this process has it"
 
-    @property
-    def summary(self) -> str:
-        return f"`{self.call}` can't be called through a server; only a store of this process has it"
+    call: str
+    """The name of the call."""
 
 
 class ServerRefusal(ServerError):
     """The server refused a request for a reason that isn't a library error, and did nothing."""
 
+    _summary = "{message}"
+
     def __init__(self, path: str, name: str, message: str, error_class: Optional[ErrorClass] = None) -> None:
-        super().__init__(path, name, message)
+        super().__init__(path)
+        self.args += name, message
         self.name = name
         """The error's name in the protocol."""
         self.message = message
         self.error_class = error_class or _class_of(name)
-
-    @property
-    def summary(self) -> str:
-        return self.message
 
 
 # surface.toml: exceptions
@@ -169,7 +156,8 @@ _REFUSALS = {kind.__name__: kind for kind in (
 
 
 def _class_of(name: str) -> ErrorClass:
-    """Returns the class of a server's own error. If the error is unknown, nothing says that the same request may succeed later."""
+    """Returns the class of a server's own error. If the error is unknown, it is assumed that the same request won't succeed
+    later."""
     known = SERVER_MEANINGS.get(name)
     return ErrorClass.MINE if known is None else known.error_class
 

@@ -18,8 +18,8 @@ _Result = TypeVar("_Result")
 
 MOST_NAMES = 64
 """The names of a request for columns."""
-_ALL = 2**64 - 1  # nodes, which is more than any store has
-_MOST_OF_A_PAGE = 50_000  # nodes of a reply
+_ALL = 2**64 - 1  # more nodes than any store has
+_MOST_OF_A_PAGE = 50_000  # nodes per reply
 
 
 class QueriedVersion(Version):
@@ -39,7 +39,7 @@ class QueriedVersion(Version):
         return parameter in self._features
 
     def _ask_query(self, command: str, asked: Query, text: str, others: JSON, read: Callable[[JSON], _Result]) -> _Result:
-        """Asks the server something about a query, sending `text` as the query."""
+        """Sends the server a request about a query, with `text` as the query."""
         try:
             return self._ask(command, {"query": text, **others}, read, asked if isinstance(asked, str) else None)
         except NotCovered as error:

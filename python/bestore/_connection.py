@@ -87,8 +87,8 @@ def _can_receive(connected: socket.socket, until: Optional[float]) -> bool:
 class Connection:
     """A connection, for one call at a time.
 
-    Once a call has been interrupted, or a line can't be read, nobody knows which line comes next, so the connection is
-    closed. An interrupt while nothing is coming leaves the connection open."""
+    Once a call has been interrupted, or a line can't be read, there is no way to know which line comes next, so the connection
+    is closed. An interrupt while nothing is arriving leaves the connection open."""
 
     def __init__(self, path: SocketPath, timeout: Optional[float], take_push: Callable[[JSON], None]) -> None:
         self.path, self._timeout, self._take_push = path.path, _limited(timeout), take_push
@@ -222,7 +222,7 @@ class Connection:
 
     def receive_pushes(self, timeout: Optional[float]) -> bool:
         """Takes what was pushed. If nothing was pushed, waits up to `timeout` seconds, or forever if `timeout` is None.
-        Returns whether a line came."""
+        Returns whether a line arrived."""
         connected = self._live_socket()
         timeout = _limited(timeout)
         until = None if timeout is None else time.monotonic() + timeout

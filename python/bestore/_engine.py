@@ -1,5 +1,5 @@
-"""The parts that need the extension and the library: handles, and batches that are built faster. A store in this process imports it; a
-client of a server doesn't."""
+"""The parts that need the extension and the library: handles, and batches that are built faster. Stores in this process import it;
+clients of a server don't."""
 
 from __future__ import annotations
 

@@ -40,7 +40,7 @@ class Read(NamedTuple):
     comparison: Comparison
     value: str  # without backslashes
     is_number: bool
-    never: FrozenSet[Kind]  # the kinds whose index has no value that makes it true
+    never: FrozenSet[Kind]  # the kinds of index in which no value makes it true
 
 
 def read(query: str) -> List[Read]:

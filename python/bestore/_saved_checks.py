@@ -1,4 +1,5 @@
-"""Finds damage to a store's file: by checksums of the rows, and by the number of the last entry, which is kept beside the file.
+"""Finds damage to a store's file. It checks the rows' checksums, and the number of the last entry, which is kept next to the
+file.
 
 docs/KEPT.md describes both.
 """
@@ -66,7 +67,7 @@ class LastEntry:
     def set(self, number: int) -> None:
         """Records that the file now has this entry."""
         if self._file is not None:
-            with suppress(OSError):  # less is known then
+            with suppress(OSError):  # the check is then weaker
                 os.pwrite(self._file, _line(self._identity, number), 0)
 
     def close(self) -> None:

@@ -2,6 +2,7 @@
 
 from __future__ import annotations
 
+from dataclasses import dataclass
 from typing import TYPE_CHECKING, Optional
 
 from ._surface import ErrorClass
@@ -27,63 +28,49 @@ class SavedError(_OfPath):
 class Foreign(SavedError):
     """The file belongs to another program. It is left unchanged."""
 
-    @property
-    def summary(self) -> str:
-        return "the file belongs to another program; name another one"
+    _summary = "the file belongs to another program; name another one"
 
 
+@dataclass(eq=False, repr=False)
 class Newer(SavedError):
     """The file has a newer format. It is left unchanged."""
 
-    def __init__(self, path: str, version: int, known: int) -> None:
-        super().__init__(path, version, known)
-        self.version = version
-        """The version of its format."""
-        self.known = known
-        """The latest version that can be read."""
+    _summary = "the file has format {version}, and format {known} is the latest known here; use a newer version of bestore"
 
-    @property
-    def summary(self) -> str:
-        return f"the file has format {self.version}, and format {self.known} is the latest known here; use a newer version of bestore"
+    version: int
+    """The version of its format."""
+    known: int
+    """The latest version that can be read."""
 
 
 class Held(SavedError):
     """Another process has the file open, or another store in this process has."""
 
     error_class = ErrorClass.RETRY
-
-    @property
-    def summary(self) -> str:
-        return "the file is open in another process or store; close it there first"
+    _summary = "the file is open in another process or store; close it there first"
 
 
 class DiskFull(SavedError):
     """The disk is full."""
 
     error_class = ErrorClass.FULL
-
-    @property
-    def summary(self) -> str:
-        return "the disk is full"
+    _summary = "the disk is full"
 
 
 class NoFile(SavedError):
     """A volume's file is missing, but a later volume's file exists."""
 
-    @property
-    def summary(self) -> str:
-        return "the file of this volume is missing, and a later volume has one; put it back"
+    _summary = "the file of this volume is missing, and a later volume has one; put it back"
 
 
+@dataclass(eq=False, repr=False)
 class Fewer(SavedError):
     """A shelf can't be opened with fewer volumes than its folder has, or without any volumes."""
 
-    def __init__(self, path: str, found: int, wanted: int) -> None:
-        super().__init__(path, found, wanted)
-        self.found = found
-        """How many the folder has."""
-        self.wanted = wanted
-        """How many were asked for, or `found` if no number was given."""
+    found: int
+    """How many the folder has."""
+    wanted: int
+    """How many were asked for, or `found` if no number was given."""
 
     @property
     def summary(self) -> str:
@@ -102,16 +89,15 @@ class SqliteError(SavedError):
         return str(self.__cause__)
 
 
+@dataclass(eq=False, repr=False)
 class _AtPlace(SavedError):
     """An error in one part of the file."""
 
-    def __init__(self, path: str, reason: str, entry: Optional[int] = None, batch: Optional[int] = None) -> None:
-        super().__init__(path, reason, entry, batch)
-        self.reason = reason
-        self.entry = entry
-        """The number of the entry, from 1, or None."""
-        self.batch = batch
-        """The batch of the state, from 0, or None."""
+    reason: str
+    entry: Optional[int] = None
+    """The number of the entry, from 1, or None."""
+    batch: Optional[int] = None
+    """The batch of the state, from 0, or None."""
 
     @property
     def place(self) -> str:
@@ -137,17 +123,14 @@ class TooLarge(_AtPlace):
     error_class = ErrorClass.FULL
 
 
+@dataclass(eq=False, repr=False)
 class Damaged(_AtPlace):
     """A part of the file has changed since it was written. If SQLite found the damage, SQLite's error is in `__cause__`."""
 
     error_class = ErrorClass.GONE
 
-    def __init__(self, path: str, reason: str, entry: Optional[int] = None, batch: Optional[int] = None,
-                 until: Optional[int] = None) -> None:
-        super().__init__(path, reason, entry, batch)
-        self.args += until,
-        self.until = until
-        """The entry up to which `be restore --until` reads the file, or None if that can't read it."""
+    until: Optional[int] = None
+    """The entry up to which `be restore --until` reads the file, or None if that can't read it."""
 
     @property
     def place(self) -> str:
@@ -161,34 +144,29 @@ class Damaged(_AtPlace):
         return f"{self.place} is damaged: {self.reason}; {advice}"
 
 
+@dataclass(eq=False, repr=False)
 class CutOff(SavedError):
     """The file ends earlier than it once did: a frame in its WAL is damaged, or the WAL is missing."""
 
     error_class = ErrorClass.GONE
+    _summary = (
+        "the file ends with entry {last}, and it has had entry {had}: {path}-wal is damaged or missing; put it back, or restore what is "
+        "left by be restore --until {last}. If the file is an older copy, remove {path}-last")
 
-    def __init__(self, path: str, last: int, had: int) -> None:
-        super().__init__(path, last, had)
-        self.last = last
-        """The last entry that it has."""
-        self.had = had
-        """The last entry that it once had."""
-
-    @property
-    def summary(self) -> str:
-        path = self.path
-        return (f"the file ends with entry {self.last}, and it has had entry {self.had}: {path}-wal is damaged or missing; put it back, "
-                f"or restore what is left by be restore --until {self.last}. If the file is an older copy, remove {path}-last")
+    last: int
+    """The last entry that it has."""
+    had: int
+    """The last entry that it once had."""
 
 
+@dataclass(eq=False, repr=False)
 class NotSaved(SavedError):
     """The write is in memory, and may or may not be in the file. The commit's error is in `__cause__`."""
 
     error_class = ErrorClass.GONE
 
-    def __init__(self, path: str, number: Optional[int]) -> None:
-        super().__init__(path, number)
-        self.number = number
-        """The commit number of the write, or None if a server didn't give it."""
+    number: Optional[int]
+    """The commit number of the write, or None if a server didn't give it."""
 
     @property
     def summary(self) -> str:

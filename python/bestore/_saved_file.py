@@ -19,7 +19,7 @@ FORMAT = 2
 """The version of the format."""
 _WITHOUT_CHECKSUMS = 1  # the version before, whose rows have none
 
-_LAST_NUMBER = 2**63 - 1  # the greatest number of an entry: SQLite's integers go no further
+_LAST_NUMBER = 2**63 - 1  # the highest number of an entry: SQLite's integers end there
 
 # The WAL is reused from its start after 1,000 pages, 4.1 MB, so the limit cuts off only what a large commit has left. The last
 # two statements take the lock.
@@ -97,7 +97,7 @@ class File:
         return None if row is None else row[0]
 
     def _take(self) -> None:
-        """Locks the file, checks whose it is, and makes the tables in an empty one, before it has a WAL that could lose them."""
+        """Locks the file, checks whose it is, and makes the tables if it is empty, before it has a WAL that could lose them."""
         with self._translated():
             assert self._connection is not None
             self._connection.text_factory = lambda text: None  # none of the columns that are read contains text
@@ -197,7 +197,7 @@ class File:
             raise Damaged(self.path, str(found).replace("\n", " "), until=last)
 
     def keep_last(self, last: int) -> None:
-        """From now on, also keeps the number of the last entry beside the file. `last` is the present number."""
+        """From now on, also keeps the number of the last entry next to the file. `last` is the present number."""
         if self.has_checksums:
             self._last = LastEntry(self.path, self._about("file"))
             self._last.begin(last)

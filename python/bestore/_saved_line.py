@@ -75,7 +75,7 @@ class Line:
         """Ends a turn, or the wait for it: passes the file on, and wakes the threads whose writes are saved."""
         try:
             self._leave(turn)
-        except BaseException:  # an interrupt, for which nobody else should have to wait
+        except BaseException:  # an interrupt, which no one else should have to wait for
             self._leave(turn)
             raise
 

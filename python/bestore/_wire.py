@@ -20,7 +20,7 @@ MOST_BYTES = 1 << 20
 """The bytes of a request, with the end of its line."""
 MOST_BYTES_OF_A_REPLY = 2 << 20
 
-JSON = Dict[str, Any]  # an object of JSON
+JSON = Dict[str, Any]  # a JSON object
 
 _KINDS = {name: KIND_OF[code] for code, name in KIND_NAMES.items()}
 _encode = json.JSONEncoder(ensure_ascii=False, separators=(",", ":")).encode
@@ -90,7 +90,7 @@ def operations_of(batch: Batch) -> List[List[object]]:
 
 
 def read_value(value: object) -> Typed:
-    """A value."""
+    """Reads a value."""
     if isinstance(value, str):
         return Typed(value, Kind.STRING)
     if isinstance(value, int) and not isinstance(value, bool):
@@ -116,7 +116,7 @@ class Compared(NamedTuple):
 
 
 def read_compared(one: JSON) -> Compared:
-    """A comparison."""
+    """Reads a comparison."""
     never = tuple(_KINDS[name] for name in one.get("never", ()))
     return Compared(str(one["name"]), str(one["value"]), int(one["offset"]), one["form"] == "number", never)
 
@@ -137,7 +137,7 @@ def read_kind(name: str) -> Kind:
 
 
 def read_operation(parts: List[Any]) -> Operation:
-    """An operation."""
+    """Reads an operation."""
     what = parts[0]
     if what == "new":
         return NewNode(*parts[1:])

@@ -14,13 +14,13 @@ from .versions import Asked, Attributes, Query, Version
 
 
 class Change(Version):
-    """What the function of `Pass.change` gets: a snapshot to read, which also collects up to 64 operations.
+    """What `Pass.change` passes to its function: a snapshot to read, which also collects up to 64 operations.
 
-    Operations are only collected; they are written after the function has returned. A node that `new` made has its
-    number immediately. `change[node]`, `get`, `kind`, `attributes` and `node in change` read the collected operations
-    first, and then the snapshot. Queries, lists of nodes, `count`, `pairs`, `indices` and `state` read only the
-    snapshot. Refresh a live query outside a change, since the function may run again. The 65th operation is a
-    `BadCount`. If a call raises, it collects nothing, and the operations collected before stay."""
+    Operations are only collected; they are written after the function has returned. A node that `new` made has its number
+    immediately. `change[node]`, `get`, `kind`, `attributes` and `node in change` read the collected operations first, and then
+    the snapshot. Queries, lists of nodes, `count`, `pairs`, `indices` and `state` read only the snapshot. Refresh a live query
+    outside a change, since the function may run again. A 65th operation raises `BadCount`. If a call raises, it collects
+    nothing, and the operations collected before it stay."""
 
     _shown: ClassVar[str] = "change"
 
@@ -34,7 +34,7 @@ class Change(Version):
 
     @abstractmethod
     def _collected(self) -> Batch:
-        """Returns the collected operations, in which new nodes have their numbers."""
+        """Returns the collected operations, with the numbers of new nodes filled in."""
 
     @property
     def room(self) -> int:
@@ -52,7 +52,7 @@ class Change(Version):
 
     @abstractmethod
     def set(self, node: int, name: str, value: Value, kind: Optional[int] = None) -> None:
-        """Sets an attribute, with the same kind as `Batch.set`. Raises `WrongKind` if the index of that name takes
+        """Sets an attribute, with the same kind as `Batch.set`. Raises `WrongKind` if the index with that name takes
         values of another kind, unless the change was made with check_kinds=False."""
 
     @abstractmethod
@@ -61,12 +61,12 @@ class Change(Version):
 
     @abstractmethod
     def make_index(self, name: str, kind: int) -> None:
-        """Makes an index of this name, for values of this kind. The index gets only attributes that are set from then
+        """Makes an index with this name, for values of this kind. The index gets only attributes that are set from then
         on; `Pass.reindex` adds earlier ones by setting them again."""
 
     @abstractmethod
     def remove_index(self, name: str) -> None:
-        """Removes the index of this name."""
+        """Removes the index with this name."""
 
     def column(self, nodes: Iterable[int], name: str) -> List[Optional[Value]]:
         return self.columns(nodes, [name])[0]

@@ -11,10 +11,10 @@ PAUSE = 0.002
 
 
 class Waiter:
-    """A thread that waits for commits: it looks, and then waits until a commit has come since `begin`.
+    """A thread that waits for commits: it looks, and then waits until there has been a commit since `begin`.
 
-    It waits for a lock, which the waking thread releases. Releasing takes no other lock, so a write may happen anywhere: in
-    a signal handler, or while Python collects an object."""
+    It waits for a lock, which the waking thread releases. Releasing takes no other lock, so a write may happen anywhere: in a
+    signal handler, or while Python collects an object."""
 
     def __init__(self, most: Optional[float]) -> None:
         self._most, self._sleep = most, threading.Lock()

@@ -68,7 +68,7 @@ TIMEOUT = 60.0
 _AGAIN = 0.05  # seconds after which a write is repeated
 _WORDS = 512  # of a page
 _MOST_WAITED = 30.0  # seconds that the server waits by itself
-_MOST_NODES = 1 << 14  # in one such request, so that its line isn't too long
+_MOST_NODES = 1 << 14  # nodes in one such request, so that its line isn't too long
 
 
 class Server(NamedTuple):
@@ -192,7 +192,7 @@ class ConnectedVersion(QueriedVersion):
         return columns
 
     def _fill(self, columns: List[List[Optional[Value]]], nodes: List[int], names: List[str]) -> None:
-        """Adds the values of all nodes to the columns of these names."""
+        """Adds the values of all nodes to the columns with these names."""
         done = 0
         while done < len(nodes):
             rows = self._first_rows(nodes[done:done + _MOST_NODES], names)
@@ -201,7 +201,7 @@ class ConnectedVersion(QueriedVersion):
             done += len(rows)
 
     def _first_rows(self, nodes: List[int], names: List[str]) -> List[List[Optional[Value]]]:
-        """Returns the values of the first nodes in this list: as many as come in one reply."""
+        """Returns the values of the first nodes in this list, as many as one reply holds."""
         def read(ok: JSON) -> List[List[Optional[Value]]]:
             rows = [read_row(row) for row in ok["rows"]]
             if not 1 <= len(rows) <= len(nodes) or any(len(row) != len(names) for row in rows):
@@ -478,7 +478,7 @@ class ConnectedPass(LockOwner, ThreadPass):
         def run() -> _Result:
             # The server itself tries again at Busy and Full.
             return super(ConnectedPass, self).change(function, attempts, check_kinds=check_kinds, tries=1, volume=volume)
-        # A write is sent again until its time is up, so what fails before that has written nothing.
+        # A write is repeated until its time is up, so what fails before that has written nothing.
         return self._until_answered(run)
 
     def _begin_change(self, check_kinds: bool, volume: Optional[int]) -> Change:

@@ -1,32 +1,41 @@
-"""The errors of the package. Each error number of bestore.h has a class of its own, which carries its details."""
+"""The package's errors. Each error number of bestore.h has its own class, with fields for its details."""
 
 from __future__ import annotations
 
 import unicodedata
+from dataclasses import dataclass, fields
 from typing import ClassVar, Dict, Iterable, Optional, Sequence, Tuple, Type
 
 from ._surface import KIND_MEMBERS, MEANINGS, ErrorClass, ErrorNumber
 
 
 class Error(Exception):
-    """Every exception that the package defines is one of these."""
+    """The base class of every exception that the package defines."""
 
     error_class: ErrorClass = ErrorClass.MINE
     """What a program can do about it."""
 
 
-class _OfPath(Error):
+@dataclass(eq=False, repr=False)
+class _Detailed(Error):
+    """An error whose parameters are its fields."""
+
+    def __post_init__(self) -> None:
+        self.args = tuple(getattr(self, field.name) for field in fields(self))
+
+
+@dataclass(eq=False, repr=False)
+class _OfPath(_Detailed):
     """An error from a file or a server. Its text begins with the path."""
 
-    def __init__(self, path: str, *others: object) -> None:
-        Exception.__init__(self, path, *others)  # instead of OSError's, which would interpret the parameters
-        self.path = path
-        """The file, or the server's socket."""
+    _summary: ClassVar[str] = "it can't be used"  # to be formatted with the fields
+    path: str
+    """The file, or the server's socket."""
 
     @property
     def summary(self) -> str:
         """What went wrong, without the path."""
-        return "it can't be used"
+        return self._summary.format_map(vars(self))
 
     def __str__(self) -> str:
         return f"{self.path}: {self.summary}"
@@ -48,30 +57,28 @@ class Nested(Error):
         return "this pass is in a change: add the operation to the change, or write through another pass"
 
 
-class TooManyAttempts(Error):
+@dataclass(eq=False, repr=False)
+class TooManyAttempts(_Detailed):
     """Other writes came between the snapshot and the commit of a change at every attempt. Nothing was written. The last
     `Conflict` is its `__cause__`."""
 
     error_class = ErrorClass.RETRY
 
-    def __init__(self, attempts: int) -> None:
-        super().__init__(attempts)
-        self.attempts = attempts
-        """How many attempts were made."""
+    attempts: int
+    """How many attempts were made."""
 
     def __str__(self) -> str:
         return f"other writes came between at each of {self.attempts} attempts; try again, or allow more"
 
 
-class NoVolume(Error):
+@dataclass(eq=False, repr=False)
+class NoVolume(_Detailed):
     """The store has no such volume, or the call has to name a volume because the store has several."""
 
-    def __init__(self, volume: Optional[int], volumes: int) -> None:
-        super().__init__(volume, volumes)
-        self.volume = volume
-        """The volume, or None if the call names none."""
-        self.volumes = volumes
-        """How many there are."""
+    volume: Optional[int]
+    """The volume, or None if the call names none."""
+    volumes: int
+    """How many there are."""
 
     def __str__(self) -> str:
         if self.volume is None:
@@ -79,29 +86,27 @@ class NoVolume(Error):
         return f"there is no volume {self.volume}; there are {self.volumes}, counted from 0"
 
 
-class OtherVolume(Error, ValueError):
+@dataclass(eq=False, repr=False)
+class OtherVolume(_Detailed, ValueError):
     """An operation names a node outside the volume that is written. Each write goes to one volume."""
 
-    def __init__(self, volume: int, operation: Optional[int]) -> None:
-        super().__init__(volume, operation)
-        self.volume = volume
-        """The volume that is written."""
-        self.operation = operation
-        """The operation, from 0."""
+    volume: int
+    """The volume that is written."""
+    operation: Optional[int]
+    """The operation, from 0."""
 
     def __str__(self) -> str:
         return (f"a node isn't in volume {self.volume}, which is written (operation {self.operation}, counted from 0); "
                 "a batch has nodes of one volume")
 
 
-class PartialIndex(Error, ValueError):
+@dataclass(eq=False, repr=False)
+class PartialIndex(_Detailed, ValueError):
     """An index has to be made in all volumes, by a batch with no other operations. A batch that names a volume may make the index in that
     volume."""
 
-    def __init__(self, operation: Optional[int]) -> None:
-        super().__init__(operation)
-        self.operation = operation
-        """The first operation that makes or removes an index, from 0."""
+    operation: Optional[int]
+    """The first operation that makes or removes an index, from 0."""
 
     def __str__(self) -> str:
         return (f"an index is made in all volumes (operation {self.operation}, counted from 0); it needs a batch without "
@@ -131,14 +136,13 @@ class NotReached(Error):
         return f"the journals have {list(self.found)} entries, and not {list(self.expected)} yet; ask again"
 
 
-class BadBytes(Error, ValueError):
+@dataclass(eq=False, repr=False)
+class BadBytes(_Detailed, ValueError):
     """The bytes aren't a valid batch."""
 
-    def __init__(self, offset: int, reason: str) -> None:
-        super().__init__(offset, reason)
-        self.offset = offset
-        """The first byte, from 0, of the part that can't be read."""
-        self.reason = reason
+    offset: int
+    """The first byte, from 0, of the part that can't be read."""
+    reason: str
 
     def __str__(self) -> str:
         return f"the bytes aren't those of a batch: {self.reason} at byte {self.offset}"
@@ -329,7 +333,7 @@ class NoNode(Refusal, KeyError, number=ErrorNumber.NO_NODE):
             self.nodes = (carried,)
 
     def _name(self, node: int, name: str) -> None:
-        """Says what was looked for."""
+        """Records what was looked for."""
         self.nodes = (node,)
 
     @property
@@ -351,7 +355,7 @@ class NoAttribute(Refusal, KeyError, number=ErrorNumber.NO_ATTRIBUTE):
     """The attribute's name."""
 
     def _name(self, node: int, name: str) -> None:
-        """Says what was looked for."""
+        """Records what was looked for."""
         self.node, self.name = node, name
 
     @property
@@ -433,7 +437,7 @@ class NoRoom(Refusal, ValueError, number=ErrorNumber.NO_ROOM):
 
 
 class WrongKind(Refusal, TypeError, number=ErrorNumber.WRONG_KIND):
-    """A change sets a value of one kind under a name whose index takes another kind, so no query would find it."""
+    """A change sets a value whose kind isn't its index's kind, so no query would find it."""
 
     name: Optional[str] = None
     """The attribute's name, if that is known, and then both kinds are."""
@@ -479,7 +483,7 @@ def bad_cursor(reason: str) -> BadCursor:
 
 
 def wrong_kind(name: str, kind: str, index_kind: str) -> WrongKind:
-    """Returns the error for a value of this kind under a name whose index takes another kind."""
+    """Returns the error for a value of this kind whose index takes another kind."""
     error = WrongKind()
     error.name, error.kind, error.index_kind = name, kind, index_kind
     return error

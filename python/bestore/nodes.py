@@ -30,7 +30,7 @@ def node_in(volume: int, number: int) -> int:
 
 
 def within(batch: Batch, volume: Optional[int] = None) -> Tuple[Optional[int], Batch]:
-    """Returns the volume to which a batch is written, and the batch with its nodes' numbers within that volume. The
+    """Returns the volume that a batch is written to, and the batch with its nodes' numbers within that volume. The
     volume is `volume` if it is given, otherwise the volume of the nodes that the operations name, or None if the
     operations name no node. Raises `OtherVolume` if an operation names a node in another volume."""
     moved = Batch()

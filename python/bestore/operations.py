@@ -157,14 +157,14 @@ class Batch:
         return self._add_encoded(UNSET, node, _name(name), 0, 0, b"")
 
     def make_index(self: _Self, name: str, kind: int) -> _Self:
-        """Makes an index of this name, for values of this kind. The index gets only attributes that are set from then on."""
+        """Makes an index with this name, for values of this kind. The index gets only attributes that are set from then on."""
         code = operator.index(kind)
         if code not in RANGES[Kind.UINT32]:
             raise NoKind()
         return self._add_encoded(MAKE_INDEX, 0, _name(name), code, 0, b"")
 
     def remove_index(self: _Self, name: str) -> _Self:
-        """Removes the index of this name."""
+        """Removes the index with this name."""
         return self._add_encoded(REMOVE_INDEX, 0, _name(name), 0, 0, b"")
 
     def add(self, operation: Operation) -> Batch:

@@ -1,4 +1,4 @@
-"""Pages from an answer in the order of an index, and cursors, from which the next page continues.
+"""Pages from an answer in the order of an index, and cursors, which the next page continues from.
 
     page = version.query("MAIL:to==ann", by="MAIL:when", descending=True, limit=50)
     older = version.query("MAIL:to==ann", by="MAIL:when", descending=True, limit=50, after=page.cursor)

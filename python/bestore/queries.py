@@ -68,7 +68,7 @@ class Prepared(Owner):
         return list(dict.fromkeys(found))
 
     def _item_names(self) -> List[str]:
-        """Returns the names among the items from which the query was made. Raises `Closed` if the query is closed."""
+        """Returns the names among the items that the query was made from. Raises `Closed` if the query is closed."""
         raise NotImplementedError
 
 

@@ -131,7 +131,7 @@ class Pass(Owner, ABC):
     """A session: one thread's handle on the store. `open` returns the first pass of a store in this process, and
     `connect` returns a pass of a server's store. `another` makes further passes.
 
-    Give each thread a pass of its own, since calls on the same pass wait for each other."""
+    Give each thread its own pass, since calls on the same pass wait for each other."""
 
     _committed: int
     _is_changing: bool  # whether this thread runs the function of a change
@@ -168,7 +168,7 @@ class Pass(Owner, ABC):
     def finish(self) -> str:
         """Closes the store through its last pass, which is then closed, and returns the whole journal, as `journal`
         does. For each pass, the journal has exactly the writes that its calls have committed, at their commit numbers.
-        Raises `InUse` if another pass is open, which is always so for a kept store, because it has a pass of its own.
+        Raises `InUse` if another pass is open, which is always so for a kept store, because it has its own pass.
         May also raise `NoMemory`. After either error, the pass is unchanged."""
 
     @abstractmethod
@@ -415,16 +415,16 @@ class Pass(Owner, ABC):
         self.apply(Batch().unset(node, name))
 
     def make_index(self, name: str, kind: int) -> None:
-        """Makes an index of this name, for values of this kind. The index gets only attributes that are set from then
+        """Makes an index with this name, for values of this kind. The index gets only attributes that are set from then
         on; `reindex` adds earlier ones by setting them again."""
         self.apply(Batch().make_index(name, kind))
 
     def remove_index(self, name: str) -> None:
-        """Removes the index of this name."""
+        """Removes the index with this name."""
         self.apply(Batch().remove_index(name))
 
     def reindex(self, name: str) -> int:
-        """Adds attributes that were set before the index of this name was made, by setting them to the same values
+        """Adds attributes that were set before the index with this name was made, by setting them to the same values
         again. Sets up to 64 attributes in each change, so no newer value is lost. Returns how many attributes were set.
         Raises `NoIndex` if there is no such index; other errors are those of `change`. Reads each node, and writes each
         of these attributes."""

@@ -196,7 +196,7 @@ class Version(ABC):
         of the indices that the query needs.
 
         With `limit`, returns the first nodes, up to that many, beginning with the number `start`. With `by`, returns a
-        `Page`: the nodes in the order of their values in the index of this name, and by number where the values are
+        `Page`: the nodes in the order of their values in the index with this name, and by number where the values are
         equal; `descending` is the exact reverse. A page leaves out nodes that have no value in that index. `after` is
         the cursor from an earlier page of the same query and order; the new page continues there. A page takes less
         time than the whole answer. Raises `NoIndex`, `BadCursor` or `NoRoom` if there is no such page."""
@@ -205,7 +205,7 @@ class Version(ABC):
     def any(self, query: Asked, limit: int) -> List[int]:
         """Returns any `limit` of the nodes that match the query, or all nodes if fewer match, in no particular order.
         If the answer is large, the call takes less time than `query`: use it, for example, to find one of the jobs that
-        nobody has taken."""
+        no one has taken."""
         if operator.index(limit) < 1:
             raise no_room(limit)
         return self._any_of(query, limit)
@@ -238,7 +238,7 @@ class Version(ABC):
         return self._count_of(query)
 
     def pairs(self, name: str) -> int:
-        """Returns how many pairs of a value and a node the index of this name has. Raises `NoIndex` if there is no such
+        """Returns how many pairs of a value and a node the index with this name has. Raises `NoIndex` if there is no such
         index. Takes the time to read the whole index."""
         return self._count_of(all_in(name, self._order_kind(name)))
 
@@ -251,9 +251,9 @@ class Version(ABC):
 
     @abstractmethod
     def refresh(self, prepared: Prepared) -> Tuple[List[int], List[int]]:
-        """Returns which nodes came and which went since the prepared query was last refreshed: two lists in ascending
+        """Returns which nodes joined the answer and which left it since the prepared query was last refreshed: two lists in ascending
         order. The first time, all nodes that match the query come. Refresh a query only in versions of one store, or of
-        another store to which the first store's state was carried on, because nodes are compared by their numbers.
+        another store that the first store's state was carried on to, because nodes are compared by their numbers.
         After an error the query is unchanged.
 
         Runs the whole query and takes no lock, so it never makes another pass's write `Busy`."""
@@ -345,7 +345,7 @@ class Version(ABC):
     def rows(self, query: Asked, names: Iterable[str], first: int = 0, most: int = 1024, *, by: Optional[str] = None,
              descending: bool = False, after: After = None) -> List[Row]:
         """Returns up to `most` nodes that match the query, in ascending order and beginning with the number `first`,
-        each with its attributes of these names: pairs of a node and a list of values, with None where the node has no
+        each with its values for these names: pairs of a node and a list of values, with None where the node has no
         such attribute. Takes as long as the query, plus one search in a tree per value. On a server, the call takes a
         round trip for every few thousand rows, and allows up to 64 names. With `by`, returns a `Page` of rows, with the
         nodes that `query` returns for the same `by`, `descending` and `after`."""
@@ -373,7 +373,7 @@ class Version(ABC):
         return [(node, list(values)) for node, values in zip(nodes, zip(*found))] if names else [(node, []) for node in nodes]
 
     def __getitem__(self, node: int) -> Attributes:
-        """Returns a node's attributes, each of which is read when you access it."""
+        """Returns a node's attributes. Each one is read when you access it."""
         return Attributes(self, node)
 
     def __contains__(self, node: int) -> bool:

@@ -24,7 +24,7 @@ class Changes(NamedTuple):
 
 
 class Watch(ABC):
-    """A live query that waits for changes, made by `Pass.watch`. At first all nodes that match the query come.
+    """A live query that waits for changes, made by `Pass.watch`. At first, all nodes that match the query join.
 
         with store.watch("MAIL:status==New") as unread:
             for came, went in unread:

@@ -14,7 +14,7 @@ from .own_server import CannotStart
 from .sources import FolderSource, ServerSource, Source
 
 def parser() -> argparse.ArgumentParser:
-    """What the command line may contain."""
+    """Returns the parser for the command line."""
     made = argparse.ArgumentParser(
         prog="bestore-queries",
         description="A window that finds files by their attributes, and follows them as they come and go.",
@@ -29,7 +29,7 @@ def parser() -> argparse.ArgumentParser:
 
 
 def source_of(options: argparse.Namespace) -> Source:
-    """The store that the command line names."""
+    """Returns the store that the command line names."""
     if options.folder is None:
         return ServerSource(options.socket)
     if not os.path.isdir(options.folder):

@@ -20,15 +20,15 @@ from .sources import LiveAnswer, Numbers, Session, Source
 SLICE = 1_000   # hits that are read from one snapshot
 REPORTED = 100  # hits in one report, so that the window needs little time for it
 FEW = 100       # hits that are read individually, without running the query again
-PAUSE = 0.2     # seconds between two looks for what was written
-RETRY = 1.0     # seconds between two attempts to open the store
+PAUSE = 0.2     # seconds between checks for new writes
+RETRY = 1.0     # seconds between attempts to open the store
 NAMED = 20      # hits whose attributes are named
-COUNTING = 1.0  # seconds between two counts of all nodes
+COUNTING = 1.0  # seconds between counts of all nodes
 ENDING = 5.0    # seconds to wait for the end
 
 
 class Begin(NamedTuple):
-    """The first hits of an order that an index has."""
+    """The first hits of an order that an index provides."""
 
     order: Order
     most: int
@@ -65,7 +65,7 @@ class Write(NamedTuple):
 
 
 class Opened(NamedTuple):
-    """A report: the store is open."""
+    """A report: the store has been opened."""
 
     indices: Mapping[str, bestore.Kind]
 
@@ -99,7 +99,7 @@ class Named(NamedTuple):
 
 
 class First(NamedTuple):
-    """A report: the first hits in an order that an index has."""
+    """A report: the first hits in an order that an index provides."""
 
     turn: int
     order: Order
@@ -121,7 +121,7 @@ class Went(NamedTuple):
 
 
 class Counted(NamedTuple):
-    """A report: how many hits there are, how many of them are still to be read, and how many nodes there are to find."""
+    """A report: how many hits there are, how many of them haven't been read yet, and how many nodes could be found."""
 
     turn: int
     hits: int
@@ -144,15 +144,15 @@ class NotWritten(Exception):
 
 
 class _Following:
-    """A followed query: its hits, those that are still to be read, and the snapshot up to which they are known."""
+    """A followed query: its hits, those that haven't been read yet, and the snapshot up to which they are known."""
 
     def __init__(self, ask: Ask, live: LiveAnswer) -> None:
         self.ask, self.live = ask, live
         self.known: Set[Node] = set()
         self.reported: Set[Node] = set()
-        self._ahead: List[Node] = []  # hits reported from a snapshot that the answer hasn't reached yet
+        self._ahead: List[Node] = []  # hits reported from a snapshot that the answer hasn't caught up with yet
         self.waiting: Dict[Node, None] = {}
-        self.gone: List[Node] = []  # hits that left, but haven't been reported as gone yet
+        self.gone: List[Node] = []  # hits that have left, but haven't been reported yet
         self.seen: Optional[Numbers] = None
         self.is_named = False
 
@@ -172,13 +172,13 @@ class _Following:
         self.waiting.update(dict.fromkeys(node for node in changed if node in self.known))
 
     def report_first(self, hits: List[Hit]) -> None:
-        """Remembers that the first hits in an order were reported, from a snapshot of their own."""
+        """Records that the first hits in an order have been reported, from a separate snapshot."""
         self._ahead += [hit.node for hit in hits]
         self.reported.update(self._ahead)
 
     def reports(self, hits: List[Hit]) -> List[Report]:
-        """Returns what there is to report once these hits have been read. Hits that left come first, since one of them may have come
-        back."""
+        """Returns what there is to report once these hits have been read. Hits that left come first, since one of them may have
+        returned."""
         turn, gone, self.gone = self.ask.turn, self.gone, []
         for hit in hits:
             del self.waiting[hit.node]
@@ -197,12 +197,12 @@ class _Following:
 
 
 def _names(ask: Ask) -> List[str]:
-    """The attributes of each hit that the window needs."""
+    """Returns the attributes of each hit that the window needs."""
     return list(dict.fromkeys([*ask.names, *PLACE_NAMES]))
 
 
 class _Requests:
-    """What the window asks for: the last query, and the writes that haven't been made yet."""
+    """The window's requests: the last query, and the writes that haven't been made yet."""
 
     def __init__(self) -> None:
         self._came = threading.Condition()
@@ -212,7 +212,7 @@ class _Requests:
         self._is_ended = False
 
     def put(self, request: Union[Ask, Sort, Write, None]) -> None:
-        """Adds a request, or the end if the request is None."""
+        """Adds a request, or ends the requests if it is None."""
         with self._came:
             if isinstance(request, Ask):
                 self._ask, self._sort = request, None
@@ -225,7 +225,7 @@ class _Requests:
             self._came.notify()
 
     def put_back(self, write: Write) -> None:
-        """Puts back a write that wasn't made, as the next one."""
+        """Puts back a write that wasn't made, so that it is the next one."""
         with self._came:
             self._writes.appendleft(write)
 
@@ -235,19 +235,19 @@ class _Requests:
             self._came.wait_for(lambda: self._ask or self._sort or self._writes or self._is_ended, timeout)
 
     def take_ask(self) -> Optional[Ask]:
-        """Takes the query."""
+        """Takes the query, if there is one."""
         with self._came:
             ask, self._ask = self._ask, None
             return ask
 
     def take_sort(self) -> Optional[Sort]:
-        """Takes the order whose first hits are wanted."""
+        """Takes the order whose first hits are wanted, if there is one."""
         with self._came:
             sort, self._sort = self._sort, None
             return sort
 
     def take_write(self) -> Optional[Write]:
-        """Takes the first write."""
+        """Takes the first write, if there is one."""
         with self._came:
             return self._writes.popleft() if self._writes else None
 
@@ -335,8 +335,8 @@ class Asker(threading.Thread):
         self._store = store
 
     def _ask(self, session: Session, ask: Ask) -> None:
-        """Follows a query instead of the previous query. That query may have many hits, which are freed once the new query's first hits are
-        reported."""
+        """Follows a query instead of the previous one. The previous query may have many hits, so they are freed only once the new
+        query's first hits have been reported."""
         try:
             first = self._report_first(session, ask, ask.begin)
             self._follow_nothing()
@@ -390,7 +390,7 @@ class Asker(threading.Thread):
             with session.user.pin() as version:
                 reports = self._follow(session, following, version)
         except bestore.Expired:
-            return  # the server took the snapshot back: the next step gets a new one
+            return  # the server ended the snapshot: the next step gets a new one
         except bestore.BrokenConnection:
             raise
         except bestore.Error as error:
@@ -426,7 +426,7 @@ class Asker(threading.Thread):
         return written
 
     def _read(self, following: _Following, version: bestore.Version) -> List[Hit]:
-        """The next waiting hits, with the attributes that the window needs."""
+        """Returns the next waiting hits, with the attributes that the window needs."""
         names = _names(following.ask)
         return [self._hit(version, node, names, values) for node, values in following.read(version, names).items()]
 
@@ -437,7 +437,7 @@ class Asker(threading.Thread):
         return Hit(node, attributes)
 
     def _count(self, version: bestore.Version) -> int:
-        """Returns how many nodes there are to find. The nodes are counted now and then."""
+        """Returns how many nodes could be found. They are counted only now and then."""
         if time.monotonic() >= self._counted_at + COUNTING:
             everything = find.everything(self._indices)
             self._all = version.count(everything) if everything else 0

@@ -1,4 +1,4 @@
-"""An attribute that is edited in place in the list."""
+"""Edits an attribute in place in the list."""
 
 from __future__ import annotations
 
@@ -14,7 +14,7 @@ Box = Tuple[int, int, int, int]
 
 
 class Cell(NamedTuple):
-    """What is edited: a node's attribute, and the value that the list showed at the beginning."""
+    """What is being edited: a node's attribute, and the value that the list showed at the start."""
 
     node: Node
     column: Column

@@ -23,16 +23,16 @@ _TIME = re.compile(r"(?:.*[_:])?(?:modified|created|changed|when|date|time)", re
 
 
 class NotAValue(ValueError):
-    """What was typed isn't a valid value for its attribute. The error's text says why."""
+    """The typed text isn't a valid value for its attribute. The error's text says why."""
 
 
 def is_time(attribute: str) -> bool:
-    """Returns whether an attribute of this name is a time, in seconds since 1970, if its value is an integer."""
+    """Returns whether an attribute with this name, if its value is an integer, is a time in seconds since 1970."""
     return _TIME.fullmatch(attribute) is not None
 
 
 def is_number(kind: Optional[bestore.Kind]) -> bool:
-    """Whether values of this kind are integers."""
+    """Returns whether values of this kind are integers."""
     return kind in RANGES
 
 
@@ -58,7 +58,7 @@ def time_in_words(seconds: bestore.Value) -> str:
 
 
 def text_of(value: bestore.Value) -> str:
-    """A value in one line."""
+    """Returns a value on one line."""
     if isinstance(value, bytes):
         return f"{len(value)} bytes of data"
     return "".join(it if it.isprintable() else "␣" if it.isspace() else "\ufffd" for it in str(value))
@@ -74,7 +74,7 @@ class Column(NamedTuple):
     in_words: Callable[[bestore.Value], str] = text_of
 
     def shown(self, attributes: Mapping[str, bestore.Value]) -> str:
-        """What the list shows for a node's attributes."""
+        """Returns what the list shows for a node's attributes."""
         value = attributes.get(self.attribute)
         return "" if value is None else self.in_words(value)
 
@@ -96,7 +96,7 @@ _MAIL = ("MAIL:subject", "MAIL:from", "MAIL:when", "MAIL:status", "size")
 
 
 def column_of(attribute: str, kind: Optional[bestore.Kind] = None) -> Column:
-    """The column of an attribute."""
+    """Returns an attribute's column."""
     known = _KNOWN.get(attribute)
     if known is not None:
         return known
@@ -118,7 +118,7 @@ def default_columns(indices: Mapping[str, bestore.Kind], is_mail: bool = False) 
 
 
 def columns_of(attributes: Iterable[str], indices: Mapping[str, bestore.Kind]) -> List[Column]:
-    """The columns of these attributes."""
+    """Returns the columns for these attributes."""
     return [column_of(it, indices.get(it)) for it in attributes]
 
 
@@ -140,7 +140,7 @@ def _edited_time(seconds: int) -> str:
 
 
 def typed_value(attribute: str, text: str, kind: bestore.Kind) -> bestore.Value:
-    """Reads the value of this kind that was typed for an attribute. Raises `NotAValue` if the text isn't a valid value."""
+    """Reads a typed value of this kind for an attribute. Raises `NotAValue` if the text isn't valid."""
     if kind == bestore.RAW:
         try:
             return bytes.fromhex(text)

@@ -1,4 +1,4 @@
-"""The query of a Find row: an attribute, how to compare it, and what was typed."""
+"""The query of a Find row: an attribute, a comparison, and what was typed."""
 
 from __future__ import annotations
 
@@ -36,14 +36,14 @@ _SIGNS = {Relation.LESS: "<", Relation.GREATER: ">", Relation.BEFORE: "<", Relat
 
 
 def relations_of(attribute: str, kind: Optional[bestore.Kind]) -> List[Relation]:
-    """How an attribute with an index of this kind can be compared."""
+    """Returns the comparisons for an attribute with an index of this kind."""
     if not columns.is_number(kind):
         return _TEXT
     return _TIME if columns.is_time(attribute) else _NUMBER
 
 
 def attributes_of(indices: Mapping[str, bestore.Kind]) -> List[str]:
-    """The attributes that can be searched, the most common ones first."""
+    """Returns the attributes that can be searched, the most common ones first."""
     order = ["name", "MAIL:subject", "MAIL:from", "MAIL:to", "size", "last_modified", "MAIL:when", "BEOS:TYPE"]
     return sorted(indices, key=lambda name: (order.index(name) if name in order else len(order), name))
 
@@ -57,7 +57,7 @@ def everything(indices: Mapping[str, bestore.Kind]) -> Optional[str]:
 
 
 def _quoted(attribute: str) -> str:
-    """Returns an attribute's name as it is written in a query."""
+    """Returns an attribute's name as written in a query."""
     is_word = attribute.replace("_", "").replace(":", "").isalnum()
     return attribute if is_word else quoted(attribute)
 

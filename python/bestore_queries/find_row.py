@@ -1,4 +1,4 @@
-"""A row in which people say what they are looking for: an attribute, how to compare it, and with what."""
+"""A row where people say what they are looking for: an attribute, a comparison, and a value."""
 
 from __future__ import annotations
 
@@ -13,7 +13,7 @@ from .theme import FACE
 
 
 class FindRow(tk.Frame):
-    """The row. It calls `asks` with its query while the query is being typed."""
+    """The row. It calls `asks` with its query while the user is typing."""
 
     def __init__(self, parent: tk.Misc, asks: Callable[[str], None]) -> None:
         super().__init__(parent, background=FACE)
@@ -34,7 +34,7 @@ class FindRow(tk.Frame):
         self._is_filled = False
 
     def take_indices(self, indices: Mapping[str, bestore.Kind]) -> None:
-        """Offers what can be searched in a store with these indices."""
+        """Offers the attributes that can be searched in a store with these indices."""
         if indices == self._indices:
             return
         self._indices = indices
@@ -60,7 +60,7 @@ class FindRow(tk.Frame):
         self._changed()
 
     def choose(self, attribute: str, relation: find.Relation, text: str) -> None:
-        """Fills the row as a user does."""
+        """Fills the row as if the user had."""
         self._is_filled = True
         self._attribute.set(next(title for title, name in self._attributes.items() if name == attribute))
         self._offer_relations()
@@ -70,7 +70,7 @@ class FindRow(tk.Frame):
         self._changed()
 
     def empty(self) -> None:
-        """Clears the text, because another query was run."""
+        """Clears the text, since another query is running."""
         self._is_filled = True
         self._text.set("")
         self._is_filled = False

@@ -42,7 +42,7 @@ def files_below(folder: str) -> Iterator[os.DirEntry[str]]:
 
 
 class Known(NamedTuple):
-    """A file that has a node."""
+    """A file with a node."""
 
     node: int
     size: int
@@ -51,7 +51,7 @@ class Known(NamedTuple):
 
 
 class Waiting(NamedTuple):
-    """A file that is to be written, or a file that is gone."""
+    """A file that has to be written, or a file that is gone."""
 
     path: str
     values: Dict[str, bestore.Value]
@@ -60,13 +60,13 @@ class Waiting(NamedTuple):
 
     @property
     def operations(self) -> int:
-        """The maximum number of operations that it takes."""
+        """How many operations it takes at most."""
         return len(self.values) + 1
 
 
 class FolderReader(threading.Thread):
-    """Keeps a node for each file of a folder, and keeps looking for files that were added, removed or changed. A
-    changed file keeps its node."""
+    """Keeps a node for each file in a folder, and keeps looking for files that were added, removed or changed. A changed file
+    keeps its node."""
 
     def __init__(self, user: bestore.Pass, folder: str, pause: float) -> None:
         super().__init__(name="folder", daemon=True)
@@ -117,7 +117,7 @@ class FolderReader(threading.Thread):
             try:
                 self._read_file(entry)
             except OSError:
-                gone.add(entry.path)  # the file has disappeared meanwhile, or may not be read
+                gone.add(entry.path)  # the file has disappeared meanwhile, or can't be read
         for path in gone & self._known.keys():
             self._wait(Waiting(path, {}, None))
         self._write()
@@ -152,7 +152,7 @@ class FolderReader(threading.Thread):
         self._waiting.append(file)
 
     def _write(self) -> None:
-        """Writes the queued files. What doesn't fit is left out for this round."""
+        """Writes the queued files. Files that don't fit are skipped in this round."""
         files, self._waiting = self._waiting, []
         try:
             self._commit(files)
@@ -165,8 +165,8 @@ class FolderReader(threading.Thread):
             self._remove([file for file in files if file.about is None])
 
     def _remove(self, gone: List[Waiting]) -> None:
-        """Removes files from a full store. Since removal takes pages too, fewer files are removed at a time if
-        necessary, and a file that can't be removed now is removed in a later round."""
+        """Removes files from a full store. Removing takes pages too, so if necessary fewer files are removed at a time. A file
+        that can't be removed now is removed in a later round."""
         try:
             self._commit(gone)
         except bestore.Full:
@@ -185,7 +185,7 @@ class FolderReader(threading.Thread):
             self._commit_part(part)
 
     def _commit_part(self, files: List[Waiting]) -> None:
-        """Writes files of one volume."""
+        """Writes the files in one volume."""
         nodes = self._user.change(lambda change: [self._file(change, it) for it in files])
         for file, node in zip(files, nodes):
             if file.about is None:

@@ -1,4 +1,4 @@
-"""The list of hits. The widget has only the visible rows, so ten hits take the same time as a million."""
+"""The list of hits. The widget has only the visible rows, so a million hits take no longer than ten."""
 
 from __future__ import annotations
 
@@ -14,15 +14,15 @@ from .sorted_hits import Hit, Node, SortedHits
 from .theme import LINE, MARKED, STRIPE, Icons, row_height
 
 SHIFT, CONTROL = 0x1, 0x4     # in the state of an event
-SLOW_CLICK = 600              # milliseconds after which a click on a selected hit edits it, if no second one comes
-WHEEL = 3                     # rows by which a wheel turns
+SLOW_CLICK = 600              # how long after a click on a selected hit it is edited, in milliseconds, unless there is a second click
+WHEEL = 3                     # rows per turn of the wheel
 STEP_SIDEWAYS = 60            # pixels by which a key or a wheel scrolls sideways
 NARROWEST, NARROWEST_FIRST = 40, 160  # minimum width in pixels: of a column, and of the first column, which names the hit
 MOST_OPENED = 20              # files that are opened at a time
 
 
 class Actions(NamedTuple):
-    """What the list calls."""
+    """The functions that the list calls."""
 
     open: Callable[[List[Hit]], None]
     write: Callable[[Cell, str], None]
@@ -39,12 +39,12 @@ class HitList(tk.Frame):
         self.selection = Selection(hits)
         self.columns: List[Column] = []
         self._places: List[str] = []      # the columns, by the widget's names
-        self._painted: List[Tuple[object, ...]] = []  # what the widget's rows contain
+        self._painted: List[Tuple[object, ...]] = []  # what the widget's rows show
         self._top, self._top_node = 0, -1
         self._room, self._row_height = 1, row_height(self)  # how many rows fit
         self._clicked: Optional[Column] = None
         self._edit_later = ""
-        # It asks for no rows, so its requested height is just its headings and edges.
+        # The list requests no rows, so its requested height is only its headings and edges.
         self.tree = ttk.Treeview(self, selectmode="none", height=0, xscrollcommand=self._scrolled_sideways)
         self.tree.tag_configure("stripe", background=STRIPE)
         self.tree.tag_configure("selected", background=MARKED)
@@ -82,7 +82,7 @@ class HitList(tk.Frame):
             tree.bind(f"<{name}>", lambda _: self._open())
         tree.bind("<F2>", lambda _: self.edit())
         tree.bind("<<SelectAll>>", lambda _: self._select_all())
-        tree.bind("<space>", lambda _: "break")  # the key would select by the widget's own rules
+        tree.bind("<space>", lambda _: "break")  # by default, this key would select by the widget's own rules
 
     def destroy(self) -> None:
         self._cancel_edit()
@@ -122,7 +122,7 @@ class HitList(tk.Frame):
         self.paint()
 
     def hit_went(self, node: Node) -> None:
-        """A hit is gone."""
+        """Forgets a hit that is gone."""
         self.selection.forget(node)
         cell = self.editor.cell
         if cell is not None and cell.node == node:
@@ -130,7 +130,7 @@ class HitList(tk.Frame):
             self.editor.end()
 
     def paint(self) -> None:
-        """Shows the hits as they are now. Unless it is at its beginning, the list keeps the same hit at the top."""
+        """Shows the hits as they are now. Unless the list is at its start, the hit at the top stays there."""
         if self._top > 0:
             place = self._hits.place_of(self._top_node)
             self._top = self._top if place is None else place
@@ -183,7 +183,7 @@ class HitList(tk.Frame):
             self._paint_from(self._top)
 
     def _scroll(self, what: str, number: str, unit: str = "") -> None:
-        """Scrolls as the scroll bar asks."""
+        """Scrolls as the scroll bar requests."""
         if what == "moveto":
             self._paint_from(round(float(number) * len(self._hits)))
         else:
@@ -194,7 +194,7 @@ class HitList(tk.Frame):
         return "break"
 
     def _scroll_sideways(self, what: str, number: str, unit: str = "") -> None:
-        """Scrolls sideways as the bar below asks."""
+        """Scrolls sideways as the bar below requests."""
         if what == "moveto":
             self.tree.xview_moveto(float(number))
         elif unit.startswith("page"):
@@ -207,7 +207,7 @@ class HitList(tk.Frame):
         return "break"
 
     def _scrolled_sideways(self, first: float, last: float) -> None:
-        """Shows this part of the widget's columns."""
+        """Adjusts to which part of the widget's columns is visible."""
         if float(first) > 0 or float(last) < 1:
             self.bar_below.grid()
         else:
@@ -296,7 +296,7 @@ class HitList(tk.Frame):
         return "break"
 
     def edit(self) -> str:
-        """Edits the clicked attribute, otherwise the first one that can be edited, of the hit that keys move from."""
+        """Edits an attribute of the hit that keys move from: the clicked attribute, otherwise the first that can be edited."""
         self._cancel_edit()
         place = self.selection.cursor
         can = [column for column in self.columns if column.is_edited]

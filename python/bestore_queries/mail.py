@@ -1,4 +1,4 @@
-"""The attributes of a mail, under BeOS's names."""
+"""A mail's attributes, under BeOS's names."""
 
 from __future__ import annotations
 
@@ -31,12 +31,13 @@ def is_mailbox(folder: str) -> bool:
 
 
 def is_maildir(folder: str) -> bool:
-    """Whether a folder is a Maildir."""
+    """Returns whether a folder is a Maildir."""
     return all(os.path.isdir(os.path.join(folder, name)) for name in ("cur", "new", "tmp"))
 
 
 def header_of(head: email.message.Message, name: str) -> str:
-    """A header in plain text. Bytes that aren't ASCII are read as UTF-8 or, if they aren't valid UTF-8, as Windows-1252."""
+    """Returns a header as plain text. Bytes that aren't ASCII are read as UTF-8, or as Windows-1252 if they aren't valid
+    UTF-8."""
     raw = next((str(value) for key, value in head.raw_items() if key.lower() == name.lower()), "")
     return _ENCODED.sub(_decoded_words, _decoded_bytes(raw.encode(errors="surrogateescape")))
 
@@ -49,7 +50,7 @@ def _decoded_bytes(raw: bytes) -> str:
 
 
 def _decoded_words(found: Match[str]) -> str:
-    """A header's encoded words in plain text, or unchanged if they can't be read."""
+    """Decodes a header's encoded words, or leaves them unchanged if they can't be decoded."""
     try:
         return str(email.header.make_header(email.header.decode_header(found[0])))
     except (LookupError, ValueError, email.errors.MessageError):
@@ -57,7 +58,7 @@ def _decoded_words(found: Match[str]) -> str:
 
 
 def mail_attributes(path: str) -> Dict[str, bestore.Value]:
-    """Returns what a mail's headers say."""
+    """Returns the attributes in a mail's headers."""
     with open(path, "rb") as file:
         head = email.parser.BytesHeaderParser().parse(file)
     is_read = "S" in os.path.basename(path).rpartition(":2,")[2] and os.path.basename(os.path.dirname(path)) == "cur"

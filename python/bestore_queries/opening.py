@@ -34,7 +34,7 @@ class Opening:
             raise CannotOpen(f"{shown(path)} can't be opened: {error.strerror}") from error
 
     def has_ended(self) -> bool:
-        """Whether xdg-open has ended. Raises `CannotOpen` if it failed."""
+        """Returns whether xdg-open has ended. Raises `CannotOpen` if it failed."""
         code = self._process.poll()
         if code is None:
             return False
@@ -48,5 +48,5 @@ class Opening:
 
 
 def shown(path: str) -> str:
-    """A path in one line."""
+    """Returns a path on one line."""
     return "".join(it if it.isprintable() else "\ufffd" for it in path)

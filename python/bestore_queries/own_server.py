@@ -1,4 +1,4 @@
-"""A server that a window starts for itself if none is listening."""
+"""A server that the window starts for itself if none is listening."""
 
 from __future__ import annotations
 
@@ -16,17 +16,17 @@ PATIENCE = 10.0
 
 
 class CannotStart(Exception):
-    """No server is running, and no server can be started."""
+    """No server is running, and none can be started."""
 
 
 def kept_path() -> str:
-    """The file in which the systemd units also keep the store."""
+    """Returns the file where the systemd units keep the store too."""
     folder = os.environ.get("XDG_DATA_HOME") or os.path.join(os.path.expanduser("~"), ".local", "share")
     return os.path.join(folder, "bestore", "store.bestore")
 
 
 def listens(path: SocketPath) -> bool:
-    """Whether a server listens at a socket, even one that refuses this client."""
+    """Returns whether a server is listening at a socket, even one that refuses this client."""
     try:
         bestore.connect(path, PATIENCE).close()
     except bestore.NoServer:
@@ -37,7 +37,7 @@ def listens(path: SocketPath) -> bool:
 
 
 class OwnServer:
-    """A server, until `close`."""
+    """A server that runs until `close`."""
 
     def __init__(self, path: SocketPath) -> None:
         program = shutil.which("bestored")

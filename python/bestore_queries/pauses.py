@@ -18,8 +18,8 @@ MANY = 50_000
 
 @contextlib.contextmanager
 def short_pauses(root: tk.Tk) -> Iterator[None]:
-    """Until the end of the `with`, threads take turns quickly, and the garbage collector looks only at new objects,
-    since looking at all hits takes longer the more hits there are."""
+    """During the `with`, threads take turns quickly, and the garbage collector looks only at new objects. Otherwise it would take
+    longer the more hits there are."""
     before = sys.getswitchinterval()
     sys.setswitchinterval(SWITCH)
     gc.disable()

@@ -1,4 +1,4 @@
-"""Where a file is: the path of its folder, from the attributes that an import writes."""
+"""Finds where a file is: the path of its folder, from the attributes that an import writes."""
 
 from __future__ import annotations
 
@@ -15,13 +15,13 @@ _DEEPEST = 256  # folders within one another
 
 
 class Places:
-    """The folders that have already been read, by their nodes."""
+    """The folders read so far, by node."""
 
     def __init__(self) -> None:
         self._paths: Dict[Node, Optional[str]] = {}
 
     def forget(self, nodes: Iterable[Node]) -> bool:
-        """Whether one of these nodes is a folder that was read."""
+        """Returns whether one of these nodes is a folder that has been read."""
         return any(node in self._paths for node in nodes)
 
     def locate(self, version: bestore.Version, attributes: Dict[str, bestore.Value]) -> None:
@@ -34,7 +34,7 @@ class Places:
             attributes["folder"] = path
 
     def _path_of(self, version: bestore.Version, node: Node, depth: int) -> Optional[str]:
-        """The path of a folder, or None if it isn't known."""
+        """Returns a folder's path, or None if it isn't known."""
         if node not in self._paths:
             values = [column[0] for column in version.columns([node], ("FILE:root", "FILE:parent", "FILE:name", "name"))]
             root, parent, raw, name = values
@@ -46,7 +46,7 @@ class Places:
 
 
 def _decoded(value: Optional[bestore.Value]) -> Optional[str]:
-    """Returns a path or a name in the form that system calls take. Its bytes needn't be valid text."""
+    """Converts a path or a name to the form that system calls take. Its bytes don't have to be valid text."""
     if value is None or isinstance(value, int):
         return None
     return os.fsdecode(value)
@@ -63,7 +63,7 @@ def _above(root: Optional[bestore.Value]) -> Optional[str]:
 
 
 def path_of(attributes: Mapping[str, bestore.Value]) -> Optional[str]:
-    """The path of a file, or None if its attributes don't give it."""
+    """Returns a file's path, or None if its attributes don't give it."""
     whole = _decoded(attributes.get("FILE:root")) or _decoded(attributes.get("path"))
     if whole is not None:
         return whole

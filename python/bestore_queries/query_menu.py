@@ -11,7 +11,7 @@ from .theme import FACE
 
 
 class QueryMenu(ttk.Menubutton):
-    """The saved queries. A menu reads them when it is opened."""
+    """The saved queries. They are read when the menu is opened."""
 
     def __init__(self, parent: tk.Misc, saved: SavedQueries, ask: Callable[[Saved], None], ask_name: Callable[[], None],
                  warn: Callable[[str], None]) -> None:
@@ -47,7 +47,7 @@ class QueryMenu(ttk.Menubutton):
 
 
 class AttributeMenu(ttk.Menubutton):
-    """The attributes, each of which can be a column."""
+    """The attributes that can be columns."""
 
     def __init__(self, parent: tk.Misc, choose: Callable[[List[str]], None]) -> None:
         super().__init__(parent, text="Attributes", width=9)
@@ -57,7 +57,7 @@ class AttributeMenu(ttk.Menubutton):
         self.configure(menu=self.menu)
 
     def offer(self, attributes: Sequence[str], shown: Sequence[str]) -> None:
-        """Offers these attributes, some of which are shown."""
+        """Offers these attributes, and marks those that are shown."""
         names = [*shown, *(it for it in attributes if it not in shown)]
         if names == list(self._chosen) and all(var.get() == (name in shown) for name, var in self._chosen.items()):
             return

@@ -1,4 +1,4 @@
-"""The file of saved queries, which all windows of a user share."""
+"""The file of saved queries, which all of a user's windows share."""
 
 from __future__ import annotations
 
@@ -21,7 +21,7 @@ class Saved(NamedTuple):
 
 
 class BadFile(Exception):
-    """The file can't be read or written. It is left unchanged."""
+    """The file can't be read or written. It stays unchanged."""
 
     def __init__(self, path: str, reason: str) -> None:
         super().__init__(path, reason)
@@ -32,23 +32,25 @@ class BadFile(Exception):
 
 
 def default_path() -> str:
-    """The default file."""
+    """Returns the default file's path."""
     folder = os.environ.get("XDG_CONFIG_HOME") or os.path.join(os.path.expanduser("~"), ".config")
     return os.path.join(folder, "bestore", "queries.json")
 
 
 class SavedQueries:
-    """The saved queries, by their names. Each call reads the file, since another window may have written it."""
+    """The saved queries, by name. Each call reads the file, since another window may have written
+    it."""
 
     def __init__(self, path: Optional[str] = None) -> None:
         self.path = default_path() if path is None else path
 
     def all(self) -> List[Saved]:
-        """Returns the queries in order of their names. Raises `BadFile`."""
+        """Returns the queries, sorted by name. Raises `BadFile`."""
         return sorted(self._read(), key=lambda it: it.name.casefold())
 
     def save(self, saved: Saved) -> None:
-        """Saves a query, replacing any query of the same name. Raises `BadFile`; the file is then unchanged."""
+        """Saves a query, and replaces any query with the same name. If it raises `BadFile`, the
+        file is unchanged."""
         with self._alone():
             self._write([it for it in self._read() if it.name != saved.name] + [saved])
 
@@ -82,7 +84,7 @@ class SavedQueries:
             raise BadFile(self.path, f"it has no list of queries: {error}") from error
 
     def _write(self, queries: List[Saved]) -> None:
-        """Replaces the file: a reader gets either the old file or the new file."""
+        """Replaces the file, so that a reader gets either the old file or the new one."""
         text = json.dumps({"queries": [it._asdict() for it in queries]}, ensure_ascii=False, indent=1)
         folder = os.path.dirname(self.path)
         descriptor, path = tempfile.mkstemp(dir=folder, prefix=".queries-")

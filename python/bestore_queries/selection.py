@@ -1,4 +1,4 @@
-"""Which hits of a list are selected, by their nodes, so that the selection stays as the list changes."""
+"""Which hits in a list are selected. They are remembered by node, so the selection stays as the list changes."""
 
 from __future__ import annotations
 
@@ -8,7 +8,7 @@ from .sorted_hits import Node, SortedHits
 
 
 class Selection:
-    """The selected hits, the hit that keys move from, and the hit that a range begins at."""
+    """The selected hits, the hit that keys move from, and the hit where a range begins."""
 
     def __init__(self, hits: SortedHits) -> None:
         self._hits = hits
@@ -24,13 +24,13 @@ class Selection:
 
     @property
     def nodes(self) -> List[Node]:
-        """The selected hits that are still in the list, in the list's order."""
+        """Returns the selected hits that are still in the list, in the list's order."""
         places = [(self._hits.place_of(node), node) for node in self._nodes if node in self._hits]
         return [node for _, node in sorted(places)]
 
     @property
     def cursor(self) -> Optional[int]:
-        """The position of the hit that keys move from."""
+        """Returns the position of the hit that keys move from."""
         return None if self._cursor is None else self._hits.place_of(self._cursor)
 
     def clear(self) -> None:
@@ -38,22 +38,22 @@ class Selection:
         self._nodes, self._cursor, self._anchor = set(), None, None
 
     def forget(self, node: Node) -> None:
-        """A hit is gone."""
+        """Forgets a hit that is gone."""
         self._nodes.discard(node)
 
     def choose(self, place: int) -> None:
-        """Selects only one hit."""
+        """Selects only this hit."""
         node = self._hits[place].node
         self._nodes, self._cursor, self._anchor = {node}, node, node
 
     def toggle(self, place: int) -> None:
-        """Adds a hit, or removes it."""
+        """Adds a hit to the selection, or removes it."""
         node = self._hits[place].node
         self._nodes ^= {node}
         self._cursor = self._anchor = node
 
     def extend(self, place: int) -> None:
-        """Selects the hits from the beginning of the range up to this hit."""
+        """Selects the hits from the start of the range to this one."""
         begin = None if self._anchor is None else self._hits.place_of(self._anchor)
         if begin is None:
             self.choose(place)
@@ -69,7 +69,7 @@ class Selection:
             self._anchor = self._hits[0].node
 
     def move(self, steps: int, extends: bool = False) -> Optional[int]:
-        """Moves by this many positions, and selects the hit at the new position, or all hits up to it. Returns the new position."""
+        """Moves by this many positions, and selects the hit there, or everything up to it. Returns the new position."""
         if not len(self._hits):
             return None
         at = self.cursor

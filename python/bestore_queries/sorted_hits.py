@@ -1,5 +1,5 @@
-"""A query's hits, in order. A new hit is inserted at its position, and re-sorting is done in steps, so that no step
-takes long however many hits there are."""
+"""A query's hits in order. A new hit is inserted at its position. Re-sorting is done in steps, so that no step takes long however
+many hits there are."""
 
 from __future__ import annotations
 
@@ -16,7 +16,7 @@ CHUNK = 1_000
 
 
 class Hit(NamedTuple):
-    """A node that matches the query, with the attributes that are shown."""
+    """A node that matches the query, with the attributes to show."""
 
     node: Node
     attributes: Dict[str, bestore.Value]
@@ -26,7 +26,7 @@ Entry = Tuple[int, Any, Any, Node]
 
 
 def entry_of(attribute: str, hit: Hit) -> Optional[Entry]:
-    """What a hit is sorted by, or None if it lacks the attribute: numbers before texts, and texts regardless of case."""
+    """Returns a hit's sort key, or None if it lacks the attribute: numbers come before texts, and case is ignored."""
     value = hit.attributes.get(attribute)
     if value is None:
         return None
@@ -36,7 +36,7 @@ def entry_of(attribute: str, hit: Hit) -> Optional[Entry]:
 
 
 class _Listed:
-    """Hits in the order of an attribute, followed by the hits without this attribute."""
+    """Hits in the order of an attribute, and then those without this attribute."""
 
     def __init__(self, attribute: str, entries: Optional[List[Entry]] = None, lacking: Optional[List[Node]] = None) -> None:
         self.attribute = attribute
@@ -105,9 +105,9 @@ class SortedHits:
         self._hits: Dict[Node, Hit] = {}
         self._listed = _Listed(attribute)
         self._sorting: Optional[_Sorting] = None
-        self._sorted: Optional[_Listed] = None  # still lacks the hits that were touched
-        self._first: List[Node] = []  # the first hits in the new order, which come before the others
-        self._gaps: Optional[List[int]] = None  # their positions in the order that the other hits still have, if known
+        self._sorted: Optional[_Listed] = None  # doesn't have the touched hits yet
+        self._first: List[Node] = []  # the first hits in the new order, which come before all others
+        self._gaps: Optional[List[int]] = None  # if known, their positions in the order that the other hits still have
         self.is_turned = self.will_be_turned = False
         """Whether the greatest values come first. Hits without the attribute come last in either case."""
 
@@ -129,7 +129,7 @@ class SortedHits:
         return self._hits[entries[len(entries) - 1 - place if self.is_turned else place][3]]
 
     def get(self, node: Node) -> Optional[Hit]:
-        """The hit of a node."""
+        """Returns a node's hit."""
         return self._hits.get(node)
 
     def place_of(self, node: Node) -> Optional[int]:
@@ -143,13 +143,13 @@ class SortedHits:
         return len(self._first) + place - bisect_left(self._gaps_of_first(), place)
 
     def _gaps_of_first(self) -> List[int]:
-        """Returns the positions, among the listed hits, of the hits that are put first."""
+        """Returns the positions, among the listed hits, of the hits that come first."""
         if self._gaps is None:
             self._gaps = sorted(self._listed_place(self._hits[node]) for node in self._first)
         return self._gaps
 
     def _listed_place(self, hit: Hit) -> int:
-        """Returns the position among the listed hits."""
+        """Returns a hit's position among the listed hits."""
         node, entries = hit.node, self._listed.entries
         entry = entry_of(self._listed.attribute, hit)
         if entry is None:
@@ -189,11 +189,11 @@ class SortedHits:
 
     @property
     def attribute(self) -> str:
-        """What the hits are sorted by, or will be once `step` has finished."""
+        """What the hits are sorted by, or will be sorted by once `step` has finished."""
         return self._listed.attribute if self._sorting is None else self._sorting.attribute
 
     def sort(self, attribute: str, is_turned: bool = False) -> None:
-        """Sorts the hits by an attribute. Until `step` has finished they stay in their old order."""
+        """Sorts the hits by an attribute. They stay in the old order until `step` has finished."""
         self._set_first([])
         if attribute == self._listed.attribute:
             self._sorting = self._sorted = None
@@ -203,8 +203,8 @@ class SortedHits:
         self.will_be_turned = is_turned
 
     def show_first(self, nodes: Sequence[Node]) -> None:
-        """Puts these hits, which the store has found to be the first in the new order, before all others until `step` has sorted
-        them."""
+        """Puts these hits before all others until `step` has sorted them. The store has found them to be the first in the new
+        order."""
         if self._sorting is not None:
             self._set_first([node for node in nodes if node in self._hits])
 
@@ -213,7 +213,7 @@ class SortedHits:
 
     @property
     def is_sorting(self) -> bool:
-        """Whether `step` has something to do."""
+        """Whether `step` has work to do."""
         return self._sorting is not None
 
     def step(self) -> bool:

@@ -1,4 +1,4 @@
-"""The store that a window queries: a server's store, or a store in this process with a folder's files."""
+"""The store that a window queries: a server's, or one in this process with a folder's files."""
 
 from __future__ import annotations
 
@@ -14,14 +14,14 @@ from . import own_server
 from .folder import INDICES, FolderReader, files_below
 from .sorted_hits import Node
 
-MANY = 5_000           # journal entries that are read to find what they set
-MOST_PAGES = 16_384    # of a volume
-PAGES_OF_A_FILE = 1.1  # with five attributes, all indexed
-GROWTH = 1.3           # the growth to allow for, as a multiple of the files at the start
+MANY = 5_000           # how many journal entries are read at most to find what they set
+MOST_PAGES = 16_384    # per volume
+PAGES_OF_A_FILE = 1.1  # for a file with five attributes, all indexed
+GROWTH = 1.3           # how much growth to allow for, as a multiple of the files at the start
 
 
 class Condition(NamedTuple):
-    """The state of a source, for the line below the list."""
+    """A source's state, for the line below the list."""
 
     text: str
     is_fault: bool = False
@@ -32,15 +32,15 @@ Numbers = Tuple[int, ...]
 
 
 class LiveAnswer(ABC):
-    """A query whose changes are read."""
+    """A query whose changes can be read."""
 
     @abstractmethod
     def refresh(self, version: bestore.Version) -> Tuple[List[Node], List[Node]]:
-        """Returns which nodes came and which went between the last call and this version. At first, all nodes come."""
+        """Returns which nodes joined and which left between the last call and this version. At first, all nodes join."""
 
     @abstractmethod
     def close(self) -> None:
-        """Ends it."""
+        """Ends the query."""
 
 
 class Session(ABC):
@@ -70,7 +70,7 @@ class Session(ABC):
         return nodes
 
     def _entries(self, volume: Optional[int], first: int, last: int) -> Iterator[bestore.Entry]:
-        """What was written to a volume between two commits."""
+        """Yields what was written to a volume between two commits."""
         for entry in self.user.journal_from(first, volume=volume) if first < last else ():
             if entry.number > last:
                 break
@@ -82,7 +82,7 @@ class Session(ABC):
 
 
 class Source(ABC):
-    """What a window opens: a store, which may have to be opened again."""
+    """What a window opens: a store, which may have to be reopened."""
 
     title: str
     """What the window's title names."""
@@ -94,19 +94,19 @@ class Source(ABC):
     @property
     @abstractmethod
     def condition(self) -> Condition:
-        """The current state of the source."""
+        """The source's current state."""
 
     def close(self) -> None:
-        """Ends whatever belongs only to the window."""
+        """Ends whatever belongs only to this window."""
 
 
 class _Prepared(LiveAnswer):
-    """A query in a store in this process."""
+    """A query on a store in this process."""
 
     def __init__(self, user: bestore.Pass, text: str) -> None:
         self._query = bestore.prepare(text)
         with user.pin() as version:
-            version.explain(text)  # raises the errors that the query has in this store
+            version.explain(text)  # raises any error that the query has in this store
 
     def refresh(self, version: bestore.Version) -> Tuple[List[Node], List[Node]]:
         return version.refresh(self._query)
@@ -116,7 +116,7 @@ class _Prepared(LiveAnswer):
 
 
 class _Watched(LiveAnswer):
-    """A query in a server's store, which pushes what changes."""
+    """A query on a server's store. The server pushes the changes."""
 
     def __init__(self, user: ConnectedPass, text: str) -> None:
         bestore.prepare(text).close()
@@ -143,7 +143,7 @@ class _FolderSession(Session):
 class _ServerSession(Session):
     def __init__(self, user: ConnectedPass) -> None:
         self.user, self._connected = user, user
-        if user.server.kept != "each":  # another run may make other nodes
+        if user.server.kept != "each":  # another run of the server may make other nodes
             self.store = user.server.run
         self._commits = user.watch()
 
@@ -162,8 +162,8 @@ def size_for(files: int) -> Tuple[int, int]:
 
 
 class FolderSource(Source):
-    """A store in this process, with a folder's files. The store is made when it is first opened, with space for the
-    files that exist at that time."""
+    """A store in this process with a folder's files. It is made when it is first opened, with room for the files that exist
+    then."""
 
     def __init__(self, folder: str, pages: Optional[int] = None, pause: float = 1.0) -> None:
         self.title, self._folder, self._pages, self._pause = folder, folder, pages, pause
@@ -204,7 +204,7 @@ class FolderSource(Source):
 
 
 class ServerSource(Source):
-    """A server's store. If no server is named and no server is listening, a server is started."""
+    """A server's store. If no server is named and none is listening, a server is started."""
 
     def __init__(self, path: Optional[str] = None) -> None:
         self._server: Optional[own_server.OwnServer] = None

@@ -1,4 +1,4 @@
-"""Colours, icons and styles, after those of BeOS."""
+"""Colours, icons and styles, modelled on BeOS."""
 
 from __future__ import annotations
 
@@ -12,9 +12,9 @@ from .columns import MAIL_TYPE
 DESKTOP, TAB, FACE, LINE, PAPER, STRIPE, MARKED = "#336698", "#ffcb00", "#d8d8d8", "#989898", "#ffffff", "#f3f6fa", "#9fb6d2"
 FAULT, FAULT_PAPER, QUIET = "#b3261e", "#fbe4e1", "#4f4f4f"
 ICON_HEIGHT = 16  # in pixels
-SELECT_ALL = ("Control-a", "Control-Lock-A")  # the keys with which Tk goes to the beginning of the line on X11
+SELECT_ALL = ("Control-a", "Control-Lock-A")  # the keys that move to the start of the line in Tk on X11
 
-# The sheet of a file's icon, and the colours of the lines on it, by the beginning of the file's type.
+# A file icon's paper, and the colour of the lines on it, by the first part of the file's type.
 _SHEETS = [
     (MAIL_TYPE, "#fff3c4", "#b07d00"), ("message/", "#fff3c4", "#b07d00"), ("text/html", "#dceefb", "#1769aa"),
     ("text/", "#ffffff", "#7a7a7a"), ("image/", "#e3f4e1", "#2e7d32"), ("audio/", "#f6e1f3", "#8e24aa"),
@@ -25,7 +25,7 @@ _FOLDERS = ("inode/directory", "application/x-vnd.Be-directory", "application/x-
 
 
 def _image(parts: List[Tuple[str, int, int, int, int]]) -> tk.PhotoImage:
-    """Rectangles, each with its colour, position, width and height."""
+    """Draws rectangles, each given by its colour, position, width and height."""
     image = tk.PhotoImage(width=20, height=ICON_HEIGHT)
     for colour, x, y, width, height in parts:
         row = "{" + " ".join([colour] * width) + "}"
@@ -34,7 +34,7 @@ def _image(parts: List[Tuple[str, int, int, int, int]]) -> tk.PhotoImage:
 
 
 def _sheet(paper: str, ink: str) -> tk.PhotoImage:
-    """A sheet of paper with a few lines."""
+    """Draws a sheet of paper with a few lines."""
     lines = [(ink, 4, y, length, 1) for y, length in ((4, 6), (6, 8), (8, 8), (10, 5))]
     return _image([("#6b6b6b", 2, 1, 12, 14), (paper, 3, 2, 10, 12), *lines])
 
@@ -44,14 +44,14 @@ def _folder() -> tk.PhotoImage:
 
 
 class Icons:
-    """The icons of files, by their types."""
+    """The icons for files, by type."""
 
     def __init__(self) -> None:
         self._sheets = [(beginning, _sheet(paper, ink)) for beginning, paper, ink in _SHEETS]
         self._folder = _folder()
 
     def of(self, kind: object) -> tk.PhotoImage:
-        """The icon of a type."""
+        """Returns a type's icon."""
         name = kind if isinstance(kind, str) else ""
         if name in _FOLDERS:
             return self._folder
@@ -59,12 +59,12 @@ class Icons:
 
 
 def row_height(widget: tk.Misc) -> int:
-    """The height of a list row in pixels: the height of its letters or icon, plus some space."""
+    """Returns the height of a list row in pixels: its letters or icon, plus some space."""
     return max(tkinter.font.nametofont("TkDefaultFont", widget).metrics("linespace"), ICON_HEIGHT) + 4
 
 
 def apply(root: tk.Tk) -> None:
-    """Gives a window the styles and the keys."""
+    """Sets a window's styles and keys."""
     for key in SELECT_ALL:
         root.event_delete("<<LineStart>>", f"<{key}>")
         root.event_add("<<SelectAll>>", f"<{key}>")

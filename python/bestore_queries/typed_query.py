@@ -1,4 +1,5 @@
-"""A typed query, in the form that is sent to the store: dates become numbers. Errors are shown at their position in what was typed."""
+"""Turns a typed query into the form that is sent to the store: dates become numbers. Errors are shown at their position in what
+was typed."""
 
 from __future__ import annotations
 
@@ -32,7 +33,7 @@ class Fault(NamedTuple):
 
 
 class TypedFault(Exception):
-    """What was typed can't be sent, because a date in it isn't valid."""
+    """The typed query can't be sent, because it has an invalid date."""
 
     def __init__(self, fault: Fault) -> None:
         super().__init__(fault.message)
@@ -50,12 +51,12 @@ class _Token(NamedTuple):
 
     @property
     def value(self) -> str:
-        """The text without the marks around it."""
+        """The text without its quotation marks or percent signs."""
         return self.text[1:-1] if self.kind in ("quoted", "date") else self.text
 
 
 class _Part(NamedTuple):
-    """A comparison that was typed with a date, what is sent for it, and what the date means."""
+    """A comparison that was typed with a date, what is sent instead, and what the date means."""
 
     start: int
     end: int
@@ -64,14 +65,14 @@ class _Part(NamedTuple):
 
 
 class TypedQuery(NamedTuple):
-    """A query that was typed, and the one that is sent for it."""
+    """A typed query, and the query that is sent for it."""
 
     typed: str
     sent: str
     parts: Tuple[_Part, ...]
 
     def column_of(self, offset: int) -> int:
-        """Returns the typed character that a byte of the sent text comes from. For a date, it is the first character of the date's
+        """Returns the typed character that a byte of the sent text comes from. For a date, that is the first character of its
         comparison."""
         column = len(self.sent.encode(errors="surrogatepass")[:offset].decode(errors="ignore"))
         for part in self.parts:
@@ -83,13 +84,13 @@ class TypedQuery(NamedTuple):
         return column
 
     def dates_in_words(self) -> str:
-        """What the dates mean."""
+        """Describes what the dates mean."""
         return "; ".join(part.meaning for part in self.parts)
 
 
 def read(typed: str, now: Optional[datetime] = None) -> TypedQuery:
-    """The query that is sent for what was typed. A value in `%` is a date, and so is any value of a time attribute, unless it is
-    a number of seconds or has a wildcard. Raises `TypedFault` if a date isn't valid."""
+    """Returns the query to send for what was typed. A value in `%` is a date. So is any value of a time attribute, unless it is a
+    number of seconds or has a wildcard. Raises `TypedFault` if a date is invalid."""
     found, parts = _tokens(typed), []
     for name, operator, value in zip(found, found[1:], found[2:]):
         if name.kind in ("word", "quoted") and operator.kind == "compares" and _is_date(name, value):
@@ -102,7 +103,7 @@ def read(typed: str, now: Optional[datetime] = None) -> TypedQuery:
 
 
 def _tokens(typed: str) -> List[_Token]:
-    """The tokens, up to the first character that begins none. A `%` begins a date if it is where a value may be."""
+    """Returns the tokens, up to the first character that can't begin one. A `%` begins a date if it is where a value can be."""
     found: List[_Token] = []
     at = len(_SEPARATORS.match(typed)[0])  # type: ignore[index]
     while at < len(typed):
@@ -126,7 +127,7 @@ def _is_date(name: _Token, value: _Token) -> bool:
 
 
 def _dated(name: _Token, operator: _Token, value: _Token, now: Optional[datetime]) -> _Part:
-    """The comparison with the time that a date means: it is after the date, before it, or within it."""
+    """Returns the comparison with the time that a date means: after the date, before it, or within it."""
     try:
         begin, end = dates.span_of(value.value, now)
     except dates.NotADate as error:
@@ -143,7 +144,7 @@ def _dated(name: _Token, operator: _Token, value: _Token, now: Optional[datetime
 
 
 def fault_of(error: bestore.Error, query: TypedQuery, indices: Mapping[str, bestore.Kind]) -> Fault:
-    """An error of the query that was sent, in words about what was typed."""
+    """Describes an error of the sent query, in terms of what was typed."""
     if not isinstance(error, bestore.QueryError):
         return Fault(str(error))
     if isinstance(error, bestore.QueryNotUTF8):
@@ -198,14 +199,14 @@ def _ends_comparison(before: List[_Token]) -> bool:
 
 
 def _open_quote(typed: str) -> bool:
-    """Whether an unclosed quoted text begins after the last token."""
+    """Returns whether an unclosed quoted text begins after the last token."""
     found = _tokens(typed)
     return typed[found[-1].end if found else 0:].strip()[:1] in ('"', "'")
 
 
 def lines_of(fault: Fault, typed: str, width: int) -> List[str]:
-    """A fault, in lines of up to this many columns: what it is, and what was typed, with a caret under the position. If
-    what was typed is wider, only the part around the position is shown."""
+    """Formats a fault in lines of up to this many columns: what it is, and what was typed, with a caret under the position. If
+    the typed text is wider, only the part around the position is shown."""
     message = fault.message[:1].upper() + fault.message[1:]
     lines = [shortened(message, width)]
     if fault.column is not None:

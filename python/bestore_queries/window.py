@@ -1,4 +1,4 @@
-"""The window: a Find row, the query as a formula, what is wrong with it, the list, and the lines below."""
+"""The window: a Find row, the query as a formula, its errors, the list, and the lines below."""
 
 from __future__ import annotations
 
@@ -27,11 +27,11 @@ from .sorted_hits import Hit, SortedHits
 from .sources import Source
 from .theme import DESKTOP, FACE, FAULT, FAULT_PAPER, QUIET, TAB
 
-BUDGET = 0.015      # seconds that the window spends on reports in one go
-BUSY_PAUSE = 5      # milliseconds to the next look for reports, if there were any
-IDLE_PAUSE = 50     # milliseconds to the next look, if there were none
-TYPING_PAUSE = 150  # milliseconds without a key before a query is run
-FIRST_PAUSE = 0.1   # seconds that sorting waits for the first hits of an order, which the store may have immediately
+BUDGET = 0.015      # seconds that the window spends on reports at a time
+BUSY_PAUSE = 5      # milliseconds until the next look for reports, if there were any
+IDLE_PAUSE = 50     # milliseconds until the next look, if there were none
+TYPING_PAUSE = 150  # milliseconds without a keystroke before a query runs
+FIRST_PAUSE = 0.1   # seconds that sorting waits for an order's first hits, which the store may have immediately
 LINES = 3           # below the query: what is wrong with it, and where
 
 
@@ -43,15 +43,15 @@ class Window:
         self._saved = SavedQueries() if saved is None else saved
         self.hits = SortedHits()
         self._indices: Mapping[str, bestore.Kind] = {}
-        self._attributes: List[str] = []  # that the first hits have
-        self._chosen: List[str] = []      # the attributes that the user has chosen to be shown
+        self._attributes: List[str] = []  # attributes of the first hits
+        self._chosen: List[str] = []      # the attributes that the user has chosen to show
         self._query, self._typing = tk.StringVar(root), ""
         self._typed = typed_query.TypedQuery("", "", ())
         self._fault: Optional[typed_query.Fault] = None
         self._hints: List[bestore.Hint] = []
         self._turn, self._is_answered = 0, False
-        self._awaits_first = False  # whether first hits were asked for that haven't come
-        self._sorts_at = 0.0        # when sorting no longer waits for them
+        self._awaits_first = False  # whether first hits were requested and haven't come yet
+        self._sorts_at = 0.0        # when sorting stops waiting for them
         self._count: Optional[Counted] = None
         self._is_open, self._lost = False, ""
         self._openings: List[Opening] = []
@@ -127,10 +127,10 @@ class Window:
                 self.root.after_cancel(waiting)
         self._asker.end()
 
-    # What the user asks for.
+    # What the user does.
 
     def ask(self, text: str) -> None:
-        """Writes a query into the line, and runs it immediately."""
+        """Puts a query into the line, and runs it immediately."""
         self._query.set(text)
         self._ask()
 
@@ -142,7 +142,7 @@ class Window:
         self.ask(saved.query)
 
     def _found(self, query: str) -> None:
-        """The Find row has made a query."""
+        """Runs a query that the Find row has made."""
         self._query.set(query)
 
     def _typed_something(self) -> None:
@@ -172,12 +172,12 @@ class Window:
         self._tell_state()
 
     def choose(self, attributes: Sequence[str]) -> None:
-        """Shows these attributes as columns, and reads them."""
+        """Shows these attributes as columns, and has them read."""
         self._chosen = list(attributes)
         self._ask()
 
     def sort(self, column: Column) -> None:
-        """Sorts the hits by a column from now on; the second time, in reverse."""
+        """Sorts the hits by a column from now on. The second time, reverses the order."""
         is_turned = self.hits.attribute == column.attribute and not self.hits.will_be_turned
         self.hits.sort(column.attribute, is_turned)
         begin = self._begin()
@@ -188,15 +188,15 @@ class Window:
         self.list.paint()
 
     def _begin(self) -> Optional[Begin]:
-        """The hits that the list begins with, if an index has its order: the visible ones, and one more page. An index of texts has
-        a different order from the list, which ignores case."""
+        """Returns the hits that the list begins with, if an index has its order: the visible ones, and one more page. An index of
+        texts doesn't have the list's order, which ignores case."""
         attribute = self.hits.attribute
         if not columns.is_number(self._indices.get(attribute)):
             return None
         return Begin(Order(attribute, self.hits.will_be_turned), 2 * self.list.room)
 
     def _await_first(self, begin: Optional[Begin]) -> None:
-        """Looks for reports at short intervals until the first hits come, if they were asked for."""
+        """Looks for reports at short intervals until the first hits come, if they were requested."""
         self._awaits_first = begin is not None
         if self._awaits_first:
             self._sorts_at = time.monotonic() + FIRST_PAUSE
@@ -213,7 +213,7 @@ class Window:
         self._next_step = self.root.after(milliseconds, self._step)
 
     def open(self, hits: List[Hit]) -> None:
-        """Opens files with the desktop's programs for them."""
+        """Opens files with the desktop's programs."""
         self._warning = ""
         for hit in hits:
             try:
@@ -233,7 +233,7 @@ class Window:
                 self._openings.remove(opening)
 
     def _write(self, cell: Cell, text: str) -> None:
-        """An attribute was edited."""
+        """Writes an edited attribute."""
         self._warning = ""
         self._show_notice()
         self._asker.send(Write(cell.node, cell.column.attribute, text, cell.value))
@@ -274,7 +274,7 @@ class Window:
                 break
             self._take(report)
             is_busy = is_changed = True
-        has_first = awaited_first and not self._awaits_first  # the first hits are painted before anything is sorted
+        has_first = awaited_first and not self._awaits_first  # paint the first hits before anything is sorted
         while not has_first and self._may_sort() and time.monotonic() < end:
             is_changed = self.hits.step() or is_changed
         if is_changed:
@@ -330,13 +330,13 @@ class Window:
             self._refuse(report)
 
     def _take_nothing(self) -> None:
-        """There is no answer, so nothing is shown."""
+        """Shows nothing, since there is no answer."""
         self._is_answered, self._awaits_first, self._count = False, False, None
         self.hits.clear()
         self.list.clear()
 
     def _refuse(self, report: Refused) -> None:
-        """The query isn't followed: what is shown isn't an answer to it."""
+        """Shows that the query isn't followed: the list isn't an answer to it."""
         self._take_nothing()
         self._take_indices(report.indices)
         self._fault = typed_query.fault_of(report.error, self._typed, report.indices)
@@ -378,7 +378,7 @@ class Window:
         return max(room // tkinter.font.nametofont("TkFixedFont").measure("0"), 20)
 
     def _tell_query(self) -> None:
-        """Shows what is wrong with the query, or what it can't find, otherwise which dates it has."""
+        """Shows what is wrong with the query, or what it can't find. If there is neither, shows which dates it has."""
         width = self._width()
         if self._fault is not None:
             lines = typed_query.lines_of(self._fault, self._query.get(), width)
@@ -405,7 +405,7 @@ class Window:
         self.state.configure(text="   ·   ".join(words))
 
     def _show_notice(self) -> None:
-        """Shows what is wrong with the source, and what couldn't be done, for as long as there is something to show."""
+        """Shows what is wrong with the source, and what couldn't be done, as long as there is something to show."""
         condition = self._source.condition
         faults = [self._warning] if self._warning else []
         if self._lost:

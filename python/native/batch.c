@@ -5,7 +5,7 @@
 
 PyTypeObject *batch_type;
 
-/* Makes space for this many more elements, at least doubling the capacity. */
+/* Makes room for this many more elements, and at least doubles the capacity. */
 static void *grown(void *kept, size_t *room, size_t needed, size_t size)
 {
     size_t more = *room == 0 ? 4 : *room;
@@ -203,7 +203,7 @@ static PyObject *batch_remove_index(PyObject *self, PyObject *const *given, Py_s
     return added(self, (bes_operation){ .kind = BES_REMOVE_INDEX }, read[0], NULL, 0);
 }
 
-/* Adds an operation from its parts: kind, node, name, code, number and value, the name and the value as bytes. */
+/* Adds an operation from its parts: kind, node, name, code, number and value. The name and the value are bytes. */
 static PyObject *batch_add_encoded(PyObject *self, PyObject *arguments)
 {
     unsigned int kind, code;
@@ -280,7 +280,7 @@ PyObject *batch_of(const Listed *listed)
     return made;
 }
 
-/* Adds each operation that a batch is made with, using the batch's method `add`. */
+/* Adds each operation that a batch is created with, through the batch's method `add`. */
 static int add_all(PyObject *self, PyObject *operations)
 {
     PyObject *all = PyObject_GetIter(operations), *operation;

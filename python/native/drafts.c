@@ -1,4 +1,5 @@
-/* Changes: the operations that are collected on a reader's snapshot, in a draft of the library, and written on it. */
+/* Changes: the operations that are collected on a reader's snapshot, in one of the library's drafts, and written on that
+ * snapshot. */
 #include "reader.h"
 
 #include <string.h>
@@ -12,7 +13,7 @@ void abandon_draft(Reader *reader)
     reader->count = reader->length = 0;
 }
 
-/* Begins a draft on the reader's snapshot, if there is no draft yet. The caller has the pass. */
+/* Begins a draft on the reader's snapshot, unless there is one already. The caller has to have the pass. */
 static uint32_t begin_draft(Reader *reader, Handle *user)
 {
     uint64_t number, next;
@@ -25,7 +26,7 @@ static uint32_t begin_draft(Reader *reader, Handle *user)
     return answer;
 }
 
-/* An operation to collect, with the bytes of its name and value, and what the library returns for it. */
+/* An operation to collect, the bytes of its name and value, and what the library returns for it. */
 typedef struct Collected {
     bes_operation operation;
     const uint8_t *name, *value;
@@ -50,7 +51,7 @@ static uint32_t add_to_draft(Reader *reader, Collected *it)
     return answer;
 }
 
-/* Adds an operation to the draft. Raises the error, and returns false, if it isn't added. */
+/* Adds an operation to the draft. If it is refused, raises the error and returns false. */
 static bool collect(PyObject *self, Collected *it, PyObject *name)
 {
     Reader *reader = (Reader *)self;
@@ -75,7 +76,7 @@ static bool collect(PyObject *self, Collected *it, PyObject *name)
     return answer == BES_OK;
 }
 
-/* Reads the name of an operation. */
+/* Reads an operation's name. */
 static bool read_name(PyObject *object, Collected *it)
 {
     size_t length;
@@ -163,7 +164,7 @@ PyObject *reader_remove_index(PyObject *self, PyObject *name)
     return none_if(read_name(name, &it) && collect(self, &it, NULL));
 }
 
-/* Gives the operations that make nodes their numbers: the snapshot's next node and those after it. */
+/* Gives the operations that make nodes their numbers: the snapshot's next node number and the ones after it. */
 static void number_new_nodes(Listed *listed, uint64_t next)
 {
     for (size_t at = 0; at < listed->counts.operations; at++)

@@ -3,7 +3,7 @@
 
 #include <pythread.h>
 
-static unsigned long forks; /* how often this process is a forked child */
+static unsigned long forks; /* how many forks lie between the first process and this one */
 PyTypeObject *handle_type;
 
 bool is_dead(const Handle *handle) { return handle->forks != forks; }
@@ -15,14 +15,15 @@ PyObject *after_fork(PyObject *module, PyObject *nothing)
     Py_RETURN_NONE;
 }
 
-/* A thread that waits for its turn. */
+/* A thread that is waiting for its turn. */
 struct Waiter {
     PyThread_type_lock lock; /* this lock is taken until the thread gets its turn */
     bool has_turn;
     struct Waiter *next;
 };
 
-/* Returns whether this thread may use the handle now. Waiting threads come first, so a thread that keeps calling can't shut them out. */
+/* Returns whether this thread may use the handle now. Waiting threads come first, so a thread that keeps calling can't shut them
+ * out. */
 static bool may_enter(const Handle *handle, unsigned long self)
 {
     if (handle->depth != 0)
@@ -129,7 +130,7 @@ Handle *handle_of(PyObject *object, enum Sort sort)
     return NULL;
 }
 
-/* Calls arguments[0] with the handle, in the form that ctypes takes, and the other arguments. The caller has the handle. */
+/* Calls arguments[0] with the handle, as ctypes takes it, and the other arguments. The caller has to have the handle. */
 PyObject *call_guarded(Handle *handle, PyObject *const *arguments, Py_ssize_t count)
 {
     PyObject *pointer, *taken, *result = NULL;
@@ -201,7 +202,7 @@ static int handle_init(PyObject *self, PyObject *arguments, PyObject *names)
     return 0;
 }
 
-/* Closes the handle if its owner hasn't. */
+/* Closes the handle, unless its owner has closed it. */
 static void end_handle(Handle *handle)
 {
     if (is_dead(handle))

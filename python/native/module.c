@@ -1,4 +1,4 @@
-/* The module bestore._native: the calls that programs make most, on the handles of the library that bestore._library has loaded. */
+/* The module bestore._native: the most frequent calls, on handles of the library that bestore._library has loaded. */
 #include "native.h"
 
 #include <string.h>
@@ -6,7 +6,7 @@
 Library library;
 Known known;
 
-/* A call's name in the library, and where its address is stored. */
+/* The name of one of the library's calls, and where its address is stored. */
 typedef struct Named {
     const char *name;
     size_t offset;
@@ -23,7 +23,7 @@ static const Named calls[] = {
     CALL(abandon_change),
 };
 
-/* Takes the loaded library's calls: a dict from their names to their addresses. */
+/* Stores the loaded library's calls, given as a dict from names to addresses. */
 static PyObject *use(PyObject *module, PyObject *addresses)
 {
     (void)module;
@@ -38,7 +38,7 @@ static PyObject *use(PyObject *module, PyObject *addresses)
     Py_RETURN_NONE;
 }
 
-/* Keeps an object of the package, replacing an earlier one. */
+/* Stores one of the package's objects, and releases the one before. */
 static void keep(PyObject **place, PyObject *object)
 {
     PyObject *before = *place;
@@ -46,7 +46,7 @@ static void keep(PyObject **place, PyObject *object)
     Py_XDECREF(before);
 }
 
-/* Takes what the module knows about the package: bit by bit, as the package's modules are imported. */
+/* Stores what the module has to know about the package. The package's modules pass it bit by bit as they are imported. */
 static PyObject *know(PyObject *module, PyObject *arguments, PyObject *names)
 {
     static char *parameters[] = { "refusal", "forked", "encoded_query", "encode_value", "typed", "batch", "user",

@@ -1,7 +1,8 @@
 /* What the parts of bestore._native share. The module calls the library that bestore._library has loaded, through the calls of
  * bestore.h.
  *
- * Its state belongs to the process, and the GIL guards it: code that releases the GIL touches no object meanwhile. */
+ * Its state is shared by the whole process, and the GIL guards it. Code that releases the GIL touches no object until it has it
+ * again. */
 #ifndef BESTORE_NATIVE_H
 #define BESTORE_NATIVE_H
 
@@ -19,13 +20,13 @@ enum {
     MOST_OPERATIONS = 64,
     BYTES_OF_A_BATCH = MOST_OPERATIONS * (63 + 255),
     BYTES_OF_A_VALUE = 255,
-    /* A write of up to this many operations keeps the GIL: it takes microseconds, whereas getting the GIL back from a thread
-     * that computes takes milliseconds. */
+    /* A write of up to this many operations keeps the GIL: it takes microseconds. Getting the GIL back from a thread that
+     * computes takes milliseconds. */
     SHORT_OPERATIONS = 8,
     SHORT_BYTES = 2048,
 };
 
-/* The calls of the loaded library. */
+/* The loaded library's calls. */
 typedef struct Library {
     uint32_t (*pin)(bes_pass *, uint64_t *);
     uint32_t (*unpin)(bes_pass *);
@@ -73,14 +74,14 @@ extern Library library;
 enum { KINDS = 7 };
 /* surface.toml: end */
 
-/* What the module knows about the package: it is handed over once, through `know`. */
+/* What the module knows about the package. The package passes each of these once, through `know`. */
 typedef struct Known {
     PyObject *refusal;       /* makes the error for an error number */
-    PyObject *forked;        /* the class of the error */
+    PyObject *forked;        /* the class of the error in a forked child */
     PyObject *encoded_query; /* raises the error for a query's text that isn't valid UTF-8 */
     PyObject *encode_value;  /* encodes values of less common types */
-    PyObject *typed;         /* a class of pairs */
-    PyObject *batch;         /* the class */
+    PyObject *typed;         /* the class of pairs of value and kind */
+    PyObject *batch;         /* the class of batches */
     PyObject *user;          /* the class of passes whose writes need nothing else */
     PyObject *wrong_kind;    /* makes the error for a value whose kind isn't its index's kind */
     PyObject *kinds[KINDS];  /* in the order of kind_index */
@@ -90,10 +91,10 @@ extern Known known;
 
 typedef struct Waiter Waiter;
 
-/* What a handle belongs to. */
+/* What kind of handle the library has. */
 enum Sort { NO_SORT, OF_PASS, OF_PREPARED, OF_CURSOR, OF_WITNESS };
 
-/* A handle of the library, with its guard: one thread at a time uses it, and that thread may enter again. */
+/* One of the library's handles, with its guard: one thread at a time uses it, and that thread may enter again. */
 typedef struct Handle {
     PyObject_HEAD
     union {
@@ -106,23 +107,23 @@ typedef struct Handle {
     unsigned long forks; /* how many forks there had been when the handle was made */
     unsigned long owner; /* the thread that is using the handle, if depth isn't 0 */
     unsigned depth;
-    Waiter *first;     /* the first of the waiting threads */
-    bool is_given;     /* whether the turn was given to a thread that hasn't run since */
+    Waiter *first;     /* the first waiting thread */
+    bool is_given;     /* whether the turn has been given to a thread that hasn't run since */
     bool is_pinned;    /* for a pass: whether a version has it pinned */
-    bool is_left;      /* whether that version is gone, and the thread that is using the pass has to unpin */
+    bool is_left;      /* whether that version is gone, so that the thread that is using the pass has to unpin */
     uint64_t snapshot; /* the commit number of the snapshot, if it is pinned */
     uint64_t committed;     /* for a pass: the commit number of its last write, or 0 */
     unsigned long changing; /* the thread that is running the function of a change, or 0 */
     uint64_t *nodes;   /* for a pass: the buffer that queries write into, or NULL */
     size_t room;
     bool is_long;   /* for a prepared query: whether the GIL is released while the query runs */
-    unsigned asked; /* how often the query was run with the GIL */
+    unsigned asked; /* how many times the query was run with the GIL */
 } Handle;
 
 extern PyTypeObject *handle_type;
 extern PyTypeObject *batch_type;
 
-/* Operations, and the bytes that contain their names and values. */
+/* Operations, and the bytes that their names and values are in. */
 typedef struct Batch {
     PyObject_HEAD
     bes_operation *operations;
@@ -145,8 +146,8 @@ typedef struct Listed {
     uint8_t bytes[BYTES_OF_A_BATCH];
 } Listed;
 
-/* Guards: handle.c. `enter` waits until no other thread is using the handle; it raises, and returns false, if the handle is dead or
- * the wait is interrupted. */
+/* Guards: handle.c. `enter` waits until no other thread is using the handle. If the handle is dead or the wait is interrupted, it
+ * raises and returns false. */
 bool enter(Handle *handle);
 void leave(Handle *handle);
 bool is_dead(const Handle *handle);
@@ -155,7 +156,7 @@ void unpin(Handle *handle);
 PyObject *call_guarded(Handle *handle, PyObject *const *arguments, Py_ssize_t count);
 Handle *handle_of(PyObject *object, enum Sort sort);
 
-/* Values: values.c. Each function raises, and returns NULL or false, if it fails. */
+/* Values: values.c. If one of these functions fails, it raises and returns NULL or false. */
 PyObject *refused(uint32_t answer);
 PyObject *refused_at(uint32_t answer, uint64_t carried, const char *listed);
 PyObject *refused_kind(PyObject *name, uint32_t kind, uint32_t index_kind);
@@ -169,7 +170,7 @@ PyObject *kind_object(uint32_t code);
 PyObject *typed_object(uint32_t code, uint64_t number, const uint8_t *bytes, size_t length);
 PyObject *list_of(const uint64_t *numbers, size_t count);
 
-/* The parameters of a function: their names, how many there are, and how many are required. */
+/* A function's parameters: their names, how many there are, and how many are required. */
 typedef struct Signature {
     const char *function;
     const char *names[6];
@@ -178,7 +179,7 @@ typedef struct Signature {
 
 bool read_arguments(const Signature *signature, PyObject *const *given, Py_ssize_t count, PyObject *names, PyObject **read);
 
-/* A value in the form that the library takes. Its bytes belong to `keeper`, which has to be released unless it is NULL. */
+/* A value as the library takes it. Its bytes belong to `keeper`, which has to be released unless it is NULL. */
 typedef struct Encoded {
     uint32_t code;
     uint64_t number;
@@ -193,7 +194,7 @@ bool add_operation(Batch *batch, bes_operation operation, const uint8_t *name, s
                    size_t value_length);
 PyObject *batch_of(const Listed *listed);
 
-/* What the types have: handle.c, batch.c, reader.c, queries.c, drafts.c, writes.c. */
+/* The methods of the types: handle.c, batch.c, reader.c, queries.c, drafts.c, writes.c. */
 extern PyType_Spec handle_spec, batch_spec, reader_spec;
 PyObject *after_fork(PyObject *module, PyObject *nothing);
 PyObject *handle_apply(PyObject *self, PyObject *const *given, Py_ssize_t count);

@@ -7,9 +7,9 @@
 enum {
     LEAST_ROOM = 1024,
     MANY_NODES = 256,       /* a longer list of nodes is read without the GIL */
-    LONG_TIME = 50000,      /* a prepared query that took more nanoseconds runs without the GIL the next time */
-    SHORT_TIME = 20000,     /* a prepared query that took fewer runs with the GIL */
-    TIMED = 8,              /* one in this many runs with the GIL is timed, and not the first */
+    LONG_TIME = 50000,      /* if a prepared query took more nanoseconds, it next runs without the GIL */
+    SHORT_TIME = 20000,     /* if it took fewer, it next runs with the GIL */
+    TIMED = 8,              /* of the runs with the GIL, one in this many is timed, but not the first */
 };
 static const uint64_t MOST_NODES = 8u << 20; /* no store has more nodes with attributes: its pages have 64 MiB */
 
@@ -23,14 +23,14 @@ typedef struct Part {
     uint32_t descending, more;
 } Part;
 
-/* A query in the form in which it is run: text, items, or prepared. A prepared query may be run for a part. */
+/* A query in the form in which it is run: text, items, or prepared. A prepared query may be run for part of its answer. */
 typedef struct Asked {
     Handle *prepared;
     const bes_item *items;
     const uint8_t *bytes;
     size_t count, length;
     Part *part;
-    PyObject *source; /* what the error is about */
+    PyObject *source; /* what an error refers to */
 } Asked;
 
 /* What was found. */
@@ -70,7 +70,7 @@ static int64_t nanoseconds(void)
     return (int64_t)now.tv_sec * 1000000000 + now.tv_nsec;
 }
 
-/* Whether a query may take long: one that has a wildcard, an inequality or a negation may read a whole index. */
+/* Returns whether a query may take long: with a wildcard, an inequality or a negation it may read a whole index. */
 static bool may_take_long(const uint8_t *text, size_t length)
 {
     for (size_t at = 0; at < length; at++)
@@ -79,7 +79,7 @@ static bool may_take_long(const uint8_t *text, size_t length)
     return false;
 }
 
-/* Remembers whether a prepared query may take long, judging by its text, until it is asked. */
+/* Records whether a prepared query may take long, judging by its text. This holds until it has been run. */
 PyObject *handle_expect(PyObject *self, PyObject *text)
 {
     const uint8_t *bytes;
@@ -90,7 +90,7 @@ PyObject *handle_expect(PyObject *self, PyObject *text)
     Py_RETURN_NONE;
 }
 
-/* Runs the query with the GIL, and measures the time now and then. */
+/* Runs the query with the GIL, and now and then measures how long it takes. */
 static uint32_t ask_short(bes_pass *pass, const Asked *asked, Result *it)
 {
     Handle *prepared = asked->prepared;
@@ -118,7 +118,7 @@ static uint32_t ask_long(bes_pass *pass, const Asked *asked, Result *it)
     return answer;
 }
 
-/* Runs the query without the GIL if it may take long, or took long the last time. */
+/* Runs the query without the GIL if it may take long, or took long last time. */
 static uint32_t ask_once(bes_pass *pass, const Asked *asked, Result *it)
 {
     bool is_long = asked->prepared != NULL ? asked->prepared->is_long
@@ -126,9 +126,9 @@ static uint32_t ask_once(bes_pass *pass, const Asked *asked, Result *it)
     return is_long ? ask_long(pass, asked, it) : ask_short(pass, asked, it);
 }
 
-/* Takes the pass's room for found nodes, or makes more: as many as there can be, so that no query is asked twice. Memory that
- * is never written costs nothing. If there isn't that much, a query that finds more than fits is asked again; a prepared
- * query keeps its result. */
+/* Takes the pass's buffer for found nodes, or makes one. It has room for as many nodes as there can be, so that no query runs
+ * twice. Memory that is never written costs nothing. If so much memory isn't available, a query that finds more than fits runs
+ * again; a prepared query keeps its result. */
 static bool take_room(Handle *user, uint64_t most, Result *it)
 {
     size_t wanted = (size_t)(most < MOST_NODES ? most : MOST_NODES);
@@ -151,7 +151,7 @@ static bool take_room(Handle *user, uint64_t most, Result *it)
     return true;
 }
 
-/* Makes more space for a query that found more nodes than fit. */
+/* Makes more room for a query that found more nodes than fit. */
 static bool grow_room(Result *it)
 {
     uint64_t *nodes = realloc(it->nodes, it->count * sizeof *nodes);
@@ -192,7 +192,7 @@ static bool ask(Handle *user, uint64_t most, const Asked *asked, bool wants_node
     return true;
 }
 
-/* Raises the error for a query, which the reader makes. */
+/* Raises the error for a query. The reader makes it. */
 static PyObject *query_refused(Reader *reader, uint32_t answer, uint64_t carried, const Asked *asked)
 {
     PyObject *error = PyObject_CallMethod(
@@ -254,7 +254,7 @@ static bool read_prepared(PyObject *prepared, Asked *asked)
     return asked->prepared != NULL;
 }
 
-/* Reads items that were encoded: what they were encoded from, the items, and their bytes. */
+/* Reads encoded items: their source, the items, and their bytes. */
 static bool read_items(PyObject *arguments, Asked *asked)
 {
     PyObject *source;
@@ -272,7 +272,7 @@ static const Signature of_prepared = { "query_prepared", { "prepared" }, 1, 1 };
 static const Signature of_count = { "count", { "query" }, 1, 1 };
 static const Signature of_refresh = { "refresh", { "prepared" }, 1, 1 };
 
-/* The named parameters of a call, as a dict. */
+/* Returns a call's named arguments as a dict. */
 static PyObject *named(PyObject *const *given, PyObject *names)
 {
     PyObject *dict = PyDict_New();
@@ -283,7 +283,7 @@ static PyObject *named(PyObject *const *given, PyObject *names)
     return dict;
 }
 
-/* Makes a call through the package's method, which does the same and knows more parameters. */
+/* Forwards a call to the package's method, which does the same and takes more parameters. */
 static PyObject *forward(
     PyObject *self, const char *method, PyObject *const *given, Py_ssize_t count, PyObject *names)
 {
@@ -299,13 +299,13 @@ static PyObject *forward(
     return result;
 }
 
-/* Returns whether a call has more parameters than a query, so that it asks for part of the answer. */
+/* Returns whether a call has more arguments than a query, and so asks for part of the answer. */
 static bool asks_part(Py_ssize_t count, PyObject *names)
 {
     return count + (names == NULL ? 0 : PyTuple_Size(names)) > 1;
 }
 
-/* Returns the nodes that a query finds. If other parameters are given too, the package's method `part` reads them. */
+/* Returns the nodes that a query finds. If there are other arguments too, the package's method `part` reads them. */
 static PyObject *query_by(
     PyObject *self, PyObject *const *given, Py_ssize_t count, PyObject *names, const Signature *signature,
     bool (*read)(PyObject *, Asked *), const char *part)
@@ -379,7 +379,8 @@ PyObject *reader_any(PyObject *self, PyObject *arguments)
     return answered_part(self, prepared, &(Part){ .how = ANY, .limit = (size_t)limit });
 }
 
-/* Reads the arguments for a page: the query, the name of the index, the direction, where it begins, and how many nodes it may have. */
+/* Reads the arguments for a page: the query, the index's name, the direction, where it begins, and the maximum number of
+ * nodes. */
 static bool read_page(PyObject *arguments, PyObject **prepared, Part *part)
 {
     const char *name, *key;
@@ -413,10 +414,10 @@ PyObject *reader_page(PyObject *self, PyObject *arguments)
                          (Py_ssize_t)part.cursor.length);
 }
 
-/* The changes that a refresh found: space for them, and their number. */
+/* What a refresh found: how many nodes joined and left, and room for them. */
 typedef struct Changes {
     bes_updates updates;
-    uint64_t *nodes; /* the nodes that came, and after them the nodes that went */
+    uint64_t *nodes; /* the nodes that joined, and then the nodes that left */
 } Changes;
 
 /* A library call that refreshes a query. */

@@ -1,4 +1,4 @@
-/* Readers: how they pin a pass, and reading a node. */
+/* Readers: how they pin a pass and read nodes. */
 #include "reader.h"
 
 #include <pythread.h>
@@ -22,7 +22,7 @@ Handle *enter_pinned(Reader *reader)
 static const Signature of_get = { "get", { "node", "name" }, 2, 2 };
 static const Signature of_attributes = { "attributes", { "node", "kinds" }, 2, 1 };
 
-/* The attribute as the operations of the reader's draft leave it, if it has one, otherwise as in the snapshot. */
+/* Reads an attribute as the operations of the reader's draft leave it, or from the snapshot if they don't touch it. */
 static uint32_t read_attribute(Reader *reader, Handle *user, uint64_t node, const uint8_t *name, size_t length, Found *found)
 {
     bes_pass *pass = &user->held.pass;
@@ -32,7 +32,7 @@ static uint32_t read_attribute(Reader *reader, Handle *user, uint64_t node, cons
     return library.get(pass, node, name, length, &found->attribute, found->bytes, BYTES_OF_A_VALUE);
 }
 
-/* Reads a node's attribute. Raises, and returns false, if the arguments are wrong. */
+/* Reads a node's attribute. If the arguments are wrong, raises and returns false. */
 static bool find(PyObject *self, PyObject *const *given, Py_ssize_t count, PyObject *names, Found *found)
 {
     PyObject *read[2];
@@ -71,7 +71,7 @@ static PyObject *found_typed(const Found *found)
 
 static PyObject *found_kind(const Found *found) { return kind_object(found->attribute.code); }
 
-/* Returns what a reading returns for an attribute, or None if the node has no such attribute. */
+/* Defines a method that returns the attribute, or None if the node has no such attribute. */
 #define OR_NONE(function, made)                                                                                       \
     static PyObject *function(PyObject *self, PyObject *const *given, Py_ssize_t count, PyObject *names)              \
     {                                                                                                                 \
@@ -81,7 +81,7 @@ static PyObject *found_kind(const Found *found) { return kind_object(found->attr
         return found.answer == BES_OK ? made(&found) : Py_NewRef(Py_None);                                            \
     }
 
-/* The same, or an error. */
+/* Defines a method that returns the attribute, or raises the error. */
 #define OR_ERROR(function, made)                                                                                      \
     static PyObject *function(PyObject *self, PyObject *const *given, Py_ssize_t count, PyObject *names)              \
     {                                                                                                                 \
@@ -97,7 +97,7 @@ OR_NONE(reader_kind, found_kind)
 OR_ERROR(reader_read, found_typed)
 OR_ERROR(reader_value, found_value)
 
-/* The contents of an operation that sets an attribute or makes an index, in the form that a dict takes. */
+/* Makes what a dict has for an operation that sets an attribute or makes an index. */
 typedef PyObject *Made(const bes_operation *operation, const uint8_t *bytes);
 
 static PyObject *made_value(const bes_operation *it, const uint8_t *bytes)
@@ -116,7 +116,7 @@ static PyObject *made_kind(const bes_operation *it, const uint8_t *bytes)
     return kind_object(it->code);
 }
 
-/* Puts the name of an operation, and the value made from it, into a dict. */
+/* Puts an operation's name, and the value made from the operation, into a dict. */
 static bool put(PyObject *dict, const bes_operation *it, const uint8_t *bytes, Made *made)
 {
     PyObject *name = PyUnicode_DecodeUTF8((const char *)bytes + it->name_at, it->name_length, NULL), *value = NULL;
@@ -169,7 +169,7 @@ static PyObject *reader_indices(PyObject *self, PyObject *nothing)
     return answer != BES_OK ? refused(answer) : dict_of(&listed, made_kind);
 }
 
-/* Returns the next batch that rebuilds the snapshot, or None after the last one. */
+/* Returns the next batch that rebuilds the snapshot, or None after the last. */
 static PyObject *reader_state(PyObject *self, PyObject *given)
 {
     Handle *cursor = handle_of(given, OF_CURSOR), *user;
@@ -222,7 +222,7 @@ static PyObject *reader_unpin(PyObject *self, PyObject *nothing)
 }
 
 /* Unpins for a reader that is being destroyed. Python may collect it anywhere, even while this thread is using another pass. So
- * this doesn't wait for a thread that is using this one: that thread unpins after its call. */
+ * this doesn't wait for a thread that is using this pass: that thread unpins after its call. */
 static void give_pin_up(Reader *reader)
 {
     Handle *user = reader->user;

@@ -8,16 +8,16 @@ typedef struct Reader {
     PyObject_HEAD
     Handle *user;    /* the pass */
     uint64_t number; /* the commit number of the last write that the reader includes */
-    uint64_t most;   /* how many nodes a query can find: all numbers below the next node's */
+    uint64_t most;   /* how many nodes a query can find: all numbers below the next node's number */
     bool is_pinned;
-    bool takes_any_kind; /* whether its draft does */
-    bes_draft draft;     /* the operations of a change on this snapshot, if it is open */
-    size_t count;        /* how many they are */
+    bool takes_any_kind; /* whether the draft takes values of any kind */
+    bes_draft draft;     /* if there is a change on this snapshot, the draft with its operations */
+    size_t count;        /* how many operations the draft has */
     size_t length;       /* how many bytes their names and values have */
 } Reader;
 
-/* Waits until no other thread is using the pass, and checks that it has this pin, and not a later one. Otherwise it raises,
- * and returns NULL. */
+/* Waits until no other thread is using the pass, and checks that it still has this pin and not a later one. Otherwise raises and
+ * returns NULL. */
 Handle *enter_pinned(Reader *reader);
 
 PyObject *reader_query(PyObject *self, PyObject *const *given, Py_ssize_t count, PyObject *names);
@@ -32,7 +32,7 @@ PyObject *reader_refresh(PyObject *self, PyObject *const *given, Py_ssize_t coun
 PyObject *reader_refresh_changed(PyObject *self, PyObject *prepared);
 PyObject *reader_nodes_from(PyObject *self, PyObject *arguments);
 
-/* What a change collects: drafts.c. */
+/* The operations that a change collects: drafts.c. */
 void abandon_draft(Reader *reader);
 PyObject *reader_take_any_kind(PyObject *self, PyObject *nothing);
 PyObject *reader_new_node(PyObject *self, PyObject *nothing);

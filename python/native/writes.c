@@ -1,9 +1,9 @@
-/* Writes and the journal, for a pass that is pinned or not. */
+/* Writes and the journal, for pinned and unpinned passes. */
 #include "native.h"
 
 #include <string.h>
 
-/* The arguments of a write, and what it returns. */
+/* A write's arguments and results. */
 typedef struct Write {
     Handle *handle;
     const bes_operation *operations;
@@ -24,7 +24,7 @@ static uint32_t write_now(Write *it)
     return library.apply(pass, it->operations, it->count, it->bytes, it->length, it->made, room, &it->number);
 }
 
-/* Writes without the GIL. Another thread may add to the batch meanwhile, so what is written is a copy. */
+/* Writes without the GIL. Another thread may add to the batch meanwhile, so this writes a copy. */
 static bool write_copied(Write *it, uint32_t *answer)
 {
     size_t size = it->count * sizeof(bes_operation);
@@ -50,7 +50,7 @@ static bool write_batch(Write *it, const Batch *batch, uint32_t *answer)
     bool is_written = true;
     if (!enter(it->handle))
         return false;
-    it->operations = batch->operations; /* only now, because another thread may have added to the batch while this thread waited */
+    it->operations = batch->operations; /* read only now, since another thread may have added to the batch while this one waited */
     it->count = batch->count;
     it->bytes = batch->length == 0 ? (const uint8_t *)"" : batch->bytes;
     it->length = batch->length;
@@ -84,7 +84,7 @@ PyObject *handle_apply(PyObject *self, PyObject *const *given, Py_ssize_t count)
     return made == NULL ? NULL : Py_BuildValue("(IKN)", answer, (unsigned long long)it.number, made);
 }
 
-/* Writes an operation that sets an attribute, with the GIL. */
+/* Sets an attribute with one write, and keeps the GIL. */
 static bool set_now(Handle *handle, bes_operation *operation, const uint8_t *name, const Encoded *value, uint32_t *answer)
 {
     uint8_t bytes[SHORT_BYTES];

@@ -1,4 +1,4 @@
-"""What the tests of the query window share."""
+"""What the query window's tests share."""
 
 from __future__ import annotations
 
@@ -25,8 +25,8 @@ except ImportError:
 
 PATIENCE = 30.0  # seconds that anything may take on a busy machine
 
-# Only the thread that runs Tk may free Tk's objects, but Python collects cycles in any thread. So the tests collect them only in the
-# main thread, after each test with a window.
+# Only the thread that runs Tk may free Tk's objects, but Python collects cycles in any thread. So the tests collect cycles only
+# in the main thread, after each test with a window.
 gc.disable()
 
 
@@ -37,7 +37,7 @@ def write(path: str, text: str) -> None:
 
 
 def wait_for(what: Callable[[], bool], seconds: float = PATIENCE) -> bool:
-    """Whether this comes true in time."""
+    """Waits for this to become true. Returns whether it did in time."""
     end = time.monotonic() + seconds
     while not what():
         if time.monotonic() > end:
@@ -47,7 +47,7 @@ def wait_for(what: Callable[[], bool], seconds: float = PATIENCE) -> bool:
 
 
 class MadeSource(Source):
-    """A store of the test."""
+    """A store that the test has made."""
 
     title = "made"
 
@@ -73,7 +73,7 @@ def file_of(store: bestore.Pass, **attributes: bestore.Value) -> int:
 
 
 def files_store(pages: int = 2048) -> bestore.Pass:
-    """A store with the indices of files."""
+    """Makes a store with the indices for files."""
     store = bestore.open(pages, 8)
     for name in ("name", "BEOS:TYPE"):
         store.make_index(name, bestore.STRING)
@@ -84,14 +84,14 @@ def files_store(pages: int = 2048) -> bestore.Pass:
 
 @functools.lru_cache(None)
 def open_display() -> None:
-    """Opens a display in memory for all tests of this process: Tk keeps its connection to it until the end."""
+    """Opens a display in memory for all of this process's tests. Tk stays connected to it until the end."""
     displays = ExitStack()
     os.environ["DISPLAY"] = displays.enter_context(display.display()).name
     atexit.register(displays.close)
 
 
 class OnDisplay(unittest.TestCase):
-    """Tests with a window, on a display in memory."""
+    """Tests with a window on a display in memory."""
 
     @classmethod
     def setUpClass(cls) -> None:
@@ -103,7 +103,7 @@ class OnDisplay(unittest.TestCase):
             raise unittest.SkipTest(str(error)) from None
 
     def show(self, source: Source, **options: object) -> "Window":
-        """A window over a source, which goes at the end of the test."""
+        """Opens a window on a source. It is closed when the test ends."""
         self.addCleanup(gc.collect)
         root = tkinter.Tk()
         root.geometry(display.SIZE)
@@ -113,7 +113,7 @@ class OnDisplay(unittest.TestCase):
         return window
 
     def becomes(self, window: "Window", what: Callable[[], bool], seconds: float = PATIENCE) -> None:
-        """Fails if this doesn't come true in time."""
+        """Fails if this doesn't become true in time."""
         def is_so() -> bool:
             window.root.update()
             return what()
@@ -125,12 +125,12 @@ class OnDisplay(unittest.TestCase):
 
 
 def shown(window: "Window") -> List[str]:
-    """The first column."""
+    """Returns the first column."""
     return [row[0] for row in window.list.shown()]
 
 
 def press(window: "Window", place: int, column: int = 0, *, times: int = 1, key: str = "") -> None:
-    """Clicks a cell that is seen."""
+    """Clicks a visible cell."""
     tree = window.list.tree
     window.root.update()
     x, y, width, height = tree.bbox(str(place), f"#{column}")  # type: ignore[misc]

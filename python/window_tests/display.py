@@ -1,4 +1,4 @@
-"""A display in memory, from Xvfb, and pictures of it."""
+"""A display in memory, run by Xvfb, and pictures of it."""
 
 from __future__ import annotations
 
@@ -15,7 +15,7 @@ SIZE = "940x560"
 
 
 class Screen(NamedTuple):
-    """A display in memory: its name, and the file that has its pixels."""
+    """A display in memory: its name, and the file that holds its pixels."""
 
     name: str
     path: str
@@ -23,7 +23,7 @@ class Screen(NamedTuple):
 
 @contextlib.contextmanager
 def display(size: str = SIZE) -> Iterator[Screen]:
-    """A display in memory, which goes at the end of the `with`."""
+    """Runs a display in memory during the `with`."""
     server = shutil.which("Xvfb")
     if server is None:
         raise FileNotFoundError("Xvfb isn't installed")
@@ -43,7 +43,8 @@ def pixels_of(path: str) -> bytes:
 
 
 def png(screen: bytes) -> bytes:
-    """A PNG file of a screen that Xvfb keeps as an XWD file, of 32 bits a pixel: blue, green, red and none."""
+    """Makes a PNG file of a screen that Xvfb keeps as an XWD file with 32 bits per pixel: blue,
+    green, red and none."""
     head = struct.unpack(">25I", screen[:100])
     size, width, height, line, colours = head[0], head[4], head[5], head[12], head[19]
     begin, rows = size + 12 * colours, []

@@ -1,14 +1,14 @@
-"""Makes a picture of the query window, on a display in memory: needs Xvfb.
+"""Makes a picture of the query window on a display in memory. Needs Xvfb.
 
     PYTHONPATH=python python3 python/window_tests/screenshot.py [OPTION..] FILE.png QUERY
 
---socket PATH, --folder FOLDER   what is asked
---size WxH                       in pixels
---sort ATTRIBUTE                 the greatest come first
---edit PLACE                     a hit, from 0, whose type is being edited
---columns NAME,NAME..            the attributes that are shown
+--socket PATH, --folder FOLDER   the store to query
+--size WxH                       the size in pixels
+--sort ATTRIBUTE                 sorts by this attribute, largest first
+--edit PLACE                     the position of a hit, from 0, whose type is being edited
+--columns NAME,NAME..            the attributes to show
 
-The picture is made once the window has stayed the same for two seconds.
+The picture is taken once the window hasn't changed for two seconds.
 """
 
 from __future__ import annotations
@@ -28,7 +28,7 @@ import display
 
 
 def options_of(words: List[str]) -> argparse.Namespace:
-    """What the command line has."""
+    """Parses the command line."""
     parser = argparse.ArgumentParser(usage=__doc__)
     for name in ("--socket", "--folder", "--sort", "--columns"):
         parser.add_argument(name)
@@ -40,7 +40,7 @@ def options_of(words: List[str]) -> argparse.Namespace:
 
 
 def settle(window: Window) -> None:
-    """Runs the window until it has shown the same for two seconds."""
+    """Runs the window until it hasn't changed for two seconds."""
     last, since = "", time.monotonic()
 
     def look() -> None:
@@ -57,7 +57,7 @@ def settle(window: Window) -> None:
 
 
 def show(source: Source, screen: display.Screen, options: argparse.Namespace) -> bytes:
-    """A picture of a window that shows what is asked for."""
+    """Returns a picture of a window that shows what was asked for."""
     root = tkinter.Tk()
     root.geometry(options.size)
     window = Window(root, source)

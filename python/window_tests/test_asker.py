@@ -1,4 +1,4 @@
-"""Tests of the thread that asks, without a window."""
+"""Tests of the thread that runs queries, without a window."""
 
 from __future__ import annotations
 
@@ -35,7 +35,7 @@ class Asking(unittest.TestCase):
         return file_of(self.store, name=name, size=size)
 
     def take(self) -> Dict[int, str]:
-        """What a window would show by now."""
+        """Returns what a window would show by now."""
         while not self.asker.reports.empty():
             report = self.asker.reports.get()
             if isinstance(report, Came):
@@ -73,24 +73,24 @@ class Asking(unittest.TestCase):
         self.assertTrue(wait_for(lambda: self.take() is not None and self.count == Counted(1, 3, 0, 3)), self.count)
 
     def firsts(self) -> List[List[int]]:
-        """The nodes of each report of first hits."""
+        """Returns the nodes in each report of first hits."""
         self.take()
         return [[hit.node for hit in it.hits] for it in self.others if isinstance(it, First)]
 
     def test_first_hits_of_an_order(self) -> None:
-        """They come before all others, and for another order as soon as it is asked for."""
+        """The first hits of an order come before all others. For another order, they come as soon as it is requested."""
         nodes = [self.file(name, size) for name, size in [("a", 1), ("b", 3), ("c", 2), ("d", 3)]]
         self.start("size>0", begin=Begin(Order("size", True), 2))
         self.becomes("a", "b", "c", "d")
         self.assertEqual([type(it) for it in self.others[:3]], [Opened, First, Accepted])
         self.assertEqual(self.firsts(), [[nodes[3], nodes[1]]])
-        self.asker.send(Sort(2, Begin(Order("size"), 9)))  # of a query that isn't the one that is followed
+        self.asker.send(Sort(2, Begin(Order("size"), 9)))  # belongs to a query that isn't the followed one
         self.asker.send(Sort(1, Begin(Order("size"), 3)))
         self.assertTrue(wait_for(lambda: len(self.firsts()) == 2))
         self.assertEqual(self.firsts()[1], [nodes[0], nodes[2], nodes[1]])
 
     def test_first_hit_that_goes_at_once(self) -> None:
-        """One that is gone when the answer comes, or that came and went since, is reported to have gone."""
+        """A first hit that is gone by the time of the answer, or that joined and left since, is reported as gone."""
         node, begin = self.file("a"), _FolderSession.begin
         self.file("b")
 
@@ -117,14 +117,14 @@ class Asking(unittest.TestCase):
         self.assertEqual(self.firsts()[-1], ghosts)
 
     def test_first_hits_of_no_index(self) -> None:
-        """The hits come even without them."""
+        """The hits come even if no index has their order."""
         self.file("a")
         self.start("size==1", begin=Begin(Order("none"), 2))
         self.becomes("a")
         self.assertEqual(self.firsts(), [[]])
 
     def test_more_than_the_journal_is_read_for(self) -> None:
-        """After many writes all hits are read again."""
+        """After many writes, all hits are read again."""
         node = self.file("a")
         with mock.patch("bestore_queries.sources.MANY", 3):
             self.start("size==1")
@@ -135,7 +135,7 @@ class Asking(unittest.TestCase):
             self.becomes("b")
 
     def test_snapshot_that_is_taken_back(self) -> None:
-        """Whatever fails within a step is done in a later one, and none of it is lost."""
+        """Whatever fails in one step is done in a later one, and nothing is lost."""
         nodes = [self.file(name) for name in "ab"]
         self.start("size==1")
         self.becomes("a", "b")
@@ -185,7 +185,7 @@ class Asking(unittest.TestCase):
         self.assertTrue(wait_for(lambda: self.has(Opened)))
 
     def breaks(self, *errors: Optional[bestore.Error]) -> "mock._patch[object]":
-        """Makes the next writes end like this instead of being made. None lets one be made."""
+        """Makes the next writes end like this instead of being made. None means that one is made."""
         change, left = bestore.Pass.change, list(errors)
 
         def broken(user: bestore.Pass, *given: object) -> object:
@@ -196,7 +196,7 @@ class Asking(unittest.TestCase):
         return mock.patch.object(bestore.Pass, "change", broken)
 
     def written(self, *errors: Optional[bestore.Error], count: int) -> List[Written]:
-        """What is reported about three writes that are requested together, some of which end like this: this many reports."""
+        """Returns the reports, this many, about three writes that are requested together. Some of the writes end like this."""
         self.nodes = [self.file(name) for name in "abc"]
         for node in self.nodes:
             self.asker.send(Write(node, "BEOS:TYPE", "x", None))
@@ -214,13 +214,14 @@ class Asking(unittest.TestCase):
             return version.column(self.nodes, "BEOS:TYPE")
 
     def test_writes_of_a_store_that_goes(self) -> None:
-        """A write that certainly wasn't made, and those after it, are made once the store is back."""
+        """If a write certainly wasn't made, it and those after it are made once the store is back."""
         reports = self.written(None, bestore.Disconnected("p", "gone"), bestore.TimedOut("p", "late"), count=3)
         self.assertEqual([(it.write.node, it.fault) for it in reports], [(node, None) for node in self.nodes])
         self.assertEqual((self.types(), self.has(Lost)), (["x"] * 3, True))
 
     def test_write_that_may_be_made(self) -> None:
-        """It is reported, and not made again. Nor is one that broke the protocol, as it might do so again."""
+        """A write that may have been made is reported, and not made again. Neither is one that broke the protocol, since it might
+        do so again."""
         for error in (bestore.Disconnected("p", "gone", True), bestore.ProtocolError("p", "junk")):
             with self.subTest(error=error):
                 self.setUp()
@@ -230,7 +231,7 @@ class Asking(unittest.TestCase):
                 self.assertEqual(([it.fault for it in reports[1:]], self.types()), ([None, None], [None, "x", "x"]))
 
     def test_writes_of_another_store(self) -> None:
-        """What was typed for a store isn't written to another one that is there later, as its nodes are different ones."""
+        """A write for one store isn't made in another that is there later, since its nodes are different."""
         opened, stores = MadeSource.open, iter("12")
 
         def open_another(source: MadeSource) -> Session:
@@ -243,7 +244,7 @@ class Asking(unittest.TestCase):
         self.assertEqual(self.types(), [None] * 3)
 
     def test_stores_of_servers(self) -> None:
-        """Nodes that a server keeps are the same in its next run."""
+        """If a server keeps its nodes, they are the same in its next run."""
         for kept, store in [("each", ""), ("every", "r"), ("no", "r")]:
             user = mock.Mock(server=mock.Mock(kept=kept, run="r"))
             self.assertEqual(_ServerSession(user).store, store)
@@ -252,7 +253,7 @@ class Asking(unittest.TestCase):
 @unittest.skipUnless(servers.BESTORED, "BESTORED names no bestored")
 class OverServer(unittest.TestCase):
     def reports(self, *options: object) -> List[Written]:
-        """What is reported of two writes that are sent once the server is killed, and before it is started again."""
+        """Returns the reports about two writes that are sent after the server is killed and before it is restarted."""
         with servers.Server(*options) as server:
             with server.connect() as store:
                 nodes = store.new_nodes(2)
@@ -272,7 +273,7 @@ class OverServer(unittest.TestCase):
         return [it for it in found if isinstance(it, Written)]
 
     def test_writes(self) -> None:
-        """They are made in the next run if that has the same nodes."""
+        """The writes are made in the next run if it has the same nodes."""
         self.assertEqual([it.fault for it in self.reports("--keep", "FOLDER/file")], [None, None])
         self.assertEqual([it.fault for it in self.reports()], ["another store is there now"] * 2)
 

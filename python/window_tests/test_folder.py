@@ -1,4 +1,4 @@
-"""Tests of importing a folder, of mails, of where files are and of what opens them."""
+"""Tests of importing a folder, of mails, of where files are, and of opening them."""
 
 from __future__ import annotations
 
@@ -21,7 +21,7 @@ MAIL = "From: Ann =?utf-8?q?M=C3=BCller?= <ann@example.org>\nTo: bob@example.org
 
 
 class InFolder(unittest.TestCase):
-    """A folder, and a store with a reader of it."""
+    """A folder, and a store with a reader for it."""
 
     pages = 1024
 
@@ -41,7 +41,7 @@ class InFolder(unittest.TestCase):
         return os.path.join(self.folder, *names)
 
     def files(self) -> Dict[str, int]:
-        """The nodes of files by their names."""
+        """Returns the files' nodes by name."""
         with self.store.pin() as version:
             return {str(version[node]["name"]): node for node in version if "name" in version[node]}
 
@@ -62,7 +62,7 @@ class Files(InFolder):
         self.store.set(node, "rating", 5)
         write(self.path("nine.c"), "1")
         self.assertTrue(wait_for(lambda: self.attributes(node)["size"] == 1))
-        self.assertEqual(self.attributes(node)["rating"], 5)  # a file that changes keeps its node
+        self.assertEqual(self.attributes(node)["rating"], 5)  # a changed file keeps its node
         self.assertEqual(self.attributes(node)["folder"], self.folder)
         os.unlink(self.path("sub", "five.txt"))
         write(self.path("new.txt"), "")
@@ -74,7 +74,7 @@ class Files(InFolder):
             return version.attributes(node)
 
     def test_beside_another_writer(self) -> None:
-        """Another pass keeps making nodes. Each file still has its own attributes."""
+        """Another pass keeps making nodes. Each file still gets only its own attributes."""
         for number in range(100):
             write(self.path(f"{number}.txt"), "x" * number)
         other, others = self.store.another(), 0
@@ -104,8 +104,8 @@ class Files(InFolder):
         self.assertFalse(self.reader.is_gone)
 
     def test_names(self) -> None:
-        """Names that aren't valid UTF-8 are changed, and those with more bytes than a value are cut."""
-        name = "ü" * 127 + ".x"  # 256 bytes aren't a name of a file; 255 are
+        """Names that aren't valid UTF-8 are changed. Names with more bytes than a value can have are cut."""
+        name = "ü" * 127 + ".x"  # 256 bytes can't be a file's name; 255 can
         for it in (b"bad\xff", name[1:].encode(), b"a\nb"):
             with open(os.path.join(os.fsencode(self.folder), it), "wb"):
                 pass
@@ -156,7 +156,7 @@ class Mails(InFolder):
                 self.assertEqual(version.query(query), sorted(nodes[name] for name in names))
 
     def test_headers(self) -> None:
-        """A header may be encoded, or have bytes of UTF-8, or of another encoding."""
+        """A header may be encoded, or have bytes in UTF-8 or in another encoding."""
         path = self.path("1")
         for raw, text in [
             (b"=?utf-8?q?M=C3=BCller?=", "Müller"), ("Müller".encode(), "Müller"), (b"M\xfcller", "Müller"),
@@ -183,7 +183,7 @@ class Mails(InFolder):
 
 class Where(unittest.TestCase):
     def test_tree(self) -> None:
-        """A file whose folder is a node, up to the folder that has a path."""
+        """A file's folder is a node, and so on up to a folder that has a path."""
         with bestore.open(64, 2) as store:
             root = file_of(store, **{"name": "home", "FILE:root": "/home"})
             sub = file_of(store, **{"name": "sub\ufffd", "FILE:parent": root, "FILE:name": b"sub\xff"})

@@ -1,4 +1,4 @@
-"""Tests of the list by itself, on a display in memory: which rows and columns it has room for."""
+"""Tests of the list by itself, on a display in memory: which rows and columns fit."""
 
 from __future__ import annotations
 
@@ -25,7 +25,7 @@ FIFTY = 50
 
 
 class OfHits(OnDisplay):
-    """A list of fifty hits in a window of its own."""
+    """A list of fifty hits in its own window."""
 
     def setUp(self) -> None:
         self.root = tkinter.Tk()
@@ -34,7 +34,7 @@ class OfHits(OnDisplay):
         self.written = mock.Mock()
 
     def list_of(self, names: Sequence[str], size: str = "600x300") -> "HitList":
-        """A list with these columns, in a window of this size."""
+        """Makes a list with these columns, in a window of this size."""
         hits = SortedHits()
         for node in range(1, FIFTY + 1):
             hits.put(Hit(node, {"name": f"{node:02}", "rating": node}))
@@ -46,7 +46,7 @@ class OfHits(OnDisplay):
         return made
 
     def resize(self, size: str) -> None:
-        """Gives the window this size, and returns once it has it and is drawn."""
+        """Gives the window this size, and returns once it has the size and is drawn."""
         self.root.geometry(size)
 
         def has_size() -> bool:
@@ -58,7 +58,7 @@ class OfHits(OnDisplay):
 
 class Rows(OfHits):
     def test_as_many_before_a_resize(self) -> None:
-        """The list has as many rows at first as after it is resized, however tall its headings are: exactly as many as fit."""
+        """The list has as many rows at first as after a resize, however tall its headings are: exactly as many as fit."""
         for font_size in (6, 10, 30):
             ttk.Style(self.root).configure("Treeview.Heading", font=("TkHeadingFont", font_size))
             for height in range(200, 222):
@@ -84,12 +84,12 @@ class Rows(OfHits):
 
 class Columns(OfHits):
     def is_seen(self, shown: "HitList", place: int) -> bool:
-        """Whether a column is within the list's edges."""
+        """Returns whether a column is within the list's edges."""
         x, _, width, _ = map(int, shown.tree.bbox("0", f"#{place}"))
         return x >= 0 and x + width <= shown.tree.winfo_width()
 
     def test_eight(self) -> None:
-        """Names keep their room, and the bar below reaches each of eight columns."""
+        """Names keep their width, and the bar below reaches each of eight columns."""
         shown = self.list_of(EIGHT)
         self.assertGreaterEqual(shown.tree.column("#0", "width"), 160)
         self.assertTrue(shown.bar_below.winfo_viewable())
@@ -99,7 +99,7 @@ class Columns(OfHits):
         self.assertEqual([self.is_seen(shown, place) for place in (0, 7)], [False, True])
 
     def test_no_bar_for_few(self) -> None:
-        """The bar is there while there are columns beyond the edge. Names have what the other columns leave."""
+        """The bar is there while there are columns past the edge. Names get what the other columns leave."""
         shown = self.list_of(FEW)
         self.assertFalse(shown.bar_below.winfo_viewable())
         rows, name = len(shown.shown()), shown.tree.column("#0", "width")
@@ -113,7 +113,7 @@ class Columns(OfHits):
         self.assertEqual((len(shown.shown()), shown.tree.column("#0", "width")), (rows, name))
 
     def test_keys(self) -> None:
-        """Right and Left scroll sideways, and so does the wheel with Shift."""
+        """Right, Left and the wheel with Shift scroll sideways."""
         shown = self.list_of(EIGHT)
         shown.tree.focus_force()
         self.root.update()

@@ -1,9 +1,9 @@
-"""The window with 60,000 nodes: how long its event loop is busy, and how soon the first hits of an order are shown.
+"""The window with 60,000 nodes: how long its event loop is busy, and how soon an order's first hits are shown.
 
     PYTHONPATH=python:python/window_tests python3 python/window_tests/test_sixty_thousand.py --print
 
-prints the longest time of each phase, and after `--nodes 83000` those of this many nodes; it expects a tenth of a second at most, so it
-needs a machine with nothing else to do. Among other tests the bound is a second, since the loop then waits for a processor.
+prints each phase's longest time, and with `--nodes 83000` for this many nodes. It expects at most a tenth of a second, so it
+needs a machine with nothing else to do. Among other tests, the limit is a second, since the loop then waits for a processor.
 """
 
 from __future__ import annotations
@@ -28,15 +28,15 @@ if HAS_TK:
 
 NODES = 60_000
 VOLUMES = 5
-STEP = 10      # nodes that a batch makes
-LONGEST = 0.1  # seconds, of a run that prints them
-LOADED = 1.0   # seconds, among other tests
-TRIES = 3      # on a machine with other work
+STEP = 10      # nodes per batch
+LONGEST = 0.1  # the limit in seconds for a run that prints the times
+LOADED = 1.0   # the limit in seconds among other tests
+TRIES = 3      # for a machine with other work
 PATIENCE = 120.0
 
 
 def make_nodes(store: bestore.Pass) -> None:
-    """Makes files of five attributes, three of them indexed, in all volumes."""
+    """Makes files with five attributes, three of them indexed, in all volumes."""
     for name, kind in (("name", bestore.STRING), ("size", bestore.INT64), ("last_modified", bestore.INT64)):
         store.make_index(name, kind)
     for first in range(0, NODES, STEP):
@@ -48,14 +48,14 @@ def make_nodes(store: bestore.Pass) -> None:
 
 
 def set_attributes(batch: bestore.Batch, node: int, number: int) -> None:
-    """Sets the attributes of a file. Other files have most of these values too."""
+    """Sets a file's attributes. Other files have most of these values too."""
     batch.set(node, "name", f"file {number * 7919 % 60_013}.txt").set(node, "size", number * 31 % 9973)
     batch.set(node, "last_modified", 1_700_000_000 + number * 101 % 50_000).set(node, "BEOS:TYPE", f"type/{number % 101}")
     batch.set(node, "folder", f"/home/somebody/folder {number % 307}")
 
 
 class Gaps:
-    """The longest time between two moments at which the event loop handled what was waiting."""
+    """The longest time between two moments when the event loop handled waiting events."""
 
     def __init__(self, window: "Window") -> None:
         self._root = window.root
@@ -72,7 +72,7 @@ class Gaps:
 
 
 def loop(window: "Window", is_done: Callable[[], bool]) -> float:
-    """Runs the event loop until a condition holds. Returns the longest time for which it was busy."""
+    """Runs the event loop until a condition holds. Returns the longest time that it was busy."""
     gaps, end = Gaps(window), time.monotonic() + PATIENCE
 
     def look() -> None:
@@ -93,13 +93,13 @@ def settle(window: "Window") -> bool:
 
 
 def shows(window: "Window", nodes: List[int]) -> bool:
-    """Whether the list shows these nodes, and has painted them."""
+    """Returns whether the list shows these nodes and has painted them."""
     window.list.update_idletasks()
     return [window.hits[place].node for place in range(min(len(nodes), len(window.hits)))] == nodes
 
 
 def seconds_until(window: "Window", nodes: List[int]) -> float:
-    """How long it takes until the list shows these nodes first."""
+    """Returns how long it takes until the list shows these nodes first."""
     begin = time.perf_counter()
     while not shows(window, nodes):
         if time.perf_counter() - begin > PATIENCE:
@@ -109,7 +109,7 @@ def seconds_until(window: "Window", nodes: List[int]) -> float:
 
 
 def measure_first(window: "Window", store: bestore.Pass) -> Dict[str, float]:
-    """How soon the first hits of an order are shown, if an index has it."""
+    """Measures how soon an order's first hits are shown if an index has the order."""
     def first(text: str, by: str, descending: bool = False) -> List[int]:
         with store.pin() as version:
             return version.query(text, by=by, descending=descending, limit=window.list.room)
@@ -150,7 +150,7 @@ class Writer(threading.Thread):
 
 
 def measure(window: "Window", store: bestore.Pass, name: str) -> Dict[str, float]:
-    """The longest time of each phase, in seconds."""
+    """Returns each phase's longest time in seconds."""
     found = {"all hits come": loop(window, lambda: settle(window))}
     every = [window.hits[place].node for place in range(NODES)]
     for column in (1, 3, 0):
@@ -188,7 +188,7 @@ COLUMNS = ["name", "size", "last_modified", "BEOS:TYPE", "folder"]
 
 class SixtyThousand(OnDisplay):
     def shortest(self, source: Callable[[], Source], measured: Callable[["Window", int], Dict[str, float]]) -> Dict[str, float]:
-        """The shortest time of each phase, from several attempts, each in a new window."""
+        """Returns each phase's shortest time over several attempts, each in a new window."""
         best: Dict[str, float] = {}
         for turn in range(TRIES):
             window = self.show(source())

@@ -1,4 +1,4 @@
-"""Tests of how the window is started: its command line, and a server of its own that can't be started."""
+"""Tests of starting the window: its command line, and its own server if that can't be started."""
 
 from __future__ import annotations
 
@@ -18,7 +18,7 @@ from common import HAS_TK, OnDisplay, write
 
 
 def run(*words: str, display: bool = True) -> Tuple[int, str]:
-    """Runs the command. Returns its status, and what it has written to standard error."""
+    """Runs the command. Returns its status, and what it wrote to standard error."""
     environment = {name: value for name, value in os.environ.items() if display or name != "DISPLAY"}
     done = subprocess.run([sys.executable, "-m", "bestore_queries", *words], stdout=subprocess.DEVNULL, stderr=subprocess.PIPE,
                           env=environment, timeout=60)
@@ -73,7 +73,7 @@ class OwnServer(unittest.TestCase):
 
 class Sizes(unittest.TestCase):
     def test_size(self) -> None:
-        """A folder's store has room for a third more files, and never more than a store can have."""
+        """A folder's store has room for a third more files, but never more than a store can have."""
         for files in (0, 1, 1_000, 15_000, 60_000, 500_000):
             volumes, pages = size_for(files)
             self.assertGreaterEqual(volumes * pages, files * 1.1 * 1.3)

@@ -1,4 +1,4 @@
-"""Tests of the window, on a display in memory."""
+"""Tests of the window on a display in memory."""
 
 from __future__ import annotations
 
@@ -28,7 +28,7 @@ if HAS_TK:
 
 
 class OverStore(OnDisplay):
-    """A window with a store of its own."""
+    """A window with its own store."""
 
     def setUp(self) -> None:
         place = tempfile.TemporaryDirectory()
@@ -43,7 +43,7 @@ class OverStore(OnDisplay):
         return file_of(self.store, **{"name": name, "size": size, "last_modified": 1700000000, "BEOS:TYPE": kind, **others})
 
     def window(self, *names: str) -> "Window":
-        """A window with files of these names, whose sizes are their places."""
+        """Opens a window with files that have these names, and their positions as sizes."""
         for place, name in enumerate(names):
             self.file(name, place, folder=self.folder)
         window = self.show(self.source, saved=self.saved)
@@ -52,10 +52,10 @@ class OverStore(OnDisplay):
 
 
 class FirstHits(OverStore):
-    """The first hits of an order for which the store has an index."""
+    """The first hits of an order that the store has an index for."""
 
     def test_sorting_waits_for_them(self) -> None:
-        """They are shown before any other is sorted."""
+        """The first hits are shown before any others are sorted."""
         window = self.window("c", "b", "a")
         last = next(hit for hit in map(window.hits.__getitem__, range(3)) if hit.attributes["name"] == "c")
         size = next(it for it in window.list.columns if it.attribute == "size")
@@ -76,10 +76,10 @@ class FirstHits(OverStore):
 
 
 class Faults(OverStore):
-    """What was wrong with the first window."""
+    """What was wrong with the first version of the window."""
 
     def test_fault_beyond_the_right_edge(self) -> None:
-        """The part of the query with the fault is shown, within the window, and the character is marked."""
+        """The part of the query with the error is shown within the window, and the character is marked."""
         window = self.window("a")
         window.ask(" || ".join(["size==1"] * 100) + " ||")
         self.becomes(window, lambda: "missing" in str(window.message["text"]))
@@ -130,7 +130,7 @@ class Faults(OverStore):
         self.assertEqual(window.list.tree.heading("#1", "text"), "Size ▼")
 
     def test_store_without_room(self) -> None:
-        """The window says in full view how many files are missing, and what helps."""
+        """The window says in full how many files are missing, and what helps."""
         for number in range(500):
             write(os.path.join(self.folder, f"{number}"), "")
         window = self.show(FolderSource(self.folder, 128, pause=0.02), saved=self.saved)
@@ -143,7 +143,7 @@ class Faults(OverStore):
         self.assertNotIn("following", str(window.state["text"]))
 
     def test_folder_that_went(self) -> None:
-        """It isn't shown as followed until it is back."""
+        """The folder isn't shown as followed until it is back."""
         folder = os.path.join(self.folder, "files")
         os.mkdir(folder)
         write(os.path.join(folder, "a"), "")
@@ -166,7 +166,7 @@ class Faults(OverStore):
         self.becomes(window, lambda: [row[:2] for row in window.list.shown()] == [["Grüße ✉", "Müller <m@x>"]])
 
     def test_missing_index(self) -> None:
-        """The error gives the name without an index, and those that have one."""
+        """The error names the name without an index, and those that have one."""
         window = self.window("a")
         window.ask("size>0 || color==red")
         self.becomes(window, lambda: str(window.message["text"]).startswith(
@@ -212,7 +212,7 @@ class Asking(OverStore):
         self.shows(window, "two")
 
     def test_typing(self) -> None:
-        """A query is asked once nothing has been typed for a moment, and only the last one is shown."""
+        """A query runs once nothing has been typed for a moment, and only the last one's answer is shown."""
         window = self.window("a", "b", "c")
         for size in (0, 1, 2, 0, 1):
             window.ask(f"size=={size}")
@@ -229,7 +229,7 @@ class Asking(OverStore):
         self.assertEqual((shown(window), str(window.state["text"]).startswith("no answer")), ([], True))
 
     def test_nothing_to_ask(self) -> None:
-        """A store without an index."""
+        """A store without indices."""
         store = bestore.open(64, 4)
         self.addCleanup(store.close)
         window = self.show(MadeSource(store), saved=self.saved)
@@ -275,7 +275,7 @@ class SavedOnes(OverStore):
 
 class Editing(OverStore):
     def edited(self, window: "Window", text: str) -> None:
-        """Types a text into the editor, and ends it with Return."""
+        """Types a text into the editor, and finishes with Return."""
         window.root.update()
         entry = window.list.editor.entry
         assert entry is not None
@@ -324,7 +324,7 @@ class Editing(OverStore):
         self.assertEqual(str(window.notice["text"]), "")
 
     def test_beside_another_program(self) -> None:
-        """What another program has set meanwhile isn't written over."""
+        """What another program has set meanwhile isn't overwritten."""
         window = self.window("a")
         self.begin(window, 0, "BEOS:TYPE")
         self.store.set(1, "BEOS:TYPE", "by another")
@@ -346,7 +346,7 @@ class Editing(OverStore):
         self.assertIsNone(window.list.editor.cell)
 
     def test_not_of_files(self) -> None:
-        """What comes from the files themselves can't be edited."""
+        """Attributes that come from the files themselves can't be edited."""
         window = self.window("a")
         window.choose(["name", "size"])
         self.shows(window, "a")
@@ -383,7 +383,7 @@ class Typing(OverStore):
         self.assertEqual((entry.index("sel.first"), entry.index("sel.last")), (0, len(entry.get())))
 
     def test_select_all(self) -> None:
-        """Ctrl-A selects the whole text of each entry, and in the list each hit."""
+        """Ctrl-A selects the whole text of each entry, and every hit in the list."""
         window = self.window("a", "b")
         window.list.selection.choose(0)
         window.list.edit()
@@ -393,12 +393,12 @@ class Typing(OverStore):
         self.assertEqual(len(window.list.selection), 2)
         window.name_row.show("Mine")
         self.selects_all(window, window.name_row.entry)
-        window.find_row.entry.insert(0, "a")  # which asks a query, so the list may change from here on
+        window.find_row.entry.insert(0, "a")  # this runs a query, so the list may change from here on
         self.selects_all(window, window.find_row.entry)
         self.selects_all(window, window.entry)
 
     def test_paste(self) -> None:
-        """What is pasted while an attribute is being edited replaces the selection."""
+        """Text pasted while an attribute is being edited replaces the selection."""
         window = self.window("a")
         window.list.selection.choose(0)
         window.list.edit()
@@ -473,7 +473,7 @@ class Listing(OverStore):
         self.assertEqual(shown(window)[0], "150")
         self.file("0000")
         self.becomes(window, lambda: len(window.hits) == 301)
-        self.assertEqual(shown(window)[0], "150")  # the list stays where it was read
+        self.assertEqual(shown(window)[0], "150")  # the list stays where the user was reading
         tree.event_generate("<Control-a>")
         self.assertEqual(len(window.list.selection), 301)
         tree.event_generate("<Return>")
@@ -487,7 +487,7 @@ class Listing(OverStore):
         self.shows(window, "a␣b", "node 2")
 
     def test_eight_columns(self) -> None:
-        """Whatever is chosen in the menu Attributes can be seen, and names keep their room."""
+        """Whatever is chosen in the menu Attributes can be seen, and names keep their width."""
         window = self.window("a", "b")
         window.choose(["name", "size", "last_modified", "BEOS:TYPE", "folder", "created", "Audio:Artist", "rating"])
         self.shows(window, "a", "b")
@@ -546,7 +546,7 @@ class OverServer(OnDisplay):
         self.shows(window, "a", "b", "c")
         self.store.set(self.nodes[0], "name", "z")
         self.shows(window, "a", "c", "z")
-        self.store.set(self.home, "FILE:root", "/house")  # the folder was renamed
+        self.store.set(self.home, "FILE:root", "/house")  # the folder is renamed
         self.becomes(window, lambda: {row[4] for row in window.list.shown()} == {"/house"})
         self.store.remove_node(added)
         self.shows(window, "a", "z")
@@ -565,7 +565,7 @@ class OverServer(OnDisplay):
         self.becomes(window, lambda: window.list.shown()[0][3] == "text/x")
 
     def test_server_that_goes(self) -> None:
-        """The window says so, the list disappears, and everything comes back with the server."""
+        """The window says so, the list is emptied, and everything comes back with the server."""
         self.make_files()
         window = self.show(ServerSource(self.server.path), saved=self.saved)
         window.ask("size>=0")
@@ -580,7 +580,7 @@ class OverServer(OnDisplay):
         self.becomes(window, lambda: str(window.notice["text"]) == "")
 
     def test_own_server(self) -> None:
-        """If no server listens, the window starts one that keeps its store, and ends it later."""
+        """If no server is listening, the window starts one that keeps its store, and ends it later."""
         folder = tempfile.mkdtemp(prefix="own-", dir=servers.MEMORY)
         self.addCleanup(lambda: __import__("shutil").rmtree(folder))
         program = os.path.join(folder, "bestored")
@@ -602,12 +602,12 @@ class OverServer(OnDisplay):
 
 
 class OverVolumes(OverServer):
-    """The same with a server that has several volumes."""
+    """The same tests with a server that has several volumes."""
 
     options = ["--volumes", 3]
 
     def test_spread(self) -> None:
-        """The files are in several volumes, and each one is followed."""
+        """The files are in several volumes, and each is followed."""
         self.make_files()
         window = self.show(ServerSource(self.server.path), saved=self.saved)
         names = [f"{number:02}" for number in range(12)]

@@ -1,16 +1,16 @@
-/* Insertions and removals. A page to be changed is a list of items first; the page above has it written. */
+/* Insertions and removals. A page to be changed is first loaded as a list of items. The level above it then writes it. */
 #include <string.h>
 
 #include "item.h"
 
-/* An item of a standing page, or with words of its own. */
+/* An item of an existing page, or one with its own words. */
 struct item {
     uint64_t page;
     int place;
     const uint64_t *words;
 };
 
-/* The items of a page, `source`, with a change. `is_last`: the new item is the last of the tree. */
+/* The items of the page `source`, with a change. `is_last`: the new item is the last one in the tree. */
 struct items {
     int level, count;
     bool is_last;
@@ -38,7 +38,7 @@ static void cut(struct items *items, int at) {
     memmove(&items->list[at], &items->list[at + 1], (items->count - at) * sizeof items->list[0]);
 }
 
-/* The items of both, one after the other, in the first. */
+/* Appends the right items to the left ones. */
 static void join(struct items *left, const struct items *right) {
     memcpy(&left->list[left->count], right->list, right->count * sizeof right->list[0]);
     left->count += right->count;
@@ -59,7 +59,7 @@ static uint32_t write_page(struct write *write, int level, const struct item *it
     return page;
 }
 
-/* Writes the first `left` items as one page, and the others, if there are any, as a second. */
+/* Writes the first `left` items as one page, and any others as a second. */
 static int write_pages(struct write *write, const struct items *items, int left, uint32_t pages[2]) {
     pages[0] = write_page(write, items->level, items->list, left);
     if (left == items->count) return 1;
@@ -67,7 +67,7 @@ static int write_pages(struct write *write, const struct items *items, int left,
     return 2;
 }
 
-/* One page, or two halves. */
+/* Writes the items as one page, or as two halves. */
 static int write_items(struct write *write, const struct items *items, uint32_t pages[2]) {
     return write_pages(write, items, items->count <= ITEMS_MOST ? items->count : (items->count + 1) / 2, pages);
 }
@@ -77,7 +77,7 @@ static struct item inner(struct items *items, int which, const struct pool *pool
     return (struct item){.words = items->made[which]};
 }
 
-/* Puts the page or the pages of the items below in place of the page that they come from. */
+/* Replaces a page by the page or pages that its changed items make. */
 static void replace(struct write *write, struct items *items, int at, const struct items *below) {
     uint32_t pages[2];
     int count = write_items(write, below, pages);
@@ -85,7 +85,7 @@ static void replace(struct write *write, struct items *items, int at, const stru
     if (count == 2) put(items, at + 1, inner(items, 1, write->pool, pages[1]));
 }
 
-/* Gives items of a page that is too full to the page at its left, where that has room. */
+/* If a page is too full and the one to its left has room, moves items there. */
 static bool share(struct write *write, struct items *items, int at, const struct items *below) {
     struct items left;
     uint32_t pages[2] = {0, 0};
@@ -132,7 +132,7 @@ uint64_t tree_insert(struct write *write, uint64_t root, const struct key *key, 
     return 1 + write_page(write, items.level + 1, top.list, 2);
 }
 
-/* Joins a page with too few items to a page beside it: one page, or two halves. */
+/* Joins a page that has too few items with a page next to it. The result is one page, or two halves. */
 static void merge(struct write *write, struct items *items, int at, struct items *below) {
     struct items beside, *joined = at > 0 ? &beside : below;
     uint32_t pages[2];

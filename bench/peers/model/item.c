@@ -45,7 +45,7 @@ void copy_bytes(const struct pool *pool, uint64_t page, int place, uint32_t from
     }
 }
 
-/* Below 0 where the item's key is before the key, above 0 where it is behind. */
+/* Returns less than 0 if the item's key comes before the key, and more than 0 if it comes after. */
 static int compare(const struct pool *pool, uint64_t page, int place, const struct key *key) {
     int start = item_start(place);
     uint32_t length = word_at(pool, page, start) >> 32, common = length < key->length ? length : key->length;

@@ -1,5 +1,6 @@
-/* The page format of bestore in plain C, unproved: what its form allows. One writer at a time, by a lock that is tried and
- * not waited for; a pin announces the current version; a journal keeps each operation whole; each write scans. */
+/* bestore's page format in plain C, unproved: it shows what the format allows. There is one writer at a time; a writer that
+ * finds the lock taken doesn't wait. A pin announces the current version, a journal keeps each operation whole, and each write
+ * scans. */
 #include <stdlib.h>
 #include <string.h>
 
@@ -20,7 +21,7 @@ struct pass {
     bool is_list;
     int count;
     struct operation list[LIST_MOST];
-    struct version version; /* the one that was pinned last */
+    struct version version; /* the version pinned last */
     struct write write;
 };
 
@@ -95,7 +96,7 @@ static enum outcome apply(struct pass *pass, const struct operation *list, int c
     return outcome;
 }
 
-/* Applies an operation, or adds it to the list that is open. */
+/* Applies an operation, or adds it to the open list. */
 static enum outcome hand_in(struct pass *pass, const struct operation *operation, uint64_t *node) {
     if (!pass->is_list) return apply(pass, operation, 1, node);
     if (pass->count == LIST_MOST) exit(1);
@@ -167,7 +168,7 @@ void pin(struct pass *pass) {
 
 void unpin(struct pass *pass) { atomic_store(&pass->store->pool.words[ANNOUNCEMENT(pass->number)], 0); }
 
-/* An indexed name is seen through its index. */
+/* Checks an indexed name through its index. */
 static bool holds(struct pass *pass, const struct comparison *it, uint64_t node) {
     const struct pool *pool = &pass->store->pool;
     uint8_t stored[VALUE_MOST], bytes[VALUE_MOST + 16];
@@ -222,7 +223,7 @@ static uint64_t keys_in(struct pass *pass, struct text by) {
     return pass->version.next;
 }
 
-/* Moves a cursor to the last key before a place, or to the last one of all. */
+/* Moves a cursor to the last key before a place, or to the last of all. */
 static bool move_before(struct pass *pass, struct cursor *cursor, uint64_t root, const struct place *after) {
     uint8_t from[16];
     if (!after) return seek_last(cursor, &pass->store->pool, root);
@@ -254,7 +255,7 @@ size_t ask_page(struct pass *pass, struct query *query, struct text by, const st
     return page(pass, query, by, after, hits, nodes, most);
 }
 
-/* By a walk over each node's attributes. */
+/* Walks over each node's attributes. */
 uint64_t read_each(struct pass *pass, const uint64_t *nodes, size_t count) {
     const struct pool *pool = &pass->store->pool;
     uint64_t catalog = word_at(pool, pass->pinned, 3), sum = 0;

@@ -55,7 +55,7 @@ uint32_t take(struct write *write) {
 
 void give_up(struct write *write, uint32_t page) {
     for (int i = write->taken_count; i-- > 0;)
-        if (write->taken[i] == page) { /* nobody has seen it */
+        if (write->taken[i] == page) { /* no one has seen it */
             write->taken[i] = write->taken[--write->taken_count];
             write->pool->free[write->pool->free_count++] = page;
             return;

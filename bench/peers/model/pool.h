@@ -1,4 +1,4 @@
-/* Pages of 512 atomic words, which a write takes, fills and gives up: none is changed once others can see it.
+/* Pages of 512 atomic words. A write takes pages, fills them and gives them up; once others can see a page, it doesn't change.
  * All stores and loads are sequentially consistent. */
 #ifndef POOL_H
 #define POOL_H
@@ -12,7 +12,7 @@
 #define PASSES 64
 #define TAKEN_MOST 8192
 
-/* The words before the pages, each on a line of the cache of its own. */
+/* The words before the pages, each in its own cache line. */
 #define LOCK 0
 #define CURRENT 8
 #define ANNOUNCEMENT(pass) (16 + 8 * (pass))
@@ -20,12 +20,12 @@
 
 typedef _Atomic uint64_t word;
 
-/* `number`: that of the version which the page was given up after. */
+/* `number`: the number of the version after which the page was given up. */
 struct retired {
     uint32_t page, number;
 };
 
-/* What readers read stands on another line of the cache than what the writer changes. */
+/* What readers read is in a different cache line from what the writer changes. */
 struct pool {
     word *words;
     uint64_t pages;
@@ -36,7 +36,7 @@ struct pool {
     uint64_t first, last;
 };
 
-/* An open write. Where no page is free, `take` jumps to `full`. */
+/* An open write. If no page is free, `take` jumps to `full`. */
 struct write {
     struct pool *pool;
     jmp_buf full;
@@ -53,7 +53,7 @@ void scan(struct pool *pool);
 uint32_t take(struct write *write);
 void give_up(struct write *write, uint32_t page);
 
-/* Ends a write: with its pages back, or with a new version page, which is the next number's. */
+/* Ends a write: `undo` returns its pages, and `publish` makes a new version page current, with the next number. */
 void undo(struct write *write);
 void publish(struct write *write, uint32_t version_page);
 
@@ -61,7 +61,7 @@ static inline uint64_t word_at(const struct pool *pool, uint64_t page, int at) {
     return atomic_load(&pool->words[FIRST_PAGE + page * PAGE_WORDS + at]);
 }
 
-/* A word that has its value already isn't stored. */
+/* A word that already has its value isn't stored. */
 static inline void fill_word(struct pool *pool, uint64_t page, int at, uint64_t value) {
     if (word_at(pool, page, at) != value) atomic_store(&pool->words[FIRST_PAGE + page * PAGE_WORDS + at], value);
 }

@@ -3,7 +3,7 @@
 #include <stdlib.h>
 #include <string.h>
 
-/* The words of an index in a version page: the length of its name, the name, its kind and its root. */
+/* An index's words in a version page: the length of its name, the name, its kind and its root. */
 #define INDEX_WORDS 11
 #define FIRST_INDEX 4
 #define VERSION_LEVEL 255
@@ -75,7 +75,7 @@ static void need_node(const struct pool *pool, uint64_t catalog, uint64_t node) 
     if (!attribute(pool, catalog, node, (struct text){"", 0}, none, &length)) exit(1);
 }
 
-/* Takes a stored value out of its index, or puts it in. */
+/* Removes a stored value from its index, or adds it. */
 static void reindex(struct write *write, struct index *index, const uint8_t *stored, uint32_t length, uint64_t node, bool in) {
     uint8_t bytes[VALUE_MOST + 16];
     if (stored[0] != index->kind) return;
@@ -88,7 +88,7 @@ static bool is_of(const struct cursor *cursor, uint64_t node, uint8_t *key, uint
     return take_number(key) == node;
 }
 
-/* How many attributes a node has: a set of a new name counts them. */
+/* Returns how many attributes a node has. Setting a new name counts them. */
 static int attributes(const struct pool *pool, uint64_t catalog, uint64_t node) {
     struct cursor cursor;
     struct key key = catalog_key(node, (struct text){"", 0});

@@ -1,4 +1,4 @@
-/* A volume in pages: a version page with the next node, the catalog's root, and the indices with theirs. */
+/* A volume in pages: a version page with the next node, the catalog's root, and the indices with their roots. */
 #ifndef VOLUME_H
 #define VOLUME_H
 #include "../../driver/peer.h"
@@ -21,7 +21,7 @@ struct version {
 
 enum order { MAKE_NODE, DROP_NODE, SET, MAKE_INDEX };
 
-/* One write, as it is handed in, and as the journal keeps it. */
+/* One write as it is passed in, and as the journal keeps it. */
 struct operation {
     enum order order;
     enum kind kind;
@@ -34,14 +34,14 @@ struct operation {
 void load_version(struct version *version, const struct pool *pool, uint64_t page);
 uint32_t write_version(struct write *write, const struct version *version);
 
-/* The volume with the operation. The node that it made. */
+/* Applies the operation to the volume. Returns the node that it made. */
 uint64_t work(struct write *write, struct version *version, const struct operation *operation);
 
 const struct index *index_of(const struct version *version, struct text name);
 
-/* A node's attribute of a name: its kind and then its bytes, of which up to 7 more are written. */
+/* Reads a node's attribute: its kind and then its bytes. Up to 7 more bytes are written. */
 bool attribute(const struct pool *pool, uint64_t catalog, uint64_t node, struct text name, uint8_t *stored, uint32_t *length);
 
-/* The bytes of an index key: the value's, in the order of values, and then the node's. */
+/* Encodes an index key: the value's bytes, in the order of values, and then the node's. */
 uint32_t index_bytes(uint8_t *to, enum kind kind, const uint8_t *value, uint32_t length, uint64_t node);
 #endif

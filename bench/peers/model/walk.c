@@ -1,7 +1,7 @@
-/* Look-ups and walks. */
+/* Lookups and walks. */
 #include "item.h"
 
-/* To the item at the place, or behind it. */
+/* Moves to the item at this position, or after it. */
 static bool settle(struct cursor *cursor) {
     int level = 0;
     while (cursor->places[level] >= cursor->counts[level]) {
@@ -17,7 +17,7 @@ static bool settle(struct cursor *cursor) {
     return true;
 }
 
-/* To the key in each level; whether the leaf has it. */
+/* Moves to the key's position in each level. Returns whether the leaf has the key. */
 static bool descend(struct cursor *cursor, const struct pool *pool, uint64_t root, const struct key *key) {
     uint64_t page = root - 1;
     cursor->pool = pool;
@@ -43,7 +43,7 @@ bool step(struct cursor *cursor) {
     return settle(cursor);
 }
 
-/* To the last item of a page and of all below it, from a level down. */
+/* Moves to the last item of a page and of everything below it, from this level down. */
 static void settle_last(struct cursor *cursor, int level, uint64_t page) {
     for (;; level--) {
         cursor->pages[level] = page;

@@ -1,8 +1,9 @@
--- What accepted operations leave of an attribute and of an index.
-use Rattle.std.proofs.Common.{◌≡◌, ◌<◌, ◌≤◌, ℕ, ◌+◌, ◌-◌, Bool, true, false, cond, ◌&&◌, if◌then◌else◌, nat_eq, List, [], ◌∷◌, length, refl, sym, ap, ◌∙◌, Some, None, IsOk, arith, unwrap_or, get_or, take, drop, map as each, count_by}
+-- What accepted operations leave of an attribute, and of an index.
+use Rattle.std.proofs.Common.{◌≡◌, ◌<◌, ◌≤◌, ℕ, ◌+◌, ◌-◌, Bool, true, false, cond, ◌&&◌, if◌then◌else◌, nat_eq, List, [], ◌∷◌, ◌++◌, length, refl, sym, ap, ◌∙◌, Some, None, IsOk, IfOk, is_ok, arith, subst, suc, zero, unwrap_or, get_or, take, drop, map as each, count_by}
 use Rattle.std.proofs.lemmas.Bool.Decides.{nat_tests}
 use Rattle.std.proofs.Math.ListN.{drop_of_length-le}
-use Rattle.std.proofs.lemmas.List.{drop_more}
+use Rattle.std.proofs.lemmas.Grind.{fold-append}
+use Rattle.std.proofs.lemmas.List.{drop_more, get_or_default, take_all, take_more}
 use Rattle.std.proofs.lemmas.List.Sums.{count_by_more_no, count_by_more_yes}
 use Rattle.std.specs.Cmp.{nat_cmp_total, unsigned_tied}
 use Rattle.std.specs.Cmp.Lexicographic.{pointwise, texts_ties}
@@ -11,24 +12,28 @@ use Rattle.std.specs.Ordering.{is_eq, eq_by_cmp}
 use Rattle.std.specs.declared.cmp.Ordering.{Ordering}
 use Rattle.std.specs.declared.cmp.Ordering.TheVariants.{Less, Equal, Greater}
 use Rattle.std.specs.declared.option.Option.{Option}
+use Rattle.std.specs.declared.result.Result.{Result}
+use Rattle.std.specs.declared.result.Result.TheVariants.{Ok, Err}
 use Rattle.std.specs.FinMap as fin
 use Rattle.std.specs.FinMap.{get-insert, get-remove, get-empty, get-entries, get_tied}
 use Rattle.std.specs.FinMap.Entries.{find}
 use Rattle.be_value.specs.Value.{kind_of}
 use Rattle.be_value.specs.declared.values.Kind.{Kind}
 use Rattle.be_value.specs.declared.values.Value.{Value}
-use Rattle.be_volume.specs.Ahead.{next_after, state_after}
+use Rattle.be_value.specs.declared.refusals.Refusal.{Refusal}
+use Rattle.be_volume.specs.Ahead.{next_after, reached, state_after}
 use Rattle.be_volume.specs.Indices.{Indices, paired, paired_at, same_kind, unpaired, unpaired_at, with_pair, without_pair}
 use Rattle.be_volume.specs.Maps.{Attributes, Nodes, attributes_of, name_cmp}
 use Rattle.be_volume.specs.Reading.{attribute, index_kind, index_kinds}
 use Rattle.be_volume.specs.Volume.{State, steps}
 use Rattle.be_volume.specs.declared.maps.Index.{Index}
+use Rattle.be_volume.specs.declared.ops.Done.{Done}
 use Rattle.be_volume.specs.declared.ops.Op.{Op}
 use Rattle.be_volume.specs.declared.ops.Op.TheVariants.{New, Drop, Set, Unset, MkIndex, RmIndex}
 use Rattle.be_volume.proofs.FactLemmas.{get_changed}
 use Rattle.be_volume.proofs.MapLemmas.{names_total, exact_names}
 use Rattle.be_volume.proofs.StepLemmas.{accepted, made, take_ok, turn}
-use Rattle.be_change.specs.Left.{index_left_by, is_new, left_by}
+use Rattle.be_change.specs.Left.{index_kind_left, index_left_by, is_new, left_by}
 use Rattle.be_change.proofs.Outcomes.{next_front}
 
 -- ## One attribute
@@ -205,11 +210,38 @@ new_fits (RmIndex name) number all next made few h is = cc
 back : (i : ℕ) → 0 < i → i ≡ (i - 1) + 1
 back i h = omega (arith, h)
 
-pub index_back : (s : State) (ops : List Op) (i : ℕ) (op : Op) (q : List ℕ) (found left : Option (Option Kind)) → found ≡ index_left_by op q → found ≡ left → 0 < i → i ≤ length ops → op ≡ get_or ops (i - 1) op → IsOk (steps s ops)
-    → index_kind (state_after s ops) q ≡ index_kind (state_after s (take i ops)) q
-    → index_kind (state_after s ops) q ≡ unwrap_or left (index_kind (state_after s (take (i - 1) ops)) q)
-index_back s ops i op q found left by is some within at ok h = h ∙ ap (λ n. index_kind (state_after s (take n ops)) q) (back i some) ∙ kind_turn s ops (i - 1) op (omega (arith, some, within)) at ok q
-    ∙ ap (λ l. unwrap_or l (index_kind (state_after s (take (i - 1) ops)) q)) (sym by ∙ is)
+-- one operation more
+kind_more : (s : State) (ops : List Op) (i : ℕ) (op : Op) (q : List ℕ) → i < length ops → op ≡ get_or ops i op → index_kind_left s (take (i + 1) ops) q ≡ unwrap_or (index_left_by op q) (index_kind_left s (take i ops) q)
+kind_more s ops i op q short at = ap (λ xs. index_kind_left s xs q) (take_more ops i op short ∙ ap (λ x. take i ops ++ x ∷ []) (sym at))
+    ∙ fold-append (λ (kind : Option Kind) (x : Op). unwrap_or (index_left_by x q) kind) (index_kind s q) (take i ops) (op ∷ [])
+
+pub kind_back : (s : State) (ops : List Op) (i : ℕ) (op : Op) (q : List ℕ) (found left : Option (Option Kind)) → found ≡ index_left_by op q → found ≡ left → 0 < i → i ≤ length ops → op ≡ get_or ops (i - 1) op
+    → index_kind_left s ops q ≡ index_kind_left s (take i ops) q
+    → index_kind_left s ops q ≡ unwrap_or left (index_kind_left s (take (i - 1) ops) q)
+kind_back s ops i op q found left by is some within at h = h ∙ ap (λ n. index_kind_left s (take n ops) q) (back i some) ∙ kind_more s ops (i - 1) op q (omega (arith, some, within)) at
+    ∙ ap (λ l. unwrap_or l (index_kind_left s (take (i - 1) ops) q)) (sym by ∙ is)
+
+-- what a front of accepted operations leaves of an index is its kind after them
+kind_front : (s : State) (ops : List Op) (i : ℕ) → i ≤ length ops → IsOk (steps s ops) → (q : List ℕ) → index_kind (state_after s (take i ops)) q ≡ index_kind_left s (take i ops) q
+kind_front s ops zero within ok q = refl
+kind_front s ops (suc i) within ok q =
+    let short : i < length ops = omega (arith, within) in
+    let op = get_or ops i New in
+    let at : op ≡ get_or ops i op = get_or_default ops i New op short in
+    let on : i + 1 ≡ suc i = omega arith in
+    subst (λ n. index_kind (state_after s (take n ops)) q ≡ index_kind_left s (take n ops) q) on
+    (kind_turn s ops i op short at ok q ∙ ap (unwrap_or (index_left_by op q)) (kind_front s ops i (omega (arith, within)) ok q) ∙ sym (kind_more s ops i op q short at))
+
+pub kind_accepted : (s : State) (ops : List Op) (q : List ℕ) → IsOk (steps s ops) → index_kind (state_after s ops) q ≡ index_kind_left s ops q
+kind_accepted s ops q ok = subst (λ xs. index_kind (state_after s xs) q ≡ index_kind_left s xs q) (take_all (length ops) ops (omega arith)) (kind_front s ops (length ops) (omega arith) ok q)
+
+-- If this is the kind that the operations leave, it is the kind after them where they are accepted.
+pub kind_after : (s : State) (ops : List Op) (q : List ℕ) (kind : Option Kind) → kind ≡ index_kind_left s ops q → IfOk (steps s ops) (λ r. kind ≡ index_kind r.0 q)
+kind_after s ops q kind is = by (steps s ops) refl
+  where
+    by : (r : Result (State × List Done) Refusal) → steps s ops ≡ r → IfOk r (λ x. kind ≡ index_kind x.0 q)
+    by (Ok x) e = is ∙ sym (kind_accepted s ops q (ap is_ok e)) ∙ ap (λ r. index_kind (reached s r) q) e
+    by (Err refusal) e = tt
 
 -- before the last operations, which leave these numbers, the next node has this number
 pub numbered : (s : State) (ops : List Op) (i next number : ℕ) → IsOk (steps s ops) → next ≡ s.next + count_by is_new ops → number + count_by is_new ops ≡ next + count_by is_new (take i ops)

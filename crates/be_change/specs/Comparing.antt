@@ -1,32 +1,32 @@
--- Whether the sets in a list have the kinds of their names' indices.
-use Rattle.std.specs.Prelude.{◌≡◌, ◌≢◌, ◌<◌, ℕ, List, IfOk, None, Some, slice_get, take}
+-- Whether the sets of a list have the kinds that the indices of their names take.
+use Rattle.std.specs.Prelude.{◌≡◌, ◌≢◌, ◌<◌, ℕ, List, None, Some, slice_get, take}
 use Rattle.std.specs.declared.option.Option.{Option}
 use Rattle.be_value.specs.Value.{kind_of}
 use Rattle.be_value.specs.declared.values.Kind.{Kind}
-use Rattle.be_volume.specs.Reading.{index_kind}
-use Rattle.be_volume.specs.Volume.{State, steps}
+use Rattle.be_volume.specs.Volume.{State}
 use Rattle.be_volume.specs.declared.ops.Op.{Op}
 use Rattle.be_volume.specs.declared.ops.Op.TheVariants.{New, Drop, Set, Unset, MkIndex, RmIndex}
 use Rattle.be_change.specs.Collecting.{TakesKind}
+use Rattle.be_change.specs.Left.{index_kind_left}
 
--- If this sets an attribute, its value has the kind of the index of its name, as accepted
--- operations before it leave that index.
+-- If this sets an attribute, its value has the kind of the index of its name, as the operations
+-- before it leave that index.
 abbrev pub HasRightKind : State → List Op → Op → Type 0
 HasRightKind base before New = Unit {0}
 HasRightKind base before (Drop node) = Unit {0}
-HasRightKind base before (Set node name value) = IfOk (steps base before)
-    (λ r. TakesKind r.0 name (kind_of value))
+HasRightKind base before (Set node name value) =
+    TakesKind (index_kind_left base before name) (kind_of value)
 HasRightKind base before (Unset node name) = Unit {0}
 HasRightKind base before (MkIndex name kind) = Unit {0}
 HasRightKind base before (RmIndex name) = Unit {0}
 
--- This sets an attribute, and the index of its name takes another kind, which is this one, as
--- accepted operations before it leave that index.
+-- This sets an attribute, and the index of its name takes this other kind, as the operations before
+-- it leave that index.
 abbrev pub HasWrongKind : State → List Op → Op → Kind → Type 0
 HasWrongKind base before New index = ⊥
 HasWrongKind base before (Drop node) index = ⊥
 HasWrongKind base before (Set node name value) index = (index ≢ kind_of value)
-    × IfOk (steps base before) (λ r. index_kind r.0 name ≡ Some index)
+    × (index_kind_left base before name ≡ Some index)
 HasWrongKind base before (Unset node name) index = ⊥
 HasWrongKind base before (MkIndex name kind) index = ⊥
 HasWrongKind base before (RmIndex name) index = ⊥

@@ -1,10 +1,12 @@
--- What one operation does to one attribute, and to the index of one name.
-use Rattle.std.specs.Prelude.{ℕ, ◌&&◌, Bool, true, false, List, Some, None, nat_eq}
+-- What one operation says of one attribute, and of the index of one name.
+use Rattle.std.specs.Prelude.{ℕ, ◌&&◌, Bool, true, false, List, Some, None, fold, nat_eq, unwrap_or}
 use Rattle.std.specs.Prelude.{if◌then◌else◌}
 use Rattle.std.specs.Cmp.Lexicographic.{pointwise}
 use Rattle.std.specs.declared.option.Option.{Option}
 use Rattle.be_value.specs.declared.values.Kind.{Kind}
 use Rattle.be_value.specs.declared.values.Value.{Value}
+use Rattle.be_volume.specs.Reading.{index_kind}
+use Rattle.be_volume.specs.Volume.{State}
 use Rattle.be_volume.specs.declared.ops.Op.{Op}
 use Rattle.be_volume.specs.declared.ops.Op.TheVariants.{New, Drop, Set, Unset, MkIndex, RmIndex}
 
@@ -38,3 +40,9 @@ index_left_by (Unset node unset) name = None
 index_left_by (MkIndex made kind) name = if pointwise nat_eq name made then Some (Some kind)
     else None
 index_left_by (RmIndex removed) name = if pointwise nat_eq name removed then Some None else None
+
+-- The kind of the index of this name, as these operations leave it. Each counts, also if the volume
+-- refuses one of them.
+abbrev pub index_kind_left : State → List Op → List ℕ → Option Kind
+index_kind_left base ops name =
+    fold (λ kind op. unwrap_or (index_left_by op name) kind) (index_kind base name) ops

@@ -8,6 +8,7 @@ ghost use Rattle.be_volume.specs.declared.ops.Done.TheVariants.{Node};
 ghost use Rattle.be_volume.specs.declared.ops.Op.TheVariants as ops;
 ghost use Rattle.be_change.specs.Changing.{After, Reads, outcomes, with_op};
 ghost use Rattle.be_change.specs.Collecting.{HasNoRoom, IsOfRightKind, IsOfWrongKind};
+ghost use Rattle.be_change.specs.Left.{index_kind_left};
 
 use crate::CollectError;
 use crate::overlay::{attribute_left, index_left, listed_kind};
@@ -189,7 +190,9 @@ impl Change {
     /// The kind of the index of this name, as the collected operations leave it. It reads no page,
     /// because the change knows the snapshot's indices.
     pub fn index_kind(&self, name: &Name) -> Option<Kind>
-        ensures { (base : State) → Reads self.now base
+        ensures left { (base : State) → Reads self.now base
+            → result ≡ index_kind_left base self.now.ops name.now }
+        ensures accepted { (base : State) → Reads self.now base
             → After self.now base (λ s. result ≡ index_kind s name.now) }
     {
         match index_left(self.ops.as_slice(), name) {

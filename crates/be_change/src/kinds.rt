@@ -1,9 +1,8 @@
-//! Whether the sets in a list of operations have the kinds of their names' indices.
-ghost use Rattle.std.specs.Prelude.{◌≡◌, ℕ, IfErr, IfOk, OnOk, length};
-ghost use Rattle.be_volume.specs.Reading.{index_kind};
-ghost use Rattle.be_volume.specs.Volume.{steps};
+//! Whether the sets of a list of operations have the kinds that the indices of their names take.
+ghost use Rattle.std.specs.Prelude.{◌≡◌, ℕ, IfErr, OnOk, length};
 ghost use Rattle.be_store.specs.Passes.{HasRead, IsPassOf, IsPinnedTo, volume_pinned};
 ghost use Rattle.be_change.specs.Comparing.{ComparesKinds, HaveRightKinds, IsFirstOfWrongKind};
+ghost use Rattle.be_change.specs.Left.{index_kind_left};
 
 use crate::overlay::index_left;
 use be_store::{Name, Pass, Store};
@@ -61,8 +60,7 @@ fn kind_left(store: &Store, pass: &mut Pass, ops: &[Op], name: &Name) -> Option<
     requires pass { IsPassOf store.now pass.old }
     requires pinned { (n : ℕ) × IsPinnedTo pass.old.knows n }
     ensures pass { IsPassOf store.now pass.new × HasRead pass.old.knows pass.new.knows }
-    ensures kind { IfOk (steps (volume_pinned pass.old.knows) ops.now)
-        (λ r. result ≡ index_kind r.0 name.now) }
+    ensures kind { result ≡ index_kind_left (volume_pinned pass.old.knows) ops.now name.now }
 {
     match index_left(ops, name) {
         Some(kind) => kind,

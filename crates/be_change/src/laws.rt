@@ -1,15 +1,19 @@
-//! What a pass may do while it has a change.
+//! What a pass may do while it has a change, and what operations leave of an index.
 //!
-//! The law does nothing: its contract is the law, for the crates above.
-ghost use Rattle.std.specs.Prelude.{ℕ, List};
+//! The laws do nothing; their contracts are the laws, for the crates above.
+ghost use Rattle.std.specs.Prelude.{◌≡◌, ℕ, IsOk, List};
 ghost use Rattle.be_table.specs.Steps.{IsPass};
 ghost use Rattle.be_table.specs.declared.pass.Knowledge.{Knowledge};
+ghost use Rattle.be_volume.specs.Ahead.{state_after};
+ghost use Rattle.be_volume.specs.Reading.{index_kind};
+ghost use Rattle.be_volume.specs.Volume.{State, steps};
 ghost use Rattle.be_volume.specs.declared.ops.Done.{Done};
 ghost use Rattle.be_volume.specs.declared.ops.Op.{Op};
 ghost use Rattle.be_store.specs.History.{Accepts, Learns};
 ghost use Rattle.be_store.specs.Passes.{HasRead};
 ghost use Rattle.be_change.specs.Changing.{Changing};
 ghost use Rattle.be_change.specs.Ending.{IsChangeOf};
+ghost use Rattle.be_change.specs.Left.{index_kind_left};
 
 /// A change still belongs to its pass, and reads the same volume, while the pass reads, is refused
 /// a write, or writes: none of these moves its pin.
@@ -21,4 +25,10 @@ pub fn stays()
     ensures write { (change : Changing) (a c : Knowledge) (ops : List Op) (n : ℕ)
         (dones : List Done) → IsPass a → Accepts a c ops n dones → IsChangeOf change a
         → IsChangeOf change c }
+{}
+
+/// If a volume accepts all operations, the kind that they leave an index is its kind after them.
+pub fn index_left()
+    ensures { (base : State) (ops : List Op) (name : List ℕ) → IsOk (steps base ops)
+        → index_kind (state_after base ops) name ≡ index_kind_left base ops name }
 {}

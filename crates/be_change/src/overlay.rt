@@ -3,7 +3,7 @@ ghost use Rattle.std.specs.Prelude.{◌≡◌, ◌≤◌, ◌+◌, IsOk, count_b
 ghost use Rattle.be_volume.specs.Ahead.{next_after, state_after};
 ghost use Rattle.be_volume.specs.Reading.{attribute, index_kind, index_kinds};
 ghost use Rattle.be_volume.specs.Volume.{State, steps};
-ghost use Rattle.be_change.specs.Left.{index_left_by, is_new, left_by};
+ghost use Rattle.be_change.specs.Left.{index_kind_left, index_left_by, is_new, left_by};
 
 use be_value::{Kind, Name, Value};
 use be_volume::Op;
@@ -57,8 +57,7 @@ fn left_by(op: &Op, next: u64, node: u64, name: &Name) -> Option<Option<Value>>
 
 /// The kind of the index of this name after the operations, if one of them makes or removes it.
 pub(crate) fn index_left(ops: &[Op], name: &Name) -> Option<Option<Kind>>
-    ensures { (base : State) → IsOk (steps base ops.now)
-        → index_kind (state_after base ops.now) name.now
+    ensures { (base : State) → index_kind_left base ops.now name.now
         ≡ unwrap_or result (index_kind base name.now) }
 {
     for i in (0..ops.len()).rev() {

@@ -5,6 +5,7 @@ ghost use Rattle.be_shell.specs.Terminal as spec;
 
 use crate::Line;
 use crate::asides::{Aside, aside_of, skip, split_word, typed_of};
+use crate::carets::fault_at;
 use crate::help::{hint, print_help, print_usage, wants_hint};
 use crate::peers::Peer;
 use crate::saves::save;
@@ -173,15 +174,23 @@ fn ask<R: Eprint>(rt: &R, is_batch_open: bool) {
     let _ = eprint!(rt; "{prompt}");
 }
 
-/// A peer at a terminal. A prompt on standard error asks for each line: `batch> ` while a batch is
-/// open, and otherwise `bestore> `.
-///
-/// Lines for the terminal itself ([`Aside`]) are answered here, and the shell hears an empty line.
-/// `quit` and `exit` end the lines. The lines of a file that `read` names are heard instead of
-/// typed ones, until its end.
-///
-/// After the reply to a bad line, or to a query with an error, a hint is written. What can't be
-/// written to standard error is left out.
+/// Writes to standard error the place of a file's last line, if a hint follows. A query that is
+/// shown with a caret begins a line of its own.
+fn print_place<R: Eprint>(rt: &R, script: &Script, reply: &[u8]) {
+    if !wants_hint(reply) {
+        return;
+    }
+    script.tell_place(rt);
+    if fault_at(reply).is_some() {
+        let _ = eprintln!(rt; "this query isn't valid here:");
+    }
+}
+
+/// A peer at a terminal, who is asked for each line by a prompt on standard error: `batch> ` while
+/// a batch is open, otherwise `bestore> `. Lines for the terminal itself ([`Aside`]) are answered
+/// there, and are heard as empty lines; `quit` and `exit` end the lines. The lines of a file that
+/// `read` names are heard in place of typed ones, up to its end. After a reply to a line that is
+/// bad or has a bad query, a hint is written. What can't be written to standard error is left out.
 #[derive(Drop)]
 pub struct Terminal<'a, R, P> {
     rt: &'a R,
@@ -216,9 +225,7 @@ impl<'a, R: Files + Eprint, P: Peer> Terminal<'a, R, P> {
             return;
         };
         if let Some(script) = &self.script {
-            if wants_hint(reply) {
-                script.tell_place(self.rt);
-            }
+            print_place(self.rt, script, reply);
         }
         hint(self.rt, self.alloc, heard.as_slice(), reply);
     }

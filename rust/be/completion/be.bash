@@ -1,7 +1,7 @@
 # Completion of be for bash, with the functions of the package bash-completion. Source it, or install it as be in
 # /usr/share/bash-completion/completions.
 
-# The names of the indices of the server that the words name, if it answers.
+# Prints the names of the indices on the server that the words name, if the server replies.
 _be_indices() {
     local at socket=()
     for ((at = 1; at < cword - 1; at++)); do
@@ -10,7 +10,7 @@ _be_indices() {
     be lsindex "${socket[@]}" 2>/dev/null
 }
 
-# The command among the words before the cursor, if there is one.
+# Prints the command among the words before the cursor, if there is one.
 _be_command() {
     local at
     for ((at = 1; at < cword; at++)); do

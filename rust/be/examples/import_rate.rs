@@ -1,8 +1,8 @@
-//! How long `be import` takes for a folder, compared with putting the same attributes into a table of SQLite, and how soon a
-//! follower has written a change.
+//! Measures how long `be import` takes for a folder, compared with inserting the same attributes into an SQLite table, and how
+//! soon a follower has written a change.
 //!
-//! `cargo build --release && cargo run --release -p be --example import_rate [FOLDER [VOLUMES]]`. The folder is /usr/share if none
-//! is named, and there is one volume for every 10,000 files. Each row is printed as docs/MEASURED.md has it.
+//! `cargo build --release && cargo run --release -p be --example import_rate [FOLDER [VOLUMES]]`. The default folder is
+//! /usr/share, with one volume for every 10,000 files. Rows are printed in the form that docs/MEASURED.md uses.
 
 use bestore_client::{Client, Query};
 use bestore_types::Value;
@@ -14,9 +14,9 @@ use std::{env, fs, thread};
 
 type Result<T> = std::result::Result<T, Box<dyn std::error::Error>>;
 
-/// How many files a volume takes.
+/// How many files there are per volume.
 const FILES: usize = 10_000;
-/// How often each change of a followed folder is made.
+/// How many times each change to a followed folder is made.
 const ROUNDS: usize = 30;
 const COLUMNS: [&str; 8] = [
     "name",
@@ -29,7 +29,7 @@ const COLUMNS: [&str; 8] = [
     "FILE:root",
 ];
 
-/// A server in a folder of its own. Both are removed at the end.
+/// A server in its own folder. Both are removed at the end.
 struct Server {
     child: Child,
     folder: PathBuf,
@@ -70,7 +70,7 @@ impl Server {
         Ok(command)
     }
 
-    /// Imports the folder. Returns the seconds, and the counts as JSON.
+    /// Imports the folder. Returns how many seconds that took, and the counts as JSON.
     fn import(&self, folder: &str) -> Result<(f64, serde_json::Value)> {
         let begun = Instant::now();
         let output = self
@@ -90,7 +90,7 @@ impl Drop for Server {
     }
 }
 
-/// A program that cargo has built beside this one.
+/// Finds a program that cargo has built next to this one.
 fn program(name: &str) -> Result<PathBuf> {
     let here = env::current_exe()?;
     let folder = here
@@ -111,7 +111,7 @@ fn split(list: &[u8]) -> BTreeSet<Vec<u8>> {
     paths.map(<[u8]>::to_vec).collect()
 }
 
-/// Whether queries find the same files as `find`.
+/// Checks that queries find the same files as `find`.
 fn compare(server: &Server, folder: &str) -> Result<()> {
     for (query, words) in [
         ("name==*", &[][..]),
@@ -144,7 +144,7 @@ fn compare(server: &Server, folder: &str) -> Result<()> {
 /// A file's row in a table.
 type Row = Vec<Option<Value>>;
 
-/// The attributes of all files, as the store has them.
+/// Reads the attributes of all files from the store.
 fn rows(server: &Server) -> Result<Vec<(u64, Row)>> {
     let mut client = Client::connect(server.socket())?;
     let mut query = Query {
@@ -165,7 +165,8 @@ fn rows(server: &Server) -> Result<Vec<(u64, Row)>> {
     }
 }
 
-/// How long SQLite takes for the rows in one transaction, with an index for each attribute that has one in the store.
+/// Measures how long SQLite takes to insert the rows in one transaction, with an index for each attribute that the store has
+/// indexed.
 fn sqlite(rows: &[(u64, Row)], file: Option<&Path>) -> Result<f64> {
     let mut base = match file {
         Some(file) => rusqlite::Connection::open(file)?,
@@ -208,7 +209,7 @@ fn shown(what: &str, (seconds, counts): &(f64, serde_json::Value)) {
     );
 }
 
-/// How many milliseconds it takes until the query finds this many files.
+/// Measures how many milliseconds pass until the query finds this many files.
 fn until(client: &mut Client, query: &str, count: u64) -> Result<u128> {
     let begun = Instant::now();
     while client.count(query)? != count {
@@ -217,7 +218,7 @@ fn until(client: &mut Client, query: &str, count: u64) -> Result<u128> {
     Ok(begun.elapsed().as_millis())
 }
 
-/// Makes, changes, renames and removes a file of a followed folder, and returns how long each took.
+/// Makes, changes, renames and removes a file in a followed folder, and returns how long each took.
 fn change_file(client: &mut Client, folder: &Path, round: usize) -> Result<[u128; 4]> {
     let (name, other) = (format!("round-{round}"), format!("other-{round}"));
     let size = 7_000_000 + round;
@@ -232,7 +233,7 @@ fn change_file(client: &mut Client, folder: &Path, round: usize) -> Result<[u128
     Ok([new, changed, renamed, removed])
 }
 
-/// How long it takes until the store has a change of a followed folder.
+/// Measures how long it takes until the store has a change made in a followed folder.
 fn follow(server: &Server) -> Result<()> {
     let folder = server.folder.join("followed");
     fs::create_dir(&folder)?;

@@ -17,7 +17,7 @@ use std::io::{self, Read};
 use std::os::unix::ffi::OsStringExt;
 use std::path::Path;
 
-/// A file of this many bytes or more can't be a value. The server refuses values of more than 255 bytes.
+/// A file of this size or more can't be a value. The server refuses values of more than 255 bytes.
 const READ: u64 = 1 << 16;
 
 /// What `addattr` has to do, once its command line has been parsed.
@@ -33,7 +33,7 @@ impl Added {
     /// Parses the command line, and reads the value. If the command line is wrong, the error is a string.
     pub fn read(line: AddAttribute) -> Result<Result<Self, Failure>, String> {
         let AddAttribute {
-            kind,
+            r#type,
             file,
             new,
             name,
@@ -54,7 +54,7 @@ impl Added {
             (Some(path), _) => read_file(path).map_err(|error| Failure::File(path.clone(), error)),
             (None, given) => Ok(given.unwrap_or_default().into_vec()),
         };
-        let value = bytes.and_then(|bytes| kind.value(bytes));
+        let value = bytes.and_then(|bytes| r#type.value(bytes));
         Ok(value.map(|value| Self {
             name,
             value,
@@ -99,7 +99,7 @@ pub fn add(client: &mut Client, added: &Added, output: &mut Output) -> Result<()
     output.line(node.to_string().as_bytes())
 }
 
-/// Prints a warning if the index of this name will leave out the value.
+/// Prints a warning if the index with this name will omit the value.
 fn warn_of_index(client: &mut Client, name: &str, value: &Value) -> Result<(), Failure> {
     let indices = server::indices(client)?;
     let taken = indices
@@ -247,7 +247,7 @@ fn list_node(
     output.line(format!("\n{total} bytes total in attributes").as_bytes())
 }
 
-/// Returns the value's bytes as in BeOS: numbers are little-endian.
+/// Returns the value's bytes as BeOS stores them: numbers are little-endian.
 fn bytes_of(value: &Value) -> Vec<u8> {
     match value.as_bytes() {
         Some(bytes) => bytes.to_vec(),

@@ -39,7 +39,8 @@ fn to_volume(batch: &Batch, volume: Option<u32>) -> Result<Batch, Failure> {
     }
 }
 
-/// Waits until the server has kept everything in the snapshot, so that a backup is never ahead of it.
+/// Waits until the server has saved everything in the snapshot, so that a backup is never ahead of
+/// the server's file.
 fn flush(client: &mut Client, hello: &Hello) -> Result<(), Error> {
     match hello.kept.as_str() {
         "no" => Ok(()),

@@ -1,4 +1,4 @@
-//! The command line. `docs/be.1` describes them.
+//! The command line. `docs/be.1` describes the commands.
 
 use crate::kind::Type;
 use crate::paths::Place;
@@ -20,7 +20,7 @@ pub struct CommandLine {
 
 #[derive(Clone, Debug, Args)]
 pub struct ServerOptions {
-    /// The server's socket. By default $BESTORE_SOCKET, or the one that bestored makes by default
+    /// The server's socket. The default is $BESTORE_SOCKET, or bestored's own default if that isn't set
     #[arg(long, value_name = "PATH", global = true)]
     pub socket: Option<PathBuf>,
     /// Wait up to this time for a server that is starting
@@ -45,7 +45,7 @@ pub enum Command {
     Rmindex(RemoveIndex),
     Reindex(Reindex),
     Status(Status),
-    /// Print what the server is doing: how much is written, and who keeps an old snapshot
+    /// Print what the server is doing: how much it writes, and who keeps an old snapshot
     Info(Activity),
     /// List who is connected, and what each client is doing
     Clients(Activity),
@@ -65,7 +65,7 @@ pub struct Query {
     /// Print only the first N nodes
     #[arg(short = 'n', long, value_name = "N")]
     pub limit: Option<u64>,
-    /// Print the nodes in the order of their values in this index, lowest first. Nodes without a value there are left out
+    /// Print the nodes in the order of their values in this index, lowest first. Nodes that have no value in it are omitted
     #[arg(short, long, value_name = "NAME")]
     pub sort: Option<String>,
     /// With --sort: print the highest first
@@ -80,7 +80,7 @@ pub struct Query {
     /// Print how many nodes there are, not which ones
     #[arg(long, conflicts_with_all = ["columns", "limit", "sort", "any"])]
     pub count: bool,
-    /// Keep running, and print nodes that come as +NODE and nodes that go as -NODE
+    /// Keep running. Print nodes that join the answer as +NODE, and nodes that leave it as -NODE
     #[arg(short, long, conflicts_with_all = ["limit", "sort", "any"])]
     pub watch: bool,
     /// Escape control characters even in a pipe or a file
@@ -92,7 +92,7 @@ pub struct Query {
     /// Print the paths of files instead of their nodes
     #[arg(short, long, conflicts_with = "json")]
     pub path: bool,
-    /// End each line with a zero byte, for names with line feeds
+    /// End each line with a zero byte, for names that contain line feeds
     #[arg(short = '0', long, conflicts_with = "json")]
     pub null: bool,
     /// The query, such as 'name=="*.txt" && size>=100'
@@ -107,14 +107,8 @@ pub struct Query {
 )]
 pub struct AddAttribute {
     /// The type of the value
-    #[arg(
-        short = 't',
-        long = "type",
-        value_enum,
-        value_name = "TYPE",
-        default_value = "string"
-    )]
-    pub kind: Type,
+    #[arg(short, long, value_enum, default_value = "string")]
+    pub r#type: Type,
     /// Read the value from a file; - is standard input
     #[arg(short, long, value_name = "FILE")]
     pub file: Option<PathBuf>,
@@ -179,13 +173,13 @@ pub struct RemoveNode {
     pub nodes: Vec<Place>,
 }
 
-/// Make a node for each file of a folder
+/// Make a node for each file in a folder
 #[derive(Debug, Args)]
 pub struct Import {
     /// Keep running, and follow changes in the folder
     #[arg(short, long)]
     pub follow: bool,
-    /// Write attributes that were set on nodes into their files, as extended attributes
+    /// Write attributes that were set on nodes to their files, as extended attributes
     #[arg(short = 'a', long)]
     pub xattr: bool,
     /// Don't read folders on other file systems
@@ -204,18 +198,12 @@ pub struct Import {
     pub folder: PathBuf,
 }
 
-/// Make an index, which takes attributes that are set from then on
+/// Make an index of the attributes that are set from then on
 #[derive(Debug, Args)]
 pub struct MakeIndex {
     /// The type of the values that it takes
-    #[arg(
-        short = 't',
-        long = "type",
-        value_enum,
-        value_name = "TYPE",
-        default_value = "string"
-    )]
-    pub kind: Type,
+    #[arg(short, long, value_enum, default_value = "string")]
+    pub r#type: Type,
     /// The name of the attributes
     pub name: String,
 }
@@ -241,7 +229,7 @@ pub struct RemoveIndex {
     pub name: String,
 }
 
-/// Set attributes again that an index lacks because they were set before it was made
+/// Set attributes again if the index lacks them because they were set before it was made
 #[derive(Debug, Args)]
 pub struct Reindex {
     /// The name of the index
@@ -287,7 +275,8 @@ pub struct Restore {
     /// Print JSON
     #[arg(long)]
     pub json: bool,
-    /// Restore the file only up to its entry N, such as when a later one is damaged; for a folder, give it for each such volume
+    /// Restore only the file's entries up to N, for example because a later one is damaged. For a folder, repeat the option for
+    /// each such volume
     #[arg(long, value_name = "[VOLUME:]N", value_parser = until)]
     pub until: Vec<(u32, u64)>,
     /// The backup, or the file of a stopped server
@@ -314,7 +303,7 @@ fn until(text: &str) -> Result<(u32, u64), String> {
     }
 }
 
-/// Reads a word that names a node: digits are a number, and anything else is a path.
+/// Reads a word that names a node: digits are the node's number, and anything else is a path.
 fn places() -> impl TypedValueParser<Value = Place> {
     OsStringValueParser::new().map(Place::from)
 }

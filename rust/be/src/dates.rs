@@ -36,7 +36,7 @@ const NO_YEAR: &str = "it is outside the calendar";
 const NO_MONTH: &str = "a year has 12 months";
 const NO_DAY: &str = "that month doesn't have so many days";
 
-/// The longest time by which a clock is turned back.
+/// The most seconds by which a clock is put back.
 const TURNED: i64 = 86_400;
 
 /// The time that a date means, in seconds since 1970: from `begin` on, and before `end`.
@@ -84,8 +84,8 @@ impl Clock {
         }
     }
 
-    /// When the clock shows this. If it does so twice, the first time counts. If it never does, because the clock was put
-    /// forward, the clock before that counts.
+    /// Returns when the clock shows this. If the clock shows it twice, the first time counts. If the clock never shows it because
+    /// it was put forward, the result is the time that it would have been without the change.
     fn seconds(&self, shown: NaiveDateTime) -> i64 {
         let shown = shown.timestamp();
         let near = shown - (self.ahead)(shown);
@@ -144,10 +144,11 @@ struct Moment {
     unit: Unit,
 }
 
-/// A moment, if the words have this form, or the reason why they don't give one.
+/// A moment if the words have this form, or the reason why they can't be one.
 type Read = Result<Option<Moment>, Option<&'static str>>;
 
-/// The time that a typed date means on this clock: a date means the whole day, a month the whole month, a time of day a minute.
+/// Returns the time that a typed date means on this clock. A day means the whole day, a month the whole month, and a time of day
+/// one minute.
 pub fn span_of(text: &str, clock: &Clock) -> Result<Span, NotADate> {
     let words = text.to_lowercase();
     let words: Vec<&str> = words.split_whitespace().collect();
@@ -199,7 +200,7 @@ fn with_time(words: &str, now: NaiveDateTime) -> Read {
     }))
 }
 
-/// The words without an "at" at their end.
+/// Returns the words without an "at" at their end.
 fn without_at(words: &str) -> &str {
     match words.strip_suffix("at") {
         Some(day) if !day.ends_with(char::is_alphanumeric) => day,
@@ -207,7 +208,7 @@ fn without_at(words: &str) -> &str {
     }
 }
 
-/// 9:30 or 9:30:05, and what part of the calendar that is.
+/// Reads 9:30 or 9:30:05, and returns the time and whether it means a minute or a second.
 fn time_of_day(text: &str) -> Result<Option<(NaiveTime, Unit)>, Option<&'static str>> {
     let parts: Vec<&str> = text.split(':').collect();
     let (hour, minute, second, unit) = match parts[..] {
@@ -235,7 +236,7 @@ fn digits(text: &str, count: RangeInclusive<usize>) -> Option<u32> {
     text.parse().ok().filter(|_| fits)
 }
 
-/// A day at its beginning.
+/// Returns the beginning of a day.
 fn day(year: i32, month: u32, day: u32) -> Result<NaiveDateTime, Option<&'static str>> {
     let wrong = match () {
         () if !YEARS.contains(&year) => NO_YEAR,
@@ -291,7 +292,7 @@ fn moved_by_months(at: NaiveDateTime, count: i64) -> Result<NaiveDateTime, Optio
         .and_time(at.time()))
 }
 
-/// now, today, yesterday, tomorrow, this week, last month, next year.
+/// Reads now, today, yesterday, tomorrow, this week, last month, next year.
 fn word(words: &str, now: NaiveDateTime) -> Read {
     let (which, unit) = match words {
         "now" => {
@@ -320,7 +321,7 @@ fn word(words: &str, now: NaiveDateTime) -> Read {
     }
 }
 
-/// 2 days ago: that moment, and not the whole day.
+/// Reads 2 days ago: that moment, and not the whole day.
 fn ago(words: &str, now: NaiveDateTime) -> Read {
     let (count, unit) = match words.strip_suffix(" ago").and_then(|words| words.split_once(' ')) {
         Some(("a" | "an" | "one", unit)) => (Some(1), unit),
@@ -336,13 +337,13 @@ fn ago(words: &str, now: NaiveDateTime) -> Read {
     }
 }
 
-/// Returns the position in the list of the only name with this beginning.
+/// Returns the position of the only name in the list that begins like this.
 fn named_so(names: &[&str], begin: &str) -> Option<usize> {
     let mut places = (0..names.len()).filter(|place| begin.len() >= 3 && names[*place].starts_with(begin));
     places.next().filter(|_| places.next().is_none())
 }
 
-/// A day of the week: the last one before today. `next monday` is the first after it.
+/// Reads a day of the week: the last one before today. `next monday` is the first one after it.
 fn weekday(words: &str, now: NaiveDateTime) -> Read {
     let (which, name) = words.rsplit_once(' ').unwrap_or(("", words));
     let wanted = match named_so(&DAYS, name) {
@@ -361,7 +362,7 @@ fn weekday(words: &str, now: NaiveDateTime) -> Read {
     }))
 }
 
-/// A day, a month or a year, from its numbers.
+/// Reads a day, a month or a year from its numbers.
 fn date(year: u32, month: Option<u32>, of_month: Option<u32>) -> Read {
     let unit = match (month, of_month) {
         (_, Some(_)) => Unit::Day,
@@ -372,7 +373,7 @@ fn date(year: u32, month: Option<u32>, of_month: Option<u32>) -> Read {
     Ok(Some(Moment { at, unit }))
 }
 
-/// 2024, 2024-01, 2024-01-31.
+/// Reads 2024, 2024-01, 2024-01-31.
 fn iso(words: &str, _: NaiveDateTime) -> Read {
     let parts: Vec<&str> = words.split('-').collect();
     let year = digits(parts[0], 4..=4);
@@ -385,7 +386,7 @@ fn iso(words: &str, _: NaiveDateTime) -> Read {
     }
 }
 
-/// 31.1.2024. A date with `/` has two meanings, and isn't read.
+/// Reads 31.1.2024. A date with `/` has two meanings, and is refused.
 fn dotted(words: &str, _: NaiveDateTime) -> Read {
     let parts: Vec<&str> = words.split('/').collect();
     if parts.len() == 3 && parts.iter().all(|part| digits(part, 1..=4).is_some()) {
@@ -402,7 +403,7 @@ fn dotted(words: &str, _: NaiveDateTime) -> Read {
     }
 }
 
-/// 31 Jan 2024, Jan 31, 2024, Jan 2024, 31 Jan. Without a year it is the last one that isn't after today.
+/// Reads 31 Jan 2024, Jan 31, 2024, Jan 2024, 31 Jan. Without a year, it is the last such day that isn't after today.
 fn named(words: &str, now: NaiveDateTime) -> Read {
     let mut words: &[&str] = &words.split(' ').collect::<Vec<_>>();
     let mut next = |read: &dyn Fn(&str) -> Option<u32>| {

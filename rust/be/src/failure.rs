@@ -14,41 +14,68 @@ use std::process::ExitCode;
 use std::{fmt, io};
 
 /// Why a command failed.
-#[derive(Debug)]
+#[derive(Debug, thiserror::Error)]
 pub enum Failure {
     /// No server answers at the socket.
+    #[error("no server answers at {}: {1}\n  {} starts one", shown(.0.path()), start_of(.0))]
     NoServer(SocketPath, io::Error),
     /// The server refused, or the connection failed.
-    Server(Error),
+    #[error("{}", message(.0))]
+    Server(#[from] Error),
     /// A query was refused.
+    #[error("{0}")]
     Query(Box<QueryRefused>),
     /// A date in a query isn't valid.
+    #[error("{}{}", escaped(&.0.why.to_string()), pointed(&.0.typed, .0.offset))]
     Date(Box<BadDate>),
     /// The value isn't of this type.
+    #[error("{}", value_fault(.0))]
     Value(&'static str),
     /// A file can't be read.
+    #[error("{}: {1}", shown(.0))]
     File(PathBuf, io::Error),
     /// A file has no node.
+    #[error("{}: the file has no node\n  be import FOLDER makes one for each file of a folder", shown(.0))]
     NotImported(PathBuf),
     /// The path of a folder is too long to be imported by itself.
+    #[error("{}: a path has up to 255 bytes, but this one has more", shown(.0))]
     LongPath(PathBuf),
     /// A folder can't be watched.
+    #[error("{}", follow::shown(.0, .1))]
     Watch(PathBuf, io::Error),
     /// The folder that is imported is gone.
+    #[error("{} is gone, and nothing was removed from the store", shown(.0))]
     Gone(PathBuf),
     /// The folder isn't the same one as before, and has no files.
+    #[error(
+        "{} isn't the same folder as before, and is empty\n  nothing was removed from the store; be import --reread removes the \
+         nodes of its files",
+        shown(.0)
+    )]
     Another(PathBuf),
     /// The output can't be written.
-    Output(io::Error),
+    #[error("the output can't be written: {0}")]
+    Output(#[from] io::Error),
     /// A backup can't be written or read.
-    Backup(saved::Error),
+    #[error("{}", escaped(&.0.to_string()))]
+    Backup(#[from] saved::Error),
     /// The server refuses a batch of a backup.
+    #[error(
+        "{place}: {}\n  the server has only what comes before; restore into another one once this is fixed",
+        escaped(&.refusal.message)
+    )]
     Restore { place: Place, refusal: Box<Refusal> },
     /// A backup has a different number of volumes from the server.
+    #[error("the backup has {backup} volumes, and the server has {server}\n  start a server with --volumes {backup}")]
     Volumes { backup: usize, server: u32 },
     /// A backup is restored into a store that isn't empty.
+    #[error(
+        "the server's store isn't empty: its journal has {entries} entries\n  a backup is restored into a new store; bestored --keep \
+         also opens a copy of it"
+    )]
     NotEmpty { entries: u64 },
     /// Something failed for some nodes, and was reported.
+    #[error("")]
     Reported,
 }
 
@@ -64,7 +91,7 @@ pub struct QueryRefused {
 }
 
 impl Failure {
-    /// Returns whether the server is gone or has no place for the client. A later connection may succeed.
+    /// Returns whether the server is gone or has no place for the client. If so, connecting later may succeed.
     pub fn is_of_connection(&self) -> bool {
         match self {
             Failure::NoServer(..) | Failure::Server(Error::Io(_) | Error::Closed | Error::TimedOut(_)) => true,
@@ -87,87 +114,9 @@ impl Failure {
     }
 }
 
-impl From<Error> for Failure {
-    fn from(error: Error) -> Self {
-        Failure::Server(error)
-    }
-}
-
-impl From<saved::Error> for Failure {
-    fn from(error: saved::Error) -> Self {
-        Failure::Backup(error)
-    }
-}
-
 impl From<BadDate> for Failure {
     fn from(bad: BadDate) -> Self {
         Failure::Date(Box::new(bad))
-    }
-}
-
-impl From<io::Error> for Failure {
-    fn from(error: io::Error) -> Self {
-        Failure::Output(error)
-    }
-}
-
-impl fmt::Display for Failure {
-    fn fmt(&self, f: &mut fmt::Formatter<'_>) -> fmt::Result {
-        match self {
-            Failure::NoServer(socket, error) => {
-                let path = shown(socket.path());
-                writeln!(f, "no server answers at {path}: {error}")?;
-                match socket {
-                    SocketPath::Named(_) => write!(f, "  bestored --background --socket {path} starts one"),
-                    SocketPath::Default(_) => write!(f, "  bestored --background starts one"),
-                }
-            }
-            Failure::Server(error) => f.write_str(&message(error)),
-            Failure::Query(refused) => refused.fmt(f),
-            Failure::Date(bad) => write!(
-                f,
-                "{}{}",
-                escaped(&bad.why.to_string()),
-                pointed(&bad.typed, bad.offset)
-            ),
-            Failure::Value(kind) => f.write_str(&value_fault(kind)),
-            Failure::File(path, error) => write!(f, "{}: {error}", shown(path)),
-            Failure::NotImported(path) => {
-                writeln!(f, "{}: the file has no node", shown(path))?;
-                write!(f, "  be import FOLDER makes one for each file of a folder")
-            }
-            Failure::LongPath(path) => write!(f, "{}: a path has up to 255 bytes, but this one has more", shown(path)),
-            Failure::Watch(folder, error) => f.write_str(&follow::shown(folder, error)),
-            Failure::Gone(folder) => write!(f, "{} is gone, and nothing was removed from the store", shown(folder)),
-            Failure::Another(folder) => {
-                writeln!(f, "{} isn't the same folder as before, and is empty", shown(folder))?;
-                write!(
-                    f,
-                    "  nothing was removed from the store; be import --reread removes the nodes of its files"
-                )
-            }
-            Failure::Output(error) => write!(f, "the output can't be written: {error}"),
-            Failure::Backup(error) => f.write_str(&escaped(&error.to_string())),
-            Failure::Restore { place, refusal } => {
-                writeln!(f, "{place}: {}", escaped(&refusal.message))?;
-                write!(
-                    f,
-                    "  the server has only what comes before; restore into another one once this is fixed"
-                )
-            }
-            Failure::Volumes { backup, server } => {
-                writeln!(f, "the backup has {backup} volumes, and the server has {server}")?;
-                write!(f, "  start a server with --volumes {backup}")
-            }
-            Failure::NotEmpty { entries } => {
-                writeln!(f, "the server's store isn't empty: its journal has {entries} entries")?;
-                write!(
-                    f,
-                    "  a backup is restored into a new store; bestored --keep also opens a copy of it"
-                )
-            }
-            Failure::Reported => Ok(()),
-        }
     }
 }
 
@@ -191,6 +140,14 @@ impl fmt::Display for QueryRefused {
             }
             None => Ok(()),
         }
+    }
+}
+
+/// Returns the command that starts a server at the socket.
+fn start_of(socket: &SocketPath) -> String {
+    match socket {
+        SocketPath::Named(path) => format!("bestored --background --socket {}", shown(path)),
+        SocketPath::Default(_) => "bestored --background".into(),
     }
 }
 

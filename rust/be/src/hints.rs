@@ -15,7 +15,7 @@ pub struct Hint {
     pub offset: usize,
 }
 
-/// Returns the comparisons in this text that are true for no node. The indices have these kinds.
+/// Returns the comparisons in this text that are true for no node, if the indices have these kinds.
 pub fn hints(text: &str, compared: &[Comparison], indices: &BTreeMap<String, Kind>) -> Vec<Hint> {
     let hint = |one: &Comparison| {
         let kind = *indices.get(&one.name).filter(|kind| one.is_never(**kind))?;
@@ -96,7 +96,7 @@ mod tests {
         let hints = |name: &str, kind| hints("t>1.5", from_ref(&one), &[(name.to_string(), kind)].into());
         assert_eq!(hints("t", Kind::Int64).len(), 1);
         assert!(hints("t", Kind::Text).is_empty() && hints("u", Kind::Int64).is_empty());
-        // Leaves out what a server says about bytes that don't exist.
+        // An offset from the server that is past the end of the text gives no hint.
         let beyond = Comparison {
             offset: 9,
             ..one.clone()

@@ -11,7 +11,7 @@ use bestore_types::Batch;
 pub fn make(client: &mut Client, line: &MakeIndex) -> Result<(), Failure> {
     Ok(server::apply(
         client,
-        Batch::new().make_index(&line.name, line.kind.kind()),
+        Batch::new().make_index(&line.name, line.r#type.kind()),
     )?)
 }
 

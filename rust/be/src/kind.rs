@@ -1,4 +1,4 @@
-//! The types of values, under the tools' names for them.
+//! The types of values, with the tools' names for them.
 
 use crate::failure::Failure;
 use bestore_types::{Kind, Value};

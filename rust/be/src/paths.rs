@@ -1,4 +1,4 @@
-//! Files and their nodes: `be import` makes a node for each file, and these functions find one from the other.
+//! Files and their nodes. `be import` makes a node for each file. These functions find a file's node, and a node's file.
 
 use crate::failure::Failure;
 use crate::import::content::{name_in, NAME, PARENT, ROOT, STAT};
@@ -16,7 +16,7 @@ use std::path::{Path, PathBuf};
 /// The maximum number of folders in a path: more would be a cycle, made by another program.
 const DEPTH: usize = 4_096;
 
-/// The attributes from which paths are made.
+/// The attributes that paths are made from.
 pub const COLUMNS: [&str; 4] = ["name", NAME, PARENT, ROOT];
 
 /// What a word on the command line names.
@@ -50,7 +50,7 @@ pub fn nodes_of(client: &mut Client, places: &[Place]) -> Result<Vec<u64>, Failu
     places.iter().map(node).collect()
 }
 
-/// Returns the node of a file. If two nodes have the same name and inode, it is the node with the same path.
+/// Returns the node of a file. If two nodes have the same name and inode, this is the one with the same path.
 fn node_of(client: &mut Client, path: &Path) -> Result<u64, Failure> {
     let failed = |error| Failure::File(path.into(), error);
     let about = fs::symlink_metadata(path).map_err(failed)?;
@@ -85,7 +85,7 @@ fn whole_path(path: &Path) -> std::io::Result<PathBuf> {
     }
 }
 
-/// What a node says about its path.
+/// What a node's attributes contribute to its path.
 #[derive(Clone, Debug, Default)]
 pub struct Step {
     pub name: OsString,

@@ -39,7 +39,7 @@ pub fn run(client: &mut Client, line: &Line, output: &mut Output) -> Result<(), 
 /// Prints which comparisons in an accepted query are true for no node.
 fn warn(client: &mut Client, query: &TypedQuery) -> Result<(), Failure> {
     let compared = match client.comparisons(&query.sent) {
-        // The server is older, and can't tell.
+        // The server is an older one that doesn't report the comparisons.
         Err(error) if error.is(ErrorName::BadRequest) => return Ok(()),
         compared => compared?,
     };

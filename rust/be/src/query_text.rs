@@ -1,4 +1,4 @@
-//! The tokens and comparisons of a query as it was typed, with dates between `%`. The server reads the result.
+//! The tokens and comparisons of a query as it was typed, with dates between `%`. The server never sees the dates.
 
 /// What a token is.
 #[derive(Clone, Copy, Debug, PartialEq, Eq)]
@@ -48,7 +48,7 @@ impl<'a> Token<'a> {
     }
 }
 
-/// Returns the tokens in a text, up to the first character that begins none.
+/// Returns the tokens in a text, up to the first character that doesn't begin one.
 pub fn tokens(text: &str) -> Vec<Token<'_>> {
     let mut found: Vec<Token<'_>> = Vec::new();
     let mut at = 0;
@@ -67,7 +67,7 @@ pub fn tokens(text: &str) -> Vec<Token<'_>> {
     }
 }
 
-/// Returns the form and the length of the token with which the text begins.
+/// Returns the form and the length of the token that the text begins with.
 fn first_token(text: &str, may_be_date: bool) -> Option<(Form, usize)> {
     let rest = text.get(1..).unwrap_or_default();
     match text.as_bytes() {
@@ -87,7 +87,7 @@ fn first_token(text: &str, may_be_date: bool) -> Option<(Form, usize)> {
     }
 }
 
-/// Returns how many bytes come before the first such character. A backslash protects the next character.
+/// Returns how many bytes come before the first character of this sort. A backslash protects the next character.
 fn length_until(text: &str, is_end: impl Fn(char) -> bool) -> Option<usize> {
     let mut characters = text.char_indices();
     while let Some((at, character)) = characters.next() {

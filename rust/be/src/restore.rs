@@ -13,7 +13,7 @@ use std::collections::VecDeque;
 /// How many batches are sent before the reply to the first one is read.
 const AHEAD: usize = 64;
 
-/// Writes a backup into the server, whose store has to be empty. If anybody else writes meanwhile, this fails.
+/// Writes a backup into the server, whose store has to be empty. If anyone else writes in the meantime, this fails.
 pub fn restore(client: &mut Client, line: &Line, output: &mut Output) -> Result<(), Failure> {
     // The whole backup is read and checked before anything is written.
     let backup = saved::read_until(&line.file, &line.until.iter().copied().collect())?;
@@ -84,7 +84,7 @@ impl<'b, 'c> Restoring<'b, 'c> {
         Ok(self.count)
     }
 
-    /// Checks whether the state makes the next node that the file names.
+    /// Checks whether the state makes the next node that the file says.
     fn end_state(&mut self, contents: &Contents) -> Result<(), Failure> {
         self.receive_all()?;
         let next = self.client.next_node()?;

@@ -1,4 +1,4 @@
-//! The server: where it is, and requests that several commands send it.
+//! The server: where it is, and requests that several commands send to it.
 
 use crate::command_line::ServerOptions;
 use crate::failure::{complain, message, Failure};
@@ -7,24 +7,24 @@ use bestore_client::{Client, Error, ErrorName, Options, SocketPath};
 use bestore_types::Batch;
 use std::collections::BTreeMap;
 
-/// How often to retry a write if another client is writing.
+/// How many times to retry a write if another client is writing.
 const TRIES: u32 = 100;
 
 /// The maximum number of operations in a batch.
 const OPERATIONS: usize = 64;
 
-/// How many snapshots to try a read on.
+/// How many snapshots to try a read on before giving up.
 const SNAPSHOTS: u32 = 5;
 
-/// Connects to the server at the socket that the option names, or otherwise the environment.
+/// Connects to the server at the socket that the option names, or in the environment if there is no option.
 pub fn connect(line: &ServerOptions) -> Result<Client, Failure> {
     let mut client = open(line)?;
     client.hello()?;
     Ok(client)
 }
 
-/// Connects like [`connect`], for a command that sends a few requests and ends: the server serves it for a moment even when there is no
-/// place for another client.
+/// Connects like [`connect`], for a command that sends a few requests and ends. The server serves it for a moment even when it
+/// has no place for another client.
 pub fn visit(line: &ServerOptions) -> Result<Client, Failure> {
     match connect(line) {
         Err(Failure::Server(error)) if error.is(ErrorName::NoPass) => {
@@ -82,7 +82,7 @@ pub fn apply_each(client: &mut Client, nodes: &[u64], add: impl Fn(&mut Batch, u
     all_done(all)
 }
 
-/// Fails if something was reported.
+/// Fails if something has been reported.
 pub fn all_done(all: bool) -> Result<(), Failure> {
     match all {
         true => Ok(()),
@@ -112,7 +112,7 @@ pub fn report(node: u64, why: &str) {
     complain(&format!("node {node}: {why}"));
 }
 
-/// Runs the closure while the client keeps one snapshot. If the server takes the snapshot back, the closure runs again on the next one.
+/// Runs the closure while the client keeps one snapshot. If the server ends the snapshot, the closure runs again on the next one.
 pub fn pinned<T>(client: &mut Client, read: impl Fn(&mut Client) -> Result<T, Failure>) -> Result<T, Failure> {
     let mut left = SNAPSHOTS;
     loop {

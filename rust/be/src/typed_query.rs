@@ -60,7 +60,8 @@ impl TypedQuery {
         Ok(Self { typed, sent, parts })
     }
 
-    /// Returns the byte of the typed text that a byte of the sent text comes from. For a date, it is the first byte of its comparison.
+    /// Returns the byte in the typed text that a byte in the sent text comes from. For a date, this is the first byte of its
+    /// comparison.
     pub fn place_of(&self, mut offset: usize) -> usize {
         for part in &self.parts {
             if offset < part.start {

@@ -1,4 +1,4 @@
-//! `info`, `clients` and `kick`.
+//! Tests of `info`, `clients` and `kick`.
 
 use crate::common::Server;
 use bestore_client::{Client, Error};

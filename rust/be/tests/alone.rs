@@ -1,11 +1,11 @@
-//! The tools don't load libbestore: they ask the server.
+//! Checks that the tools don't load libbestore: they ask the server.
 
 use crate::common::{server_program, Server, BE};
 use std::fs;
 use std::path::Path;
 use std::process::Command;
 
-/// Whether a program has the names of the library's calls, as any program that is linked with it has, stripped or not.
+/// Whether a program contains the names of the library's calls, as any program linked with it does, stripped or not.
 fn has_calls(program: &Path) -> bool {
     let bytes = fs::read(program).unwrap();
     let text = String::from_utf8_lossy(&bytes);
@@ -29,7 +29,7 @@ fn the_tool_is_linked_with_nothing_of_the_library() {
 fn the_tool_does_all_without_a_library() {
     let server = server!(Server::with_three());
     let said = |words: &[&str]| {
-        // The loader looks only where no library is.
+        // Make the loader look only in folders without the library.
         let output = server
             .command(words)
             .env("LD_LIBRARY_PATH", "/nonexistent")

@@ -1,4 +1,4 @@
-//! A server that breaks the protocol, and output that can't be written.
+//! Tests of servers that break the protocol, and of output that can't be written.
 
 use crate::common::{Said, Server, BE};
 use std::fs::OpenOptions;
@@ -10,16 +10,16 @@ use std::sync::atomic::{AtomicBool, Ordering};
 use std::sync::Arc;
 use std::thread;
 
-/// Sends these bytes to a client, and waits until it has gone.
+/// Sends these bytes to a client, and waits until it has disconnected.
 fn answer(mut stream: UnixStream, bytes: &[u8]) {
-    // The tool may have gone before all is sent.
+    // The tool may disconnect before everything is sent.
     let _ = stream.read(&mut [0; 4_096]);
     let _ = stream.write_all(bytes);
     let _ = stream.shutdown(Shutdown::Write);
     let _ = stream.read_to_end(&mut Vec::new());
 }
 
-/// What the tool says to a server that sends these bytes to each client and closes the connection.
+/// What the tool says when a server sends these bytes to each client and closes the connection.
 fn told(number: usize, bytes: Vec<u8>, words: &[&str]) -> Said {
     let path = std::env::temp_dir().join(format!("be-broken-{}-{number}", std::process::id()));
     let listener = UnixListener::bind(&path).unwrap();
@@ -40,7 +40,7 @@ fn told(number: usize, bytes: Vec<u8>, words: &[&str]) -> Said {
     said
 }
 
-/// A good reply to the tool's first request.
+/// A valid reply to the tool's first request.
 const HELLO: &str = concat!(
     r#"{"id":1,"ok":{"protocol":1,"server":"0","library":"0","run":"a","pass":1,"kept":"no","limits":"#,
     r#"{"pages":8,"passes":1,"commits":1,"operations":64,"line":1048576,"watches":32}}}"#
@@ -122,7 +122,7 @@ fn a_snapshot_that_was_taken_back_is_followed_by_another() {
         format!("{HELLO}\n{}", lines.collect::<String>()).into_bytes()
     };
     let nothing = r#""ok":{}"#;
-    // The last reply is about the query's text.
+    // The last reply answers the request about the query's text.
     let bytes = lines(&[pin, expired, nothing, pin, hits, nothing, r#""ok":{"comparisons":[]}"#]);
     let said = told(201, bytes, &["query", "a==1"]);
     assert_eq!((said.status, said.out.as_str(), said.error.as_str()), (0, "1\n", ""));

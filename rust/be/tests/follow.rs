@@ -1,4 +1,4 @@
-//! `import --follow`: what it makes of changes.
+//! Tests of `import --follow`: how it handles changes.
 
 use crate::common::files::Folder;
 use crate::common::refuser::Refuser;
@@ -20,17 +20,17 @@ const WITHIN: Duration = Duration::from_secs(20);
 struct Follower {
     child: Child,
     out: BufReader<ChildStdout>,
-    /// The lines that it says on standard error.
+    /// The lines that it writes to standard error.
     error: Receiver<String>,
 }
 
 impl Follower {
-    /// Begins, and returns once the folder was read.
+    /// Starts it, and returns once the folder has been read.
     fn start(server: &Server, folder: &Folder) -> Self {
         Self::run(server.command(&["import", "--follow", "--json", &folder.all()]))
     }
 
-    /// Runs this import.
+    /// Starts this import.
     fn run(mut command: Command) -> Self {
         let mut child = command.stdout(Stdio::piped()).stderr(Stdio::piped()).spawn().unwrap();
         let mut out = BufReader::new(child.stdout.take().unwrap());
@@ -43,12 +43,12 @@ impl Follower {
         Self { child, out, error }
     }
 
-    /// Reads what it says on standard error, up to a line that has these words.
+    /// Reads its standard error up to a line that contains these words.
     fn wait_until_it_says(&self, words: &str) {
         while !self.error.recv_timeout(WITHIN).expect(words).contains(words) {}
     }
 
-    /// Ends the import, and returns what it has printed since the folder was read.
+    /// Ends the import, and returns what it has printed since it read the folder.
     fn said(mut self) -> String {
         self.child.kill().unwrap();
         let mut said = String::new();
@@ -64,7 +64,7 @@ impl Follower {
         assert!(sent.unwrap().success());
     }
 
-    /// Waits until the import has ended by itself.
+    /// Waits until the import ends by itself.
     fn end(mut self) -> Said {
         let begun = Instant::now();
         while self.child.try_wait().unwrap().is_none() {
@@ -88,19 +88,19 @@ impl Drop for Follower {
     }
 }
 
-/// The lines of a process, as they come.
+/// Sends on each line of a process as it arrives.
 fn lines_of(error: ChildStderr) -> Receiver<String> {
     let (sender, receiver) = channel();
     thread::spawn(move || {
         for line in BufReader::new(error).lines().map_while(Result::ok) {
-            // The test may not listen any more.
+            // The test may have stopped listening.
             let _ = sender.send(line);
         }
     });
     receiver
 }
 
-/// Waits until it is so, and prints how long that took.
+/// Waits until the condition holds, and prints how long that took.
 fn soon(what: &str, is_so: impl Fn() -> bool) {
     let begun = Instant::now();
     while !is_so() {
@@ -116,8 +116,7 @@ fn same(server: &Server, folder: &Folder) -> bool {
 
 #[test]
 fn what_changes_is_followed() {
-    let server = server!(Server::start());
-    let folder = Folder::new();
+    let (server, folder) = server!(Folder::with_server());
     folder.folder("a/b");
     folder.file("a/x", "x");
     let _follower = Follower::start(&server, &folder);
@@ -155,8 +154,7 @@ fn what_changes_is_followed() {
 
 #[test]
 fn a_followed_file_keeps_its_node_when_an_editor_saves() {
-    let server = server!(Server::start());
-    let folder = Folder::new();
+    let (server, folder) = server!(Folder::with_server());
     folder.file("y", "");
     let _follower = Follower::start(&server, &folder);
     server.done(&["addattr", "mark", "x", &folder.word("y")]);
@@ -166,7 +164,7 @@ fn a_followed_file_keeps_its_node_when_an_editor_saves() {
         server.paths("size==18").len() == 1 && same(&server, &folder)
     });
     assert_eq!(server.value("mark", &folder.path("y")), "x");
-    // Names that change faster than they can be read.
+    // Rename faster than the names can be read.
     for round in 0..200 {
         folder.rename("y", &format!("y{round}"));
         folder.rename(&format!("y{round}"), "y");
@@ -214,7 +212,7 @@ fn many_changes_at_once_are_followed() {
     soon("many changes", || same(&server, &folder));
     thread::sleep(Duration::from_millis(700));
     assert!(same(&server, &folder));
-    // Everything that is known is as it was followed.
+    // A full import finds no new files and no removed ones.
     let [new, _, _, removed] = server.import(&folder);
     assert_eq!((new, removed), (0, 0));
 }
@@ -233,7 +231,7 @@ fn events_that_were_lost_are_made_good() {
     folder.file("b", "");
     let follower = Follower::start(&server, &folder);
     follower.signal("-STOP");
-    // Two events in turn, since the kernel joins the same ones.
+    // Alternate two events, since the kernel merges identical ones.
     for number in 0..most {
         let mode = fs::Permissions::from_mode(0o600 + (number / 2 % 2) as u32 * 0o44);
         fs::set_permissions(folder.path(["a", "b"][number % 2]), mode).unwrap();
@@ -260,7 +258,7 @@ fn a_follower_ends_if_its_folder_is_gone() {
     assert!(said.error.contains("is gone, and nothing was removed"), "{said:?}");
     assert_eq!(server.done(&["query", "--count", "name==\"*\""]), "2\n");
 
-    // The same while it waits for its server.
+    // Do the same while it waits for its server.
     folder.rename("other", "inner");
     let follower = Follower::start(&server, &inner);
     server.end();
@@ -288,7 +286,7 @@ fn a_follower_waits_for_its_server_and_catches_up() {
         let follower = Follower::start(&server, &folder);
         server.done(&["addattr", "mark", "x", &folder.word("renamed"), &folder.word("a/b")]);
         server.end();
-        // It notices that even if nothing has changed in the folder.
+        // It notices this even if nothing has changed in the folder.
         follower.wait_until_it_says("the server closed the connection; waiting for the server");
         folder.file("changed", "more of it");
         folder.file("a/new", "");
@@ -347,9 +345,7 @@ fn a_server_that_is_killed_again_and_again_is_caught_up_with() {
 
 #[test]
 fn what_is_refused_for_a_moment_is_written_later() {
-    let server = server!(Server::start());
-    let refuser = Refuser::start(&server);
-    let folder = Folder::new();
+    let (server, refuser, folder) = server!(Refuser::with_server());
     folder.file("changed", "x");
     folder.file("removed", "");
     let mut command = server.command(&["import", "--follow", "--json", "--verbose", &folder.all()]);
@@ -376,9 +372,7 @@ fn what_is_refused_for_a_moment_is_written_later() {
 
 #[test]
 fn a_node_that_is_not_removed_goes_later_though_its_file_is_there_again() {
-    let server = server!(Server::start());
-    let refuser = Refuser::start(&server);
-    let folder = Folder::new();
+    let (server, refuser, folder) = server!(Refuser::with_server());
     let file = folder.file("x", "");
     let mut command = server.command(&["import", "--follow", "--json", &folder.all()]);
     command.env("BESTORE_SOCKET", refuser.socket());
@@ -397,10 +391,9 @@ fn a_node_that_is_not_removed_goes_later_though_its_file_is_there_again() {
 
 #[test]
 fn a_file_system_that_is_mounted_later_is_not_read() {
-    let server = server!(Server::start());
-    let folder = Folder::new();
+    let (server, folder) = server!(Folder::with_server());
     let follower = Follower::run(server.command(&["import", "--follow", "-x", "--json", &folder.all()]));
-    // The folder is made and mounted before it can be read.
+    // The folder is created and mounted before it can be read.
     follower.signal("-STOP");
     let disk = folder.folder("disk");
     let _mount = match Mount::over(&disk) {
@@ -416,11 +409,11 @@ fn a_file_system_that_is_mounted_later_is_not_read() {
     assert_eq!(server.paths("name==inner || name==file"), Default::default());
 }
 
-/// A file system in memory over a folder.
+/// An in-memory file system mounted over a folder.
 struct Mount(PathBuf);
 
 impl Mount {
-    /// Mounts it, if this user may do so.
+    /// Mounts it, if this user may do that.
     fn over(folder: &Path) -> Option<Self> {
         let mut command = Command::new("mount");
         command.args(["-t", "tmpfs", "tmpfs"]).arg(folder).stderr(Stdio::null());

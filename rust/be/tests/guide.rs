@@ -1,14 +1,14 @@
-//! The lines of the guide and of the README do what the pages say.
+//! Checks that the commands in GUIDE and README do what these pages say.
 
 use crate::common::files::Folder;
 use crate::common::{server_program, Said, Server, BE};
 use std::io::Write;
 use std::process::{Command, Stdio};
 
-/// How many times the lines of the README are pasted.
+/// How many times README's commands are pasted.
 const TIMES: usize = 50;
 
-/// A shell in a home folder that finds the tools.
+/// A shell in a home folder, which finds the tools.
 fn shell(home: &Folder) -> Command {
     let tools = std::path::Path::new(BE).parent().unwrap();
     let path = format!("{}:{}", tools.display(), std::env::var("PATH").unwrap_or_default());
@@ -17,14 +17,14 @@ fn shell(home: &Folder) -> Command {
     command
 }
 
-/// Runs a line of a shell, in a home folder.
+/// Runs a shell command in a home folder.
 fn run(server: &Server, home: &Folder, line: &str) -> Said {
     let mut command = shell(home);
     command.env("BESTORE_SOCKET", server.socket());
     command.args(["-c", line]).output().unwrap().into()
 }
 
-/// Gives all lines to a shell together.
+/// Gives all commands to a shell at once.
 fn paste(home: &Folder, lines: &str) -> Said {
     let mut command = shell(home);
     command
@@ -38,8 +38,7 @@ fn paste(home: &Folder, lines: &str) -> Said {
 
 #[test]
 fn the_lines_of_the_guide_run() {
-    let server = server!(Server::start());
-    let home = Folder::new();
+    let (server, home) = server!(Folder::with_server());
     home.folder("Music");
     home.file("Music/song.ogg", "");
     server.import(&home);

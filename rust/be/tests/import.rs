@@ -1,4 +1,4 @@
-//! `import`: what it makes of files, and what it keeps.
+//! Tests of `import`: what it makes of files, and what it keeps.
 
 use crate::common::files::{counts, name_of_bytes, Folder};
 use crate::common::refuser::Refuser;
@@ -79,7 +79,7 @@ fn a_second_import_writes_what_has_changed_alone() {
     folder.file("a/x.txt", "hello again");
     fs::remove_file(folder.path("z")).unwrap();
     folder.file("a/b/new", "");
-    // The two folders whose entries have changed are changed too.
+    // The two folders whose entries changed count as changed too.
     assert_eq!(server.import(&folder), [1, 3, 0, 1]);
     assert_eq!(server.value("size", &folder.path("a/x.txt")), "11");
     assert_eq!(server.paths("name==\"*\""), folder.paths());
@@ -133,12 +133,12 @@ fn what_a_user_has_set_stays_when_an_editor_saves() {
             fs::metadata(file).unwrap().len().to_string()
         );
     };
-    // Another file takes the place.
+    // Another file takes its place.
     folder.file("a/.x.swp", "saved");
     folder.rename("a/.x.swp", "a/x.txt");
     assert_eq!(server.import(&folder)[0], 0);
     stays();
-    // Even if the other file has a node by then.
+    // This works even if the other file has a node by then.
     folder.file("a/.x.swp", "saved again");
     server.import(&folder);
     folder.rename("a/.x.swp", "a/x.txt");
@@ -166,7 +166,7 @@ fn two_names_of_one_file_are_two_nodes() {
     assert_eq!(server.value("mark", &folder.path("a/z")), "a/z");
 }
 
-/// Names that a shell, a query or a terminal may stumble over.
+/// Names that might trip up a shell, a query or a terminal.
 const NAMES: [&[u8]; 10] = [
     b"bad\xff.txt",
     b"line\nfeed",
@@ -220,7 +220,7 @@ fn names_and_files_of_all_forms_are_imported() {
 fn what_cannot_be_read_is_named_and_keeps_its_nodes() {
     let server = server!(Server::start());
     let folder = small();
-    // A path of more than 4,096 bytes: each folder is moved into the next.
+    // Build a path of more than 4,096 bytes by moving each folder into the next.
     let name = |number: usize| format!("{number:0>250}");
     folder.folder(&name(0));
     for number in 1..17 {
@@ -278,7 +278,7 @@ fn files_that_come_and_go_meanwhile_do_no_harm() {
     assert_eq!(server.paths("name==\"*\""), folder.paths());
 }
 
-/// Gives the path of a file a second node, as an import does when another file is renamed onto this one meanwhile: one of the two
+/// Gives a file's path a second node, as an import does when another file is renamed onto this one meanwhile. One of the two
 /// nodes belongs to a file that is gone. Returns the file's own node, and the other.
 fn double(server: &Server, folder: &Folder, name: &str, is_own_first: bool) -> [u64; 2] {
     let first = node_of(server, folder, name);
@@ -308,7 +308,7 @@ fn double(server: &Server, folder: &Folder, name: &str, is_own_first: bool) -> [
 fn of_two_nodes_at_one_path_one_is_removed() {
     let server = server!(Server::start());
     let folder = small();
-    // On which of the two nodes a user has set something, and which of them stays.
+    // Each case says on which of the two nodes a user has set something, and which of them stays.
     let cases = [
         ([false, false], 0),
         ([true, false], 0),
@@ -386,7 +386,7 @@ fn a_store_that_is_full_says_what_would_help() {
             "be: the store is full: {files} files are in it, and {left} are not\n  bestored --pages 1024 has room for all\n"
         )
     );
-    // The store can still be written, and has room again once files are gone.
+    // The store can still be written, and has room again once files are removed.
     server.done(&["addattr", "mark", "x", &folder.word("a")]);
     let roomy = server!(Server::start_with(&["--pages", "1024"]));
     assert_eq!(roomy.import(&folder)[0], 506);
@@ -467,7 +467,7 @@ fn extended_attributes_are_read_and_written() {
     assert_eq!(server.paths("rating==5"), [file.clone()].into());
     assert_eq!(server.value("name", &file), "x.txt");
 
-    // What is set on the node is written into the file, and doesn't count as a change at the next import.
+    // Attributes set on the node are written into the file, and don't count as a change at the next import.
     server.done(&["addattr", "-t", "int32", "rating", "3", &folder.word("a/x.txt")]);
     server.done(&["addattr", "mark", "x", &folder.word("a/b"), &folder.word("a/x.txt")]);
     let json = server.be(&["import", "--json", "--xattr", &folder.all()]).out;
@@ -480,7 +480,7 @@ fn extended_attributes_are_read_and_written() {
     );
     assert_eq!(counts(&server.be(&["import", "--json", &folder.all()]).out), [0; 4]);
 
-    // What is removed from the file is removed from the node.
+    // An attribute removed from the file is removed from the node.
     xattr::remove(&file, "user.rating").unwrap();
     server.be(&["import", &folder.all()]);
     assert_eq!(server.paths("rating==3"), BTreeSet::new());
@@ -514,11 +514,9 @@ fn a_file_of_as_many_attributes_as_a_node_holds_is_imported() {
 
 #[test]
 fn a_file_of_which_a_part_was_refused_is_written_by_the_next_import() {
-    let server = server!(Server::start());
-    let refuser = Refuser::start(&server);
-    let folder = Folder::new();
+    let (server, refuser, folder) = server!(Refuser::with_server());
     let file = folder.file("x", "");
-    // More operations than a batch has.
+    // Use more operations than fit in a batch.
     let names = |letter: char| (0..35).map(move |number| format!("user.{letter}{number}"));
     for name in names('a') {
         if let Err(error) = xattr::set(&file, name, b"1") {
@@ -547,8 +545,7 @@ fn a_file_of_which_a_part_was_refused_is_written_by_the_next_import() {
 
 #[test]
 fn mails_have_the_attributes_of_their_heads() {
-    let server = server!(Server::start());
-    let folder = Folder::new();
+    let (server, folder) = server!(Folder::with_server());
     for side in ["cur", "new", "tmp"] {
         folder.folder(side);
     }
@@ -556,7 +553,7 @@ fn mails_have_the_attributes_of_their_heads() {
         "From: =?iso-8859-1?q?J=FCrgen?= <j@example.org>\nTo: ann@example.org\nSubject: =?utf-8?b?R3LDvMOfZQ==?=\n\
                 Date: Fri, 27 Nov 2026 10:00:00 +0100\n\n";
     folder.file("cur/1:2,S", head);
-    // A mail that is too large to be read as a whole.
+    // Make a mail that is too large to be read whole.
     let huge = File::create(folder.path("cur/2:2,")).unwrap();
     fs::write(folder.path("cur/2:2,"), head).unwrap();
     huge.set_len(1 << 40).unwrap();
@@ -579,7 +576,7 @@ fn mails_have_the_attributes_of_their_heads() {
     assert_eq!(server.value("MAIL:name", &folder.path("mail.eml")), "Jürgen");
     assert_eq!(server.value("MAIL:subject", &folder.path("new/4")), "=?utf-8?q?=zz?= ü");
     assert_eq!(server.value("MAIL:subject", &folder.path("new/3")).len(), 255);
-    // A mail that was read has another name, and keeps its node.
+    // A mail that was read gets another name, and keeps its node.
     server.done(&["addattr", "mark", "x", &folder.word("new/5")]);
     folder.rename("new/5", "cur/5:2,S");
     assert_eq!(server.import(&folder)[2], 1);
@@ -587,7 +584,7 @@ fn mails_have_the_attributes_of_their_heads() {
     assert_eq!(server.value("MAIL:status", &folder.path("cur/5:2,S")), "Read");
 }
 
-/// Contents of files whose names fit several types, and the type that each has.
+/// Contents of files whose names fit several types, with each one's type.
 const CONTENTS: [(&str, &[u8], &str); 28] = [
     (
         "vorbis.ogg",
@@ -655,7 +652,7 @@ const CONTENTS: [(&str, &[u8], &str); 28] = [
     ("run.service", b"[Unit]\n", "text/x-systemd-unit"),
 ];
 
-/// Packets of 188 bytes that begin with a G.
+/// Packets of 188 bytes that begin with a `G`.
 const TRANSPORT: [u8; 752] = {
     let mut bytes = [0; 752];
     let mut at = 0;
@@ -672,8 +669,7 @@ fn the_content_decides_between_the_types_that_a_name_fits() {
         println!("be, types by contents: skipped, there is no /usr/share/mime/magic");
         return;
     }
-    let server = server!(Server::start());
-    let folder = Folder::new();
+    let (server, folder) = server!(Folder::with_server());
     for (name, content, _) in CONTENTS {
         folder.file(name, content);
     }
@@ -766,7 +762,7 @@ fn what_one_volume_has_no_room_for_the_others_take() {
     );
 }
 
-/// Files of many names and sizes in 35 folders, and a few symlinks.
+/// Makes files with many names and sizes in 35 folders, and a few symlinks.
 fn many() -> Folder {
     let folder = Folder::new();
     for number in 0..700_usize {

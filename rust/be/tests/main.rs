@@ -1,4 +1,5 @@
-//! The tests of the tools. They are one program, so that it is linked once.
+//! The tests of the tools. They form one program, so that it is linked only
+//! once.
 
 #[macro_use]
 mod common;

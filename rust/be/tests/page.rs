@@ -1,4 +1,4 @@
-//! The manual page and the completion have what the command line has.
+//! Checks that the manual page and the completion match the command line.
 
 use crate::common::{Said, BE};
 use std::path::PathBuf;
@@ -13,7 +13,7 @@ fn page() -> PathBuf {
     PathBuf::from(concat!(env!("CARGO_MANIFEST_DIR"), "/../../docs/be.1"))
 }
 
-/// The long options of a command, as its help has them.
+/// The long options of a command, from its help.
 fn options(command: &str) -> Vec<String> {
     let said: Said = Command::new(BE).args([command, "--help"]).output().unwrap().into();
     let words = said

@@ -1,4 +1,4 @@
-//! Queries: once, counted, watched, refused, and on a terminal.
+//! Tests of queries: run once, counted, watched, refused, and on a terminal.
 
 use crate::common::{Said, Server};
 use std::io::{BufRead, BufReader};
@@ -30,8 +30,7 @@ fn nodes_are_found_with_columns_up_to_a_limit_and_counted() {
 
 #[test]
 fn an_answer_of_several_pages_is_whole() {
-    let server = server!(Server::start());
-    server.done(&["mkindex", "n"]);
+    let server = server!(Server::with_index("n"));
     let text = "x".repeat(255);
     server.make(300, "n", &text);
     let columns = vec!["n"; 64].join(",");
@@ -80,15 +79,14 @@ fn nodes_are_sorted_by_an_index_page_after_page() {
     server.done(&["rmnode", "1"]);
     let third = page(&["--after", second["cursor"].as_str().unwrap()]);
     assert_eq!((&third["nodes"], third.get("more")), (&vec![3].into(), None));
-    // Nodes without a size aren't in the order of sizes.
+    // A node without a size isn't listed in the order of sizes.
     server.done(&["rmattr", "size", "3"]);
     assert_eq!(server.done(&["query", "--sort", "size", "name==*"]), "2\n");
 }
 
 #[test]
 fn a_sorted_answer_of_several_pages_is_whole() {
-    let server = server!(Server::start());
-    server.done(&["mkindex", "n"]);
+    let server = server!(Server::with_index("n"));
     server.make(300, "n", &"x".repeat(255));
     let columns = vec!["n"; 64].join(",");
     let printed = server.done(&["query", "-c", &columns, "-s", "n", "-r", "n==*"]);
@@ -235,7 +233,7 @@ fn a_comparison_that_is_never_true_is_a_warning() {
     for query in ["size>1", "name>1.5 && other==1.5", "!(size==-1)"] {
         assert_eq!(said(&server, &[query]).error, "", "{query}");
     }
-    // A refused query gets only its error.
+    // For a refused query, only its error is printed.
     assert_eq!(said(&server, &["size==x ||"]).error.lines().count(), 3);
     let mut command = server.command(&["query", "--watch", "size==x"]);
     let mut child = command.stderr(Stdio::piped()).spawn().unwrap();
@@ -271,7 +269,7 @@ fn dates_between_percent_signs_are_times() {
     let error = "be: “soon” isn't a date, such as 2024-01-31, 31 Jan 2024, yesterday, last week, 2 days ago\n  \
                  when>%soon%\n       ^\n";
     assert_eq!((shown.status, shown.error.as_str()), (1, error));
-    // An error of the query is shown in what was typed.
+    // The caret points into the text that the user typed.
     let error = said(&server, &["when==%2024% && name==[a"]).error;
     assert!(
         error.ends_with("\n  when==%2024% && name==[a\n                        ^\n"),
@@ -318,7 +316,7 @@ fn other_errors_of_a_query_have_one_line() {
     assert_eq!(fault(&server, &format!("{}name==a", "(".repeat(65))).len(), 1);
 }
 
-/// Begins a watch, and returns its process and its lines as they come.
+/// Starts a watch, and returns its process and its lines as they arrive.
 fn watched(server: &Server, words: &[&str]) -> (std::process::Child, Receiver<String>) {
     let mut all = vec!["query", "--watch"];
     all.extend(words);
@@ -400,7 +398,7 @@ fn a_reader_that_has_gone_is_no_error() {
     assert!(child.wait().unwrap().success());
 }
 
-/// What the tool prints on a terminal.
+/// Returns what the tool prints on a terminal.
 fn on_terminal(server: &Server, words: &str) -> Option<String> {
     let mut command = Command::new("script");
     command.args(["-qec", &format!("{} {words}", crate::common::BE), "/dev/null"]);

@@ -1,4 +1,4 @@
-//! How the tool reaches its server: where that is, whose it is, and how long it may take.
+//! Tests of how the tool reaches its server: where it looks, whose server it accepts, and how long it may take.
 
 use crate::common::files::Folder;
 use crate::common::{server_program, Said, Server, BE};
@@ -11,7 +11,7 @@ use std::path::Path;
 use std::process::{Child, Command, Stdio};
 use std::thread;
 
-/// A user who is neither the one who runs the tests nor root.
+/// A user who is neither root nor the one who runs the tests.
 const NOBODY: u32 = 65_534;
 
 /// The tool in an environment that names no server.
@@ -48,7 +48,7 @@ fn a_server_that_starts_is_waited_for() {
         let socket = socket.clone();
         move || said(&mut be(&["--socket", &socket, "--wait", "60", "status"]))
     });
-    // Without --wait the tool reports at once that there is no server, so by then the other one waits.
+    // Without --wait, the tool reports at once that there is no server. By the time it ends, the other one is waiting.
     assert_eq!(said(&mut be(&["--socket", &socket, "status"])).status, 1);
     let _server = Running(Command::new(program).args(["--socket", &socket]).spawn().unwrap());
     let waited = waiting.join().unwrap();
@@ -98,7 +98,7 @@ fn a_server_without_a_place_answers_short_commands() {
     idle.hello().unwrap();
 }
 
-/// A server of the user `NOBODY`, or `None` and a line that says why there can't be one.
+/// A server run by the user `NOBODY`. Otherwise `None`, after printing why that isn't possible.
 fn server_of_nobody(socket: &Path) -> Option<Running> {
     let skip = |why| {
         println!("be, a server of another user: skipped, {why}");
@@ -144,7 +144,7 @@ fn another_users_server_at_a_default_path_is_refused() {
         socket.display()
     );
     assert_eq!((found.status, found.error), (1, why));
-    // Whoever names the socket chooses the server.
+    // If the user names the socket, any owner's server is accepted.
     let named = said(be(&["--socket"]).arg(&socket).arg("status"));
     assert_eq!((named.status, named.error.as_str()), (0, ""));
 }

@@ -1,4 +1,4 @@
-//! Each command over a server of its own.
+//! Tests each command with its own server.
 
 use crate::common::{Said, Server, BE};
 use bestore_client::Client;
@@ -164,21 +164,20 @@ fn nodes_are_removed_with_their_attributes() {
     server.done(&["rmnode", "1"]);
     assert_eq!(server.done(&["query", "name==*"]), "2\n3\n");
     refused(&server, &["listattr", "1"], "be: node 1: there is no such node\n");
-    // One that is gone, or given twice, doesn't stop the others.
+    // A node that is gone, or given twice, doesn't stop the others.
     refused(
         &server,
         &["rmnode", "2", "1", "2"],
         "be: node 1: there is no such node\nbe: node 2: there is no such node\n",
     );
     assert_eq!(server.done(&["query", "name==*"]), "3\n");
-    // Numbers are not used again.
+    // Node numbers aren't reused.
     assert_eq!(server.done(&["addattr", "--new", "name", "d"]), "4\n");
 }
 
 #[test]
 fn many_nodes_are_removed() {
-    let server = server!(Server::start());
-    server.done(&["mkindex", "mark"]);
+    let server = server!(Server::with_index("mark"));
     server.make(150, "mark", "x");
     let found = server.done(&["query", "mark==x"]);
     let nodes: Vec<&str> = found.lines().collect();
@@ -188,8 +187,7 @@ fn many_nodes_are_removed() {
 
 #[test]
 fn many_nodes_are_written() {
-    let server = server!(Server::start());
-    server.done(&["mkindex", "mark"]);
+    let server = server!(Server::with_index("mark"));
     server.make(150, "n", "x");
     let nodes: Vec<String> = (1..=150).map(|node| node.to_string()).collect();
     let mut words = vec!["addattr", "mark", "y"];
@@ -204,8 +202,7 @@ fn many_nodes_are_written() {
 
 #[test]
 fn new_nodes_of_several_tools_are_apart() {
-    let server = server!(Server::start());
-    server.done(&["mkindex", "n"]);
+    let server = server!(Server::with_index("n"));
     let begin = |number: u32| {
         let number = number.to_string();
         let mut command = server.command(&["addattr", "--new", "n", &number]);
@@ -226,8 +223,7 @@ fn new_nodes_of_several_tools_are_apart() {
 
 #[test]
 fn indices_are_made_listed_and_removed() {
-    let server = server!(Server::start());
-    server.done(&["mkindex", "name"]);
+    let server = server!(Server::with_index("name"));
     server.done(&["mkindex", "--type=uint32", "a b"]);
     assert_eq!(server.done(&["lsindex"]), "a b\nname\n");
     assert_eq!(server.done(&["lsindex", "-l"]), "a b\tuint32\nname\tstring\n");
@@ -373,7 +369,7 @@ fn the_tools_work_over_volumes() {
     let volumes: Vec<&str> = status.lines().filter(|line| line.starts_with("volume")).collect();
     assert_eq!(volumes.len(), 2, "{status}");
     assert!(volumes[1].contains("1024 pages, "), "{status}");
-    // These are in two volumes, so they aren't a single transaction.
+    // These nodes are in two volumes, so the change isn't a single transaction.
     server.done(&["rmattr", "size", &nodes[0], &nodes[19]]);
     server.done(&["rmnode", &nodes[1], &nodes[18]]);
     assert_eq!(server.done(&["query", "--count", "size==5"]), "16\n");

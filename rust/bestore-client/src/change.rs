@@ -135,7 +135,7 @@ impl Client {
         value.and_then(|value| written.map(|_| value))
     }
 
-    /// Fails if the batch sets an attribute of a kind that the index of that name doesn't take by then.
+    /// Fails if the batch sets an attribute whose value isn't of its index's kind at that point in the batch.
     fn check_kinds(&mut self, batch: &Batch) -> Result<()> {
         if !batch
             .operations()
@@ -166,7 +166,7 @@ impl Client {
         Ok(())
     }
 
-    /// Unpins. It isn't an error if the closure has already unpinned, or if the server took the snapshot back.
+    /// Unpins. It isn't an error if the closure has already unpinned, or if the server has ended the snapshot.
     fn unpin_quietly(&mut self) -> Result<()> {
         match self.unpin() {
             Err(error) if error.is(ErrorName::NotPinned) => Ok(()),

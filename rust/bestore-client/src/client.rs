@@ -77,7 +77,7 @@ struct Line<'a> {
     error: Option<Refusal>,
 }
 
-/// How long the server may wait before it replies.
+/// Returns how long the server may wait before it replies.
 fn wait_of(command: &Command<'_>) -> Option<Duration> {
     let within = match command {
         Command::Reach(reach) => reach.within,
@@ -419,9 +419,9 @@ impl Client {
         })
     }
 
-    /// Waits up to this time until the journal of each volume has at least this many entries. A server with one volume takes one number.
-    /// Later reads of the current snapshot include the entries. If they don't come in time, or if the server has to take back a pinned
-    /// snapshot, the error is `NotReached`.
+    /// Waits until the journal of each volume has at least this many entries, but no longer than `within`. A server with one
+    /// volume takes one number. Later reads of the current snapshot include the entries. The error is `NotReached` if they don't
+    /// come in time, or if the server has to end a pinned snapshot.
     ///
     /// # Errors
     /// The same as `call`.

@@ -2,28 +2,37 @@
 
 use crate::wire::{ErrorName, Refusal};
 use bestore_types::{Class, Kind};
+use std::io;
 use std::path::PathBuf;
 use std::time::Duration;
-use std::{fmt, io};
 
 /// The result of a call in this crate.
 pub type Result<T> = std::result::Result<T, Error>;
 
 /// Why a call failed.
 #[non_exhaustive]
-#[derive(Debug)]
+#[derive(Debug, thiserror::Error)]
 pub enum Error {
     /// The server refused the request, and did nothing.
+    #[error("{0}")]
     Refused(Refusal),
     /// The connection failed. A write may have been made or not.
-    Io(io::Error),
+    #[error("the connection to the server: {0}")]
+    Io(#[from] io::Error),
     /// The server closed the connection. A write may have been made or not.
+    #[error("the server closed the connection")]
     Closed,
     /// The server sent a line that doesn't follow the protocol.
+    #[error("the server sent a line that doesn't follow the protocol: {0}")]
     BadLine(String),
     /// The server didn't reply within this time, and the connection is closed. A write may have been made or not.
+    #[error("the server didn't reply within {0:?}; whether a write was made is not known")]
     TimedOut(Duration),
     /// The server at a default path runs as another user, and nothing was sent to it.
+    #[error(
+        "the server at {socket} runs as user {server}, and has to run as user {user} or as root; BESTORE_SOCKET or an \
+         option can name the socket of a server that you trust"
+    )]
     OtherUser {
         /// The path of the socket.
         socket: PathBuf,
@@ -33,6 +42,7 @@ pub enum Error {
         user: u32,
     },
     /// A change sets an attribute to a value of a kind that its index doesn't take. Nothing was written.
+    #[error("{}", mismatch(.name, *.index, *.value))]
     KindMismatch {
         /// The name of the attribute.
         name: String,
@@ -41,6 +51,12 @@ pub enum Error {
         /// The kind of the value.
         value: Kind,
     },
+}
+
+/// Returns the library's error for a value of a kind that its index doesn't take.
+fn mismatch(name: &str, index: Kind, value: Kind) -> bestore_types::Error {
+    let name = name.into();
+    bestore_types::Error::KindMismatch { name, index, value }
 }
 
 impl Error {
@@ -72,46 +88,6 @@ impl Error {
             Error::Refused(refusal) => refusal.class(),
             Error::Io(_) | Error::Closed | Error::BadLine(_) | Error::TimedOut(_) => Class::Gone,
             Error::OtherUser { .. } | Error::KindMismatch { .. } => Class::Mine,
-        }
-    }
-}
-
-impl From<io::Error> for Error {
-    fn from(error: io::Error) -> Self {
-        Error::Io(error)
-    }
-}
-
-impl fmt::Display for Error {
-    fn fmt(&self, f: &mut fmt::Formatter<'_>) -> fmt::Result {
-        match self {
-            Error::Refused(refusal) => refusal.fmt(f),
-            Error::Io(error) => write!(f, "the connection to the server: {error}"),
-            Error::Closed => f.write_str("the server closed the connection"),
-            Error::BadLine(why) => write!(f, "the server sent a line that doesn't follow the protocol: {why}"),
-            Error::TimedOut(time) => write!(
-                f,
-                "the server didn't reply within {time:?}; whether a write was made is not known"
-            ),
-            Error::OtherUser { socket, server, user } => write!(
-                f,
-                "the server at {} runs as user {server}, and has to run as user {user} or as root; BESTORE_SOCKET or an \
-                 option can name the socket of a server that you trust",
-                socket.display()
-            ),
-            Error::KindMismatch { name, index, value } => {
-                let (name, index, value) = (name.clone(), *index, *value);
-                bestore_types::Error::KindMismatch { name, index, value }.fmt(f)
-            }
-        }
-    }
-}
-
-impl std::error::Error for Error {
-    fn source(&self) -> Option<&(dyn std::error::Error + 'static)> {
-        match self {
-            Error::Io(error) => Some(error),
-            _ => None,
         }
     }
 }

@@ -38,7 +38,7 @@ impl Client {
             .ok_or_else(|| Error::Refused(Refusal::new(ErrorName::NoIndex, format!("there is no index {name:?}"))))
     }
 
-    /// Returns how many pairs of a value and a node the index of this name has.
+    /// Returns how many pairs of a value and a node the index with this name has.
     ///
     /// # Errors
     /// `NoIndex`; otherwise the same as [`call`](Self::call).
@@ -81,7 +81,7 @@ impl Client {
         Ok(compared.into_iter().filter_map(hint).collect())
     }
 
-    /// Sets attributes that the index of this name lacks, because they were set before it was made, to the same values again. Each change
+    /// Sets attributes that the index with this name lacks, because they were set before it was made, to the same values again. Each change
     /// sets up to 64 attributes, so no newer value is lost. Returns how many were set. It reads each node that isn't in the index.
     ///
     /// # Errors
@@ -104,7 +104,7 @@ impl Client {
         Ok(set)
     }
 
-    /// Returns the nodes that have an attribute of this name and kind but aren't in the index of that name.
+    /// Returns the nodes that have an attribute with this name and kind but aren't in the index with that name.
     fn not_indexed(&mut self, name: &str, kind: Kind) -> Result<Vec<u64>> {
         let held = self.query(&all_in(name, kind))?;
         let (mut lacking, mut from) = (Vec::new(), Some(0));
@@ -126,7 +126,7 @@ impl Client {
         Ok(lacking)
     }
 
-    /// Returns these nodes' attributes of this name, if the attributes are of this kind. All requests are sent before the first reply is
+    /// Returns these nodes' attributes with this name, if the attributes are of this kind. All requests are sent before the first reply is
     /// read.
     fn values_of(&mut self, nodes: &[u64], name: &str, kind: Kind) -> Result<Vec<(u64, Value)>> {
         let mut asked = Vec::with_capacity(nodes.len());

@@ -16,7 +16,7 @@
 //! # Ok::<(), bestore_client::Error>(())
 //! ```
 //!
-//! [`wire`] contains the lines of the protocol, and [`Client::call`] sends any of them. A client has no store of its own, and doesn't load
+//! [`wire`] contains the lines of the protocol, and [`Client::call`] sends any of them. A client has no store, and doesn't load
 //! libbestore: it asks the server what a query's text means.
 #![warn(missing_docs, missing_debug_implementations, rust_2018_idioms)]
 #![deny(unsafe_code)]

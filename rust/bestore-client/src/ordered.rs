@@ -23,7 +23,7 @@ pub struct Ordered<'c> {
     paging: Paging,
 }
 
-/// The client from which pages are requested, the query and its order.
+/// The client that pages are requested from, the query and its order.
 #[derive(Debug)]
 struct Asking<'c> {
     client: &'c mut Client,

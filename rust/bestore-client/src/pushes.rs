@@ -1,4 +1,4 @@
-//! Pushed lines that nobody has asked for yet.
+//! Pushed lines that no one has asked for yet.
 
 use crate::wire::{ErrorName, Push, Refusal};
 use std::collections::{BTreeSet, VecDeque};
@@ -45,7 +45,7 @@ impl Pushes {
         Some(push)
     }
 
-    /// Returns whether this push, which has just come, belongs to a watch that has lost lines.
+    /// Returns whether this push, which has just arrived, belongs to a watch that has lost lines.
     pub fn is_lost(&self, push: &Push) -> bool {
         self.lost.contains(&push.watch)
     }

@@ -49,8 +49,8 @@ impl SocketPath {
         }
     }
 
-    /// Refuses another user's server at a default path, since anybody can create a socket in the folder for temporary files. If you name a
-    /// path, you trust the server there.
+    /// Refuses another user's server at a default path, since anyone can create a socket in the folder for temporary files. If
+    /// you name a path, you trust the server there.
     pub(crate) fn check_server(&self, stream: &UnixStream) -> Result<()> {
         let socket = match self {
             Self::Named(_) => return Ok(()),
@@ -65,7 +65,7 @@ impl SocketPath {
 }
 
 impl<P: AsRef<Path>> From<P> for SocketPath {
-    /// A path that someone chose.
+    /// A path that someone has chosen.
     fn from(path: P) -> Self {
         Self::Named(path.as_ref().into())
     }

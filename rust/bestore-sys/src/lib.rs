@@ -4,14 +4,14 @@
 //! `bestore-types`.
 //!
 //! The library is looked for in the folder that `BESTORE_LIB_DIR` names, otherwise by pkg-config. `BESTORE_STATIC` links
-//! `libbestore.a`, if it lies beside `libbestore.so`.
+//! `libbestore.a`, if it is next to `libbestore.so`.
 #![no_std]
 #![allow(non_camel_case_types)]
 
 use core::ffi::c_void;
 use core::ptr::null_mut;
 
-/// The version of the header from which these declarations were made, as `bes_version` returns it.
+/// The version of the header that these declarations were made from, as `bes_version` returns it.
 pub const BES_VERSION_NUMBER: u32 = 4000;
 
 pub use bestore_types::raw::RawOperation as bes_operation;

@@ -1,4 +1,4 @@
-//! The declarations agree with the header: a C program prints sizes, offsets and constants, and they are compared.
+//! Checks the declarations against the header: a C program prints sizes, offsets and constants, and the test compares them.
 
 use bestore_sys::*;
 use std::fmt::Write as _;
@@ -15,7 +15,7 @@ macro_rules! layouts {
             vec![$((stringify!($field), {
                 let value = std::mem::MaybeUninit::<$type>::uninit();
                 let base = value.as_ptr();
-                // SAFETY: the address of a field is taken and nothing is read.
+                // SAFETY: this takes a field's address and reads nothing.
                 unsafe { std::ptr::addr_of!((*base).$field) as usize - base as usize }
             })),*],
         )),*]
@@ -47,7 +47,7 @@ fn layouts() -> Vec<Layout> {
     }
 }
 
-/// The folder with `bestore.h`: `BESTORE_INCLUDE_DIR`, otherwise the one of the repository.
+/// The folder with `bestore.h`: `BESTORE_INCLUDE_DIR`, otherwise the repository's.
 fn include_folder() -> PathBuf {
     std::env::var_os("BESTORE_INCLUDE_DIR").map_or_else(
         || PathBuf::from(concat!(env!("CARGO_MANIFEST_DIR"), "/../../include")),
@@ -55,41 +55,44 @@ fn include_folder() -> PathBuf {
     )
 }
 
-fn constants() -> impl Iterator<Item = (&'static str, u32)> {
-    CONSTANTS
+/// Expressions of C, and the values that they have here.
+fn facts() -> Vec<(String, usize)> {
+    let constants = CONSTANTS
         .iter()
         .copied()
-        .chain([("BES_VERSION_NUMBER", BES_VERSION_NUMBER)])
+        .chain([("BES_VERSION_NUMBER", BES_VERSION_NUMBER)]);
+    let mut facts: Vec<_> = constants
+        .map(|(name, value)| (name.to_string(), value as usize))
+        .collect();
+    for (name, size, alignment, fields) in layouts() {
+        facts.push((format!("sizeof({name})"), size));
+        facts.push((format!("alignof({name})"), alignment));
+        facts.extend(
+            fields
+                .iter()
+                .map(|(field, offset)| (format!("offsetof({name}, {field})"), *offset)),
+        );
+    }
+    facts
 }
 
+/// A program that prints the expressions with their values, one on a line.
 fn program() -> String {
     let mut text =
         String::from("#include \"bestore.h\"\n#include <stdalign.h>\n#include <stdio.h>\nint main(void)\n{\n");
-    for (name, _) in constants() {
-        writeln!(text, "printf(\"{name} %u\\n\", (unsigned){name});").unwrap();
-    }
-    for (name, _, _, fields) in layouts() {
-        writeln!(text, "printf(\"{name} %zu %zu\\n\", sizeof({name}), alignof({name}));").unwrap();
-        for (field, _) in fields {
-            writeln!(text, "printf(\"{name}.{field} %zu\\n\", offsetof({name}, {field}));").unwrap();
-        }
+    for (expression, _) in facts() {
+        writeln!(text, "printf(\"{expression} %zu\\n\", (size_t)({expression}));").unwrap();
     }
     text.push_str("return 0;\n}\n");
     text
 }
 
+/// What the program should print.
 fn declared() -> String {
-    let mut text = String::new();
-    for (name, value) in constants() {
-        writeln!(text, "{name} {value}").unwrap();
-    }
-    for (name, size, alignment, fields) in layouts() {
-        writeln!(text, "{name} {size} {alignment}").unwrap();
-        for (field, offset) in fields {
-            writeln!(text, "{name}.{field} {offset}").unwrap();
-        }
-    }
-    text
+    let lines = facts()
+        .into_iter()
+        .map(|(expression, value)| format!("{expression} {value}\n"));
+    lines.collect()
 }
 
 #[test]
@@ -120,9 +123,9 @@ fn agrees_with_the_header() {
     assert_eq!(String::from_utf8(printed).unwrap(), declared());
 }
 
-/// The library that is linked has every call, and is of the version of these declarations.
+/// The linked library has every call, and its version matches these declarations.
 #[test]
 fn has_every_call() {
-    // SAFETY: the call takes nothing.
+    // SAFETY: the call takes no arguments.
     assert_eq!(unsafe { bes_version() } / 1000, BES_VERSION_NUMBER / 1000);
 }

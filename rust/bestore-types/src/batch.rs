@@ -99,12 +99,12 @@ impl Batch {
         self.add(sys::BES_UNSET, node, name, 0, 0, &[])
     }
 
-    /// Adds an operation that makes an index of this name for values of this kind.
+    /// Adds an operation that makes an index with this name for values of this kind.
     pub fn make_index(&mut self, name: &str, kind: Kind) -> &mut Self {
         self.add(sys::BES_MAKE_INDEX, 0, name, kind.code(), 0, &[])
     }
 
-    /// Adds an operation that removes the index of this name.
+    /// Adds an operation that removes the index with this name.
     pub fn remove_index(&mut self, name: &str) -> &mut Self {
         self.add(sys::BES_REMOVE_INDEX, 0, name, 0, 0, &[])
     }

@@ -66,7 +66,7 @@ pub struct Meaning {
     pub advice: &'static str,
 }
 
-/// The meaning of an error that only a later version of the library has: nothing says that the same call may succeed later.
+/// The meaning of an error that only a later version of the library has. It is assumed that the same call won't succeed later.
 const UNKNOWN: Meaning = Meaning {
     code: sys::BES_OK,
     class: Class::Mine,

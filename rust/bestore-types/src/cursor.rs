@@ -1,4 +1,4 @@
-//! Orders, and positions in an order from which pages continue.
+//! Orders, and the positions in an order that pages continue from.
 
 use crate::{Error, Kind, Result, Value};
 use std::fmt;
@@ -18,7 +18,7 @@ pub struct Order {
 }
 
 impl Order {
-    /// Returns the ascending order by the index of this name.
+    /// Returns the ascending order by the index with this name.
     #[must_use]
     pub fn by(name: &str) -> Self {
         Self {
@@ -373,7 +373,7 @@ mod tests {
 
     #[test]
     fn a_text_is_as_the_format_says() {
-        // Python's tests have the same one.
+        // Python's tests check the same text.
         let text = "AQEDCU1BSUw6d2hlbrFkq6-AAAAAZVPxAAAAAAAAAAARURq1_A";
         assert_eq!(crc32(b"123456789"), 0xcbf4_3926);
         assert_eq!(example().to_string(), text);

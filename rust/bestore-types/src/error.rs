@@ -18,13 +18,13 @@ pub enum Error {
     },
     /// The node doesn't exist.
     NoNode,
-    /// The node has no attribute of this name.
+    /// The node has no attribute with this name.
     NoAttribute,
     /// The node has 64 attributes already.
     TooManyAttributes,
-    /// An index of this name already exists.
+    /// An index with this name already exists.
     IndexExists,
-    /// There is no index of this name.
+    /// There is no index with this name.
     NoIndex,
     /// There is no index of the name that an order uses.
     NoOrder {
@@ -87,7 +87,7 @@ pub enum Error {
         /// The length that was found.
         found: u64,
     },
-    /// The index of this name takes another kind, so it wouldn't contain the value.
+    /// The index with this name takes another kind, so it wouldn't contain the value.
     KindMismatch {
         /// The name of the attribute and of the index.
         name: String,
@@ -151,7 +151,7 @@ pub enum Error {
 }
 
 impl Error {
-    /// Makes an error of the program's own. The closure of a change returns it to stop the change.
+    /// Makes an error of the program's own. A change's closure returns it to stop the change.
     pub fn other(error: impl Into<Box<dyn std::error::Error + Send + Sync>>) -> Self {
         Error::Other(error.into())
     }
@@ -171,7 +171,7 @@ impl Error {
         }
     }
 
-    /// Returns the volume of a shelf from which the error comes, if it comes from one.
+    /// Returns the shelf volume that the error comes from, if it comes from one.
     #[must_use]
     pub fn volume(&self) -> Option<u32> {
         match self {

@@ -4,7 +4,8 @@ use crate::Kind;
 
 /// Returns the text with a backslash before each character that is special in a query or a pattern.
 ///
-/// The result stands for the text itself, both as a word in a query and between quotes. If the text is empty, the query needs the quotes.
+/// The result means the text itself, both as a word in a query and between quotes. If the text is empty, the query needs the
+/// quotes.
 ///
 /// ```
 /// assert_eq!(bestore_types::escape("[draft].txt"), r"\[draft\]\.txt");
@@ -21,7 +22,7 @@ pub fn escape(text: &str) -> String {
     escaped
 }
 
-/// Returns the query for everything in the index of this name, which has this kind.
+/// Returns the query for everything in the index with this name, which has this kind.
 ///
 /// ```
 /// use bestore_types::{all_in, Kind};

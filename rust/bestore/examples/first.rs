@@ -1,4 +1,5 @@
-//! A first program: files a letter, asks who wrote, and prints the nodes that were found.
+//! A first program: files a letter, queries letters by sender, and prints the nodes
+//! found.
 
 use bestore::{Kind, Limits, Store};
 

@@ -1,4 +1,5 @@
-//! A queue: workers claim one job at a time, with a change, until none is left. No two claim the same one.
+//! A queue: workers claim one job at a time with a change, until none is left. No two workers claim
+//! the same job.
 
 use bestore::{Batch, Kind, Limits, Order, Pass, Prepared, Result, Store};
 use std::collections::BTreeSet;
@@ -21,7 +22,7 @@ fn claim(pass: &mut Pass, waiting: &Prepared, urgent_first: &Order) -> Result<Op
     })
 }
 
-/// Claims job after job.
+/// Claims jobs until none is left.
 fn work(store: &Store) -> Result<Vec<u64>> {
     let mut pass = store.pass()?;
     let waiting = Prepared::new("job:state==waiting")?;

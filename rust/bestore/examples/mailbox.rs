@@ -7,7 +7,7 @@ use std::time::Duration;
 
 const SENDERS: [&str; 3] = ["ada", "bob", "carla"];
 
-/// Files letters, and counts for each sender how many there are. A letter and the count go into one transaction.
+/// Files letters, and counts them by sender. A letter and its count are written in one transaction.
 fn file(pass: &mut Pass, letters: usize) -> Result<()> {
     for (number, sender) in (0..letters).zip(SENDERS.iter().cycle()) {
         pass.change(|change| {
@@ -30,7 +30,7 @@ fn file(pass: &mut Pass, letters: usize) -> Result<()> {
     Ok(())
 }
 
-/// Marks each new letter as read, until all are filed and none is new. Returns how many it has seen.
+/// Marks each new letter as read, until all are filed and none is new. Returns how many letters it has seen.
 fn follow(pass: &mut Pass, is_filed: &AtomicBool) -> Result<usize> {
     let mut unread = Live::new("MAIL:status==New")?;
     let mut seen = 0;

@@ -1,8 +1,9 @@
-//! The newest 20 letters of a mailbox, and then the next 20. A letter that arrives in between doesn't move others to another page.
+//! Prints the newest 20 letters of a mailbox, and then the next 20. A letter that arrives in between doesn't move any to another
+//! page.
 
 use bestore::{Cursor, Kind, Limits, Order, Page, Pass, Prepared, Store};
 
-/// Files letters to ann and bob in turn, one every minute.
+/// Files letters to ann and bob in turn, one a minute.
 fn file_letters(pass: &mut Pass, minutes: std::ops::Range<i64>) -> bestore::Result<()> {
     for minute in minutes {
         pass.change(|change| {

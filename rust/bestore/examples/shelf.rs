@@ -1,4 +1,4 @@
-//! Four stores that one query searches. Prints the number of files and the volume of the last one.
+//! Four stores that one query searches. Prints the number of files, and the last file's volume.
 
 use bestore::{Kind, Limits, Node, Shelf};
 

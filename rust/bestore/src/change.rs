@@ -36,7 +36,7 @@ impl<'a> Change<'a> {
         })
     }
 
-    /// Returns the snapshot on which the change is made.
+    /// Returns the snapshot that the change is based on.
     #[must_use]
     pub fn snapshot(&self) -> &'a Snapshot<'a> {
         self.snapshot
@@ -99,7 +99,7 @@ impl<'a> Change<'a> {
     /// Sets the attribute.
     ///
     /// # Errors
-    /// [`Error::KindMismatch`] if an index of this name takes values of another kind: the attribute would be set, but no query would find
+    /// [`Error::KindMismatch`] if an index with this name takes values of another kind: the attribute would be set, but no query would find
     /// it. [`Error::NameLength`], [`Error::DataLength`], [`Error::HasNul`], [`Error::BadCount`], [`Error::OutOfMemory`]. If there is an
     /// error, nothing is collected.
     pub fn set(&mut self, node: u64, name: &str, value: impl Into<Value>) -> Result<&mut Self> {
@@ -141,7 +141,7 @@ impl<'a> Change<'a> {
         self
     }
 
-    /// Makes an index of this name for values of this kind.
+    /// Makes an index with this name for values of this kind.
     ///
     /// # Errors
     /// [`Error::NameLength`], [`Error::HasNul`], [`Error::BadCount`], [`Error::OutOfMemory`]. If there is an error, nothing is collected.
@@ -151,7 +151,7 @@ impl<'a> Change<'a> {
         Ok(self)
     }
 
-    /// Removes the index of this name.
+    /// Removes the index with this name.
     ///
     /// # Errors
     /// The same as [`make_index`](Self::make_index).

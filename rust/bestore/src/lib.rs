@@ -90,7 +90,7 @@ pub use copying::StateCopy;
 pub use hints::{compared, hints, Compared, Form};
 pub use journal::{Entries, Entry};
 pub use page::Ordered;
-pub use pass::{Keeper, Oldest, Pass, Retry, Status, Witness};
+pub use pass::{Keeper, MakeWrite, Oldest, Pass, Retry, Status, Witness};
 pub use predicate::{attribute, Attribute, Operand, Predicate};
 pub use prepared::{Live, Prepared, Updates};
 pub use shelf::{Shelf, ShelfChange, ShelfLive, ShelfNodes, ShelfPass, ShelfSnapshot, ShelfWritten};

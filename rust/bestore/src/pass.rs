@@ -13,7 +13,7 @@ use std::sync::Arc;
 use std::thread;
 use std::time::Duration;
 
-/// How often to retry a call before its error is returned. [`Pass::change`] runs its closure again each time.
+/// How many times to retry a call before its error is returned. [`Pass::change`] runs its closure again each time.
 #[derive(Clone, Copy, Debug, PartialEq, Eq)]
 pub struct Retry {
     /// Retries while another pass is writing. Between two attempts it yields to other threads, twice as often each time, up to 1,024 times.
@@ -192,6 +192,9 @@ pub struct Pass {
     _place: Option<Place>,
 }
 
+/// Makes a write in memory, when a [`Keeper`] calls it.
+pub type MakeWrite<'a> = &'a mut dyn FnMut() -> Result<Written>;
+
 /// Keeps a store's writes somewhere else too, such as in a log. [`Pass::kept_by`] sends a pass's writes through a keeper.
 ///
 /// `keep` makes a write in memory, and the call that writes returns after `wait`. So a snapshot may show a write that isn't kept yet.
@@ -201,7 +204,7 @@ pub trait Keeper: Send + Sync + fmt::Debug {
     ///
     /// # Errors
     /// The errors of `write`, and the keeper's own errors as [`Error::Other`], either before or after `write` is called.
-    fn keep(&self, pass: u64, batch: &Batch, write: &mut dyn FnMut() -> Result<Written>) -> Result<(Written, u64)>;
+    fn keep(&self, pass: u64, batch: &Batch, write: MakeWrite<'_>) -> Result<(Written, u64)>;
 
     /// Returns once the write with this number is kept.
     ///
@@ -242,7 +245,7 @@ impl Pass {
     /// Returns the pass, whose writes go through the keeper from now on. All passes that write must have the same keeper.
     ///
     /// ```
-    /// use bestore::{Batch, Keeper, Limits, Result, Store, Written};
+    /// use bestore::{Batch, Keeper, Limits, MakeWrite, Result, Store, Written};
     /// use std::sync::{Arc, Mutex};
     ///
     /// /// Keeps the batches in a list.
@@ -250,7 +253,7 @@ impl Pass {
     /// struct List(Mutex<Vec<Batch>>);
     ///
     /// impl Keeper for List {
-    ///     fn keep(&self, _: u64, batch: &Batch, write: &mut dyn FnMut() -> Result<Written>) -> Result<(Written, u64)> {
+    ///     fn keep(&self, _: u64, batch: &Batch, write: MakeWrite<'_>) -> Result<(Written, u64)> {
     ///         let mut list = self.0.lock().unwrap();
     ///         let written = write()?;
     ///         list.push(batch.clone());
@@ -365,12 +368,12 @@ impl Pass {
         self.retry
     }
 
-    /// Sets how often this pass retries its calls.
+    /// Sets how many times this pass retries its calls.
     pub fn set_retry(&mut self, retry: Retry) {
         self.retry = retry;
     }
 
-    /// Returns how often the store had been [carried on](crate::Store::carry_on) when the pass last gave up the earlier memory. While that
+    /// Returns how many times the store had been [carried on](crate::Store::carry_on) when the pass last gave up the earlier memory. While that
     /// is less than [`Store::generation`](crate::Store::generation), the pass keeps the earlier memory.
     #[must_use]
     pub fn generation(&self) -> u64 {
@@ -621,7 +624,7 @@ impl Pass {
         self.apply(Batch::new().unset(node, name)).map(drop)
     }
 
-    /// Makes an index, which takes attributes of this name and kind that are set from then on. [`reindex`](Self::reindex) sets the earlier
+    /// Makes an index, which takes attributes with this name and kind that are set from then on. [`reindex`](Self::reindex) sets the earlier
     /// ones again.
     ///
     /// # Errors
@@ -638,7 +641,7 @@ impl Pass {
         self.apply(Batch::new().remove_index(name)).map(drop)
     }
 
-    /// Sets attributes that the index of this name lacks, because they were set before it was made, to the same values again. Each change
+    /// Sets attributes that the index with this name lacks, because they were set before it was made, to the same values again. Each change
     /// sets up to 64 attributes, so no newer value is lost. Returns how many were set. It reads each node, and writes each such attribute.
     ///
     /// ```

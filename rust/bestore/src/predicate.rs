@@ -37,7 +37,7 @@ pub enum Operand {
     Uint64(u64),
 }
 
-/// Returns the attribute of this name, to be compared.
+/// Returns the attribute with this name, to be compared.
 #[must_use]
 pub fn attribute(name: &str) -> Attribute {
     let mut predicate = Predicate {
@@ -80,7 +80,7 @@ impl Attribute {
         ends_with by BES_ITEM_ENDS_WITH;
     }
 
-    /// Matches nodes whose attribute is in the index of this name. `kind` is the kind of that index.
+    /// Matches nodes whose attribute is in the index with this name. `kind` is the kind of that index.
     #[must_use]
     pub fn any(self, kind: Kind) -> Predicate {
         match kind.least() {

@@ -438,7 +438,7 @@ impl RawPass {
         })
     }
 
-    /// Returns the cells of all nodes for all names, node by node, and the bytes to which the cells refer.
+    /// Returns the cells of all nodes for all names, node by node, and the bytes that the cells refer to.
     pub(crate) fn columns(&self, nodes: &[u64], names: &[sys::bes_name]) -> Answer<(Vec<sys::bes_cell>, Vec<u8>)> {
         let pass = self.handle.get()?;
         let mut cells = vec![sys::bes_cell::default(); nodes.len().saturating_mul(names.len())];

@@ -94,7 +94,7 @@ impl<'a> Snapshot<'a> {
         answer.map_err(|refused| self.query_error(refused, || prepared.text_or_empty()))
     }
 
-    /// Returns how many pairs of a value and a node the index of this name has. It takes the time to read the whole index.
+    /// Returns how many pairs of a value and a node the index with this name has. It takes the time to read the whole index.
     ///
     /// # Errors
     /// [`Error::NoIndex`]; otherwise the same as [`query`](Self::query).
@@ -102,7 +102,7 @@ impl<'a> Snapshot<'a> {
         self.count_prepared(&attribute(name).any(self.index(name)?).prepare()?)
     }
 
-    /// Returns the kind of the index of this name.
+    /// Returns the kind of the index with this name.
     pub(crate) fn index(&self, name: &str) -> Result<Kind> {
         let mut indices = self.indices()?.into_iter();
         let found = indices.find(|(index, _)| index == name);
@@ -118,7 +118,7 @@ impl<'a> Snapshot<'a> {
         hints(text, |name| indices.get(name).copied())
     }
 
-    /// Returns the nodes that have an attribute of this name and kind but aren't in the index of this name.
+    /// Returns the nodes that have an attribute with this name and kind but aren't in the index with this name.
     pub(crate) fn not_indexed(&self, name: &str, kind: Kind) -> Result<Vec<u64>> {
         let held = self.query_prepared(&attribute(name).any(kind).prepare()?)?;
         let mut lacking = Vec::new();

@@ -23,7 +23,7 @@ pub(crate) struct Shared {
 }
 
 impl Shared {
-    /// The pass of the store itself, from which the others are made. Used only in the process that opened the store.
+    /// The store's own pass, from which the others are made. Used only in the process that opened the store.
     fn own(&self) -> MutexGuard<'_, Pass> {
         lock(&self.own)
     }
@@ -185,7 +185,7 @@ impl Store {
         self.0.succession.set_due_after(bytes);
     }
 
-    /// Returns how often the store has been [carried on](Self::carry_on).
+    /// Returns how many times the store has been [carried on](Self::carry_on).
     #[must_use]
     pub fn generation(&self) -> u64 {
         self.0.succession.generation()

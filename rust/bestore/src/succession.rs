@@ -16,7 +16,7 @@ use std::sync::{Arc, Mutex, MutexGuard, PoisonError, RwLock, RwLockReadGuard, Rw
 const FOR_PAGE: u64 = 2048;
 const LEAST: u64 = 1 << 20;
 
-/// About how many bytes a journal entry takes beside its names and texts: per entry, and per operation.
+/// About how many bytes a journal entry takes in addition to its names and texts: per entry, and per operation.
 const ENTRY: usize = 8;
 const OPERATION: usize = 8;
 
@@ -29,7 +29,7 @@ pub(crate) struct Generation {
     number: u64,
     /// What to add to a commit number of the library's store. It may be negative.
     shift: u64,
-    /// The commit number of the state with which the generation began. Its journal has the entries after that number.
+    /// The commit number of the state that the generation began with. Its journal has the entries after that number.
     state: u64,
     /// The commit number from which this generation has replaced the one before.
     begin: u64,
@@ -279,7 +279,7 @@ pub(crate) fn carry_on(store: &Store) -> Result<()> {
 /// A generation that is being made.
 struct Next {
     pass: Pass,
-    /// The commit number of the state with which the generation begins, and how many batches made that state.
+    /// The commit number of the state that the generation begins with, and how many batches made that state.
     state: u64,
     batches: u64,
     /// The commit number of the last entry that it has.

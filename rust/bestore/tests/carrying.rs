@@ -1,4 +1,4 @@
-//! Stores that are carried on, so that the memory of their journals is freed.
+//! Tests of stores that are carried on, so that their journals' memory is freed.
 
 mod common;
 
@@ -14,7 +14,7 @@ fn of_size(pass: &Pass, size: i64) -> u64 {
     node
 }
 
-/// Adds 1 to the count of node 1, with a change.
+/// Adds 1 to node 1's count with a change.
 fn add(pass: &mut Pass) {
     let added = pass.change(|change| {
         let count = change.get(1, "count")?.and_then(|value| value.as_i64()).unwrap_or(0);
@@ -23,7 +23,7 @@ fn add(pass: &mut Pass) {
     added.unwrap();
 }
 
-/// The count of node 1, and the number of the snapshot in which it was read.
+/// Reads node 1's count, and the number of the snapshot it was read in.
 fn count(pass: &mut Pass) -> (i64, u64) {
     let snapshot = pass.pin().unwrap();
     let count = snapshot.get(1, "count").unwrap().and_then(|value| value.as_i64());
@@ -59,7 +59,7 @@ fn a_pinned_snapshot_stays_and_its_pass_writes_ahead() {
     store.carry_on().unwrap();
     assert!(store.is_read_before());
     assert!(matches!(store.carry_on(), Err(Error::InUse)));
-    // Nothing came in between.
+    // Nothing was written in between.
     let number = snapshot.number();
     assert_eq!(
         snapshot
@@ -80,7 +80,7 @@ fn a_pinned_snapshot_stays_and_its_pass_writes_ahead() {
     );
     assert_eq!((store.generation(), snapshot.pass().generation()), (1, 0));
     drop(snapshot);
-    // A pass that has only written still has the earlier one.
+    // A pass that has only written still uses the earlier store.
     assert_eq!(pass.pin().unwrap().get(1, "size").unwrap(), Some(7_i64.into()));
     assert!(store.is_read_before());
     assert!(other.follow().unwrap());
@@ -199,7 +199,7 @@ fn there_are_as_many_passes_as_before() {
     let last = store.pass().unwrap();
     assert_eq!(last.new_node().unwrap(), 4);
     drop((passes, last));
-    // The text begins with the state of three nodes.
+    // The text begins with the state, which has three nodes.
     let text = store.finish().unwrap();
     assert_eq!(text.lines().count(), 2, "{text}");
 }
@@ -245,7 +245,7 @@ fn it_is_due_after_some_entries() {
         assert_eq!(store.is_due(), is_due);
     }
     store.set_due_after(10_000);
-    // One that fails isn't tried again soon.
+    // If a task fails, it isn't tried again soon.
     let snapshot = pass.pin().unwrap();
     store.carry_on().unwrap();
     while !store.is_due() {
@@ -254,7 +254,7 @@ fn it_is_due_after_some_entries() {
     assert!(matches!(store.carry_on(), Err(Error::InUse)));
 }
 
-/// Each write adds 1 to a count, so each snapshot's number says what the count is.
+/// Each write adds 1 to a count, so a snapshot's number determines the count.
 #[test]
 fn writers_and_readers_go_on_while_it_is_carried_on() {
     const WRITERS: i64 = 4;
@@ -282,7 +282,7 @@ fn writers_and_readers_go_on_while_it_is_carried_on() {
             }
         });
         let carrier = scope.spawn(|| {
-            // At least once, even if the writers have ended before this thread began.
+            // Run at least once, even if the writers ended before this thread began.
             while store.generation() == 0 || !is_over.load(Ordering::Relaxed) {
                 match store.carry_on() {
                     Ok(()) => {}
@@ -292,7 +292,7 @@ fn writers_and_readers_go_on_while_it_is_carried_on() {
             }
         });
         let written: Vec<_> = writers.into_iter().map(|writer| writer.join()).collect();
-        // The others end too if a writer has failed.
+        // The other threads end too if a writer has failed.
         is_over.store(true, Ordering::Relaxed);
         written.into_iter().for_each(Result::unwrap);
         reader.join().unwrap();
@@ -301,7 +301,7 @@ fn writers_and_readers_go_on_while_it_is_carried_on() {
     assert_eq!(count(&mut pass), (WRITERS * WRITES, 1 + (WRITERS * WRITES) as u64));
 }
 
-/// Carries the store on as soon as nobody keeps what came before.
+/// Carries the store on as soon as nobody keeps the older one.
 fn carry_on(store: &Store) -> Result<(), Error> {
     loop {
         match store.carry_on() {
@@ -311,7 +311,7 @@ fn carry_on(store: &Store) -> Result<(), Error> {
     }
 }
 
-/// The writers need a page all the time that a snapshot would keep, and none of their writes fails.
+/// The writers always need a page that a kept snapshot would hold. None of their writes fails.
 #[test]
 fn a_store_without_room_for_a_snapshot_is_carried_on() {
     let store = sized(96);

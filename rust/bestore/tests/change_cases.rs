@@ -1,4 +1,4 @@
-//! Runs the lines of tests/changes.txt, which say what a change does in each language.
+//! Runs the cases of tests/changes.txt, which specify what a change does in each language.
 
 use bestore::{Change, Error, Kind, Limits, Pass, Result, Store, Value};
 use std::path::Path;
@@ -18,7 +18,7 @@ fn kind_named(name: &str) -> Kind {
     }
 }
 
-/// `LONG64` is a text of this many bytes.
+/// Decodes `LONG64` to a text of 64 bytes, and leaves any other word as it is.
 fn text_of(word: &str) -> String {
     match word.strip_prefix("LONG") {
         Some(length) => "x".repeat(length.parse().unwrap()),
@@ -42,7 +42,7 @@ fn number(word: &str) -> u64 {
     word.parse().unwrap()
 }
 
-/// The name in `bestore.h` of an error.
+/// An error's name in `bestore.h`.
 fn name_of(error: &Error) -> &'static str {
     let code = error.code().unwrap();
     let found = bestore_sys::CONSTANTS
@@ -75,7 +75,7 @@ fn collect(change: &mut Change<'_>, words: &[&str]) -> Result<()> {
     Ok(())
 }
 
-/// An operation that isn't collected.
+/// Checks that an operation is refused, and that the change doesn't keep it.
 fn refused(change: &mut Change<'_>, words: &[&str], expected: &[&str]) {
     let before = change.batch().clone();
     match (collect(change, words).unwrap_err(), expected) {
@@ -91,7 +91,7 @@ fn refused(change: &mut Change<'_>, words: &[&str], expected: &[&str]) {
     assert_eq!(*change.batch(), before);
 }
 
-/// Does a line within a change.
+/// Runs one line inside a change.
 fn step(change: &mut Change<'_>, other: &Pass, words: &[&str]) -> Result<()> {
     let mark = words.iter().position(|word| *word == "!");
     match (words, mark) {
@@ -116,9 +116,9 @@ fn step(change: &mut Change<'_>, other: &Pass, words: &[&str]) -> Result<()> {
     Ok(())
 }
 
-/// One attempt of a change that does the lines.
+/// Runs the lines in a change, with one attempt.
 fn change_by(pass: &mut Pass, other: &Pass, lines: &[Words<'_>], end: &[&str]) {
-    pass.hold().unwrap(); // so that it runs once
+    pass.hold().unwrap(); // so that the function runs only once
     let ended = pass.change(|change| {
         for words in lines {
             step(change, other, words)?;

@@ -1,44 +1,29 @@
-//! Kept files in which something was changed or is missing: they are refused, or have everything that was acknowledged.
+//! Tests of kept files with changed or missing parts: each is refused, or has every acknowledged write.
 #![cfg(feature = "saved")]
+
+mod common;
 
 use bestore::saved::{self, Error as SavedError, Options, Place, Saved};
 use bestore::{Kind, Limits};
+use common::Folder;
 use rusqlite::Connection;
 use std::collections::BTreeMap;
 use std::fs;
-use std::path::{Path, PathBuf};
+use std::path::PathBuf;
 
 /// How many entries a file has after its state.
 const ENTRIES: u64 = 150;
 
-/// How many bytes are changed, one in each copy of the file. `BESTORE_CHANGES` has another number.
+/// How many bytes are changed, each in its own copy of the file. `BESTORE_CHANGES` overrides it.
 const CHANGES: u64 = 300;
 
-/// A test's folder, in memory if possible, which is removed at its end.
-struct Folder(PathBuf);
-
 impl Folder {
-    fn new(name: &str) -> Self {
-        let name = format!("bestore-damaged-{}-{name}", std::process::id());
-        let memory = Path::new("/dev/shm").join(&name);
-        let path = match fs::create_dir(&memory) {
-            Ok(()) => memory,
-            Err(_) => Path::new(env!("CARGO_TARGET_TMPDIR")).join(name),
-        };
-        fs::create_dir_all(&path).unwrap();
-        Self(path)
-    }
-
-    fn file(&self) -> PathBuf {
-        self.0.join("test.bestore")
-    }
-
     /// A file that belongs to that one.
     fn beside(&self, ending: &str) -> PathBuf {
         self.0.join(format!("test.bestore{ending}"))
     }
 
-    /// The files with their bytes, by the ends of their names.
+    /// The contents of the files, by their suffixes.
     fn image(&self) -> Image {
         let endings = ["", "-wal", "-last"].into_iter();
         let read = |ending: &'static str| Some((ending, fs::read(self.beside(ending)).ok()?));
@@ -56,12 +41,6 @@ impl Folder {
     #[track_caller]
     fn refusal(&self) -> SavedError {
         self.open().map(drop).unwrap_err()
-    }
-}
-
-impl Drop for Folder {
-    fn drop(&mut self) {
-        let _ = fs::remove_dir_all(&self.0);
     }
 }
 
@@ -92,7 +71,7 @@ fn options() -> Options {
     options
 }
 
-/// Writes entries, each of which makes a node or changes the last one.
+/// Writes entries that make a node or change the last one.
 fn write(saved: &Saved, count: u64) {
     let pass = saved.pass().unwrap();
     for number in 0..count {
@@ -103,9 +82,9 @@ fn write(saved: &Saved, count: u64) {
     }
 }
 
-/// A file with this many entries, as `kill -9` leaves it.
+/// A file with this many entries, as `kill -9` would leave it.
 fn killed(name: &str, entries: u64) -> (Folder, Image) {
-    let folder = Folder::new(name);
+    let folder = Folder::in_memory(&format!("damaged-{name}"));
     let saved = folder.open().unwrap();
     saved.pass().unwrap().make_index("size", Kind::Int64).unwrap();
     write(&saved, entries - 1);
@@ -114,7 +93,7 @@ fn killed(name: &str, entries: u64) -> (Folder, Image) {
     (folder, image)
 }
 
-/// Everything that the store has.
+/// The whole content of the store.
 fn shown(saved: &Saved) -> Vec<u8> {
     let mut pass = saved.pass().unwrap();
     let snapshot = pass.pin().unwrap();
@@ -122,7 +101,7 @@ fn shown(saved: &Saved) -> Vec<u8> {
     batches.flatten().collect()
 }
 
-/// Reads a file without a state up to an entry. Returns how many entries the store then has.
+/// Reads a file without a state up to an entry. Returns how many entries the store has then.
 fn read_until(folder: &Folder, entry: u64) -> saved::Result<u64> {
     let shelf = options().until(0, entry).load(folder.file())?;
     let pass = shelf.pass()?;
@@ -136,7 +115,7 @@ fn next_random(state: &mut u64, below: u64) -> u64 {
     (*state >> 33) % below
 }
 
-/// Checks a file with one changed byte. Returns how it is refused, if it is.
+/// Checks a file with one changed byte. Returns the error if the file is refused.
 fn check(folder: &Folder, whole: &[u8], what: &str) -> Option<&'static str> {
     let refused = match folder.open() {
         Ok(saved) => {
@@ -163,7 +142,7 @@ fn check(folder: &Folder, whole: &[u8], what: &str) -> Option<&'static str> {
     }
 }
 
-/// The files of a store that was closed, and those of the same store, opened again and killed.
+/// The files of a closed store, and those of the same store after it was reopened and killed.
 fn images() -> (Folder, [Image; 2]) {
     let (folder, _) = killed("changed", ENTRIES);
     let closed = folder.image();
@@ -233,7 +212,7 @@ fn a_damaged_entry_is_named_and_the_part_before_it_can_be_read() {
         ),
         "{refused}"
     );
-    // That changed nothing in it.
+    // These reads changed nothing in the file.
     assert!(matches!(
         folder.refusal(),
         SavedError::Damaged {
@@ -275,7 +254,8 @@ fn each_part_of_a_row_is_checked() {
     }
 }
 
-/// Checks that the file can't be read up to this entry: which entries could be the last one, and how the error ends.
+/// Checks that the file can't be read up to this entry. `possible` is the range of the file's last entry; `said` is how the error
+/// ends.
 fn check_not_within(folder: &Folder, entry: u64, possible: (u64, u64), said: &str) {
     let refused = read_until(folder, entry).unwrap_err();
     match &refused {
@@ -323,7 +303,7 @@ fn a_file_without_its_wal_is_refused_and_stays() {
     assert!(folder.image() == image);
     assert_eq!(read_until(&folder, last).unwrap(), last);
 
-    // Somebody takes what is left.
+    // Remove the remaining copy of the number.
     fs::remove_file(folder.beside("-last")).unwrap();
     let saved = folder.open().unwrap();
     assert_eq!(saved.pass().unwrap().status().unwrap().entries, last);
@@ -340,7 +320,7 @@ fn another_file_in_the_place_of_one_that_was_killed_is_opened() {
     assert_eq!(saved.number_in_file(saved.pass().unwrap().status().unwrap().entries), 3);
 }
 
-/// Turns the file into one of the first format.
+/// Converts the file to the first format.
 fn remove_checksums(folder: &Folder) {
     for table in ["about", "state", "entry", "token"] {
         folder.sql(&format!("ALTER TABLE {table} DROP COLUMN checksum"));

@@ -1,4 +1,4 @@
-//! Pages in the order of an index agree with the whole answer, sorted and cut, in one store and in a shelf.
+//! Pages in an index's order agree with the whole answer, sorted and cut, in one store and in a shelf.
 
 use bestore::{attribute, Cursor, CursorFault, Error, Kind, Limits, Live, Order, Page, Prepared, Result, Shelf};
 use bestore::{ShelfLive, ShelfPass, ShelfSnapshot, Store, Value};
@@ -23,7 +23,7 @@ const QUERIES: [&str; 8] = [
     "u64>=0",
 ];
 
-/// Numbers that the seed determines.
+/// Pseudo-random numbers from a seed.
 struct Chance(u64);
 
 impl Chance {
@@ -49,7 +49,7 @@ impl Chance {
 fn shelf(volumes: u32) -> ShelfPass {
     let mut pass = Shelf::open(volumes, Limits::default()).unwrap().pass().unwrap();
     for volume in 0..volumes {
-        // It is set before the index is made, so the index lacks it.
+        // The attribute is set before the index is made, so the index lacks it.
         pass.change_in(volume, |change| {
             let node = change.new_node()?;
             change.set(node, "other", 1_i64).map(drop)
@@ -63,7 +63,7 @@ fn shelf(volumes: u32) -> ShelfPass {
     pass
 }
 
-/// Some writes: nodes that come, go, and have other values.
+/// Makes some writes: makes and removes nodes, and changes values.
 fn write(pass: &mut ShelfPass, chance: &mut Chance, volumes: u64, count: usize) {
     for _ in 0..count {
         let volume = chance.below(volumes) as u32;
@@ -84,14 +84,14 @@ fn write(pass: &mut ShelfPass, chance: &mut Chance, volumes: u64, count: usize) 
         });
         match chance.below(12) {
             0 => pass.remove_node(node.unwrap()).unwrap(),
-            // Its kind isn't the index's, so the index lacks the node.
+            // The value isn't of the index's kind, so the node isn't in the index.
             1 => pass.set(node.unwrap(), "text", 5_i64).unwrap(),
             _ => {}
         }
     }
 }
 
-/// A value in the order that Rust has for its kind.
+/// A sort key that orders values as Rust orders its own types.
 fn rank(value: &Value) -> (i128, Vec<u8>) {
     match value {
         Value::Uint64(number) => ((*number).into(), Vec::new()),
@@ -102,7 +102,7 @@ fn rank(value: &Value) -> (i128, Vec<u8>) {
     }
 }
 
-/// The whole answer in the order, each node with its value.
+/// The whole answer in this order, each node with its value.
 fn plain(snapshot: &ShelfSnapshot<'_>, query: &Prepared, order: &Order, kind: Kind) -> Vec<(Value, u64)> {
     let pairs = attribute(order.name()).any(kind).prepare().unwrap();
     let indexed = snapshot.query_prepared(&pairs).unwrap();
@@ -118,7 +118,7 @@ fn plain(snapshot: &ShelfSnapshot<'_>, query: &Prepared, order: &Order, kind: Ki
     found
 }
 
-/// The page after a cursor that the whole answer has.
+/// Cuts the page after a cursor out of the whole answer.
 fn cut(all: &[(Value, u64)], after: Option<&Cursor>, is_descending: bool, most: usize) -> (Vec<u64>, bool) {
     let at = after.and_then(|after| Some((rank(after.value()?), after.node()?)));
     let is_after = |(value, node): &&(Value, u64)| match &at {
@@ -132,7 +132,7 @@ fn cut(all: &[(Value, u64)], after: Option<&Cursor>, is_descending: bool, most: 
     (page, more)
 }
 
-/// All pages, with writes in between. Each is compared with the whole answer of its snapshot.
+/// Reads all pages and writes in between. Compares each page with its snapshot's whole answer.
 fn page_on(pass: &mut ShelfPass, chance: &mut Chance, volumes: u64, query: &str, order: &Order, kind: Kind) {
     let prepared = Prepared::new(query).unwrap();
     let mut after: Option<Cursor> = None;
@@ -342,7 +342,7 @@ fn a_refresh_by_what_changed_returns_the_same() {
             changed.refresh_changed(&snapshot).unwrap()
         );
     }
-    // In a snapshot of another store all nodes leave.
+    // In a snapshot of another store, all nodes leave the answer.
     let mut other = Store::open(Limits::default()).unwrap().pass().unwrap();
     other.make_index("i64", Kind::Int64).unwrap();
     let snapshot = other.pin().unwrap();
@@ -352,7 +352,7 @@ fn a_refresh_by_what_changed_returns_the_same() {
     );
 }
 
-/// The answer has at least 96 nodes, so the entries of the journal are read while the other thread writes them.
+/// The answer has at least 96 nodes, so a refresh reads the journal's entries while the other thread writes them.
 #[test]
 fn a_refresh_by_what_changed_returns_the_same_while_another_thread_writes() {
     let store = Store::open(Limits::default()).unwrap();

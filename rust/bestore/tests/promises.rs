@@ -1,10 +1,10 @@
-//! Three promises of the library as asserts, while threads write:
+//! Asserts three of the library's promises while threads write:
 //!
 //! - a new pass sees what was written before it was made, if it joins the writer's witness;
 //! - a pinned pass reads one prefix of the journal;
-//! - what any pass has written is in the journal that `finish` returns, at its commit number.
+//! - everything that a pass wrote is in the journal that `finish` returns, at its commit number.
 //!
-//! `BESTORE_ROUNDS` is how many stores are opened and closed, with all three checked each time.
+//! `BESTORE_ROUNDS` is how many stores are opened, checked for all three, and closed.
 
 use bestore::{Batch, Error, Kind, Limits, Pass, Store, Written};
 use std::thread;
@@ -20,7 +20,7 @@ fn rounds() -> usize {
     rounds.map_or(50, |rounds| rounds.parse().unwrap())
 }
 
-/// Makes a node with the pass's number.
+/// Makes a node that holds the pass's number.
 fn write_node(pass: &mut Pass) -> u64 {
     loop {
         let snapshot = pass.pin().unwrap();
@@ -46,7 +46,7 @@ fn read_one_prefix(pass: &mut Pass, least: u64) {
     }
 }
 
-/// Writes and reads, from a pass that has seen the journal up to this number.
+/// Writes and reads through a pass that has seen the journal up to this number.
 fn run(mut pass: Pass, made: u64) -> Writes {
     read_one_prefix(&mut pass, made);
     let write = |_| {
@@ -58,7 +58,7 @@ fn run(mut pass: Pass, made: u64) -> Writes {
     (pass.number().unwrap(), written)
 }
 
-/// One store. Each pass is made after another write of the first one, while the threads before it already write.
+/// Plays one store. Each pass is made after another write by the first one, while the earlier threads are already writing.
 fn play() {
     let limits = Limits {
         pages: 256,

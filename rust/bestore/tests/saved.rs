@@ -1,54 +1,20 @@
-//! Stores that are kept: opened again, refused, on a full disk, and after the process was killed.
+//! Tests of kept stores: reopening, errors, full disks, and killed processes.
 #![cfg(feature = "saved")]
+
+mod common;
 
 use bestore::saved::{self, Error as SavedError, Options, Place, Saved};
 use bestore::{Batch, Error, Kind, Limits, Live, Pass, Value};
+use common::Folder;
 use rusqlite::Connection;
 use std::collections::BTreeMap;
 use std::fs::Permissions;
 use std::io::{BufRead, BufReader, Write};
 use std::os::unix::fs::PermissionsExt;
-use std::path::{Path, PathBuf};
+use std::path::Path;
 use std::process::{Child, Command, Stdio};
 use std::thread;
 use std::time::{Duration, SystemTime, UNIX_EPOCH};
-
-/// A folder of a test, which is removed at its end.
-struct Folder(PathBuf);
-
-impl Folder {
-    fn new(name: &str) -> Self {
-        Self::within(Path::new(env!("CARGO_TARGET_TMPDIR")), name)
-    }
-
-    /// A folder in memory if there may be one, for a test that opens many files.
-    fn in_memory(name: &str) -> Self {
-        let memory = Path::new("/dev/shm");
-        let name = format!("bestore-{}-{name}", std::process::id());
-        if std::fs::create_dir(memory.join(&name)).is_ok() {
-            Self::within(memory, &name)
-        } else {
-            Self::new(&name)
-        }
-    }
-
-    fn within(parent: &Path, name: &str) -> Self {
-        let path = parent.join(name);
-        let _ = std::fs::remove_dir_all(&path);
-        std::fs::create_dir_all(&path).unwrap();
-        Self(path)
-    }
-
-    fn file(&self) -> PathBuf {
-        self.0.join("test.bestore")
-    }
-}
-
-impl Drop for Folder {
-    fn drop(&mut self) {
-        let _ = std::fs::remove_dir_all(&self.0);
-    }
-}
 
 fn sql(path: &Path, text: &str) {
     Connection::open(path).unwrap().execute_batch(text).unwrap();
@@ -70,6 +36,13 @@ fn three(path: &Path) {
     saved.close().unwrap();
 }
 
+/// A folder with such a file.
+fn of_three(name: &str) -> Folder {
+    let folder = Folder::new(name);
+    three(&folder.file());
+    folder
+}
+
 fn file_size(pass: &mut Pass, size: i64) -> bestore::Result<u64> {
     pass.change(|change| {
         let node = change.new_node();
@@ -84,8 +57,7 @@ fn sizes(pass: &mut Pass) -> Vec<u64> {
 
 #[test]
 fn what_was_written_is_there_again() {
-    let folder = Folder::new("again");
-    three(&folder.file());
+    let folder = of_three("again");
     for round in 0..3 {
         let saved = saved::open(folder.file()).unwrap();
         let mut pass = saved.pass().unwrap();
@@ -105,7 +77,7 @@ fn what_was_written_is_there_again() {
     assert_eq!(snapshot.indices().unwrap(), [("size".to_owned(), Kind::Int64)]);
 }
 
-/// The mode of each file of the folder, by its name.
+/// The mode of each file in the folder, by name.
 fn modes(folder: &Folder) -> BTreeMap<String, u32> {
     let files = std::fs::read_dir(&folder.0).unwrap().flatten();
     let mode = |file: &std::fs::DirEntry| file.metadata().unwrap().permissions().mode() & 0o7777;
@@ -123,7 +95,7 @@ fn the_user_alone_may_read_a_file() {
     assert!(found.contains_key("test.bestore-wal"), "{found:?}");
     assert!(found.values().all(|mode| *mode == 0o600), "{found:?}");
     saved.close().unwrap();
-    // The mode that somebody has chosen for a file stays.
+    // A mode that someone has chosen for a file isn't changed.
     std::fs::set_permissions(folder.file(), Permissions::from_mode(0o640)).unwrap();
     let saved = saved::open(folder.file()).unwrap();
     saved.pass().unwrap().new_node().unwrap();
@@ -159,7 +131,7 @@ fn writers_on_several_passes_share_the_file() {
     assert_eq!(sizes(&mut saved.pass().unwrap()).len(), 100);
 }
 
-/// The next number of a sequence that looks random.
+/// The next number of a pseudo-random sequence.
 fn next_random(state: &mut u64, below: u64) -> u64 {
     *state ^= *state << 13;
     *state ^= *state >> 7;
@@ -167,7 +139,7 @@ fn next_random(state: &mut u64, below: u64) -> u64 {
     *state % below
 }
 
-/// Any of the six operations, some of which the store refuses.
+/// One of the six operations at random. The store refuses some of them.
 fn random_batch(random: &mut u64) -> Batch {
     let mut batch = Batch::new();
     for _ in 0..=next_random(random, 3) {
@@ -186,7 +158,7 @@ fn random_batch(random: &mut u64) -> Batch {
     batch
 }
 
-/// Everything that a snapshot has, with what its indices hold.
+/// Everything in a snapshot, including the contents of its indices.
 fn shown(pass: &mut Pass) -> String {
     let snapshot = pass.pin().unwrap();
     let mut all = format!("next {}", snapshot.next_node().unwrap());
@@ -222,7 +194,7 @@ fn any_store_is_the_same_when_it_is_opened_again() {
     assert!(accepted > 200, "{accepted}");
 }
 
-/// A writer that waits for the file keeps no pages.
+/// A writer that waits for the file doesn't hold any pages.
 #[test]
 fn writers_share_a_store_that_is_almost_full() {
     let folder = Folder::new("almost-full");
@@ -251,8 +223,7 @@ fn writers_share_a_store_that_is_almost_full() {
 
 #[test]
 fn the_state_takes_the_place_of_the_entries() {
-    let folder = Folder::new("compact");
-    three(&folder.file());
+    let folder = of_three("compact");
     assert_eq!(number(&folder.file(), "SELECT count(*) FROM entry"), 4);
     let saved = saved::open(folder.file()).unwrap();
     let mut pass = saved.pass().unwrap();
@@ -384,17 +355,16 @@ fn a_file_is_opened_once() {
     saved::open(folder.file()).unwrap();
 }
 
-/// Turns the file into one of the first format, so that changes aren't found by a checksum.
+/// Converts the file to the first format, which has no checksums that would reveal changes.
 fn remove_checksums(path: &Path) {
     let remove = |table: &str| sql(path, &format!("ALTER TABLE {table} DROP COLUMN checksum"));
     ["about", "state", "entry", "token"].into_iter().for_each(remove);
     sql(path, "PRAGMA user_version = 1");
 }
 
-/// The place where a file of the first format is refused after this change.
+/// Makes this change to a file of the first format, and returns the place named by the error.
 fn place_after(name: &str, change: &str) -> Place {
-    let folder = Folder::new(name);
-    three(&folder.file());
+    let folder = of_three(name);
     remove_checksums(&folder.file());
     sql(&folder.file(), change);
     match refusal(&folder.file()) {
@@ -455,6 +425,17 @@ fn writes_end_with_the_last_number_of_an_entry() {
     }
 }
 
+/// This entry was refused, because the store has no commit number for it.
+fn check_spent(refused: &SavedError, entry: u64) {
+    match refused {
+        SavedError::TooLarge {
+            place,
+            error: Error::CommitsSpent,
+        } => assert_eq!(*place, Place::Entry(entry)),
+        other => panic!("{other}"),
+    }
+}
+
 #[test]
 fn an_empty_file_with_no_number_left_is_refused() {
     let folder = Folder::new("no number");
@@ -462,31 +443,18 @@ fn an_empty_file_with_no_number_left_is_refused() {
     let last = format!("UPDATE about SET number = {} WHERE what = 'entries'", i64::MAX);
     remove_checksums(&folder.file());
     sql(&folder.file(), &last);
-    match refusal(&folder.file()) {
-        SavedError::TooLarge { place, error } => {
-            assert_eq!(place, Place::Entry(i64::MAX as u64));
-            assert!(matches!(error, Error::CommitsSpent));
-        }
-        other => panic!("{other}"),
-    }
+    check_spent(&refusal(&folder.file()), i64::MAX as u64);
 }
 
 #[test]
 fn a_store_that_is_too_small_is_an_error_of_its_own() {
-    let folder = Folder::new("small");
-    three(&folder.file());
+    let folder = of_three("small");
     let limits = Limits {
         commits: 3,
         ..Limits::default()
     };
     let refused = Options::new().limits(limits).open(folder.file()).map(drop);
-    match refused.unwrap_err() {
-        SavedError::TooLarge { place, error } => {
-            assert_eq!(place, Place::Entry(4));
-            assert!(matches!(error, Error::CommitsSpent));
-        }
-        other => panic!("{other}"),
-    }
+    check_spent(&refused.unwrap_err(), 4);
 }
 
 /// A small file system in memory, which is unmounted at the end.
@@ -519,7 +487,7 @@ impl Drop for Mounted {
     }
 }
 
-/// Writes until a write fails. Returns how many succeeded, and the error.
+/// Writes until a write fails. Returns how many writes succeeded, and the error.
 fn write_on(pass: &Pass, node: u64) -> (u64, Error) {
     for count in 1_u64.. {
         if let Err(error) = pass.set(node, "count", count) {
@@ -583,7 +551,7 @@ fn each_writer_learns_of_a_commit_that_failed() {
     assert!(saved.number_in_file(commit) > acknowledged);
 }
 
-/// Opens the file while the disk is full, and once there is room again.
+/// Opens the file while the disk is full, and again once there is room.
 fn opens_on_a_full_disk(mounted: &Mounted, node: u64, acknowledged: u64) {
     let path = mounted.0.file();
     let count = |saved: &Saved| {
@@ -603,7 +571,7 @@ fn opens_on_a_full_disk(mounted: &Mounted, node: u64, acknowledged: u64) {
     reopened.pass().unwrap().new_node().unwrap();
 }
 
-/// What a child process does, which is this test program again.
+/// Tells the child process, which is this test program again, what to do.
 const CHILD: &str = "BESTORE_TEST_CHILD";
 
 fn child(path: &Path, task: &str, round: u64) -> Child {
@@ -621,7 +589,7 @@ fn say(line: &str) {
     out.flush().unwrap();
 }
 
-/// It does nothing in the test program itself.
+/// In the test program itself, this does nothing.
 #[test]
 fn in_a_child() {
     let task = match std::env::var(CHILD) {
@@ -638,7 +606,7 @@ fn in_a_child() {
     }
 }
 
-/// Writes on three passes, prints each write that has returned, and rewrites the state now and then.
+/// Writes through three passes, prints each write that has returned, and rewrites the state now and then.
 fn write_for_ever(saved: &Saved, round: u64) {
     say("");
     thread::scope(|scope| {
@@ -677,14 +645,14 @@ fn flush_once(path: &str) {
     thread::sleep(Duration::from_secs(60));
 }
 
-/// A time of up to `most` milliseconds, which differs from call to call.
+/// A time of up to `most` milliseconds, which varies between calls.
 fn some_time(most: u64) -> Duration {
     let now = SystemTime::now().duration_since(UNIX_EPOCH).unwrap();
     let mixed = u64::from(now.subsec_nanos()).wrapping_mul(0x9e37_79b9_7f4a_7c15) >> 32;
     Duration::from_micros(mixed % (1000 * most))
 }
 
-/// Lets a child write, kills it at some moment, and returns the writes that had returned.
+/// Lets a child write, kills it at a random moment, and returns the writes that had returned.
 fn killed(path: &Path, round: u64) -> Vec<String> {
     let mut child = child(path, "write", round);
     let mut lines = BufReader::new(child.stdout.take().unwrap()).lines();
@@ -701,7 +669,7 @@ fn killed(path: &Path, round: u64) -> Vec<String> {
     said.iter().map(|line| line["wrote ".len()..].to_owned()).collect()
 }
 
-/// How often each key is in the store.
+/// How many times each key is in the store.
 fn keys(saved: &Saved) -> BTreeMap<String, u32> {
     let mut pass = saved.pass().unwrap();
     let snapshot = pass.pin().unwrap();

@@ -1,59 +1,34 @@
-//! What opening a file reads, after few writes and after many.
+//! Tests how much opening a file reads, after few writes and after many.
 #![cfg(feature = "saved")]
 
-use bestore::saved::{Options, Saved};
-use bestore::{Batch, Limits, Pass};
-use bestore_types::saved;
-use std::fs;
-use std::path::{Path, PathBuf};
-use std::time::Duration;
+mod common;
 
-/// How many nodes a batch of the test makes.
+use bestore::saved::Saved;
+use bestore::{Batch, Pass};
+use bestore_types::saved;
+use common::Folder;
+
+/// How many pages a store has.
+const PAGES: u64 = 8192;
+
+/// How many nodes each batch makes.
 const AT_ONCE: u64 = 16;
 
 /// How many writes are saved together.
 const SAVED: u64 = 64;
 
-/// A file of a test, which is removed with its folder at the end.
-struct File(PathBuf);
-
-impl File {
-    /// A file in memory if there may be one, since it is saved often.
-    fn new(name: &str) -> Self {
-        let name = format!("bestore-{}-growth-{name}", std::process::id());
-        let parents = [Path::new("/dev/shm"), Path::new(env!("CARGO_TARGET_TMPDIR"))];
-        let folders = parents.map(|parent| parent.join(&name));
-        let made = folders.into_iter().find(|folder| fs::create_dir_all(folder).is_ok());
-        Self(made.unwrap().join("kept"))
-    }
-
-    fn open(&self) -> Saved {
-        let limits = Limits {
-            pages: 8192,
-            ..Limits::default()
-        };
-        let mut options = Options::new();
-        options.limits(limits).every(Duration::from_secs(3_600));
-        options.open(&self.0).unwrap()
-    }
-
+impl Folder {
     /// How many operations opening the file makes: those of the state, and those of the entries.
     fn operations(&self) -> (usize, usize) {
-        let contents = saved::read(&self.0).unwrap();
+        let contents = saved::read(self.file()).unwrap();
         let count = |batches: &[Batch]| batches.iter().map(Batch::len).sum();
         (count(&contents[0].state), count(&contents[0].entries))
     }
 }
 
-impl Drop for File {
-    fn drop(&mut self) {
-        let _ = fs::remove_dir_all(self.0.parent().unwrap());
-    }
-}
-
 /// Makes this many nodes of three attributes, in a new file.
-fn fill(file: &File, nodes: u64) {
-    let saved = file.open();
+fn fill(folder: &Folder, nodes: u64) {
+    let saved = folder.open_lazily(PAGES);
     let pass = saved.pass().unwrap();
     for first in (1..=nodes).step_by(AT_ONCE as usize) {
         let mut batch = Batch::new();
@@ -70,7 +45,7 @@ fn fill(file: &File, nodes: u64) {
     saved.close().unwrap();
 }
 
-/// Makes small writes until the state is to be rewritten.
+/// Makes small writes until the state is due to be rewritten.
 fn write_until_due(saved: &Saved, pass: &Pass, nodes: u64) {
     let mut count = 0;
     while !saved.is_due() {
@@ -84,8 +59,8 @@ fn write_until_due(saved: &Saved, pass: &Pass, nodes: u64) {
 
 /// Makes writes until the state is to be rewritten for the last of so many times, and closes the file then. So opening it would never read
 /// more. Returns how many operations it makes.
-fn operations_after(file: &File, nodes: u64, times: u64) -> (usize, usize) {
-    let saved = file.open();
+fn operations_after(folder: &Folder, nodes: u64, times: u64) -> (usize, usize) {
+    let saved = folder.open_lazily(PAGES);
     let pass = saved.pass().unwrap();
     for time in 1..=times {
         write_until_due(&saved, &pass, nodes);
@@ -95,24 +70,24 @@ fn operations_after(file: &File, nodes: u64, times: u64) -> (usize, usize) {
     }
     drop(pass);
     saved.close().unwrap();
-    file.operations()
+    folder.operations()
 }
 
 #[test]
 fn opening_reads_as_much_after_many_writes_as_after_few() {
     for nodes in [AT_ONCE, 12_000] {
-        let file = File::new(&nodes.to_string());
-        fill(&file, nodes);
-        let all = file.operations();
+        let folder = Folder::in_memory(&format!("growth-{nodes}"));
+        fill(&folder, nodes);
+        let all = folder.operations();
         assert_eq!(all.1, 0);
-        let few = operations_after(&file, nodes, 1);
-        let many = operations_after(&file, nodes, 4);
+        let few = operations_after(&folder, nodes, 1);
+        let many = operations_after(&folder, nodes, 4);
         assert_eq!([few.0, many.0], [all.0; 2]);
         assert!(
             few.1.max(many.1) <= few.1.min(many.1) + SAVED as usize,
             "{few:?}, {many:?}"
         );
-        // An operation of the state is written again, and takes longer than one of an entry.
+        // The state's operations are written again, so each takes longer than an entry's.
         assert!(many.1 < 12_000 || 10 * many.1 < 3 * all.0, "{all:?}, {many:?}");
     }
 }

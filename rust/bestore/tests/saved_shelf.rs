@@ -1,26 +1,17 @@
-//! Shelves that are kept: opened again, with more volumes, and refused.
+//! Tests of kept shelves: reopening, adding volumes, and errors.
 #![cfg(feature = "saved")]
 
 mod common;
 
 use bestore::saved::{Error, Options, SavedShelf};
 use bestore::{Kind, Limits};
-use common::make_sized;
+use common::{make_sized, Folder};
 use std::fs;
-use std::path::{Path, PathBuf};
+use std::path::Path;
 use std::thread;
 use std::time::Duration;
 
-/// A folder of a test, which is removed at its end.
-struct Folder(PathBuf);
-
 impl Folder {
-    fn new(name: &str) -> Self {
-        let path = Path::new(env!("CARGO_TARGET_TMPDIR")).join(format!("shelf-{name}"));
-        let _ = fs::remove_dir_all(&path);
-        Self(path)
-    }
-
     fn open(&self, volumes: Option<u32>) -> Result<SavedShelf, Error> {
         let limits = Limits {
             pages: 64,
@@ -34,19 +25,18 @@ impl Folder {
     }
 }
 
-impl Drop for Folder {
-    fn drop(&mut self) {
-        let _ = fs::remove_dir_all(&self.0);
-    }
+/// A folder for a shelf, which opening it makes.
+fn absent(name: &str) -> Folder {
+    Folder::absent(&format!("shelf-{name}"))
 }
 
 fn found(saved: &SavedShelf, query: &str) -> Vec<u64> {
     saved.pass().unwrap().pin().unwrap().query(query).unwrap()
 }
 
-/// A folder of three volumes with a node each.
+/// A folder with three volumes that have one node each.
 fn three(name: &str) -> (Folder, Vec<u64>) {
-    let folder = Folder::new(name);
+    let folder = absent(name);
     let saved = folder.open(Some(3)).unwrap();
     let mut pass = saved.pass().unwrap();
     pass.make_index("size", Kind::Int64).unwrap();
@@ -71,7 +61,7 @@ fn more_volumes_get_the_indices_of_the_others() {
     let (folder, mut nodes) = three("more");
     {
         let saved = folder.open(None).unwrap();
-        // An index that one volume lacks isn't made in the new ones.
+        // An index that one volume lacks isn't made in new volumes.
         saved
             .pass()
             .unwrap()
@@ -115,7 +105,7 @@ fn fewer_volumes_or_none_are_refused() {
     }
     assert_eq!(found(&folder.open(None).unwrap(), "size==5"), nodes);
 
-    let empty = Folder::new("empty");
+    let empty = absent("empty");
     assert!(matches!(empty.refused(None), Error::Folder { .. }));
     fs::create_dir_all(&empty.0).unwrap();
     fs::write(empty.0.join("notes"), "").unwrap();
@@ -151,7 +141,7 @@ fn a_file_that_is_missing_held_or_broken_is_named() {
     fs::rename(&away, &second).unwrap();
     assert_eq!(found(&folder.open(None).unwrap(), "size==5"), nodes);
 
-    let file = Folder::new("file");
+    let file = absent("file");
     fs::write(&file.0, "").unwrap();
     let refused = file.refused(Some(2));
     let _ = fs::remove_file(&file.0);
@@ -178,7 +168,7 @@ fn a_volume_that_cant_be_saved_stops_alone() {
         .change(|change| change.set(nodes[1], "size", 7_i64).map(drop))
         .unwrap_err();
     assert!(matches!(stopped.without_volume(), bestore::Error::Stopped(_)));
-    // The others go on, and reads see what is in memory.
+    // The other volumes still work, and reads see what is in memory.
     pass.set(nodes[0], "size", 6_i64).unwrap();
     let third = make_sized(&mut pass, 2, 6);
     assert_eq!(
@@ -192,7 +182,7 @@ fn a_volume_that_cant_be_saved_stops_alone() {
 
 #[test]
 fn the_file_of_one_store_becomes_a_volume() {
-    let folder = Folder::new("moved");
+    let folder = absent("moved");
     let alone = folder.0.with_extension("bestore");
     let _ = fs::remove_file(&alone);
     let saved = bestore::saved::open(&alone).unwrap();
@@ -209,11 +199,11 @@ fn the_file_of_one_store_becomes_a_volume() {
     assert_eq!(found(&saved, "size>=5"), [node, second]);
 }
 
-/// All passes are taken, so both tasks use the store's own pass.
+/// All passes are in use, so both tasks use the store's own pass.
 #[test]
 fn writers_go_on_while_the_store_is_compacted_and_carried_on() {
     const WRITES: u64 = 500;
-    let folder = Folder::new("tasks");
+    let folder = absent("tasks");
     let limits = Limits {
         pages: 1024,
         passes: 2,
@@ -229,7 +219,8 @@ fn writers_go_on_while_the_store_is_compacted_and_carried_on() {
             scope.spawn(move || {
                 for number in 0..WRITES {
                     pass.new_node().unwrap();
-                    // Most writes after a task find out by themselves that the store was carried on.
+                    // Most writes after a task find out by themselves that the store was carried
+                    // on.
                     if number % 8 == 0 {
                         pass.follow().unwrap();
                     }

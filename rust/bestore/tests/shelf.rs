@@ -1,4 +1,4 @@
-//! Shelves: what a query of several stores returns, compared with a plain model.
+//! Tests of shelves: compares queries over several stores with a plain model.
 
 mod common;
 
@@ -27,7 +27,7 @@ fn node(volume: u32, number: u64) -> u64 {
     Node { volume, number }.into()
 }
 
-/// Numbers of a fixed sequence.
+/// Pseudo-random numbers from a fixed seed.
 struct Random(u64);
 
 impl Random {
@@ -40,7 +40,7 @@ impl Random {
     }
 }
 
-/// The union of the volumes: the nodes with their attributes.
+/// The union of the volumes: all nodes with their attributes.
 #[derive(Default)]
 struct Model {
     nodes: BTreeMap<u64, BTreeMap<String, Value>>,
@@ -53,7 +53,7 @@ impl Model {
         self.nodes.keys().nth(at).copied().unwrap_or(node(0, 77))
     }
 
-    /// Writes something to both.
+    /// Makes one random write to both.
     fn write(&mut self, pass: &mut ShelfPass, random: &mut Random) {
         let node = self.some(random);
         match random.below(10) {
@@ -80,7 +80,7 @@ impl Model {
         }
     }
 
-    /// Makes a node, in a volume of its own or in the one with the most free pages.
+    /// Makes a node in a random volume, or in the one with the most free pages.
     fn make(&mut self, pass: &mut ShelfPass, random: &mut Random) {
         let volumes = pass.volumes().len() as u64;
         let made = match random.below(3) {
@@ -218,7 +218,7 @@ fn a_query_is_refused_if_a_volume_doesnt_cover_it() {
     }
     let snapshot = pass.pin().unwrap();
     assert_eq!(snapshot.explain("name==a").unwrap_err().volume(), Some(1));
-    // An error in the text isn't any volume's.
+    // A syntax error doesn't belong to any volume.
     assert_eq!(snapshot.query("size<").unwrap_err().volume(), None);
     assert_eq!(snapshot.indices().unwrap(), [("size".to_owned(), Kind::Int64)]);
     assert_eq!(
@@ -236,7 +236,7 @@ fn an_index_is_made_where_it_is_missing() {
     assert_eq!(indices(&mut pass), 2);
     let again = pass.make_index("name", Kind::Text).unwrap_err();
     assert!(matches!(again, Error::IndexExists));
-    // If one volume has another kind, nothing is made in the others.
+    // If one volume has another kind, the index isn't made in the others.
     pass.volume(2).unwrap().make_index("when", Kind::Int32).unwrap();
     let other = pass.make_index("when", Kind::Int64).unwrap_err();
     assert_eq!((other.volume(), other.code()), (Some(2), Error::IndexExists.code()));
@@ -356,8 +356,8 @@ fn a_snapshot_stays_and_a_held_one_is_pinned_again() {
     ));
 }
 
-/// Each thread counts in a node of its own volume and in one of another, with changes. No count is lost, and readers never see a
-/// volume go back.
+/// With changes, each thread counts in a node of its own volume and in a node of another. No count is lost, and readers never see
+/// a volume go back.
 #[test]
 fn threads_write_and_read() {
     const THREADS: u32 = 4;

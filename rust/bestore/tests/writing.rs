@@ -1,8 +1,8 @@
-//! Batches, changes and what refuses them.
+//! Tests of batches, of changes, and of what refuses them.
 
 mod common;
 
-use bestore::{Batch, Error, Keeper, Kind, Limits, Oldest, Pass, Retry, Status, Store, Value, Written};
+use bestore::{Batch, Error, Keeper, Kind, Limits, MakeWrite, Oldest, Pass, Retry, Status, Store, Value, Written};
 use common::{sized, store, ten};
 use std::sync::atomic::{AtomicBool, Ordering};
 use std::sync::{mpsc, Arc, Mutex};
@@ -116,7 +116,7 @@ fn a_change_looks_at_kinds() {
     assert_eq!(pass.pin().unwrap().query("length==5").unwrap(), [1]);
 }
 
-/// Calls of a change that don't return an error leave it to the end.
+/// If a change's call doesn't return an error itself, the change returns it at the end.
 #[test]
 fn an_operation_that_is_not_collected_ends_the_change() {
     let mut pass = ten();
@@ -137,7 +137,7 @@ fn an_operation_that_is_not_collected_ends_the_change() {
     assert_eq!(pass.status().unwrap().entries, before);
 }
 
-/// While a pass writes, or no page is free because of it, a change begins again, as often as its pass says.
+/// A change starts again while another pass writes or holds the free pages, as many times as its pass allows.
 #[test]
 fn a_change_at_full_begins_again() {
     let store = sized(16);
@@ -261,7 +261,7 @@ fn a_full_store_says_what_keeps_its_pages() {
     assert_eq!(writer.status().unwrap().oldest, None);
 }
 
-/// The other thread, which reads a long journal, has the writers' lock nearly all the time, until the change runs for the second time.
+/// The other thread, which reads a long journal, holds the writers' lock most of the time until the change runs a second time.
 #[test]
 fn a_change_on_a_snapshot_that_is_held_runs_again_while_another_pass_has_the_lock() {
     let store = store();
@@ -290,7 +290,7 @@ fn a_change_on_a_snapshot_that_is_held_runs_again_while_another_pass_has_the_loc
             });
             changed.unwrap();
             pass.release();
-            // What the last attempt has collected was written, once.
+            // The last attempt's operations were written, once.
             let snapshot = pass.pin().unwrap();
             assert_eq!(
                 (snapshot.number(), snapshot.get(node, "count").unwrap()),
@@ -325,17 +325,12 @@ fn a_write_waits_for_another_pass_to_unpin() {
     assert!(started.elapsed() < Duration::from_millis(400));
 }
 
-/// Lets another pass release its snapshot as soon as a write has found no page.
+/// Makes another pass release its snapshot as soon as a write finds no free page.
 #[derive(Debug)]
 struct Releases(Mutex<Pass>);
 
 impl Keeper for Releases {
-    fn keep(
-        &self,
-        _: u64,
-        _: &Batch,
-        write: &mut dyn FnMut() -> bestore::Result<Written>,
-    ) -> bestore::Result<(Written, u64)> {
+    fn keep(&self, _: u64, _: &Batch, write: MakeWrite<'_>) -> bestore::Result<(Written, u64)> {
         let written = write();
         if matches!(written, Err(Error::Full { .. })) {
             self.0.lock().unwrap().release();
@@ -348,7 +343,7 @@ impl Keeper for Releases {
     }
 }
 
-/// When the store is asked who keeps pages, nobody does any more.
+/// By the time the store is asked which pass holds pages, none does any more.
 #[test]
 fn a_write_finds_pages_that_were_given_back_just_after_it_failed() {
     let store = sized(16);
@@ -379,11 +374,11 @@ fn a_status_says_whether_a_write_may_find_pages() {
         oldest,
     };
     let other = Some(Oldest { snapshot: 8, pass: 2 });
-    // Another pass keeps pages, or did; or only the pass itself does.
+    // Another pass holds pages, or held them when the write failed; at last only the pass itself does.
     assert!(status(other).may_free_pages(1, 8));
     assert!(status(None).may_free_pages(1, 8));
     assert!(!status(other).may_free_pages(2, 8));
-    // No pages were kept when the write failed.
+    // No pages were held when the write failed.
     assert!(!status(None).may_free_pages(1, 10));
     assert!(!status(other).may_free_pages(1, 10));
     assert!(status(None).may_free_pages(1, 9));

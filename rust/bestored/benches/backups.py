@@ -1,12 +1,12 @@
 #!/usr/bin/env python3
-"""Backups of a server while eight processes write to it: is each one the state of one commit, and what do the writers notice?
+"""Backs up a server while eight processes write to it. Is each backup the state of one commit, and what do the writers notice?
 
 usage: backups.py FOLDER [BACKUPS]    the folder with bestored and be, such as rust/target/release; 50 backups by default
 
-It makes a store of 60,000 nodes in five volumes, in a new folder, measures how long writes take, and measures again while `be backup`
-runs that often. Then each backup is opened. In each volume the counters, one of which moves with each write, have to add up to the
-commit number, and none may be lower than what had been acknowledged before the backup began. PYTHONPATH names the folder of the package
-bestore. It exits with 1 if a backup is wrong, or if the 99th percentile of the writes grows to more than three times what it was.
+It makes a store of 60,000 nodes in five volumes, in a new folder. It measures how long writes take, and measures again while
+it runs `be backup` repeatedly. Then it opens each backup. Each write moves one counter, so in each volume the counters have to
+add up to the commit number. No counter may be lower than the count acknowledged before the backup began. PYTHONPATH names the
+folder of the package bestore. It exits with 1 if a backup is wrong, or if the writes' 99th percentile more than triples.
 """
 from __future__ import annotations
 
@@ -34,12 +34,12 @@ PAGES = 16_384
 
 
 def counted_by(writer: int) -> int:
-    """The node of a writer, from 0 on. Writers take turns among the volumes."""
+    """Returns a writer's node; writers are numbered from 0. Writers take turns among the volumes."""
     return node(writer)
 
 
 def counter() -> Synchronized[int]:
-    """A number that processes share."""
+    """Makes a number that processes share."""
     return cast("Synchronized[int]", multiprocessing.Value("Q", 0))
 
 
@@ -52,7 +52,7 @@ class Shared(NamedTuple):
 
 
 def write(socket: str, shared: Shared, writer: int) -> None:
-    """Counts in the writer's node, by one with each write, and reports how long each took."""
+    """Counts up in the writer's node, by one with each write, and reports how long each write took."""
     answered, node = shared.answered[writer], counted_by(writer)
     times: List[float] = []
     with bestore.connect(socket) as store:
@@ -66,12 +66,12 @@ def write(socket: str, shared: Shared, writer: int) -> None:
 
 
 def percentile(times: List[float], part: float) -> float:
-    """In milliseconds."""
+    """Returns a percentile in milliseconds."""
     return sorted(times)[int(len(times) * part)] * 1000
 
 
 class Writing:
-    """Writers that run within a `with`. `times` has how long their writes took."""
+    """Runs writers during a `with`. `times` has how long their writes took."""
 
     def __init__(self, socket: str, answered: List[Synchronized[int]]) -> None:
         self.shared = Shared(answered, counter(), multiprocessing.Queue())
@@ -93,7 +93,7 @@ class Writing:
 
 
 def check(path: Path, about: Any, begin: List[int], before: List[int]) -> None:
-    """Fails unless the backup is the state of its commit, in each volume, and has what was acknowledged before."""
+    """Fails unless the backup is each volume's state at its commit, and has what was acknowledged before."""
     with saved.open_shelf(path, pages=PAGES) as store, store.pin() as version:
         found = version.column(map(counted_by, range(WRITERS)), "count")
         counts = [int(value) for value in found if isinstance(value, int)]
@@ -109,14 +109,14 @@ def check(path: Path, about: Any, begin: List[int], before: List[int]) -> None:
 
 
 def back_up(programs: Path, socket: str, path: Path) -> Any:
-    """Makes a backup, and returns what is said of it."""
+    """Makes a backup, and returns the tool's report about it."""
     said = subprocess.run(
         [programs / "be", "--socket", socket, "backup", "--json", path], check=True, stdout=subprocess.PIPE)
     return json.loads(said.stdout)
 
 
 def measure(programs: Path, folder: Path, socket: str, backups: int) -> float:
-    """Prints the figures, and returns how much longer the writes' 99th percentile gets."""
+    """Prints the figures, and returns the factor by which the writes' 99th percentile grows."""
     begin = fill(socket)
     answered = [counter() for _ in range(WRITERS)]
     with Writing(socket, answered) as alone:

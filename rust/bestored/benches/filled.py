@@ -1,4 +1,5 @@
-"""A store of 60,000 nodes in five volumes, which the programs beside this one measure."""
+"""Makes a store of 60,000 nodes in five volumes for the programs next to this one to
+measure."""
 from __future__ import annotations
 
 from typing import List
@@ -13,12 +14,13 @@ STEP = 16
 
 
 def node_in(volume: int, number: int) -> int:
-    """The node with this number in the volume."""
+    """Returns the node with this number in the volume."""
     return volume * 10**14 + number
 
 
 def node(number: int) -> int:
-    """The node with this number, from 0 on. The volumes take turns."""
+    """Returns the node with this number; nodes are numbered from 0, and the volumes
+    take turns."""
     return node_in(number % VOLUMES, number // VOLUMES + 1)
 
 

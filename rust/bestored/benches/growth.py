@@ -1,14 +1,17 @@
 #!/usr/bin/env python3
-"""A server that is written to for a long time: how large does its file get, how much memory does it need, and how much does the next
-start read?
+"""Measures a server that is written to for a long time: how large do its files get, how much memory does it need, and how much
+does the next start read?
 
 usage: growth.py FOLDER [WRITES]    the folder with bestored, such as rust/target/release; 10,000,000 writes by default
 
-It makes a store of 60,000 nodes in five volumes, in a new folder. One client sends small writes, many at a time, and another one sends
-one write after another. Its longest reply shows what the server does when it writes its states anew. After 10,000 writes and after all
-of them the server is killed and started again. PYTHONPATH names the folder of the package bestore. It exits with 1 if the files were
-more than twice as long as the state, or the memory more than twice that of the pages, each with 20 MB more per volume for its WAL and
-for entries that wait; or if the last start takes over a fifth more of a processor's time than the first one.
+It makes a store of 60,000 nodes in five volumes, in a new folder. One client sends many small writes at a time, and a second
+one sends its writes one by one. The second client's slowest reply shows how long the server pauses when it rewrites its
+states. After 10,000 writes and again after all of them, the server is killed and restarted. PYTHONPATH names the folder of the
+package bestore.
+
+It exits with 1 if the files were more than twice as long as the state, or the memory more than twice the size of the pages.
+Each limit has 20 MB more per volume, for its WAL and for waiting entries. It also exits with 1 if the last start takes over a
+fifth more processor time than the first.
 """
 from __future__ import annotations
 
@@ -40,14 +43,14 @@ TICK = os.sysconf("SC_CLK_TCK")
 
 
 class Size(NamedTuple):
-    """How many bytes the files and the memory take, at one time or at most."""
+    """How many bytes the files and the memory take, at one moment or at most."""
 
     files: int
     memory: int
 
 
 class Start(NamedTuple):
-    """What a start took, also of a processor's time, and how many batches of the states and entries it made."""
+    """What a start took: elapsed time, processor time, and how many batches of the states and entries it made."""
 
     seconds: float
     busy: float
@@ -65,7 +68,7 @@ class Watched(NamedTuple):
 
 
 class Server:
-    """A server that keeps its store in the folder, and is killed at the end of a `with`."""
+    """A server that keeps its store in the folder, and is killed when the `with` ends."""
 
     def __init__(self, program: Path, folder: Path) -> None:
         self.path, self.folder = str(folder / "socket"), folder / "kept"
@@ -95,25 +98,25 @@ class Server:
 
     @property
     def _busy(self) -> float:
-        """How many seconds of a processor's time it has taken."""
+        """How many seconds of processor time the server has used."""
         fields = Path(f"/proc/{self._process.pid}/stat").read_text().rsplit(")", 1)[1].split()
         return (int(fields[11]) + int(fields[12])) / TICK
 
     def end(self) -> int:
-        """Ends the server. Returns how many bytes its files then have."""
+        """Ends the server. Returns how many bytes its files have then."""
         self._process.terminate()
         self._process.wait()
         return sum(path.stat().st_size for path in self.folder.iterdir())
 
     @property
     def memory(self) -> int:
-        """The bytes that it has now."""
+        """How many bytes of memory the server uses now."""
         status = Path(f"/proc/{self._process.pid}/status").read_text()
         return int(next(line.split()[1] for line in status.splitlines() if line.startswith("VmRSS"))) << 10
 
 
 class Lines:
-    """A connection by lines."""
+    """A connection that sends and receives lines."""
 
     def __init__(self, path: str) -> None:
         self._socket = socket.socket(socket.AF_UNIX)
@@ -121,7 +124,7 @@ class Lines:
         self._replies = self._socket.makefile("rb")
 
     def ask(self, *requests: Dict[str, Any]) -> Any:
-        """Sends requests at once. Returns what the last one replies."""
+        """Sends several requests at once. Returns the reply to the last."""
         lines = (json.dumps({"id": number, **request}) for number, request in enumerate(requests))
         self._socket.sendall(("\n".join(lines) + "\n").encode())
         replies = [json.loads(self._replies.readline()) for _ in requests]
@@ -132,7 +135,7 @@ class Lines:
 
 
 def watch(path: str, watched: Watched) -> None:
-    """Makes one write after another, and reports the one that took longest."""
+    """Makes one write after another, and reports the slowest."""
     with bestore.connect(path) as store:
         while not watched.is_over.value:
             begin = time.perf_counter()
@@ -142,7 +145,7 @@ def watch(path: str, watched: Watched) -> None:
 
 
 def write(server: Server, count: int) -> Size:
-    """Makes this many small writes. Returns the most that the files and the memory took."""
+    """Makes this many small writes. Returns the maximum size of the files and the memory."""
     lines = Lines(server.path)
     sizes: List[Size] = []
     for first in range(0, count, AT_ONCE):
@@ -155,7 +158,7 @@ def write(server: Server, count: int) -> Size:
 
 
 def write_for_long(server: Server, count: int) -> Size:
-    """Makes the writes while a second client writes too. Prints the figures, and returns the highest of each."""
+    """Makes the writes while a second client writes too. Prints the figures, and returns the maximum of each."""
     number: Any = multiprocessing.Value
     watched = Watched(cast("Synchronized[int]", number("b", 0)), cast("Synchronized[float]", number("d", 0)))
     watching = multiprocessing.Process(target=watch, args=(server.path, watched))

@@ -1,8 +1,8 @@
-//! How many writes a second a leader takes if its log is in a PostgreSQL on this machine, how much later followers have them,
-//! and how long it takes until another server leads.
+//! Measures how many writes a second a leader takes with a log in a PostgreSQL on this machine. Also measures how much later
+//! followers have them, and how long it takes until another server leads.
 //!
 //! `cargo bench -p bestored --features log --bench log_rate`. The database writes to the disk of the folder for temporary files
-//! (`TMPDIR`). Each client is a thread that sends a write and waits for the reply. The best round of each case is shown.
+//! (`TMPDIR`). Each client is a thread that sends a write and waits for the reply. The best round of each case counts.
 
 #[path = "../tests/common/mod.rs"]
 mod common;
@@ -22,11 +22,11 @@ const TIME: Duration = Duration::from_secs(2);
 const CLIENTS: [usize; 3] = [1, 8, 32];
 const VALUE: &str = "Ada Lovelace <ada@example.org>";
 
-/// How many writes the lag is measured on, and how many leaders are killed.
+/// How many writes the lag is measured with, and how many leaders are killed.
 const WRITES: usize = 500;
 const KILLS: usize = 10;
 
-/// A server in a folder of its own.
+/// A server in its own folder.
 struct Member {
     folder: Folder,
     server: Server,
@@ -53,14 +53,14 @@ impl Member {
     }
 }
 
-/// Half of the times, and 99 of 100, are at most this many microseconds.
+/// Returns the microseconds within which 50% and 99% of the writes finish.
 fn half_and_most(mut times: Vec<Duration>) -> (f64, f64) {
     times.sort_unstable();
     let at = |part: usize| times[times.len() * part / 100].as_secs_f64() * 1e6;
     (at(50), at(99))
 }
 
-/// The times of the writes that these clients make. Each client makes one after the other.
+/// Measures each write's time. Each client makes its writes one after another.
 fn write(socket: &Path, clients: usize) -> Vec<Duration> {
     let write = |node: u64| {
         let mut client = Client::connect(socket).expect("the server listens");
@@ -98,7 +98,7 @@ fn measure(name: &str, member: &Member) {
     }
 }
 
-/// Prints how long after the reply to a write each follower has it.
+/// Prints how long after a write's reply each follower has the write.
 fn measure_lag(leader: &Member, followers: &[Member]) {
     for (number, follower) in (1..).zip(followers) {
         let (mut to, mut from) = (leader.server.client(), follower.server.client());
@@ -119,7 +119,7 @@ fn measure_lag(leader: &Member, followers: &[Member]) {
     }
 }
 
-/// Prints how long after a leader was killed another one accepts a write.
+/// Prints how long after a leader is killed another server accepts a write.
 fn measure_change(mut members: Vec<Member>, database: &Database) {
     let mut times = Vec::new();
     for _ in 0..KILLS {

@@ -1,12 +1,12 @@
 #!/usr/bin/env python3
-"""Batches that are repeated by their tokens while their server is killed again and again: is each written once?
+"""Repeats batches by their tokens while their server is killed again and again. Is each batch written once?
 
 usage: retries.py FOLDER [BATCHES]    the folder with bestored, such as rust/target/release; 100,000 batches by default
 
-32 processes write to a server with a file. Each batch makes a node, removes the one that the process made before, and counts. The
-server is killed by signal 9 at random moments and started again. In the end each process has had a reply to each of its batches, and
-the store has made exactly one node per batch. PYTHONPATH names the folder of the package bestore. It exits with 1 if a batch is
-missing, or was written twice.
+32 processes write to a server with a file. Each batch makes a node, removes the one that the process made before, and counts
+up. The server is killed by signal 9 at random moments and restarted. In the end, each process must have a reply to each of its
+batches, and the store must have made exactly one node per batch. PYTHONPATH names the folder of the package bestore. It exits
+with 1 if a batch is missing or was written twice.
 """
 from __future__ import annotations
 
@@ -32,7 +32,7 @@ LIFE = 1.5
 
 
 def connect(socket: str) -> bestore.connected.ConnectedPass:
-    """Connects to a server that may be killed at that moment."""
+    """Connects to a server that may be killed at any moment."""
     until = time.monotonic() + PATIENCE
     while True:
         try:
@@ -44,7 +44,7 @@ def connect(socket: str) -> bestore.connected.ConnectedPass:
 
 
 def write(socket: str, node: int, count: int) -> int:
-    """Writes batches, each once. Returns how many replies came."""
+    """Writes batches, each once. Returns how many replies arrived."""
     last = 0
     with connect(socket) as store:
         for number in range(1, count + 1):
@@ -59,7 +59,7 @@ def write(socket: str, node: int, count: int) -> int:
 
 
 class Server:
-    """A server, which can be killed and started again."""
+    """A server that can be killed and restarted."""
 
     def __init__(self, programs: Path, folder: Path) -> None:
         self.socket = str(folder / "socket")
@@ -76,7 +76,7 @@ class Server:
 
 
 def kill_until(server: Server, writing: List[AsyncResult[int]]) -> int:
-    """Kills the server again and again until all have written. Returns how often."""
+    """Kills the server again and again until all writers have finished. Returns how many times."""
     kills = 0
     while not all(one.ready() for one in writing):
         time.sleep(random.uniform(0.01, LIFE))

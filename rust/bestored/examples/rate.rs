@@ -1,7 +1,8 @@
-//! How many requests a second bestored answers through its socket, compared with redis-server through its own, if that is installed.
+//! Measures how many requests a second bestored answers through its socket, compared with redis-server through its own if it is
+//! installed.
 //!
 //! `cargo build --release && cargo run --release --example rate`. Each client is a thread that sends a request and waits for the
-//! reply. Cases of both servers run in turn, several rounds; the best round of each is shown.
+//! reply. The servers take turns at each case for several rounds, and the best round counts.
 
 use std::fs;
 use std::io::{Read, Write};
@@ -17,7 +18,7 @@ const TIME: Duration = Duration::from_millis(700);
 const CLIENTS: [usize; 3] = [1, 8, 32];
 const VALUE: &str = "Ada Lovelace <ada@example.org>";
 
-/// A server that is killed at the end.
+/// A server, which is killed at the end.
 struct Server {
     child: Child,
     socket: PathBuf,
@@ -47,7 +48,7 @@ impl Server {
     }
 }
 
-/// What is asked: how many line ends a reply has, and the request with a number.
+/// A kind of request: how many lines its reply has, and how to write the request with a given number.
 struct Case {
     name: &'static str,
     lines: usize,
@@ -59,7 +60,7 @@ fn put(to: &mut Vec<u8>, text: std::fmt::Arguments<'_>) {
     to.write_fmt(text).expect("memory can hold what is written");
 }
 
-/// A command of redis with a key and perhaps a value.
+/// Writes a redis command with a key and an optional value.
 fn redis(to: &mut Vec<u8>, command: &str, key: u64, value: Option<&str>) {
     let key = format!("node:{key}");
     put(
@@ -150,7 +151,7 @@ impl Client {
     }
 }
 
-/// The times of all requests of these clients. Each client sends one after the other.
+/// Measures each request's time. Each client sends its requests one after another.
 fn run(socket: &Path, case: &Case, clients: usize) -> Vec<u32> {
     thread::scope(|scope| {
         let running: Vec<_> = (0..clients)
@@ -179,7 +180,7 @@ fn run(socket: &Path, case: &Case, clients: usize) -> Vec<u32> {
     })
 }
 
-/// Requests a second, and the times within which half and 99 of 100 of them are done, in microseconds.
+/// Requests a second, and the microseconds within which 50% and 99% of them finish.
 #[derive(Clone, Copy, Default)]
 struct Figures {
     rate: f64,
@@ -228,7 +229,7 @@ fn fill(socket: &Path) {
     }
 }
 
-/// Both servers in the folder, filled. The second is there if it is installed.
+/// Starts and fills both servers in the folder. The second is `None` if it isn't installed.
 fn start(folder: &Path) -> (Server, Option<Server>) {
     let program = std::env::current_exe().expect("this program has a path");
     let program = program.ancestors().nth(2).expect("it is in examples").join("bestored");
@@ -275,6 +276,6 @@ fn main() {
         }
     }
     drop((ours, redis));
-    // Whatever is left disappears with the folder for temporary files.
+    // Anything left is removed along with the folder for temporary files.
     let _ = fs::remove_dir_all(&folder);
 }

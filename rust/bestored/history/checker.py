@@ -1,9 +1,9 @@
-"""Looks whether a history is strictly serializable, in the order of the batches' numbers.
+"""Checks whether a history is strictly serializable, in the order of the batches' numbers.
 
-Four things have to hold. The trail has each acknowledged batch once, at the place that its reply gives, and none that was refused.
-Throughout a run, its numbers differ from its commit numbers by the same amount. Each snapshot is what the trail, replayed up to its
-number, gives, and each batch in the trail comes directly after the snapshot that it was written on. And the order respects real time:
-what ended before something else began doesn't come after it.
+Four things have to hold. The trail has each acknowledged batch once, at the place that its reply gives, and none that was
+refused. Throughout a run, its numbers differ from its commit numbers by the same amount. Each snapshot is the state that the
+trail gives when replayed up to its number, and each batch in the trail comes directly after the snapshot that it was based on.
+The order respects real time: if something ended before something else began, it comes first.
 """
 from __future__ import annotations
 
@@ -18,7 +18,7 @@ BEGIN, END = 1, 0
 
 
 def violations(history: History) -> Iterator[str]:
-    """Everything that a correct store wouldn't do."""
+    """Yields everything that a correct store wouldn't do."""
     yield from _wrong_trail(history)
     yield from _wrong_outcomes(history)
     yield from _wrong_commits(history)
@@ -27,7 +27,7 @@ def violations(history: History) -> Iterator[str]:
 
 
 def _wrong_trail(history: History) -> Iterator[str]:
-    """Batches in the trail that nobody sent, or that are there twice."""
+    """Yields batches in the trail that no one sent, or that are there twice."""
     sent = {write.value for write in history.writes}
     places: Dict[int, int] = {}
     for number, value in enumerate(history.trail, 1):
@@ -39,7 +39,7 @@ def _wrong_trail(history: History) -> Iterator[str]:
 
 
 def _wrong_outcomes(history: History) -> Iterator[str]:
-    """Batches that are lost, that aren't at the acknowledged place, or that are there although they were refused."""
+    """Yields batches that are lost, that aren't at the acknowledged place, or that are there although they were refused."""
     places = _places(history)
     for write in history.writes:
         place = places.get(write.value)
@@ -54,12 +54,13 @@ def _wrong_outcomes(history: History) -> Iterator[str]:
 
 
 def _places(history: History) -> Dict[int, int]:
-    """The number of each value in the trail."""
+    """Returns the number of each value in the trail."""
     return {value: number for number, value in enumerate(history.trail, 1)}
 
 
 def _wrong_commits(history: History) -> Iterator[str]:
-    """Numbers that don't differ from their run's commit numbers, or from the log's entries, by the same amount as the first one."""
+    """Yields numbers that don't differ from their run's commit numbers, or from the log's entries, by the same amount as the
+    first one."""
     shifts: Dict[str, int] = {}
 
     def wrong(what: str, run: str, commit: int, number: int) -> Iterator[str]:
@@ -79,7 +80,7 @@ def _wrong_commits(history: History) -> Iterator[str]:
 
 
 def _wrong_states(history: History) -> Iterator[str]:
-    """Snapshots that don't agree with the trail."""
+    """Yields snapshots that don't agree with the trail."""
     written = {write.value: write for write in history.writes}
     waiting: Dict[int, List[Tuple[str, Snapshot]]] = {}
     for read in history.reads:
@@ -97,7 +98,7 @@ def _wrong_states(history: History) -> Iterator[str]:
 
 
 def _states(history: History, written: Dict[int, Write]) -> Iterator[Values]:
-    """The registers before the first batch, and after each."""
+    """Yields the registers before the first batch, and after each."""
     values = list(NO_VALUES)
     yield tuple(values)
     for value in history.trail:
@@ -107,7 +108,7 @@ def _states(history: History, written: Dict[int, Write]) -> Iterator[Values]:
 
 
 def _wrong_times(history: History) -> Iterator[str]:
-    """Batches, and reads of the latest snapshot, that are ordered before something that had ended before they began."""
+    """Yields batches, and reads of the latest snapshot, that are ordered before something that ended before they began."""
     timed: List[Union[Read, Write]] = [*_timed_writes(history), *history.reads]
     events: List[Event] = []
     for place, it in enumerate(timed):
@@ -126,7 +127,7 @@ def _wrong_times(history: History) -> Iterator[str]:
 
 
 def _timed_writes(history: History) -> Iterator[Write]:
-    """The batches of the trail. One that wasn't acknowledged may have been written at any time after it was sent."""
+    """Yields the trail's batches. One that wasn't acknowledged may have been written at any time after it was sent."""
     places = _places(history)
     for write in history.writes:
         place = places.get(write.value)

@@ -28,7 +28,7 @@ NOT_WRITTEN_BEFORE = {"Conflict"}
 
 @dataclass
 class Setting:
-    """What the clients of a round share. `base` is the node before the trail's first one. With `is_latest`, each read that `flush`
+    """What a round's clients share. `base` is the last node before the trail's first. With `is_latest`, each read that `flush`
     confirms has to show everything that was acknowledged before."""
 
     places: Sequence[str]
@@ -48,7 +48,7 @@ def snapshot_of(connection: Connection) -> Snapshot:
 
 
 class Client(threading.Thread):
-    """A client that connects again after each error. Each client has its own places, in the order in which it tries them."""
+    """A client that reconnects after each error. Each client tries the places in its own order."""
 
     def __init__(self, setting: Setting, number: int, places: Sequence[str], patience: float) -> None:
         super().__init__()
@@ -76,7 +76,7 @@ class Client(threading.Thread):
         self.read(connection)
 
     def read(self, connection: Connection) -> Snapshot:
-        """Reads a snapshot, and records it once all of it is certainly kept."""
+        """Reads a snapshot, and records it once all of it is certain to be kept."""
         begin = time.monotonic()
         snapshot = snapshot_of(connection)
         connection.ask("flush", {})
@@ -84,7 +84,7 @@ class Client(threading.Thread):
         return snapshot
 
     def connect(self) -> Connection:
-        """The connection, or a new one to the first place that accepts it."""
+        """Returns the connection, or a new one to the first place that accepts it."""
         while self._connection is None and not self.setting.over.is_set():
             try:
                 self._connection = Connection(self._places[0], self.patience)
@@ -96,11 +96,11 @@ class Client(threading.Thread):
         return self._connection
 
     def turn_places(self) -> None:
-        """The next place is tried first."""
+        """Makes the next place the first to try."""
         self._places.append(self._places.pop(0))
 
     def leave(self) -> None:
-        """Ends the connection, and tries the next place."""
+        """Closes the connection, and moves on to the next place."""
         if self._connection is not None:
             self._connection.close()
             self._connection = None
@@ -108,8 +108,8 @@ class Client(threading.Thread):
 
 
 class Writer(Client):
-    """A client that writes batches based on what it has read. Every other one repeats a batch with its token until it knows
-    what became of it."""
+    """A client that writes batches based on what it has read. Every other writer repeats a batch with its token until it knows
+    the outcome."""
 
     def __init__(self, setting: Setting, number: int, places: Sequence[str], patience: float) -> None:
         super().__init__(setting, number, places, patience)
@@ -139,7 +139,7 @@ class Writer(Client):
         return Write(value, registers, on, time.monotonic())
 
     def _send(self, connection: Connection, write: Write, not_written: "set[str]") -> None:
-        """Sends a batch, and records what is then known about it."""
+        """Sends a batch, and records what is known about it afterwards."""
         on, node = write.on, self.setting.base + write.on.number + 1
         operations = [["new"], ["set", node, "value", write.value], ["set", 1, "number", on.number + 1]]
         operations += [["set", register, "value", write.value] for register in write.registers]
@@ -178,7 +178,7 @@ class Writer(Client):
             self._take_late(0.0)
 
     def _take_late(self, seconds: float) -> None:
-        """Takes the reply that has been late for longest, if it comes in this many seconds."""
+        """Takes the reply that has been late the longest, if it comes within this many seconds."""
         connection, write = self._late.pop(0)
         connection.wait(max(seconds, 0.001))
         try:
@@ -190,7 +190,7 @@ class Writer(Client):
         connection.close()
 
     def take_all_late(self, seconds: float) -> None:
-        """Takes the late replies, after the client has ended."""
+        """Takes the late replies after the client has ended."""
         until = time.monotonic() + seconds
         while self._late:
             self._take_late(until - time.monotonic())

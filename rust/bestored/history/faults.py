@@ -1,4 +1,4 @@
-"""What is done to servers while clients write. Each fault returns the moment after which writes have to continue soon."""
+"""Faults that servers get while clients write. Each fault returns the moment after which writes have to continue soon."""
 from __future__ import annotations
 
 import random
@@ -21,7 +21,7 @@ PAUSED = 30.0
 
 @dataclass(frozen=True)
 class Fault:
-    """A fault, and within how many seconds writes have to continue after it."""
+    """A fault, and how many seconds after it writes have to continue at the latest."""
 
     name: str
     bound: float
@@ -29,7 +29,7 @@ class Fault:
 
 
 def _leader(servers: LogServers) -> Server:
-    """The server that leads, once one does."""
+    """Returns the server that leads, once one does."""
     servers.connect().close()
     return servers.leader() or _leader(servers)
 
@@ -111,7 +111,7 @@ def _hang_database(servers: LogServers, dice: random.Random) -> float:
 
 
 def _lose_standby(servers: LogServers, dice: random.Random) -> float:
-    """At each commit PostgreSQL waits for a standby that isn't there."""
+    """Makes PostgreSQL wait at each commit for a standby that isn't there."""
     _set(servers, "SET synchronous_standby_names = 'away'")
     time.sleep(HANGS)
     _set(servers, "RESET synchronous_standby_names")

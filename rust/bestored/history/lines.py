@@ -1,4 +1,5 @@
-"""A client that speaks the server's protocol. It shares no code with the server and its packages, so it can't repeat their mistakes."""
+"""A client that speaks the server's protocol. It shares no code with the server or its packages, so it can't repeat their
+mistakes."""
 from __future__ import annotations
 
 import json
@@ -18,7 +19,7 @@ class Late(Exception):
 
 
 class Refused(Exception):
-    """The reply is an error. `name` is the error's."""
+    """The reply is an error. `name` is the error's name."""
 
     def __init__(self, error: Reply) -> None:
         super().__init__(f"{error['name']}: {error['message']}")
@@ -26,7 +27,7 @@ class Refused(Exception):
 
 
 class Connection:
-    """A connection that waits this many seconds for a reply. `run` is the run of the server."""
+    """A connection that waits up to this many seconds for a reply. `run` is the server's run."""
 
     def __init__(self, place: str, patience: float) -> None:
         self._socket = socket.socket(socket.AF_UNIX)
@@ -70,7 +71,7 @@ class Connection:
         self._socket.settimeout(seconds)
 
     def receive(self) -> Reply:
-        """The next reply."""
+        """Returns the next reply."""
         while b"\n" not in self._bytes:
             try:
                 part = self._socket.recv(1 << 16)

@@ -1,4 +1,4 @@
-"""A private PostgreSQL, which can be ended, and stopped so that it hangs."""
+"""A private PostgreSQL, which can be ended, or stopped so that it hangs."""
 from __future__ import annotations
 
 import os
@@ -18,13 +18,13 @@ PATIENCE = 60.0
 
 
 def programs() -> Optional[Path]:
-    """The folder of the latest version that is installed."""
+    """Returns the folder of the latest installed version."""
     found = sorted(Path("/usr/lib/postgresql").glob("*/bin/initdb"))
     return found[-1].parent if found else None
 
 
 def _user() -> Optional[str]:
-    """The user that PostgreSQL runs as if this is root, since it refuses to run as root."""
+    """Returns the user that runs PostgreSQL if this is root, since PostgreSQL refuses to run as root."""
     if os.geteuid() != 0:
         return None
     names = {user.pw_name for user in pwd.getpwall()}
@@ -39,7 +39,7 @@ def _free_port() -> int:
 
 
 class Postgres:
-    """A database server. It is started, and at the end of the `with` its folder is removed."""
+    """A database server. When the `with` ends, it is stopped and its folder is removed."""
 
     def __init__(self) -> None:
         found = programs()
@@ -66,7 +66,7 @@ class Postgres:
         return ran.stdout.strip()
 
     def begin(self) -> None:
-        """Starts the server, and waits until it takes connections."""
+        """Starts the server, and waits until it accepts connections."""
         options = [word for option in OPTIONS for word in ("-c", option)]
         command = self._command("postgres", "-D", self._data, "-k", str(self._folder), "-p", str(self._port), *options)
         self._process = subprocess.Popen(command, cwd="/", stdin=subprocess.DEVNULL, stdout=subprocess.DEVNULL, stderr=subprocess.DEVNULL)
@@ -78,7 +78,7 @@ class Postgres:
             time.sleep(0.02)
 
     def end(self, how: signal.Signals) -> None:
-        """Ends the server: with SIGINT its sessions roll back, and SIGQUIT is like a crash."""
+        """Ends the server: SIGINT rolls sessions back, and SIGQUIT acts like a crash."""
         if self._process is not None:
             self._process.send_signal(how)
             self._process.wait(PATIENCE)
@@ -91,7 +91,7 @@ class Postgres:
                 _send(number, how)
 
     def sql(self, statements: str) -> str:
-        """Runs statements, and returns what the last one finds."""
+        """Runs statements, and returns the last one's result."""
         return self._run("psql", "-X", "-q", "-A", "-t", "-v", "ON_ERROR_STOP=1", "-U", "bestore", "-d", "postgres",
                          "-h", str(self._folder), "-p", str(self._port), "-c", statements)
 
@@ -109,7 +109,7 @@ class Postgres:
 
 
 def _children(parent: int) -> Iterator[int]:
-    """The processes that a process has started."""
+    """Yields the processes that a process has started."""
     for path in Path("/proc").glob("[0-9]*/stat"):
         try:
             fields = path.read_text().rpartition(")")[2].split()

@@ -1,8 +1,8 @@
-"""The record of a history: what each client asked and got, and when, on one clock.
+"""The record of a history: what each client requested and received, and when, by one clock.
 
-A store has registers, which are the nodes 1 to REGISTERS, and a batch sets some of them to the batch's own value, which no other has.
-It also makes a node with this value, so the store lists its batches in order: this list is the trail. A batch's number is its
-place there, from 1 on, and a snapshot's number is that of the last batch in it.
+A store has registers, which are the nodes 1 to REGISTERS. A batch sets some of them to the batch's own value, which no other
+batch has. It also makes a node with this value, so the store lists its batches in order; this list is the trail. A batch's
+number is its place there, from 1 on. A snapshot's number is that of the last batch in it.
 """
 from __future__ import annotations
 
@@ -28,8 +28,8 @@ class Snapshot:
 
 @dataclass
 class Read:
-    """A snapshot that a client read from `begin` to `end`, in seconds. If it is the latest, it has to show everything that was
-    acknowledged before."""
+    """A snapshot that a client read between `begin` and `end`, in seconds. If it is the latest, it has to show everything that
+    was acknowledged before."""
 
     snapshot: Snapshot
     begin: float
@@ -47,8 +47,8 @@ class Outcome(enum.Enum):
 
 @dataclass
 class Write:
-    """A batch that was to be written on a snapshot and on nothing else. `commit` and `number` are those of the reply, if there is one. The
-    commit number of a repeated reply is only known to be no earlier than the batch."""
+    """A batch to be written on this snapshot and on nothing else. `commit` and `number` come from the reply, if there is one. For
+    a repeated reply, all that is known about the commit number is that it isn't earlier than the batch."""
 
     value: int
     registers: Tuple[int, ...]

@@ -1,4 +1,4 @@
-"""A round: clients write and read for a while, faults come, and what they have seen is checked."""
+"""A round: clients write and read for a while, faults occur, and what the clients have seen is checked."""
 from __future__ import annotations
 
 import random
@@ -32,7 +32,7 @@ Made = List[Tuple[Fault, float]]
 
 @dataclass
 class Report:
-    """The outcome of a round. `waits` has the seconds until the next write, for each fault."""
+    """A round's outcome. `waits` has the seconds until the next write, for each fault."""
 
     history: History
     violations: List[str]
@@ -43,13 +43,13 @@ class Report:
         return sum(write.outcome is outcome for write in self.history.writes)
 
     def slow(self, times: float = 1.0) -> List[str]:
-        """Faults after which writes took more than this many times the fault's bound to continue."""
+        """Returns the faults after which writes took more than this many times the fault's limit to continue."""
         return [f"{fault.name}: writes went on after {'more than the rest of the round' if wait is None else f'{wait:.1f} s'}"
                 for fault, wait in self.waits if wait is None or wait > times * fault.bound]
 
 
 class Plan:
-    """Faults at random, for some seconds."""
+    """Random faults for some seconds."""
 
     def __init__(self, seed: str, seconds: float, faults: List[Fault], pauses: Tuple[float, float]) -> None:
         self.dice = random.Random(seed)
@@ -68,7 +68,7 @@ class Plan:
 
 
 class Given(Plan):
-    """These faults, each once, and each after some batches were written."""
+    """These faults, each once, and each after some batches have been written."""
 
     def __init__(self, seed: str, faults: List[Fault], batches: int) -> None:
         super().__init__(seed, 0.0, faults, (0.0, 0.1))
@@ -87,7 +87,8 @@ class Given(Plan):
 
 
 def run_round(servers: Servers, plan: Plan, seed: str, pause: float) -> Report:
-    """Runs clients, which rest up to `pause` seconds after each write, while the plan causes its faults. Checks what they have seen."""
+    """Runs clients that rest up to `pause` seconds after each write, while the plan causes its faults. Checks what they have
+    seen."""
     is_shared = isinstance(servers, LogServers)
     setting = Setting(servers.places, servers.ask_leader(_begin), seed, not is_shared, pause)
     writers = [Writer(setting, number + 1, _from(servers.places, number), PATIENCES[number % 2] if is_shared else PATIENT)
@@ -113,13 +114,13 @@ def run_round(servers: Servers, plan: Plan, seed: str, pause: float) -> Report:
 
 
 def _from(places: List[str], number: int) -> List[str]:
-    """The places, beginning with a different one for each client."""
+    """Returns the places, starting with a different one for each client."""
     first = number % len(places)
     return places[first:] + places[:first]
 
 
 def _begin(connection: Connection) -> int:
-    """Makes the registers, or sets them anew and removes the trail of the round before. Returns the last node before the next trail."""
+    """Makes the registers, or resets them and removes the previous round's trail. Returns the last node before the next trail."""
     if connection.ask("next", {})["next"] == 1:
         _apply(connection, [["new"]] * REGISTERS)
     while True:
@@ -138,7 +139,7 @@ def _apply(connection: Connection, operations: List[List[object]]) -> Reply:
 
 
 def _trail(connection: Connection, base: int) -> List[int]:
-    """The values of the batches in their order, and 0 for a node that has none."""
+    """Returns the batches' values in order, with 0 for a node that has none."""
     connection.ask_all([("flush", {}), ("pin", {})])
     after = connection.ask("next", {})["next"]
     trail: List[int] = []
@@ -151,7 +152,7 @@ def _trail(connection: Connection, base: int) -> List[int]:
 
 
 def _other_trails(servers: Servers, base: int, trail: List[int]) -> Iterator[str]:
-    """Servers of a log whose trail differs from the leader's, once they have all of its entries."""
+    """Yields a log's servers whose trail differs from the leader's, once they have all of its entries."""
     if not isinstance(servers, LogServers):
         return
     entry = servers.ask_leader(lambda connection: connection.ask("log", {}))["entry"]
@@ -181,7 +182,7 @@ def _has_written(writer: Writer, since: float) -> bool:
 
 
 def _wait_after(history: History, since: float) -> Optional[float]:
-    """How many seconds after a fault a batch that was sent after it was first acknowledged."""
+    """Returns how many seconds after a fault a batch that was sent after it was first acknowledged."""
     ends = [write.end - since for write in history.writes
             if write.outcome is Outcome.ACKNOWLEDGED and write.begin >= since and write.end is not None]
     return min(ends, default=None)

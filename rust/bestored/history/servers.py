@@ -1,5 +1,4 @@
-"""The servers of a history: one with a file, or three with a log. A server that ends is started again, as a service manager
-would do."""
+"""A history's servers: one with a file, or three with a log. A server that ends is restarted, as a service manager would do."""
 from __future__ import annotations
 
 import os
@@ -26,7 +25,7 @@ LOOK = 0.02
 
 
 class Server:
-    """A program that is started again this many seconds after its end."""
+    """A program that is restarted this many seconds after it ends."""
 
     def __init__(self, command: List[str], place: Path, rest: float) -> None:
         self.place = str(place)
@@ -49,7 +48,7 @@ class Server:
                 self._start()
 
     def change_command(self, command: List[str]) -> None:
-        """Sets the command that is run from the next start on."""
+        """Sets the command to run from the next start on."""
         self._command = command
 
     def send(self, how: signal.Signals) -> None:
@@ -58,7 +57,7 @@ class Server:
                 self._process.send_signal(how)
 
     def memory(self) -> int:
-        """The memory that it uses, in MiB."""
+        """Returns how much memory it uses, in MiB."""
         try:
             status = Path(f"/proc/{self._process.pid}/status").read_text()
         except OSError:
@@ -82,7 +81,7 @@ class Servers:
         self.members: List[Server] = []
 
     def leader(self) -> Optional[Server]:
-        """The server that takes writes now, if there is one."""
+        """Returns the server that accepts writes now, if there is one."""
         raise NotImplementedError
 
     @property
@@ -90,7 +89,7 @@ class Servers:
         return [member.place for member in self.members]
 
     def connect(self) -> Connection:
-        """A connection to the server that takes writes, once there is one."""
+        """Returns a connection to the server that accepts writes, once there is one."""
         until = time.monotonic() + PATIENCE
         while time.monotonic() < until:
             leader = self.leader()
@@ -103,15 +102,15 @@ class Servers:
         raise SystemExit(f"no server has taken writes for {PATIENCE:.0f} seconds\n{self.said()}")
 
     def ask_leader(self, ask: Callable[[Connection], T]) -> T:
-        """Runs this on a connection to the server that takes writes, and again if that server ends meanwhile."""
+        """Runs this on a connection to the server that accepts writes, and again if that server ends meanwhile."""
         return _ask_again(self.connect, ask)
 
     def ask_at(self, place: str, ask: Callable[[Connection], T]) -> T:
-        """The same on a connection to this server."""
+        """Does the same on a connection to this server."""
         return _ask_again(lambda: self.connect_to(place), ask)
 
     def connect_to(self, place: str) -> Connection:
-        """A connection to this server, once it accepts one."""
+        """Returns a connection to this server, once it accepts one."""
         until = time.monotonic() + PATIENCE
         while time.monotonic() < until:
             try:
@@ -121,11 +120,11 @@ class Servers:
         raise SystemExit(f"{place} has taken no connection for {PATIENCE:.0f} seconds\n{self.said()}")
 
     def said(self) -> str:
-        """The last lines of what the servers have said."""
+        """Returns the last lines that the servers have printed."""
         return "\n".join(Path(f"{place}.said").read_text()[-2000:] for place in self.places)
 
     def memory(self) -> int:
-        """The memory that the servers use, in MiB."""
+        """Returns how much memory the servers use, in MiB."""
         return sum(member.memory() for member in self.members)
 
     def __enter__(self) -> Servers:
@@ -139,7 +138,7 @@ class Servers:
 
 
 class FileServers(Servers):
-    """One server, which has a file."""
+    """A single server with a file."""
 
     def __init__(self, programs: Path, *options: str) -> None:
         super().__init__(programs)
@@ -169,7 +168,7 @@ class LogServers(Servers):
         return [self.program, "--socket", str(place), "--pages", str(PAGES), "--journal", str(JOURNAL), how, self.postgres.url]
 
     def leader(self) -> Optional[Server]:
-        """That of the last term, as one that was paused doesn't know at once that it no longer leads."""
+        """Returns the last term's leader, since one that was paused doesn't notice right away that it no longer leads."""
         terms = [(_log_of(member.place).get("term", 0), number) for number, member in enumerate(self.members)]
         term, last = max(terms)
         return self.members[last] if term else None
@@ -194,7 +193,7 @@ def _ask_again(connect: Callable[[], Connection], ask: Callable[[Connection], T]
 
 
 def _log_of(place: str) -> Reply:
-    """What a server says about its log, or nothing if it doesn't answer."""
+    """Returns what a server reports about its log, or nothing if it doesn't answer."""
     try:
         connection = Connection(place, 0.5)
     except (Gone, Late, Refused):
@@ -208,5 +207,5 @@ def _log_of(place: str) -> Reply:
 
 
 def _memory() -> Optional[str]:
-    """A folder in memory, if possible. What is in it outlives a killed process."""
+    """Returns a folder in memory, if possible. Its contents outlive a killed process."""
     return "/dev/shm" if os.access("/dev/shm", os.W_OK) else None

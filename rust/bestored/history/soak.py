@@ -1,14 +1,15 @@
 #!/usr/bin/env python3
-"""Random faults while clients write and read: is each history strictly serializable, and do writes continue soon?
+"""Causes random faults while clients write and read. Is each history strictly serializable, and do writes continue soon?
 
 usage: soak.py FOLDER [--minutes M] [--seed N] [--only file|log] [--pause SECONDS] [--round SECONDS]
 
-FOLDER has bestored, such as rust/target/release. Half of the time, 60 minutes in all, is for a server with a file, which is killed,
-ended and paused. The other half is for three servers with a log in PostgreSQL: their leader is killed, ended and paused, and their
-database is ended, hangs, or waits for a standby. Without PostgreSQL this half is left out. Eight clients write batches with
-`expected`, based on what they have read; three more read from the servers of a log; and each round is checked by itself. The same seed
-gives the same faults in the same order. Prints tables in Markdown, and exits with 1 if a history isn't strictly serializable or if
-writes continued too late.
+FOLDER has bestored, such as rust/target/release. The default is 60 minutes in total. Half of the time goes to a server with a
+file, which is killed, ended and paused. The other half goes to three servers with a log in PostgreSQL: their leader is killed,
+ended and paused, and their database is ended, hangs, or waits for a standby. Without PostgreSQL, this half is skipped.
+
+Eight clients write batches with `expected`, based on what they have read; three more read from the log's servers. Each round
+is checked separately. The same seed gives the same faults in the same order. It prints tables in Markdown, and exits with 1 if
+a history isn't strictly serializable or if writes continued too late.
 """
 from __future__ import annotations
 
@@ -59,7 +60,7 @@ def soak(servers: Servers, form: str, seconds: float, chosen: argparse.Namespace
 
 
 def fault_lines(reports: List[Report]) -> List[str]:
-    """A line for each fault: how often it happened, and how soon writes continued."""
+    """Returns a line for each fault: how many times it occurred, and how soon writes continued."""
     waits: Dict[Fault, List[float]] = {}
     for report in reports:
         for fault, wait in report.waits:

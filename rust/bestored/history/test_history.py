@@ -1,5 +1,5 @@
-"""Tests of the checker, with histories in which one thing is wrong, and short rounds with a real server. BESTORED names the program
-bestored; without it the rounds are skipped."""
+"""Tests of the checker, with histories that have one thing wrong, and short rounds with a real server. BESTORED names the program
+bestored; without it, the rounds are skipped."""
 from __future__ import annotations
 
 import os
@@ -29,7 +29,8 @@ def snapshot(number: int, values: Values) -> Snapshot:
 
 
 def sound() -> History:
-    """Four batches, one after the other, each between two reads. Batch n sets register n to 10 n, from second n to n + 0.4."""
+    """Returns four batches, one after another, each between two reads. Batch n sets register n to 10 n, from second n to n +
+    0.4."""
     history, values = History(), list(NO_VALUES)
     for number in range(1, 5):
         before = snapshot(number - 1, tuple(values))
@@ -45,11 +46,17 @@ class Checker(unittest.TestCase):
     """What the checker finds."""
 
     def check(self, history: History, *texts: str) -> None:
-        """The first violations have these texts."""
+        """Checks that the first violations have these texts."""
         found = list(violations(history))
         self.assertEqual(bool(found), bool(texts), found)
         for text in texts:
             self.assertTrue(any(text in it for it in found), found)
+
+    def check_longer(self, value: int, text: str) -> None:
+        """The trail has one batch more, with this value, and that violation is found."""
+        history = sound()
+        history.trail.append(value)
+        self.check(history, text)
 
     def test_sound(self) -> None:
         self.check(sound())
@@ -64,7 +71,7 @@ class Checker(unittest.TestCase):
         self.check(history)
 
     def test_later_read_is_older(self) -> None:
-        """Batch 4 isn't acknowledged; one read shows it, and a later one doesn't."""
+        """Batch 4 isn't acknowledged. One read shows it, and a later one doesn't."""
         history = sound()
         history.writes[3] = replace(history.writes[3], outcome=Outcome.UNKNOWN, end=None)
         self.check(history)
@@ -90,9 +97,7 @@ class Checker(unittest.TestCase):
         self.check(history)
 
     def test_write_twice(self) -> None:
-        history = sound()
-        history.trail.append(40)
-        self.check(history, "value 40 was written twice, as batch 4 and as batch 5")
+        self.check_longer(40, "value 40 was written twice, as batch 4 and as batch 5")
 
     def test_refused_write(self) -> None:
         history = sound()
@@ -100,12 +105,10 @@ class Checker(unittest.TestCase):
         self.check(history, "value 40 was refused, and is batch 4")
 
     def test_write_that_nobody_sent(self) -> None:
-        history = sound()
-        history.trail.append(50)
-        self.check(history, "batch 5 has the value 50, which nobody sent")
+        self.check_longer(50, "batch 5 has the value 50, which nobody sent")
 
     def test_number_that_goes_back(self) -> None:
-        """The last batch was acknowledged before the first one was sent."""
+        """The last batch was acknowledged before the first was sent."""
         history = sound()
         history.reads.clear()
         history.writes[3] = replace(history.writes[3], begin=0.1, end=0.2)
@@ -115,7 +118,7 @@ class Checker(unittest.TestCase):
         self.check(history)
 
     def test_order_that_differs(self) -> None:
-        """Two batches are the other way round in the trail."""
+        """Two batches are in the opposite order in the trail."""
         history = sound()
         history.trail[2:] = [40, 30]
         self.check(history, "value 40 was acknowledged as batch 4, and is batch 3", "batch 3 was to be written only on batch 3")
@@ -143,12 +146,12 @@ class Rounds(unittest.TestCase):
     folder = Path(BESTORED or "").parent
 
     def run_round(self, servers: Servers, faults: List[Fault]) -> Report:
-        """A round in which batches are written before each fault."""
+        """Runs a round in which batches are written before each fault."""
         seed = self.id()
         return run_round(servers, Given(seed, faults, BATCHES), seed, 0.01)
 
     def check(self, report: Report) -> None:
-        """Everything is as it should be. On a busy machine it takes longer."""
+        """Checks that everything is right. On a busy machine, writes take longer to continue."""
         self.assertEqual([*report.violations, *report.slow(3.0)], [])
         self.assertGreaterEqual(report.count(Outcome.ACKNOWLEDGED), BATCHES * len(report.waits))
         self.assertTrue(report.history.reads)

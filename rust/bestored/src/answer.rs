@@ -23,25 +23,25 @@ use std::time::Instant;
 /// The maximum number of live queries on one connection.
 pub const WATCHES: usize = 32;
 
-/// What the server can do beyond the first version of the protocol.
+/// The server's features beyond the first version of the protocol.
 const FEATURES: [&str; 7] = ["token", "run", "collect", "info", "clients", "kick", "text"];
 
 /// How many bytes of replies are collected before they are sent.
 const COLLECTED: usize = 1 << 16;
 
-/// What the reads of a connection see.
+/// What a connection's reads see.
 #[derive(Debug)]
 pub enum View<'v, 'p> {
     /// The current snapshot, for each read.
     Current(&'v mut ShelfPass),
-    /// One snapshot, kept since this time.
+    /// One snapshot, pinned at this time.
     Kept {
         snapshot: &'v ShelfSnapshot<'p>,
         since: Instant,
         /// How far `state` has been read.
         state: Option<Reading<'v>>,
     },
-    /// Nothing, since the snapshot was taken back.
+    /// Nothing, since the server ended the snapshot.
     Expired(&'v mut ShelfPass),
 }
 
@@ -54,7 +54,7 @@ impl<'v, 'p> View<'v, 'p> {
         }
     }
 
-    /// Returns since when a snapshot is kept, if one is.
+    /// Returns since when a snapshot has been pinned, if one is.
     pub fn since(&self) -> Option<Instant> {
         match self {
             View::Kept { since, .. } => Some(*since),
@@ -62,7 +62,8 @@ impl<'v, 'p> View<'v, 'p> {
         }
     }
 
-    /// Gives up the earlier memory of volumes that were carried on, unless a snapshot is kept. Returns the passes if they have changed.
+    /// Gives up the earlier memory of volumes that were carried on, unless a snapshot is pinned. Returns the passes if they have
+    /// changed.
     pub fn follow(&mut self) -> Result<Option<&ShelfPass>, Error> {
         let pass = match self {
             View::Current(pass) | View::Expired(pass) => pass,
@@ -107,7 +108,7 @@ impl<'v, 'p> View<'v, 'p> {
         }
     }
 
-    /// Refuses to wait for an entry while a snapshot is kept, since the entries may need its pages.
+    /// Refuses to wait for an entry while a snapshot is pinned, since the entries may need its pages.
     fn check_waits(&self, wanted: &wire::OfLog) -> Result<(), Failure> {
         match (self, wanted.entry) {
             (View::Kept { .. }, Some(_)) => Err(Failure::pinned()),
@@ -115,7 +116,7 @@ impl<'v, 'p> View<'v, 'p> {
         }
     }
 
-    /// Reads in the kept snapshot, otherwise in the current one.
+    /// Reads in the pinned snapshot, otherwise in the current one.
     pub fn read<T>(&mut self, read: impl FnOnce(&ShelfSnapshot<'_>) -> Result<T, Failure>) -> Result<T, Failure> {
         match self {
             View::Current(pass) => read(&pass.pin()?),
@@ -164,8 +165,8 @@ impl<'a> Desk<'a> {
         }
     }
 
-    /// Sends the collected replies, and waits for the client to read them. If reads have seen a snapshot since this time, the
-    /// wait ends once it has to be unpinned, and the rest is sent later.
+    /// Sends the collected replies, and waits for the client to read them. If reads have used a snapshot since this time, the
+    /// wait ends when it has to be unpinned, and the rest is sent later.
     pub fn send(&mut self, since: Option<Instant>) -> io::Result<()> {
         if self.out.is_empty() && !self.is_left {
             return Ok(());
@@ -183,7 +184,7 @@ impl<'a> Desk<'a> {
         self.add(Some(id), "ok", ok);
     }
 
-    /// Adds the reply to a request that did nothing.
+    /// Adds the reply to a request that was refused.
     pub fn refuse(&mut self, id: Option<u64>, failure: Failure) {
         self.add(id, "error", &failure.0);
     }
@@ -355,7 +356,7 @@ impl<'a> Desk<'a> {
         Ok(next)
     }
 
-    /// Returns a page of the batches that rebuild the kept snapshot, or the copy.
+    /// Returns a page of the batches that rebuild the pinned snapshot, or the copy.
     fn state(&self, view: &mut View<'_, '_>, from: &wire::From) -> Result<wire::State, Failure> {
         match (view, &self.copy) {
             (View::Kept { snapshot, state, .. }, _) => page::state(snapshot, state, from),
@@ -406,7 +407,7 @@ impl<'a> Desk<'a> {
         }
     }
 
-    /// Sends the reply before anything can be pushed.
+    /// Sends the reply before anything can be pushed for this watch.
     fn begin(&mut self, id: u64, reply: &impl Serialize, watch: Watch, since: Option<Instant>) -> io::Result<()> {
         self.reply(id, reply);
         self.send(since)?;

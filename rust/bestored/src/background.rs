@@ -40,7 +40,7 @@ fn wait(mut starter: UnixStream, process: &Process) -> io::Result<ExitCode> {
     let mut said = String::new();
     starter.read_to_string(&mut said)?;
     if !said.is_empty() {
-        // Whoever closed the output doesn't want to know.
+        // If the output was closed, no one wants to know.
         let _ = writeln!(io::stdout(), "bestored: process {} listens at {said}", process.number());
         return Ok(ExitCode::SUCCESS);
     }

@@ -1,5 +1,5 @@
-//! Carries on the volumes whose journals have grown, so that their memory is freed. A thread does this, and makes sure that nobody keeps
-//! what was carried on.
+//! Carries on the volumes whose journals have grown, so that their memory is freed. A thread does this, and makes sure that no
+//! one keeps the earlier memory.
 
 use crate::kept::Kept;
 use crate::server::Shared;
@@ -7,7 +7,7 @@ use bestore::Error;
 use std::sync::{Condvar, Mutex, MutexGuard, PoisonError, TryLockError};
 use std::time::Duration;
 
-/// How often the thread checks who still has what was carried on.
+/// How often the thread checks who still has earlier memory.
 const LOOK: Duration = Duration::from_millis(100);
 
 #[derive(Debug, Default)]
@@ -79,7 +79,7 @@ fn release(shared: &Shared) {
         Err(TryLockError::WouldBlock) => None,
     };
     if let Some(mut pass) = visits {
-        // If it fails, it is tried again.
+        // If this fails, it is tried again.
         let _ = pass.follow();
     }
 }

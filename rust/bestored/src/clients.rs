@@ -25,9 +25,9 @@ pub fn milliseconds(time: Duration) -> u64 {
 /// A client.
 #[derive(Debug)]
 pub struct Client {
-    /// Counts the connections.
+    /// The connection's number; connections are counted from the start.
     pub number: u64,
-    /// The number of its process, or 0 if the system doesn't give it.
+    /// The client's process number, or 0 if the system doesn't give it.
     pub process: u32,
     stream: Arc<UnixStream>,
     since: Instant,
@@ -44,7 +44,7 @@ struct Doing {
     command: Option<&'static str>,
 }
 
-/// How a volume identifies a pass. The numbers of passes start again when the volume is carried on.
+/// How a volume identifies a pass. The numbers of passes restart when the volume is carried on.
 #[derive(Clone, Copy, Debug, PartialEq, Eq)]
 pub struct Seat {
     pub pass: u64,
@@ -72,7 +72,7 @@ struct Pinned {
 impl Client {
     /// Records that the client has these passes of the volumes.
     pub fn takes<'a>(&self, passes: impl Iterator<Item = &'a Pass>) {
-        // If a client's passes can't be named, it only isn't found.
+        // If this fails, the client just can't be found by its passes.
         let seats = passes.map(Seat::of).collect::<bestore::Result<_>>();
         lock(&self.doing).seats = seats.unwrap_or_default();
     }
@@ -98,7 +98,7 @@ impl Client {
         lock(&self.doing).command = Some(command);
     }
 
-    /// Records that the command has been carried out.
+    /// Records that the command is finished.
     pub fn ends(&self) {
         lock(&self.doing).command = None;
     }
@@ -112,7 +112,8 @@ impl Client {
         lock(&self.doing).seats.get(volume) == Some(&seat)
     }
 
-    /// Returns the snapshot that the client has pinned in a volume, if the volume has been carried on since and has this generation now.
+    /// Returns the snapshot that the client has pinned in a volume, if the volume has been carried on since, and now has this
+    /// generation.
     fn reads_before(&self, volume: usize, generation: u64) -> Option<u64> {
         let doing = lock(&self.doing);
         let seat = doing.seats.get(volume)?;
@@ -211,7 +212,7 @@ impl Clients {
         )
     }
 
-    /// The client that has had a snapshot for longest of a volume before it got this generation.
+    /// Returns the client that has longest had a snapshot of a volume pinned from before this generation.
     pub fn reader_before(&self, volume: usize, generation: u64) -> Option<wire::OldestReader> {
         let connected = lock(&self.connected);
         let readers = connected.clients.values().filter_map(|client| {
@@ -241,7 +242,7 @@ impl Clients {
         }
     }
 
-    /// Lets the clients finish: what they have sent is answered, and they get some time to read the answers.
+    /// Lets the clients finish: what they have sent is answered, and they get some time to read the replies.
     pub fn end(&self) {
         for how in [Shutdown::Read, Shutdown::Both] {
             for client in lock(&self.connected).clients.values() {

@@ -15,7 +15,7 @@ use std::os::unix::net::UnixStream;
 use std::sync::Arc;
 use std::time::{Duration, Instant};
 
-/// How long a visitor may stay. A visitor is a client that came when all places were taken.
+/// How long a visitor may stay. A visitor is a client that arrived when all places were taken.
 const VISIT: Duration = Duration::from_secs(2);
 
 /// How long a visitor may take from a reply to its next request.
@@ -80,8 +80,8 @@ impl<'a> Connection<'a> {
         }
     }
 
-    /// Keeps a snapshot, and answers requests until the client unpins it or has to. Returns `None` if no snapshot is kept and the client
-    /// has been sent the reason.
+    /// Pins a snapshot, and answers requests until the client unpins it or has to. Returns `None` if no snapshot is pinned and
+    /// the client has been sent the reason.
     fn keep(&mut self, id: u64, pass: &mut ShelfPass) -> io::Result<Option<Turn>> {
         let pinned = pass.pin().map_err(Failure::from);
         let pinned = pinned.and_then(|snapshot| Ok((volumes::next(&snapshot)?, snapshot)));
@@ -109,7 +109,7 @@ impl<'a> Connection<'a> {
             {
                 return Ok(Turn::Expire);
             }
-            // If it fails, it is tried again, and the next read returns the error.
+            // If this fails, it is tried again, and the next read returns the error.
             if let Ok(Some(pass)) = view.follow() {
                 self.client.takes(pass.volumes().iter());
             }
@@ -142,7 +142,7 @@ impl<'a> Connection<'a> {
         }
     }
 
-    /// Sends the replies, and waits for more requests. If a snapshot has been kept for some time, it waits only for a moment.
+    /// Sends the replies, and waits for more requests. If a snapshot has been pinned for some time, it waits only for a moment.
     fn receive(&mut self, since: Option<Instant>) -> io::Result<Option<Turn>> {
         self.desk.send(since)?;
         let looks = since.map(|_| Instant::now() + pressure::LOOK);

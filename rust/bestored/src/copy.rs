@@ -1,4 +1,5 @@
-//! Copies of snapshots: what `state` reads after `collect`. A client may read one slowly, since it keeps no pages of the store.
+//! Copies of snapshots: what `state` reads after `collect`. A client may read a copy slowly, since a copy doesn't hold the
+//! store's pages.
 
 use crate::answer::View;
 use crate::failure::Failure;
@@ -8,7 +9,7 @@ use bestore::{Batch, Node, ShelfSnapshot, StateCopy};
 use bestore_client::wire::{self, ErrorName, ShownOperations};
 use std::sync::atomic::{AtomicUsize, Ordering};
 
-/// How many copies all clients together can have at the same time. Each copy takes at most as much memory as the pages of the store.
+/// How many copies all clients together can have at once. Each copy takes at most as much memory as the store's pages.
 const MOST: usize = 2;
 
 /// Counts the existing copies.
@@ -98,7 +99,7 @@ impl Volume {
 }
 
 impl Copy<'_> {
-    /// Returns the numbers of the copy. New nodes are made in the volume with the most free pages.
+    /// Returns the copy's numbers. New nodes are made in the volume with the most free pages.
     fn next(&self, roomiest: u32) -> wire::Next {
         let commits: Vec<u64> = self.volumes.iter().map(|volume| volume.commit).collect();
         let nexts: Vec<u64> = self.volumes.iter().map(|volume| volume.next).collect();

@@ -11,7 +11,7 @@ use std::path::Path;
 #[derive(Debug)]
 pub struct Disk {
     folder: CString,
-    /// How many bytes on the disk stay free.
+    /// How many bytes on the disk have to stay free.
     spare: u64,
 }
 

@@ -16,13 +16,13 @@ impl Failure {
         Self(Refusal::new(name, message))
     }
 
-    /// Makes an error with the message of its name.
+    /// Makes an error with its name's message.
     pub fn named(name: ErrorName) -> Self {
         let message = name.text();
         Self::new(name, message)
     }
 
-    /// A class that differs from the name's.
+    /// Sets a class that differs from the name's.
     pub fn of_class(mut self, class: Class) -> Self {
         self.0.class = Some(class);
         self
@@ -53,7 +53,7 @@ impl Failure {
         Self::named(ErrorName::Expired)
     }
 
-    /// The journal no longer has the entries up to this one.
+    /// Makes the error for a journal that no longer has the entries up to this one.
     pub fn journal_begins(entry: u64) -> Self {
         let message = format!(
             "the journal has no entries before {} any more; read the state, and then the journal from {entry} on",
@@ -62,12 +62,12 @@ impl Failure {
         Self::new(ErrorName::Expired, message).with("from", entry)
     }
 
-    /// Whether a batch was for another snapshot.
+    /// Returns whether a batch was for another snapshot.
     pub fn is_conflict(&self) -> bool {
         self.0.name == ErrorName::Conflict
     }
 
-    /// The server doesn't have an entry yet.
+    /// Makes the error for an entry that the server doesn't have yet.
     #[cfg(feature = "log")]
     pub fn not_reached(expected: u64, found: u64) -> Self {
         let message = format!("the server has {found} of the log's entries, and not {expected} yet; ask again");
@@ -75,13 +75,13 @@ impl Failure {
         failure.with("found", found)
     }
 
-    /// A request that has to name a volume, and doesn't.
+    /// Makes the error for a request that has to name a volume and doesn't.
     pub fn volume_missing(volumes: usize) -> Self {
         let message = format!("the request has to name one of the {volumes} volumes, counted from 0");
         Self::new(ErrorName::NoVolume, message).with("volumes", volumes)
     }
 
-    /// Commit numbers that don't match the volumes.
+    /// Makes the error for commit numbers that don't match the volumes.
     pub fn numbers(volumes: usize) -> Self {
         match volumes {
             1 => Self::bad_request("the server has one volume, so a commit number is one integer, not a list"),
@@ -144,7 +144,7 @@ impl From<Error> for Failure {
     }
 }
 
-/// The name of an error in the protocol.
+/// Returns an error's name in the protocol.
 fn name(error: &Error) -> ErrorName {
     match error {
         Error::PartialIndex { .. } => ErrorName::PartialIndex,

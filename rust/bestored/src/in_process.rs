@@ -9,7 +9,7 @@ use crate::share;
 use crate::tokens::Tokens;
 use bestore::Shelf;
 #[cfg(feature = "log")]
-use bestore::{Batch, Keeper, Store, Written};
+use bestore::{Batch, Keeper, MakeWrite, Store, Written};
 use std::error::Error;
 use std::io::{self, Read, Write};
 use std::net::Shutdown;
@@ -104,12 +104,7 @@ struct Log {
 
 #[cfg(feature = "log")]
 impl Keeper for Log {
-    fn keep(
-        &self,
-        pass: u64,
-        batch: &Batch,
-        write: &mut dyn FnMut() -> bestore::Result<Written>,
-    ) -> bestore::Result<(Written, u64)> {
+    fn keep(&self, pass: u64, batch: &Batch, write: MakeWrite<'_>) -> bestore::Result<(Written, u64)> {
         let kept = self.line.keep(pass, batch, write)?;
         let rows = self.line.take().into_iter().map(|row| (row.number, row.batch));
         let mut entries = self.entries.lock().unwrap_or_else(PoisonError::into_inner);

@@ -1,4 +1,4 @@
-//! What the server is doing, for the people who look after it.
+//! What the server is doing, for the people who run it.
 
 use crate::answer::View;
 use crate::clients::{Client, Seat};
@@ -34,7 +34,7 @@ pub fn info(shared: &Shared, view: &View<'_, '_>) -> Result<wire::Info, Failure>
     })
 }
 
-/// Returns who keeps a volume's oldest snapshot. With several volumes, it is the snapshot that was pinned first.
+/// Returns who holds a volume's oldest snapshot. With several volumes, it is the snapshot that was pinned first.
 fn oldest(shared: &Shared, all: &[Status]) -> Option<wire::OldestReader> {
     let stores = shared.kept.shelf().volumes();
     let readers = stores
@@ -51,8 +51,8 @@ fn oldest(shared: &Shared, all: &[Status]) -> Option<wire::OldestReader> {
     readers.max_by_key(|reader| reader.milliseconds)
 }
 
-/// Returns who keeps the oldest snapshot of a volume. A snapshot from before the volume was carried on is older than any that the status
-/// knows.
+/// Returns who holds the oldest snapshot of a volume. A snapshot from before the volume was carried on is older than any that the
+/// status knows.
 fn oldest_of(shared: &Shared, volume: usize, store: &Store, status: &Status) -> Option<wire::OldestReader> {
     let generation = store.generation();
     let before = shared.clients.reader_before(volume, generation);

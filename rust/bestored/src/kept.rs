@@ -39,7 +39,7 @@ pub struct Opening<'a> {
     pub run: &'a str,
     pub tokens: &'a Arc<Tokens>,
     pub notifier: &'a Notifier,
-    /// Readable once a signal has come.
+    /// Becomes readable after a signal.
     pub signals: &'a File,
 }
 
@@ -94,8 +94,8 @@ impl InFiles {
         }
     }
 
-    /// Has a thread rewrite the states that are due, unless a thread is already doing so or the disk has no space for them beside the
-    /// files.
+    /// Has a thread rewrite the states that are due, unless a thread is already doing so or the disk has no space for them in
+    /// addition to the files.
     fn compact_if_due(&self) {
         if !self.saved.is_due() || !self.disk.has_room(self.sizes().bytes) {
             return;
@@ -116,7 +116,7 @@ impl InFiles {
         }
     }
 
-    /// Saves what was written, after any state that is being written.
+    /// Saves what was written, after any state that is still being written.
     fn finish(&self) -> saved::Result<()> {
         let compacting = self.compacting.lock().unwrap_or_else(PoisonError::into_inner).take();
         // If the thread has panicked, the file still has its entries.
@@ -148,7 +148,7 @@ pub fn start(_: &Arc<Shared>) -> io::Result<()> {
 }
 
 impl Kept {
-    /// Opens the volumes. Returns `None` if a signal came while the database of a log couldn't be reached.
+    /// Opens the volumes. Returns `None` if a signal arrived while the database of a log couldn't be reached.
     pub fn open(opening: Opening<'_>) -> Result<Option<Self>, Box<dyn Error>> {
         let Opening { options, tokens, .. } = opening;
         if options.log.is_some() {

@@ -9,7 +9,7 @@ use std::os::unix::net::UnixStream;
 use std::sync::Arc;
 use std::time::{Duration, Instant};
 
-/// How long half a line may wait for the rest.
+/// How long half a line may wait for the other half.
 const PATIENCE: Duration = Duration::from_secs(30);
 
 /// The initial capacity in bytes.
@@ -18,7 +18,7 @@ const ROOM: usize = 1 << 14;
 /// The outcome of reading.
 #[derive(Debug, PartialEq, Eq)]
 pub enum Received {
-    /// Some bytes came.
+    /// Some bytes arrived.
     Some,
     /// The time is up.
     Late,
@@ -35,12 +35,12 @@ pub enum Received {
 pub struct Lines {
     stream: Arc<UnixStream>,
     bytes: Vec<u8>,
-    /// How many of the bytes were received. The others are free space.
+    /// How many of the bytes were received. The rest is free space.
     filled: usize,
     taken: usize,
     /// How many bytes were searched for the end of a line.
     searched: usize,
-    /// Since when there has been half a line.
+    /// Since when there has been only half a line.
     half_since: Option<Instant>,
     patience: Duration,
 }
@@ -114,7 +114,7 @@ impl Lines {
         self.receive()
     }
 
-    /// Forgets the lines that were taken, and the memory of a long one.
+    /// Drops the lines that were taken, and the memory of a long one.
     fn drop_taken(&mut self) {
         self.bytes.copy_within(self.taken..self.filled, 0);
         self.filled -= self.taken;

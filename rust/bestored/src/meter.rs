@@ -5,10 +5,10 @@ use std::sync::atomic::{AtomicU64, Ordering};
 use std::sync::{Mutex, PoisonError};
 use std::time::{Duration, Instant};
 
-/// How many past seconds are counted.
+/// How many of the last seconds are counted.
 const SECONDS: u64 = 10;
 
-/// How many ranges of times are counted: four for each power of two of µs, up to an hour.
+/// How many ranges of times are counted: four for each power of two in µs, up to an hour.
 const SIZES: usize = 128;
 
 /// The writes of one second, by how long they took.
@@ -38,7 +38,7 @@ pub struct Meter {
     seconds: Mutex<Vec<Second>>,
 }
 
-/// What was counted in the last seconds, and how long these writes took.
+/// How many writes there were in the last seconds, and how long they took.
 #[derive(Clone, Debug, Default, PartialEq, Eq)]
 pub struct Rate {
     pub per_second: u64,
@@ -84,7 +84,8 @@ fn longest_of(size: usize) -> u64 {
     }
 }
 
-/// Returns the time within which this share of the writes was made. There must be at least one write.
+/// Returns the time within which this percentage of the writes was made. There must be at least one
+/// write.
 fn percentile(sizes: &[u64; SIZES], hundredths: u64) -> u64 {
     let wanted = (sizes.iter().sum::<u64>() * hundredths + 99) / 100;
     let mut seen = 0;

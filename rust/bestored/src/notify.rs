@@ -5,7 +5,7 @@ use std::env;
 use std::ffi::OsString;
 use std::time::{Duration, Instant};
 
-/// How much more time each message asks for, while the server waits for a database.
+/// How much more time each message requests while the server waits for a database.
 const EXTENSION: Duration = Duration::from_secs(30);
 
 /// The address that the server notifies, if there is one.
@@ -17,7 +17,7 @@ pub struct Notifier {
     last: Instant,
 }
 
-/// Returns how often to send a message to a watchdog that waits this many µs. `process` is the process that it watches, if it names one.
+/// Returns how often to notify a watchdog that waits this many µs. `process` is the process that it watches, if it names one.
 fn interval(wait: Option<&str>, process: Option<&str>, own: u32) -> Option<Duration> {
     let wait: u64 = wait?.parse().ok()?;
     let is_own = process.map_or(true, |process| process.parse() == Ok(own));
@@ -25,7 +25,7 @@ fn interval(wait: Option<&str>, process: Option<&str>, own: u32) -> Option<Durat
 }
 
 impl Notifier {
-    /// Reads the settings from the environment of the process.
+    /// Reads the settings from the process's environment.
     pub fn of_environment() -> Self {
         let text = |name| env::var(name).ok();
         let (wait, process) = (text("WATCHDOG_USEC"), text("WATCHDOG_PID"));

@@ -9,7 +9,7 @@ use std::time::Duration;
 /// The maximum number of passes of a store.
 const MOST_PASSES: u64 = 63;
 
-/// Passes of the store for the server's own use: for live queries, and for clients that come when all places are taken.
+/// Passes of the store for the server's own use: for live queries, and for clients that arrive when all places are taken.
 const OWN_PASSES: u64 = 2;
 
 /// Passes of the store that a shared log needs.
@@ -18,13 +18,13 @@ const LOG_PASSES: u64 = 2;
 /// How many bytes stay free by default on the disk of a kept file.
 const SPARE: u64 = 1 << 20;
 
-/// The log that machines share, and whether this server begins as its leader.
+/// The log that machines share, and whether this server starts as its leader.
 #[derive(Clone, Debug)]
 #[cfg_attr(not(feature = "log"), allow(dead_code))]
 pub struct InLog {
     pub url: String,
     pub leads: bool,
-    /// The file that has the password.
+    /// The file with the password.
     pub passfile: Option<PathBuf>,
 }
 
@@ -33,7 +33,7 @@ pub struct InLog {
 pub struct Options {
     /// The path of the socket, if it was given.
     pub socket: Option<PathBuf>,
-    /// Whether the program ends once the server listens.
+    /// Whether the command returns once the server is listening.
     pub background: bool,
     pub keep: Option<PathBuf>,
     pub every: Option<Duration>,
@@ -45,10 +45,10 @@ pub struct Options {
     pub pages: u64,
     pub passes: u64,
     pub commits: u64,
-    /// After how many bytes of entries a volume's journal in memory is freed, if that was given.
+    /// After how many bytes of entries to free a volume's journal in memory, if given.
     pub journal: Option<u64>,
     pub hold: Duration,
-    /// Requests that take longer are reported.
+    /// Requests that take longer than this are reported.
     pub slow: Option<Duration>,
 }
 

@@ -23,7 +23,7 @@ fn check(answer: libc::c_int) -> io::Result<libc::c_int> {
     }
 }
 
-/// Sends as many of the bytes as the socket takes at once.
+/// Sends as many of the bytes as the socket takes immediately.
 pub fn send_now(stream: &UnixStream, bytes: &[u8]) -> io::Result<usize> {
     let flags = libc::MSG_DONTWAIT | libc::MSG_NOSIGNAL;
     // SAFETY: the pointer and the length are those of the slice.
@@ -44,7 +44,7 @@ pub fn wait_readable<const N: usize>(descriptors: [RawFd; N], time: Option<Durat
     wait(descriptors, libc::POLLIN, time)
 }
 
-/// Waits until the socket takes more, or for this time.
+/// Waits until the socket can take more, or for this time.
 pub fn wait_writable(stream: &UnixStream, time: Duration) -> io::Result<()> {
     wait([stream.as_raw_fd()], libc::POLLOUT, Some(time)).map(drop)
 }
@@ -68,7 +68,8 @@ fn wait<const N: usize>(
     }
 }
 
-/// Returns a descriptor that becomes readable when a signal comes that ends the program. Threads made later don't get these signals.
+/// Returns a descriptor that becomes readable when a signal arrives that ends the program. Threads made later don't get these
+/// signals.
 pub fn ending_signals() -> io::Result<File> {
     let mut signals = MaybeUninit::uninit();
     // SAFETY: `sigemptyset` initialises the set, which the others change or read.
@@ -83,7 +84,7 @@ pub fn ending_signals() -> io::Result<File> {
     }
 }
 
-/// Returns how many bytes this user may still use on the disk that has this file, or `None` if the file system doesn't say.
+/// Returns how many bytes this user can still use on the disk with this file, or `None` if the file system doesn't say.
 pub fn free_space(path: &CStr) -> io::Result<Option<u64>> {
     let mut found = MaybeUninit::<libc::statvfs>::uninit();
     // SAFETY: the path ends with a zero byte, and the call fills `found` if it succeeds.
@@ -104,7 +105,7 @@ pub fn end_program() {
     unsafe { libc::kill(libc::getpid(), libc::SIGTERM) };
 }
 
-/// Runs `make` with this umask: the files that it makes have none of these permissions, and nor do files that other threads make
+/// Runs `make` with this umask: the files that it makes have none of these permissions. Neither do files that other threads make
 /// meanwhile.
 pub fn with_mask<T>(mask: libc::mode_t, make: impl FnOnce() -> T) -> T {
     // SAFETY: the call always succeeds.
@@ -174,7 +175,7 @@ fn replace_by_nothing(descriptor: RawFd) -> io::Result<()> {
     check(unsafe { libc::dup2(nothing.as_raw_fd(), descriptor) }).map(drop)
 }
 
-/// Takes the lock of a file or folder, if nobody holds it. The lock is released when the file is closed.
+/// Takes the lock of a file or folder, if no one holds it. The lock is released when the file is closed.
 pub fn try_lock(file: &File) -> io::Result<()> {
     // SAFETY: the descriptor is open.
     check(unsafe { libc::flock(file.as_raw_fd(), libc::LOCK_EX | libc::LOCK_NB) }).map(drop)

@@ -7,7 +7,7 @@ use std::os::unix::net::UnixStream;
 use std::sync::{Arc, Mutex, MutexGuard, PoisonError, TryLockError};
 use std::time::{Duration, Instant};
 
-/// How long a client may leave what is sent to it unread.
+/// How long a client may leave data unread.
 const PATIENCE: Duration = Duration::from_secs(30);
 
 /// How often a thread that waits for a client checks whether it has something else to do.
@@ -22,7 +22,7 @@ struct Unsent {
 }
 
 impl Unsent {
-    /// Adds lines. If nothing is waiting before them, what the socket takes immediately isn't copied.
+    /// Adds lines. If nothing else is waiting, whatever the socket takes immediately isn't copied.
     fn add(&mut self, stream: &UnixStream, lines: &[u8]) -> io::Result<()> {
         let sent = match self.bytes.is_empty() {
             true => send_some(stream, lines)?,
@@ -96,7 +96,7 @@ impl Outbox {
         Ok(true)
     }
 
-    /// The right to push lines, if nothing is on its way: the rest of the last line is sent first.
+    /// Returns the right to push lines, unless something is being sent. The rest of the last line is sent first.
     pub fn pusher(&self) -> Option<Pusher<'_>> {
         let unsent = match self.unsent.try_lock() {
             Ok(unsent) => unsent,
@@ -172,7 +172,7 @@ mod tests {
         lines
     }
 
-    /// Reads what comes until the end, in a thread of its own.
+    /// Reads everything until the end, in a separate thread.
     fn read_all(mut client: UnixStream) -> thread::JoinHandle<Vec<u8>> {
         thread::spawn(move || {
             let mut read = Vec::new();

@@ -1,4 +1,4 @@
-//! Replies in pages: as much as fits on a line.
+//! Replies in pages: as much as fits on one line.
 
 use crate::answer::View;
 use crate::failure::Failure;
@@ -25,7 +25,7 @@ impl Room {
         }
     }
 
-    /// Uses space for an item. Returns whether there is space for another one.
+    /// Uses space for an item. Returns whether there is space for another.
     pub fn take(&mut self, bytes: usize) -> bool {
         self.bytes = self.bytes.saturating_sub(bytes);
         self.bytes > 0
@@ -116,7 +116,7 @@ pub fn journal(view: &View<'_, '_>, from: &wire::JournalFrom) -> Result<wire::Jo
     Ok(page)
 }
 
-/// How far a volume's batches have been read: the index of the next one.
+/// How far a volume's batches have been read: the index of the next batch.
 #[derive(Debug)]
 pub struct Reading<'s> {
     volume: u32,

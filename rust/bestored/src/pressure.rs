@@ -1,4 +1,4 @@
-//! Snapshots that keep memory while writes need it: pages, or a store that was carried on.
+//! Snapshots that hold memory while writes need it: pages, or a store that was carried on.
 
 use bestore::{Batch, Error, Pass, Result, Retry, Written};
 use std::sync::atomic::{AtomicU64, Ordering};
@@ -8,23 +8,23 @@ use std::time::{Duration, Instant};
 /// How often a connection with a snapshot checks whether it has to unpin it.
 pub const LOOK: Duration = Duration::from_millis(50);
 
-/// How long a snapshot is kept while something waits for its memory.
+/// How long a snapshot may stay while something waits for its memory.
 const AT_LEAST: Duration = Duration::from_secs(1);
 
-/// How long a write waits for pages, and how long before it tries again, at first and later.
+/// How long a write waits for pages, and how long it pauses before it tries again, at first and later.
 const WAIT: Duration = Duration::from_secs(3);
 const FIRST_TRY: Duration = Duration::from_millis(1);
 const TRY: Duration = Duration::from_millis(10);
 
-/// Whether writes wait for memory that snapshots keep.
+/// Whether writes are waiting for memory that snapshots hold.
 #[derive(Debug)]
 pub struct Pressure {
-    /// How long a snapshot is kept if no write is waiting.
+    /// How long a snapshot may stay if no write is waiting.
     hold: Duration,
     /// How long a write waits for pages.
     wait: Duration,
     begin: Instant,
-    /// When a write last waited, in milliseconds since the start, or 0 if none did.
+    /// When a write last waited, in milliseconds since the start, or 0 if none has.
     last: AtomicU64,
 }
 
@@ -50,18 +50,18 @@ impl Pressure {
         age >= self.hold || age >= AT_LEAST && self.is_on()
     }
 
-    /// Records that something waits for memory that a snapshot keeps.
+    /// Records that something is waiting for memory that a snapshot holds.
     pub fn waits(&self) {
         self.last.store(self.now(), Ordering::Relaxed);
     }
 
-    /// Returns whether a write waits, or did a moment ago.
+    /// Returns whether a write is waiting, or was a moment ago.
     pub fn is_on(&self) -> bool {
         let last = self.last.load(Ordering::Relaxed);
         last != 0 && self.now().saturating_sub(last) <= 2 * LOOK.as_millis() as u64
     }
 
-    /// Writes the batch. While other clients' snapshots keep the pages that it needs, it waits for them for a limited time. Calls `made`
+    /// Writes the batch. While other clients' snapshots hold the pages that it needs, it waits for a limited time. Calls `made`
     /// with what was written once it is in memory.
     pub fn write(
         &self,
@@ -93,7 +93,7 @@ impl Pressure {
     }
 }
 
-/// How often the library retries calls of a connection's pass: only if another pass is busy.
+/// How many times the library retries calls of a connection's pass: only if another pass is busy.
 pub fn retry() -> Retry {
     Retry {
         full: 0,
@@ -104,15 +104,15 @@ pub fn retry() -> Retry {
 #[cfg(test)]
 mod tests {
     use super::*;
-    use bestore::{Keeper, Limits, Store};
+    use bestore::{Keeper, Limits, MakeWrite, Store};
     use std::sync::{Arc, Mutex};
 
-    /// Keeps no writes. Before some of them another pass pins a snapshot, and writes until no page is free. It unpins the snapshot as
-    /// soon as the write has found none.
+    /// Doesn't keep writes. Before some of them, another pass pins a snapshot and writes until no page is free. It unpins the
+    /// snapshot as soon as the write has found no page.
     #[derive(Debug)]
     struct Busy {
         other: Mutex<Pass>,
-        /// Before how many writes it still does so, and how many there were.
+        /// Before how many more writes it does so, and how many writes there were.
         left: AtomicU64,
         writes: AtomicU64,
     }
@@ -128,7 +128,7 @@ mod tests {
     }
 
     impl Keeper for Busy {
-        fn keep(&self, _: u64, _: &Batch, write: &mut dyn FnMut() -> Result<Written>) -> Result<(Written, u64)> {
+        fn keep(&self, _: u64, _: &Batch, write: MakeWrite<'_>) -> Result<(Written, u64)> {
             self.writes.fetch_add(1, Ordering::Relaxed);
             let mut other = self.other.lock().unwrap();
             if self.left.load(Ordering::Relaxed) > 0 {
@@ -146,7 +146,7 @@ mod tests {
         }
     }
 
-    /// Returns the outcome of a write, and how often it was tried, if another pass is busy for this many tries.
+    /// Returns the outcome of a write, and how many times it was tried, if another pass is busy for this many tries.
     fn write_beside(store: &Store, busy: u64, batch: &Batch) -> (Result<Written>, u64) {
         let mut other = store.pass().unwrap();
         other.set_retry(Retry::NEVER);

@@ -10,7 +10,7 @@ use std::collections::VecDeque;
 /// How many parsed queries a connection keeps.
 const KEPT: usize = 4;
 
-/// The last queries on a connection, the latest first.
+/// The last queries on a connection, latest first.
 #[derive(Debug, Default)]
 pub struct Queries(VecDeque<Parsed>);
 
@@ -19,7 +19,7 @@ pub struct Queries(VecDeque<Parsed>);
 struct Parsed {
     text: String,
     prepared: Prepared,
-    /// The count for the next page by number, so that an answer's pages are counted only once.
+    /// The count for the next page by number, so that the pages of an answer are counted only once.
     next: Option<Count>,
 }
 
@@ -86,7 +86,7 @@ impl Queries {
     }
 }
 
-/// Returns an error if the given parameters don't go together. The error says what would be right.
+/// Returns an error if the given parameters can't be combined. The error says what would be right.
 fn check_together(query: &wire::Query<'_>) -> Result<(), Failure> {
     let by_number = query.from != 0 || query.uncounted;
     let wrong = match (&query.by, query.any) {

@@ -14,8 +14,8 @@ const MOST: Duration = Duration::from_secs(60);
 /// How often to check the journals.
 const LOOK: Duration = Duration::from_millis(2);
 
-/// Waits until each volume has the entry with its number. Later reads of the current snapshot include these entries. If a snapshot is kept,
-/// the wait ends when the snapshot has to be unpinned.
+/// Waits until each volume has the entry with its number. Later reads of the current snapshot include these entries. If a
+/// snapshot is pinned, the wait ends when it has to be unpinned.
 pub fn reach(view: &View<'_, '_>, pressure: &Pressure, reach: &wire::Reach) -> Result<wire::Commit, Failure> {
     let wanted = numbers(&reach.commit, view.volumes())?;
     let within = reach.within.map_or(WITHIN, Duration::from_millis).min(MOST);

@@ -27,7 +27,7 @@ use std::sync::{Arc, Mutex, MutexGuard, PoisonError, TryLockError};
 use std::thread;
 use std::time::{Duration, Instant, SystemTime};
 
-/// How many connections there may be beyond those that have a pass: these wait for a moment to get a pass.
+/// How many connections may wait for a moment to get a pass, in addition to those that have one.
 const WAITING: usize = 16;
 
 /// How long a connection waits for a pass, since a client that is just leaving may free one.
@@ -42,7 +42,7 @@ const AGAIN: Duration = Duration::from_millis(5);
 /// The maximum number of bytes in a first request that asks for that place.
 const GREETING: usize = 256;
 
-/// How often, at most, to report that all places are taken.
+/// The minimum time between reports that all places are taken.
 const SAID: Duration = Duration::from_secs(10);
 
 /// What all connections share.
@@ -59,7 +59,7 @@ pub struct Shared {
     pub carrying: Carrying,
     /// When the server last reported that all places are taken.
     pub is_full: Mutex<Option<Instant>>,
-    /// The pass for clients that get no other pass: each has it for a moment.
+    /// The pass for clients that get no other. Each has it for a moment.
     pub visits: Mutex<ShelfPass>,
     /// A different string for each run.
     pub run: String,
@@ -100,7 +100,7 @@ pub fn run(
     shared.kept.finish()
 }
 
-/// Listens, and reports that to whoever started the server.
+/// Listens, and reports this to the process that started the server.
 fn listen(place: Place, starter: Option<Starter>, run: &str) -> io::Result<Socket> {
     let path = place.path().map(PathBuf::from);
     let socket = place.listen()?;
@@ -130,7 +130,7 @@ fn accept(listener: &UnixListener, notifier: &mut Notifier, signals: &File, shar
     (0..most).take_while(|_| take_client(listener, shared)).count();
 }
 
-/// Accepts a client that has connected. Returns whether there was one.
+/// Accepts a waiting client. Returns whether there was one.
 fn take_client(listener: &UnixListener, shared: &Arc<Shared>) -> bool {
     match listener.accept() {
         Ok((stream, _)) => welcome(shared, Arc::new(stream)),
@@ -176,7 +176,7 @@ fn welcome(shared: &Arc<Shared>, stream: Arc<UnixStream>) {
     }
 }
 
-/// Refuses a client for which there is no place, and reports that from time to time.
+/// Refuses a client that there is no place for, and reports that from time to time.
 fn refuse_for_now(shared: &Shared, stream: &UnixStream) {
     let failure = no_pass(shared);
     let mut said = shared.is_full.lock().unwrap_or_else(PoisonError::into_inner);
@@ -214,7 +214,7 @@ fn serve(shared: &Shared, client: &Client, stream: Arc<UnixStream>) {
 }
 
 fn talk(shared: &Shared, client: &Client, stream: Arc<UnixStream>, pass: &mut ShelfPass, is_visit: bool) {
-    // An error ends the connection, and nobody is left to report it to.
+    // An error ends the connection, and there is no one left to report it to.
     let _ = Connection::new(shared, client, stream, is_visit).run(pass);
 }
 
@@ -244,7 +244,7 @@ fn take_pass(shared: &Shared) -> bestore::Result<ShelfPass> {
     }
 }
 
-/// Takes the visitors' pass, once nobody else holds it.
+/// Takes the visitors' pass once no one else has it.
 fn take_visit(shared: &Shared) -> Option<MutexGuard<'_, ShelfPass>> {
     let until = Instant::now() + FOR_VISIT;
     loop {
@@ -257,14 +257,14 @@ fn take_visit(shared: &Shared) -> Option<MutexGuard<'_, ShelfPass>> {
     }
 }
 
-/// All passes for clients are taken.
+/// Makes the error for a client when all passes are taken.
 pub fn no_pass(shared: &Shared) -> Failure {
     let clients = shared.options.passes;
     let message = format!("every place for a client is taken ({clients}); try again once one is free");
     Failure::new(ErrorName::NoPass, message).with("clients", clients)
 }
 
-/// Sends the client the reason why there is no connection, if the client takes it immediately.
+/// Sends the client the reason for refusing it, if the client takes it immediately.
 fn refuse(stream: &UnixStream, failure: &Failure) {
     if let Ok(body) = serde_json::to_string(&failure.0) {
         // The server doesn't wait for a client that doesn't read the reason.

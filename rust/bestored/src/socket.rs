@@ -1,4 +1,4 @@
-//! The socket at which the server listens.
+//! The socket that the server listens on.
 
 use crate::os;
 use bestore_client::socket::user;
@@ -11,7 +11,7 @@ use std::path::{Path, PathBuf};
 use std::thread;
 use std::time::Duration;
 
-/// How often to retry taking a lock that another starting server holds, every 0.1 seconds.
+/// How many times to retry taking a lock that another starting server holds, every 0.1 seconds.
 const TRIES: u32 = 50;
 
 /// A listening socket, which is removed at the end if this program made it.
@@ -24,9 +24,9 @@ pub struct Socket {
 /// Where the server is going to listen.
 #[derive(Debug)]
 pub enum Place {
-    /// At the socket that systemd has passed.
+    /// On the socket that systemd has passed.
     Passed(UnixListener),
-    /// At a path where nobody listens, in a folder that others can't change.
+    /// At a path where no one is listening, in a folder that others can't change.
     Path(PathBuf),
 }
 
@@ -63,7 +63,7 @@ impl Place {
         }
     }
 
-    /// Returns the path at which the server is going to listen, unless systemd has passed the socket.
+    /// Returns the path where the server is going to listen, unless systemd has passed the socket.
     pub fn path(&self) -> Option<&Path> {
         match self {
             Self::Passed(_) => None,
@@ -132,8 +132,8 @@ fn open_folder(folder: &Path) -> io::Result<File> {
     Ok(opened)
 }
 
-/// Opens the folder of a default path, or creates it. Since anybody may have created it before, it has to belong to the user: others may
-/// not write in it, and it must not be a link to another folder.
+/// Opens the folder of a default path, or creates it. Since anyone may have created it before, it has to belong to the user.
+/// Others may not write in it, and it must not be a link to another folder.
 fn open_own_folder(folder: &Path) -> io::Result<File> {
     let opened = open_or_make(folder, libc::O_NOFOLLOW)?;
     let found = opened.metadata()?;
@@ -184,7 +184,7 @@ fn lock(folder: File) -> io::Result<File> {
     ))
 }
 
-/// What is at a path where nobody listens.
+/// What is at a path where no one is listening.
 #[derive(Clone, Copy, Debug, PartialEq, Eq)]
 enum Found {
     Nothing,

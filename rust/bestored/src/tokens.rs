@@ -1,4 +1,4 @@
-//! The tokens of writes: a batch that comes again with its token isn't written again, but gets the first reply.
+//! The tokens of writes: if a batch is sent again with its token, it isn't written again, but gets the first reply.
 
 use bestore::saved::TOKENS;
 use bestore_client::wire::Written;
@@ -46,7 +46,7 @@ pub struct Writing<'a> {
 }
 
 impl Tokens {
-    /// For a server with this many volumes.
+    /// Makes a table for a server with this many volumes.
     pub fn new(volumes: usize) -> Self {
         let tokens = Self {
             table: Mutex::default(),
@@ -56,7 +56,7 @@ impl Tokens {
         tokens
     }
 
-    /// Remembers as many tokens as a server with this many volumes.
+    /// Makes room for as many tokens as a server with this many volumes remembers.
     pub fn make_room(&self, volumes: usize) {
         self.lock().most = TOKENS * volumes.max(1);
     }
@@ -114,7 +114,7 @@ impl Writing<'_> {
 impl Drop for Writing<'_> {
     fn drop(&mut self) {
         let mut table = self.tokens.lock();
-        // Another server's write with this token may have come meanwhile.
+        // Another server's write with this token may have arrived meanwhile.
         if let Some(Known::Writing) = table.known.get(&self.token) {
             table.known.remove(&self.token);
             self.tokens.changed.notify_all();

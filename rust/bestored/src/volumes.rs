@@ -11,7 +11,7 @@ fn is_of_indices(operation: &Operation<'_>) -> bool {
     matches!(operation, Operation::MakeIndex { .. } | Operation::RemoveIndex { .. })
 }
 
-/// Returns whether the operations are done in each volume: they only make and remove indices, and no volume is given.
+/// Returns whether the operations go to every volume: they only make and remove indices, and no volume is given.
 pub fn is_for_all(write: &wire::Write, volumes: usize) -> bool {
     let mut operations = write.operations.batch.operations();
     volumes > 1 && write.volume.is_none() && operations.len() > 0 && operations.all(|one| is_of_indices(&one))
@@ -41,7 +41,7 @@ pub fn write(
     Ok(shown(Some(volume), &written.map_err(|error| error.in_volume(volume))?))
 }
 
-/// What was written; with the volume, if there are several.
+/// Shows what was written, with the volume if there are several.
 pub fn shown(volume: Option<u32>, written: &Written) -> wire::Written {
     let node = |number: &u64| match volume {
         None => *number,
@@ -72,7 +72,7 @@ fn place(view: &View<'_, '_>, write: &wire::Write) -> Result<(u32, Batch), Failu
     }
 }
 
-/// Returns the number that the volume's journal has to have.
+/// Returns the length that the volume's journal has to have.
 fn expected(write: &wire::Write, volume: u32, volumes: usize) -> Result<Option<u64>, Failure> {
     match &write.expected {
         None => Ok(None),

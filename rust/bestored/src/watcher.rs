@@ -1,8 +1,8 @@
 //! Live queries: one thread runs them after writes, and pushes what changed.
 //!
-//! They are refreshed from what was written since the last round. That is little, so refreshing an answer of 96 nodes or more takes less
-//! time than running the whole query. For a smaller answer the library runs the whole query. Writers that find the lock taken meanwhile try
-//! again.
+//! They are refreshed from what was written since the last round. That is usually little, so refreshing an answer of 96 nodes or
+//! more takes less time than running the whole query. For a smaller answer, the library runs the whole query. Writers that find
+//! the lock taken meanwhile try again.
 
 use crate::failure::Failure;
 use crate::kept::Kept;
@@ -58,14 +58,14 @@ impl Watch {
         }
     }
 
-    /// Returns whether the snapshot has everything that was found, and more. If the snapshot has less of a volume, it was pinned before the
-    /// watch began, and the watch's first answer has already begun another round.
+    /// Returns whether the snapshot has everything that was found, and more. If the snapshot has less of a volume, it was pinned
+    /// before the watch began, and the watch's first answer has already started another round.
     fn is_behind(&self, snapshot: &ShelfSnapshot<'_>) -> bool {
         let mut both = self.numbers.iter().copied().zip(snapshot.numbers());
         both.all(|(own, now)| own <= now) && snapshot.number() > self.commit()
     }
 
-    /// The sum of the numbers.
+    /// Returns the sum of the numbers.
     fn commit(&self) -> u64 {
         self.numbers.iter().sum()
     }
@@ -92,8 +92,8 @@ impl Watch {
         !self.is_pushed || self.failed.is_some()
     }
 
-    /// Runs the query in this snapshot, even if it is an older one, and returns what changed. Changes that were found earlier and haven't
-    /// been pushed come first, and then there is `more`. An error leaves the watch unchanged.
+    /// Runs the query in this snapshot, even if it is an older one, and returns what changed. Changes that were found earlier and
+    /// haven't been pushed come first, with `more` set. An error leaves the watch unchanged.
     pub fn refresh(&mut self, snapshot: &ShelfSnapshot<'_>) -> Result<Push, Failure> {
         let is_left = !self.is_pushed;
         if !is_left {
@@ -232,7 +232,7 @@ pub struct Watcher {
 impl Watcher {
     /// Signals that something was written.
     pub fn written(&self) {
-        // Either the count here includes the client, or the round that its watch begins sees the write.
+        // Either this count includes the client, or the round that its watch begins sees the write.
         fence(Ordering::SeqCst);
         if self.clients.load(Ordering::Relaxed) > 0 {
             self.wake();
@@ -245,7 +245,7 @@ impl Watcher {
         self.wake.notify_one();
     }
 
-    /// Adds a watch to the client's, and the client if it is new.
+    /// Adds a watch to the client's watches, and adds the client if it is new.
     pub fn add(&self, watches: &Arc<Watches>, watch: Watch) {
         lock(&watches.list).push(watch);
         let mut state = lock(&self.state);
@@ -284,7 +284,7 @@ impl Watcher {
         let mut is_left = false;
         while let Some(clients) = self.wait(is_left) {
             let started = Instant::now();
-            // If it fails, it is tried again in the next round.
+            // If this fails, it is tried again in the next round.
             let _ = pass.follow();
             is_left = round(&clients, &mut pass, pressure, kept);
             thread::sleep(started.elapsed().clamp(REST.0, REST.1));
@@ -313,7 +313,7 @@ impl Watcher {
     }
 }
 
-/// Serves each client once. Keeps no snapshot while it waits for the file or a client. Returns whether something is left to push.
+/// Serves each client once. Holds no snapshot while it waits for the file or a client. Returns whether something is left to push.
 fn round(clients: &[Arc<Watches>], pass: &mut ShelfPass, pressure: &Pressure, kept: &Kept) -> bool {
     let mut is_left = false;
     for client in clients {

@@ -1,4 +1,4 @@
-//! Writes: batches that clients send, and those that they send again.
+//! Writes: new batches from clients, and batches that clients send again.
 
 use crate::answer::View;
 use crate::failure::Failure;
@@ -38,7 +38,8 @@ fn write_once(
     match shared.tokens.begin(token.as_str()) {
         Begun::First(first) => match write_now(shared, write, view, |made| first.made(made)) {
             Err(failure) if failure.is_conflict() => {
-                // A client takes this as proof that the batch wasn't written, not even by another server to which it was sent before.
+                // A client takes this as proof that the batch wasn't written, not even by another server that it was sent to
+                // before.
                 shared.kept.confirm()?;
                 let made = shared.tokens.made(token.as_str());
                 made.map_or(Err(failure), |written| repeat(shared, written))
@@ -73,7 +74,7 @@ fn write_now(
         true => view.read(|snapshot| volumes::write_indices(snapshot, &write.operations.batch)),
         false => volumes::write(&shared.pressure, view, write, made),
     };
-    // Some volumes may have been written to before another one refused.
+    // Some volumes may have been written before another refused.
     shared.watcher.written();
     match &written {
         Ok(_) => {

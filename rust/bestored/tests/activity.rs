@@ -1,4 +1,4 @@
-//! What goes on in a server: `info`, `clients`, `kick`, and what it says on standard error.
+//! Tests of a server's reports: `info`, `clients`, `kick`, and its standard error.
 
 use crate::common::{command, wait_until, Folder, Server};
 use bestore::Batch;
@@ -7,7 +7,7 @@ use std::fs::{self, File};
 use std::path::PathBuf;
 use std::process;
 
-/// A server whose output goes into a file.
+/// A server whose output goes to a file.
 struct Saying {
     _folder: Folder,
     server: Server,
@@ -29,7 +29,7 @@ impl Saying {
         }
     }
 
-    /// Waits until there is a line with this text.
+    /// Waits until a line contains this text.
     #[track_caller]
     fn says(&self, text: &str) {
         wait_until(text, || fs::read_to_string(&self.said).unwrap().contains(text));

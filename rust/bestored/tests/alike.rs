@@ -1,19 +1,12 @@
-//! Random pages in an order, compared with the plain way: the whole answer, its values, sorted and cut. Another client writes between
-//! pages, and cursors are kept across restarts. A failed test shows its seed: `SEED=NUMBER cargo test` runs the same
-//! again.
+//! Compares random pages in an order with the plain way: the whole answer with its values, sorted and cut. Another client writes
+//! between pages, and cursors are kept across restarts. If a test fails, it shows its seed; `SEED=NUMBER cargo test` repeats that
+//! run.
 
 use crate::common::{Folder, Server};
 use bestore::{attribute, Batch, Cursor, Kind, Node, Order, Page, Value};
+use bestore_client::wire::kind_name;
 use bestore_client::{Client, Error, ErrorName};
 use std::time::SystemTime;
-
-const NAMES: [(&str, Kind); 5] = [
-    ("text", Kind::Text),
-    ("int32", Kind::Int32),
-    ("int64", Kind::Int64),
-    ("uint32", Kind::Uint32),
-    ("uint64", Kind::Uint64),
-];
 
 /// An index that is made after nodes have got the attribute, so it lacks some of them.
 const LATE: &str = "late";
@@ -30,11 +23,17 @@ const QUERIES: [&str; 9] = [
     "uint32>5",
 ];
 
+/// The indices that nodes have from the beginning: one of each kind, with its name.
+fn indices() -> impl Iterator<Item = (&'static str, Kind)> {
+    let kinds = Kind::ALL.into_iter().filter(|kind| kind.is_indexable());
+    kinds.map(|kind| (kind_name(kind), kind))
+}
+
 /// Numbers that follow from the first one.
 struct Random(u64);
 
 impl Random {
-    /// Begins with SEED if that is set.
+    /// Starts from SEED if that is set.
     fn begin() -> Self {
         let now = || SystemTime::UNIX_EPOCH.elapsed().unwrap().as_nanos() as u64;
         let seed = std::env::var("SEED").map_or_else(|_| now(), |seed| seed.parse().unwrap());
@@ -54,7 +53,7 @@ impl Random {
         &all[self.below(all.len() as u64) as usize]
     }
 
-    /// A value of this kind. Many nodes share one, and some are at the limits.
+    /// A value of this kind. Many nodes share a value, and some values are at the limits.
     fn value(&mut self, kind: Kind) -> Value {
         let number = self.below(4) as i32;
         match (kind, self.below(8)) {
@@ -72,7 +71,7 @@ impl Random {
     }
 }
 
-/// A value and a node, ordered as in the index.
+/// A sort key that orders value and node as the index does.
 fn place(value: &Value, node: u64) -> (i128, Vec<u8>, u64) {
     match value {
         Value::Text(text) => (0, text.as_bytes().to_vec(), node),
@@ -84,7 +83,7 @@ fn place(value: &Value, node: u64) -> (i128, Vec<u8>, u64) {
     }
 }
 
-/// The nodes of a page, and whether there are more, taken from the whole answer. The client is pinned.
+/// A page's nodes, and whether there are more, taken from the whole answer. The client has to be pinned.
 fn plain(
     client: &mut Client,
     text: &str,
@@ -114,7 +113,7 @@ fn plain(
     (nodes, more)
 }
 
-/// A server with nodes, and one that writes to it.
+/// A server with nodes, and a client that writes to it.
 struct Shop {
     folder: Folder,
     options: Vec<String>,
@@ -147,7 +146,7 @@ impl Shop {
             nodes: Vec::new(),
         };
         let mut client = shop.server.client();
-        for (name, kind) in NAMES {
+        for (name, kind) in indices() {
             client.apply(Batch::new().make_index(name, kind)).unwrap();
         }
         (0..60).for_each(|_| shop.write(&mut client, random));
@@ -163,7 +162,7 @@ impl Shop {
         server
     }
 
-    /// Ends the server, and starts it again on its file.
+    /// Ends the server, and starts it again with its file.
     fn restart(&mut self) {
         assert!(self.server.end_by("TERM").success());
         self.server = Self::serve(&self.folder, &self.options);
@@ -181,7 +180,7 @@ impl Shop {
             1..=4 if known > 9 => {
                 let node = *random.one_of(&self.nodes);
                 set_some(&mut batch, node, random);
-                // A node without the attribute stays as it is.
+                // If the batch is refused, the node stays as it is.
                 drop(client.apply(&batch));
             }
             _ => {
@@ -196,10 +195,10 @@ impl Shop {
     }
 }
 
-/// Sets some attributes of a node, now and then to a value of a kind that the index doesn't take.
+/// Sets some of a node's attributes, now and then to a value whose kind isn't the index's.
 fn set_some(batch: &mut Batch, node: u64, random: &mut Random) {
     batch.set(node, LATE, random.value(Kind::Int64));
-    for (name, kind) in NAMES {
+    for (name, kind) in indices() {
         let kind = match (random.below(8), kind) {
             (0, _) => continue,
             (1, Kind::Text) => Kind::Int32,
@@ -212,7 +211,8 @@ fn set_some(batch: &mut Batch, node: u64, random: &mut Random) {
 
 /// Reads all pages of a query in an order, compares each with the plain way, and lets another client write in between.
 fn compare(shop: &mut Shop, random: &mut Random) {
-    let (name, kind) = *random.one_of(&[&NAMES[..], &[(LATE, Kind::Int64)]].concat());
+    let all: Vec<_> = indices().chain([(LATE, Kind::Int64)]).collect();
+    let (name, kind) = *random.one_of(&all);
     let order = match random.below(2) {
         0 => Order::by(name),
         _ => Order::by(name).descending(),
@@ -241,7 +241,7 @@ fn compare(shop: &mut Shop, random: &mut Random) {
     }
 }
 
-/// Compares a page by number, and some of any nodes, with the whole answer. The client is pinned.
+/// Compares a page by number, and a few arbitrary nodes, with the whole answer. The client has to be pinned.
 fn check_parts(client: &mut Client, text: &str, random: &mut Random) {
     let whole = client.query(text).unwrap();
     let from = match random.below(3) {
@@ -283,7 +283,7 @@ fn pages_of_several_volumes_are_too() {
     (0..60).for_each(|_| compare(&mut shop, &mut random));
 }
 
-/// A cursor's text with a change: cut, longer, or with other characters.
+/// Changes a cursor's text: cuts it, extends it, or replaces characters.
 fn changed(text: &str, random: &mut Random) -> String {
     const DIGITS: &[char] = &[
         'A', 'Z', 'a', 'z', '0', '9', '-', '_', '=', '+', '/', ' ', '\n', '\0', 'é', '"',
@@ -307,7 +307,7 @@ fn a_changed_cursor_is_refused() {
     let mut random = Random::begin();
     let shop = Shop::open(1, &mut random);
     let mut client = shop.server.client();
-    for (name, _) in NAMES {
+    for (name, _) in indices() {
         let page = client.page("text==*", &Order::by(name), None, 3).unwrap();
         let text = page.cursor.to_string();
         for _ in 0..400 {
@@ -322,7 +322,7 @@ fn a_changed_cursor_is_refused() {
     }
 }
 
-/// The page after a text that may not be a cursor.
+/// Requests the page after a text that may not be a valid cursor.
 fn ask_after(client: &mut Client, name: &str, after: &str) -> Result<bestore_client::wire::Page, Error> {
     use bestore_client::wire::{Command, Query};
     client.call(Command::Query(Query {

@@ -1,4 +1,4 @@
-//! The journal in memory of a server that is written to for a long time: it is freed while clients continue.
+//! Tests that a server that is written to for a long time frees its journal's memory while clients continue.
 
 use crate::common::writers::{state_of, Writers};
 use crate::common::{wait_until, Folder, Random, Server, PATIENCE};
@@ -10,16 +10,16 @@ use bestore_client::wire::{self, Command, Numbers, Write, Written};
 use bestore_client::{Client, Error, ErrorName};
 use std::process;
 
-/// A small server, whose store is carried on after 128 KiB of entries.
+/// A small server, which carries its store on after 128 KiB of entries.
 const SMALL: [&str; 6] = ["--pages", "64", "--passes", "16", "--journal", "128"];
 
-/// A server in which a snapshot can be kept for a while.
+/// A server that has room to keep a snapshot for a while.
 const LARGER: [&str; 6] = ["--pages", "256", "--passes", "4", "--journal", "512"];
 
-/// How often a server is killed.
+/// How many times a server is killed.
 const KILLS: u64 = 12;
 
-/// The number of entries before the journal's first one.
+/// How many entries come before the journal's first one.
 fn begin(client: &mut Client) -> u64 {
     let first = Command::Journal(wire::JournalFrom {
         limit: Some(1),
@@ -41,7 +41,8 @@ fn long_entry() -> Batch {
     batch
 }
 
-/// Writes until the journal begins later than now. Each write has the next commit number. Returns the last one.
+/// Writes until the journal begins later than it does now, and checks that each write has the next commit number. Returns the
+/// last one.
 fn write_on(client: &mut Client) -> u64 {
     let (before, entry) = (begin(client), long_entry());
     let mut last = client.status().unwrap().entries;
@@ -55,7 +56,7 @@ fn write_on(client: &mut Client) -> u64 {
     last
 }
 
-/// Writes a batch on this commit number of a run.
+/// Writes a batch that expects this commit number of a run.
 fn write_expecting(client: &mut Client, run: &str, expected: u64, batch: &Batch) -> Result<Written, Error> {
     client.call(Command::Batch(Write {
         operations: batch.clone().into(),
@@ -65,8 +66,8 @@ fn write_expecting(client: &mut Client, run: &str, expected: u64, batch: &Batch)
     }))
 }
 
-/// One client pins a snapshot, and another one writes until the store has been carried on. A snapshot that is kept for longer
-/// would keep too many pages. Returns what was pinned, and the number of the last write.
+/// One client pins a snapshot, and another writes until the store has been carried on. A snapshot kept longer would hold too many
+/// pages. Returns what was pinned, and the number of the last write.
 fn pin_and_write_on(reading: &mut Client, writing: &mut Client) -> ((u64, Vec<Batch>), u64, u64) {
     let before = begin(writing);
     loop {
@@ -121,7 +122,7 @@ fn snapshots_stay_and_numbers_go_on() {
     }
 }
 
-/// The journal is complete from its beginning to this entry.
+/// Checks that the journal is complete from its beginning to this entry.
 fn check_journal(client: &mut Client, last: u64) {
     let begin = begin(client);
     let page = client.journal_from(begin).unwrap();
@@ -131,12 +132,18 @@ fn check_journal(client: &mut Client, last: u64) {
     assert!(client.journal_from(last).unwrap().entries.is_empty());
 }
 
+/// A server with a node that lets clients hold a snapshot for a day, and two clients.
+fn holding(folder: &Folder) -> (Server, Client, Client) {
+    let server = Server::start(folder, &[&LARGER[..], &["--hold", "86400"]].concat());
+    let (reading, mut writing) = (server.client(), server.client());
+    writing.apply(Batch::new().new_node()).unwrap();
+    (server, reading, writing)
+}
+
 #[test]
 fn a_snapshot_is_taken_back_when_its_memory_is_needed() {
     let folder = Folder::new();
-    let server = Server::start(&folder, &[&LARGER[..], &["--hold", "86400"]].concat());
-    let (mut reading, mut writing) = (server.client(), server.client());
-    writing.apply(Batch::new().new_node()).unwrap();
+    let (_server, mut reading, mut writing) = holding(&folder);
     pin_and_write_on(&mut reading, &mut writing);
     write_on(&mut writing);
     let refused = reading.next_node().unwrap_err();
@@ -148,13 +155,11 @@ fn a_snapshot_is_taken_back_when_its_memory_is_needed() {
 #[test]
 fn who_keeps_earlier_memory_is_named_and_can_be_ended() {
     let folder = Folder::new();
-    let server = Server::start(&folder, &[&LARGER[..], &["--hold", "86400"]].concat());
-    let (mut reading, mut writing) = (server.client(), server.client());
-    writing.apply(Batch::new().new_node()).unwrap();
+    let (server, mut reading, mut writing) = holding(&folder);
     let (_, pinned, _) = pin_and_write_on(&mut reading, &mut writing);
     let clients = writing.clients().unwrap();
     let reader = clients.iter().find(|client| client.pinned.is_some()).unwrap().client;
-    // The other one's snapshot is newer.
+    // The other client's snapshot is newer.
     let mut other = server.client();
     let newer = other.pin().unwrap().commit;
     let oldest = writing.info().unwrap().oldest.unwrap();
@@ -185,7 +190,7 @@ fn who_rests_keeps_no_memory() {
     resting.iter_mut().for_each(|client| drop(client.next_node().unwrap()));
     let mut watching = server.client();
     watching.watch(None).unwrap();
-    // It happens again only once nobody uses the memory of the time before, not even the server's own threads.
+    // The store can be carried on again only once nobody uses the older one's memory, not even the server's own threads.
     for _ in 0..4 {
         write_on(&mut writing);
     }
@@ -273,7 +278,7 @@ fn servers_that_are_killed_meanwhile_lose_nothing() {
         writers.write(server.socket(), || {
             wait_until("the store is carried on", || begin(&mut client) > 0);
             carried += 1;
-            // Some are killed just before the next time, while it is made, or after it.
+            // Some servers are killed just before the store is carried on, some during that, and some after it.
             writers.wait_for(random.below(6_000));
             server.kill();
         });

@@ -1,10 +1,10 @@
-//! The client's `change`: which values it refuses.
+//! Tests which values the client's `change` refuses.
 
 use crate::common::{Folder, Server};
 use bestore::{Batch, Kind, Value};
 use bestore_client::{Client, Error, Result};
 
-/// The kinds that an index may have.
+/// The kinds that an index can have.
 const INDEXED: [Kind; 5] = [Kind::Text, Kind::Int32, Kind::Int64, Kind::Uint32, Kind::Uint64];
 
 /// A value of each kind.
@@ -20,7 +20,7 @@ fn values() -> [Value; 7] {
     ]
 }
 
-/// Makes a node with this attribute and another one.
+/// Makes a node with this attribute and one more.
 fn make(client: &mut Client, name: &str, value: &Value) -> Result<()> {
     client.change(|change| {
         let node = change.new_node();

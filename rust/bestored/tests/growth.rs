@@ -1,4 +1,4 @@
-//! The file and the memory of a server that writes for a long time: it rewrites the state and frees the journal by itself.
+//! Tests the file and memory of a server that writes for a long time: it rewrites the state and frees the journal by itself.
 
 use crate::common::{wait_until, Folder, Server};
 use bestore::Batch;
@@ -9,14 +9,14 @@ use std::fs;
 /// How many nodes the store has.
 const NODES: u64 = 64;
 
-/// How many times each of them is set: 32 MB in all.
+/// How many times each of them is set: 32 MB in total.
 const ROUNDS: u64 = 2_000;
 
-/// How long the file may be: a state of a few KiB, the entries after which it is written, up to 512 KiB, and what comes meanwhile.
+/// The file's maximum size: a state of a few KiB, up to 512 KiB of entries before it is rewritten, and what is written meanwhile.
 const MOST_BYTES: u64 = 6 << 20;
 
-/// How many KiB of memory the server may take in addition to what it has at first: two stores of 1 MiB, the same again for entries,
-/// and up to 16 MiB for writes that wait for the file.
+/// How many KiB of memory the server may use on top of its first use: two stores of 1 MiB, as much again for entries, and up to
+/// 16 MiB for writes that wait for the file.
 const MOST_MEMORY: u64 = 24 << 10;
 
 fn start(folder: &Folder) -> Server {
@@ -65,7 +65,7 @@ fn file_and_memory_stay_small_and_have_everything() {
     assert!(fs::metadata(folder.join("file")).unwrap().len() < MOST_BYTES);
     let server = start(&folder);
     let mut client = server.client();
-    // The batches of the state, and fewer entries than were written.
+    // The journal has the batches of the state, and fewer entries than were written.
     assert!(client.status().unwrap().entries < ROUNDS / 4);
     for node in [1, NODES] {
         let round = client.get(node, "round").unwrap();

@@ -1,4 +1,4 @@
-//! Servers are killed at any moment, while clients write to kept stores.
+//! Kills servers at any moment while clients write to kept stores.
 
 use crate::common::writers::{check_history, Writers};
 use crate::common::{Folder, Random, Server};
@@ -6,23 +6,23 @@ use std::sync::atomic::{AtomicU64, Ordering::Relaxed};
 use std::thread;
 use std::time::{Duration, Instant};
 
-/// For how long servers are killed. `BESTORED_KILLS` says how often within that time.
+/// How long servers are killed for. `BESTORED_KILLS` says how many times within that time.
 const TIME: Duration = Duration::from_secs(40);
 const KILLS: u64 = 300;
 
-/// How many servers there are at the same time, each with its own file and clients. A round is mostly waiting.
+/// How many servers run at once, each with its own file and clients. A round mostly waits.
 const SERVERS: u64 = 12;
 
-/// One kill in this many is made while the server starts. The others are made after it has answered a write.
+/// One kill in this many comes while the server is starting. The others come after it has answered a write.
 const STARTING: u64 = 8;
 
-/// One server in this many has its history repeated. Each compares the entries of the file when it starts.
+/// One server in this many has its history repeated. Each compares the file's entries when it starts.
 const REPEATED: u64 = 4;
 
-/// How many µs a server lives at most, after its start or after the first write.
+/// A server's maximum lifetime in µs, from its start or from the first write.
 const LIFE: u64 = 15_000;
 
-/// Kills that are still to be made, and those that were made.
+/// Kills that are still to be made, and those made so far.
 #[derive(Debug)]
 struct Tally {
     begin: Instant,
@@ -39,7 +39,7 @@ impl Tally {
     }
 }
 
-/// How long a server lives: up to `LIFE`, and mostly shorter.
+/// How long a server lives: up to `LIFE`, and mostly less.
 fn life(random: &mut Random) -> Duration {
     let most = random.below(LIFE) + 1;
     Duration::from_micros(random.below(most))
@@ -69,7 +69,7 @@ impl Kept {
         Server::start_only(&self.folder, &options)
     }
 
-    /// Starts a server, which compares each entry of the file, and checks what it has.
+    /// Starts a server that compares each entry of the file, and checks its contents.
     fn start(&self) -> Server {
         let server = self.start_only();
         assert!(server.answers());
@@ -109,7 +109,7 @@ impl Kept {
         is_writing
     }
 
-    /// Checks the last server even while clients write, and the file after the server's regular end.
+    /// Checks the last server while clients write, and then the file after the server has ended normally.
     fn end(&self) {
         let server = self.start_checked();
         self.writers.write(server.socket(), || {

@@ -1,4 +1,4 @@
-//! Live queries.
+//! Tests of live queries.
 
 use crate::common::{wait_until, Folder, Random, Server, Talk, PATIENCE};
 use bestore::{Batch, Kind};
@@ -46,7 +46,7 @@ fn what_changes_is_pushed() {
     writing.apply(Batch::new().set(first, "size", 4_i64)).unwrap();
     let push = next(&mut watching);
     assert_eq!((push.created, push.removed), (vec![], vec![first]));
-    // What isn't found changes nothing, and nothing is pushed.
+    // A node outside the answer changes nothing, and nothing is pushed.
     sized(&mut writing, 1);
     assert_eq!(watching.next_push(Duration::from_millis(200)).unwrap(), None);
     watching.unwatch(1).unwrap();
@@ -86,7 +86,7 @@ fn a_watch_in_a_snapshot_goes_on_from_it() {
     assert!(watching.query("size>=5").unwrap().is_empty());
 }
 
-/// Applies a line of the watch to what was found.
+/// Applies one of the watch's lines to the nodes found so far.
 fn take_in(found: &mut BTreeSet<u64>, push: &Push) {
     for node in &push.removed {
         assert!(found.remove(node), "{push:?}");
@@ -96,7 +96,7 @@ fn take_in(found: &mut BTreeSet<u64>, push: &Push) {
     }
 }
 
-/// Sends a request, takes in what is pushed before the reply, and returns its `ok`.
+/// Sends a request, applies what is pushed before the reply, and returns the reply's `ok`.
 fn ask(talk: &mut Talk, request: &str, found: &mut BTreeSet<u64>) -> serde_json::Value {
     talk.send(format!("{{\"id\":1,{request}}}\n").as_bytes());
     loop {
@@ -108,7 +108,7 @@ fn ask(talk: &mut Talk, request: &str, found: &mut BTreeSet<u64>) -> serde_json:
     }
 }
 
-/// What was pushed before, together with the refresh, leads to the snapshot, even if newer changes were pushed already.
+/// The earlier pushes and the refresh add up to the snapshot's answer, even if newer changes were pushed already.
 #[test]
 fn a_refresh_leads_to_the_snapshot() {
     let (_folder, server) = start();
@@ -132,7 +132,7 @@ fn a_refresh_leads_to_the_snapshot() {
         std::thread::sleep(Duration::from_micros(200 * (round % 20)));
         let answer = ask(&mut talk, r#""query":{"query":"size>=5"}"#, &mut found);
         let mut refreshed = ask(&mut talk, r#""refresh":{"watch":1}"#, &mut found);
-        // What a round found but couldn't push, because a reply was being sent, comes first.
+        // If a reply was being sent, a round's changes couldn't be pushed. They come first.
         while refreshed.get("more").is_some() {
             take_in(&mut found, &serde_json::from_value(refreshed).unwrap());
             refreshed = ask(&mut talk, r#""refresh":{"watch":1}"#, &mut found);
@@ -143,17 +143,17 @@ fn a_refresh_leads_to_the_snapshot() {
         assert_eq!(found, answer);
         ask(&mut talk, r#""unpin":{}"#, &mut found);
     }
-    // The watch continues, up to what was written last.
+    // The watch continues up to the last write.
     wait_until("all is pushed", || {
         ask(&mut talk, r#""status":{}"#, &mut found);
         found.len() == 100
     });
 }
 
-/// How many nodes there are at first. Queries find most of them, so they are refreshed from what was written.
+/// How many nodes there are at first. The queries find most of them, so they are refreshed from what was written.
 const MANY: u64 = 300;
 
-/// Writes to nodes of a large answer: they join and leave it, and are made and removed.
+/// Writes to nodes of a large answer, so that they join and leave it, and are made and removed.
 fn write_at_random(mut client: Client, seed: u64) {
     let mut random = Random::new(seed);
     for _ in 0..200 {
@@ -174,7 +174,7 @@ fn write_at_random(mut client: Client, seed: u64) {
     }
 }
 
-/// For a large answer, pushes and refreshes lead to what the query finds, while other clients write.
+/// With a large answer, pushes and refreshes add up to what the query finds, while other clients write.
 #[test]
 fn a_large_answer_is_followed_while_clients_write() {
     let (_folder, server) = start();
@@ -211,7 +211,7 @@ fn a_large_answer_is_followed_while_clients_write() {
     writers.into_iter().for_each(|writer| writer.join().unwrap());
 }
 
-/// A refresh that fails leaves the watch as it was.
+/// A failed refresh leaves the watch as it was.
 #[test]
 fn a_refresh_may_fail() {
     let (_folder, server) = start();
@@ -220,7 +220,7 @@ fn a_refresh_may_fail() {
     let watch = client.watch(Some("size>=5")).unwrap().watch;
     client.apply(Batch::new().remove_index("size")).unwrap();
     client.pin().unwrap();
-    // The server may have ended the watch by then.
+    // The server may have ended the watch by now.
     let error = client.refresh(watch).unwrap_err();
     assert!(
         error.is(ErrorName::NotCovered) || error.is(ErrorName::NoWatch),
@@ -261,7 +261,7 @@ fn a_connection_has_32_watches() {
     });
 }
 
-/// Adds up what is pushed, and compares it with the answer at the end. Meanwhile the client itself writes.
+/// Adds up the pushes while the client itself writes, and compares the result with the answer at the end.
 #[test]
 fn changes_add_up_to_the_answer_while_clients_write() {
     let (_folder, server) = start();
@@ -304,7 +304,7 @@ fn changes_add_up_to_the_answer_while_clients_write() {
     });
 }
 
-/// Ends the watch, and reads all that was pushed before. Returns how many nodes came and how many went.
+/// Ends the watch, and reads everything that was pushed before. Returns how many nodes joined and how many left.
 fn read_until_unwatched(talk: &mut Talk) -> (usize, usize) {
     talk.send(b"{\"id\":2,\"unwatch\":{\"watch\":1}}\n");
     let (mut created, mut removed) = (0, 0);
@@ -319,7 +319,7 @@ fn read_until_unwatched(talk: &mut Talk) -> (usize, usize) {
     }
 }
 
-/// A client that reads nothing gets fewer and larger pushes, and the others get theirs in time.
+/// A client that reads nothing gets fewer, larger pushes. The other clients get theirs in time.
 #[test]
 fn a_slow_reader_gets_changes_together() {
     let (_folder, server) = start();
@@ -366,7 +366,7 @@ fn what_is_pushed_is_in_the_file() {
         let (mut watching, mut writing) = (server.client(), server.client());
         let nodes = writing.pin().unwrap().next - 1;
         let before = watching.watch(None).unwrap().commit;
-        // Each of these makes a node.
+        // Each of these lines makes a node.
         for _ in 0..20 {
             let operations = Batch::new().new_node().clone().into();
             let write = wire::Write {
@@ -386,20 +386,20 @@ fn what_is_pushed_is_in_the_file() {
     }
 }
 
-/// Clients with live queries that take long, and how many each has.
+/// How many clients have slow live queries, and how many each has.
 const WATCHING: usize = 8;
 const WATCHES: usize = 32;
 
-/// How long a write may wait because of these: for one query, on a busy machine.
+/// How long these may delay a write: the time of one query on a busy machine.
 const SOON: Duration = Duration::from_millis(500);
 
-/// A query that looks at each name 32 times, and finds nothing.
+/// A query that looks at each name 32 times and finds nothing.
 fn long_query() -> String {
     let patterns = (0..32).map(|at| format!("name==\"*{at}z*\""));
     patterns.collect::<Vec<_>>().join(" || ")
 }
 
-/// Makes nodes with names, which take most of 640 pages.
+/// Makes nodes with names that take most of 640 pages.
 fn name_nodes(client: &mut Client) {
     client.apply(Batch::new().make_index("name", Kind::Text)).unwrap();
     for first in (1..=2_000).step_by(20) {
@@ -413,7 +413,7 @@ fn name_nodes(client: &mut Client) {
     }
 }
 
-/// A round of all live queries takes seconds, and a snapshot kept for so long would hold the pages that writes need.
+/// A round of all live queries takes seconds. A snapshot held that long would keep the pages that writes need.
 #[test]
 fn no_write_waits_for_a_round_of_live_queries() {
     let folder = Folder::new();
@@ -431,7 +431,7 @@ fn no_write_waits_for_a_round_of_live_queries() {
         let waited = begin.elapsed();
         assert!(waited < SOON, "write {count} waited for {waited:?}");
     }
-    // All of them are still asked: what changes is pushed.
+    // They still all run: changes are pushed.
     client.apply(Batch::new().set(1, "name", "7z")).unwrap();
     for client in &mut watching {
         let mut found = BTreeSet::new();

@@ -1,4 +1,4 @@
-//! Servers that share a log in a real PostgreSQL.
+//! Tests servers that share a log in a real PostgreSQL.
 
 use crate::common::postgres::{Database, Postgres};
 use crate::common::proxy::{Lost, Proxy};
@@ -16,23 +16,23 @@ use std::sync::Arc;
 use std::thread;
 use std::time::{Duration, Instant};
 
-/// How often a leader is killed. `BESTORED_LOG_KILLS` has another number.
+/// How many times a leader is killed. `BESTORED_LOG_KILLS` overrides it.
 const KILLS: u64 = 50;
 
-/// The time after which no further leader is killed.
+/// The time after which no more leaders are killed.
 const TIME: Duration = Duration::from_secs(40);
 
-/// How many µs a leader lives at most after the first write.
+/// A leader's maximum lifetime in µs after the first write.
 const LIFE: u64 = 60_000;
 
-/// How soon a leader writes again after its database replies.
+/// How soon a leader writes again once its database replies.
 pub const SOON: Duration = Duration::from_secs(15);
 
-/// The session of the leader in the database.
+/// The leader's session in the database.
 pub const OF_LEADER: &str = "FROM pg_locks JOIN pg_database ON database = pg_database.oid \
                          WHERE locktype = 'advisory' AND datname = current_database()";
 
-/// A database, or a line saying that there is none.
+/// A database. Otherwise prints that there is none.
 fn database_of(server: Option<Arc<Postgres>>) -> Option<Database> {
     if server.is_none() {
         println!("a log in PostgreSQL: skipped, it isn't installed");
@@ -44,7 +44,7 @@ pub fn database() -> Option<Database> {
     database_of(Postgres::shared())
 }
 
-/// A server with the log, in a folder of its own.
+/// A server with the log, in its own folder.
 pub struct Member {
     folder: Folder,
     pub server: Server,
@@ -83,7 +83,7 @@ impl Member {
         Self { folder, server }
     }
 
-    /// Kills the server, and starts another one at the same socket, which follows.
+    /// Kills the server, and starts another at the same socket, which follows.
     pub fn follow_again(self, database: &Database) -> Self {
         self.server.kill();
         Self::start_at(self.folder, &database.url_of_tcp(), "--follow")
@@ -94,7 +94,7 @@ impl Member {
         self.server.client()
     }
 
-    /// What the server has said on standard error.
+    /// What the server has written to standard error.
     pub fn said(&self) -> String {
         fs::read_to_string(self.folder.join("said")).unwrap_or_default()
     }
@@ -103,7 +103,7 @@ impl Member {
         status(&self.server).map_or(false, |status| status.role == "leader")
     }
 
-    /// Waits until the server ends, and returns what it has said.
+    /// Waits until the server ends, and returns what it has written to standard error.
     #[track_caller]
     pub fn end(&self) -> String {
         let ended = self.server.wait_end();
@@ -126,7 +126,7 @@ fn leader_of(members: &[Member]) -> usize {
     leader.unwrap()
 }
 
-/// Waits until all have what the leader has, and compares the states.
+/// Waits until all of them have what the leader has, and compares the states.
 fn check_all_alike(members: &[Member], leader: usize) {
     let mut client = members[leader].client();
     let entry = client.log().unwrap().entry;
@@ -184,7 +184,7 @@ fn leaders_are_killed_and_no_answered_write_is_lost() {
     writers.go_on(&mut members[leader].client());
     check_all_alike(&members, leader);
     check_history(&mut members[leader].client());
-    // Each entry is there once, and a term's entries come before those of the next term.
+    // Each entry is there once, and a term's entries come before the next term's.
     let found = database.sql(
         "SELECT count(*) = last, min(number) = 1, max(number) = last FROM bestore_entry, bestore_log GROUP BY last;",
     );
@@ -214,7 +214,7 @@ fn followers_refuse_writes_and_wait_for_entries() {
         (&*led.role, led.term, led.entry, led.trouble),
         ("leader", Some(1), 1, None)
     );
-    // A write says who leads, and changes nothing.
+    // The error says which server leads, and nothing is written.
     let refused = follower.apply(Batch::new().new_node()).unwrap_err();
     assert!(refused.is(ErrorName::NotLeader), "{refused}");
     let named = refused.refusal().unwrap().details["leader"]
@@ -230,7 +230,7 @@ fn followers_refuse_writes_and_wait_for_entries() {
         .call::<Nothing>(Command::Compact(Nothing {}))
         .unwrap_err()
         .is(ErrorName::NotLeader));
-    // What a client waits for is visible.
+    // Once the wait ends, the entry is visible.
     for count in 1..=50 {
         let written = leader.apply(&set_count(count)).unwrap();
         let status = follower.wait_for_entry(count + 1, Duration::from_secs(60)).unwrap();
@@ -238,7 +238,7 @@ fn followers_refuse_writes_and_wait_for_entries() {
         let found = follower.get(1, "count").unwrap().and_then(|value| value.as_u64());
         assert!(found >= Some(count));
     }
-    // Waiting for what doesn't come takes this long, and keeps no snapshot meanwhile.
+    // Waiting for an entry that doesn't come takes the whole time, and holds no snapshot meanwhile.
     let late = follower.wait_for_entry(99, Duration::from_millis(20)).unwrap_err();
     let details = &late.refusal().unwrap().details;
     assert!(
@@ -256,11 +256,11 @@ fn followers_refuse_writes_and_wait_for_entries() {
         .is(ErrorName::Pinned));
     follower.log().unwrap();
     follower.unpin().unwrap();
-    // Live queries of a follower are pushed.
+    // A follower pushes its live queries' changes.
     follower.watch(None).unwrap();
     leader.apply(&set_count(51)).unwrap();
     assert!(follower.next_push(Duration::from_secs(60)).unwrap().is_some());
-    // When the leader ends regularly, it hands over the lead.
+    // A leader that ends normally hands over the lead.
     assert!(members[0].server.end_by("TERM").success(), "{}", members[0].said());
     wait_until("the follower leads", || members[1].leads());
     follower.apply(&set_count(52)).unwrap();
@@ -279,7 +279,7 @@ fn a_follower_lives_on_beside_a_client_that_reads_nothing() {
     let mut talk = slow::pinned(&follower.server);
     let mut batch = Batch::new();
     batch.set(1, "text0", 0_u64);
-    // All pages of the follower are used before the last of these.
+    // The follower has used all of its pages before the last of these.
     for _ in 0..300 {
         client.apply(&batch).unwrap();
     }
@@ -295,7 +295,7 @@ fn a_wrong_outcome_is_named_with_its_entry() {
     for _ in 0..8 {
         client.apply(Batch::new().new_node()).unwrap();
     }
-    // One that already follows, and is stopped meanwhile, and ones that start.
+    // The first follower is already running, and is stopped meanwhile. The others start later.
     let follower = Member::start(&database, "--follow");
     follower.client().wait_for_entry(8, Duration::from_secs(60)).unwrap();
     follower.server.stop();
@@ -309,7 +309,7 @@ fn a_wrong_outcome_is_named_with_its_entry() {
     assert!(said.contains(why), "{said}");
     let said = Member::start(&database, "--follow").end();
     assert!(said.contains(why), "{said}");
-    // Bytes that aren't a batch, an entry that the store refuses, and one that is missing.
+    // Each case is an invalid entry: bytes that aren't a batch, an entry that the store refuses, and a missing one.
     for (change, why) in [
         (
             "UPDATE bestore_entry SET batch = 'BEC' WHERE number = 5",
@@ -343,7 +343,7 @@ fn a_leader_that_was_away_adds_nothing() {
     }
 }
 
-/// Stops a leader while a client waits for a write, until another server has led and has perhaps been killed.
+/// Stops a leader while a client waits for a write. Resumes it after another server has led, and perhaps been killed.
 fn leave_leader(database: &Database, is_next_one_killed: bool) {
     let old = Member::start(database, "--log");
     old.client()
@@ -385,7 +385,7 @@ fn leave_leader(database: &Database, is_next_one_killed: bool) {
     let found = new.client().get(1, "count").unwrap().and_then(|value| value.as_u64());
     assert_eq!(found, Some(2));
     if !is_next_one_killed {
-        // A server that wants to lead a log that is already led is refused.
+        // A server that asks to lead a log that already has a leader is refused.
         let said = Member::start_in(old.folder, database, "--log").end();
         assert!(said.contains("the log is led by "), "{said}");
     }
@@ -397,7 +397,7 @@ fn a_leader_without_its_term_adds_nothing() {
     let leader = Member::start(&database, "--log");
     let mut client = leader.client();
     client.apply(Batch::new().new_node().set(1, "count", 0_u64)).unwrap();
-    // Its session continues, and has the lock.
+    // Its session continues, and holds the lock.
     database.sql("UPDATE bestore_log SET term = term + 1, leader = 'another', run = 'another'");
     client.apply(&set_count(1)).unwrap_err();
     let said = leader.end();
@@ -434,14 +434,14 @@ fn live_queries_get_what_was_written_while_the_log_could_not_be() {
     let leader = Member::start_at(Folder::in_memory(), &database.url_at(proxy.port), "--log");
     let (mut client, mut watching) = (leader.client(), leader.client());
     watching.watch(None).unwrap();
-    // The log gets the last write once it can be written, or has it and the reply was lost.
+    // Either the log gets the last write once it can be written, or it has the write and only the reply was lost.
     for lost in [Lost::Requests, Lost::Replies] {
         client.apply(Batch::new().new_node()).unwrap();
         proxy.lose(lost);
         let writing = thread::spawn(move || {
             let refused = client.apply(Batch::new().new_node()).unwrap_err();
             assert!(refused.is(ErrorName::NotSaved), "{refused}");
-            // The live queries are asked, and no longer wait for the log.
+            // The live queries are refreshed, and no longer wait for the log.
             thread::sleep(Duration::from_millis(300));
             client
         });
@@ -485,7 +485,7 @@ fn the_database_is_started_again_while_clients_write() {
             client.get(1, "count").unwrap().unwrap();
             members[1].client().get(1, "count").unwrap().unwrap();
             database.postgres.begin();
-            // The waiting writes are answered, and so are others.
+            // The waiting writes are answered, and so are later ones.
             writers.wait_for(32);
             members[0].server.kill();
         });
@@ -498,7 +498,7 @@ fn the_database_is_started_again_while_clients_write() {
     }
 }
 
-/// Lets clients write while the database hangs, until the leader has asked for its lock in another session. Soon after that it
+/// Lets clients write while the database hangs, until the leader has tried for its lock in another session. Soon after that it
 /// writes again, and no write is lost or made twice.
 fn lead_through_a_hang(database: &Database, hang: impl FnOnce(), go_on: impl FnOnce()) {
     let leader = Member::start(database, "--log");
@@ -559,7 +559,7 @@ fn a_leader_whose_standby_was_away_leads_on() {
     lead_through_a_hang(&database, hang, || set("RESET synchronous_standby_names"));
 }
 
-/// A leader with the nodes of writers, and this many others.
+/// A leader with the writers' nodes, and this many others.
 fn leader_with_writers(database: &Database, others: u64) -> (Member, Writers) {
     let leader = Member::start(database, "--log");
     let writers = Writers::default();
@@ -618,14 +618,14 @@ fn the_state_is_written_and_read() {
     });
     let entries: u64 = database.sql("SELECT entries FROM bestore_log").parse().unwrap();
     assert!(entries > 700);
-    // The entries that the state contains aren't needed.
+    // The entries that the state includes aren't needed.
     database.sql("DELETE FROM bestore_entry WHERE number <= (SELECT entries FROM bestore_log)");
     let members = [Member::start(&database, "--follow")];
     leader_of(&members);
     let mut client = members[0].client();
     writers.go_on(&mut client);
     check_history(&mut client);
-    // A wrong state is named.
+    // The error names the wrong state.
     database.sql("UPDATE bestore_state SET batch = 'BEC' WHERE place = 3");
     let said = Member::start(&database, "--follow").end();
     assert!(
@@ -660,7 +660,7 @@ fn a_server_waits_for_its_database() {
         "{}",
         waiting.said()
     );
-    // A fault that doesn't go away by itself is an error.
+    // If a fault doesn't go away by itself, the server ends with an error.
     let url = database.url().replace("///test", "///none");
     let said = Member::start_at(Folder::in_memory(), &url, "--log").end();
     assert!(said.contains("does not exist (3D000)"), "{said}");

@@ -1,6 +1,6 @@
-//! The tests of the server. They are one program, so that it is linked once, and so that tests that wait run beside others.
+//! The server's tests. They form one program, so that it is linked only once, and so that tests that wait run in parallel.
 
-/// Takes what a test needs, or leaves the test: a line has already said what is missing.
+/// Unwraps what a test needs, or leaves the test. A line has already said what is missing.
 macro_rules! present {
     ($needed:expr) => {
         match $needed {

@@ -1,9 +1,9 @@
-//! The manual page has what the command line has.
+//! Checks that the manual page matches the command line.
 
 use std::path::{Path, PathBuf};
 use std::process::Command;
 
-/// The manual page of a program.
+/// The manual page for a program.
 fn page(program: &str) -> PathBuf {
     Path::new(concat!(env!("CARGO_MANIFEST_DIR"), "/../../docs")).join(format!("{program}.1"))
 }

@@ -1,4 +1,4 @@
-//! What a service manager receives, with a socket of the test in its place.
+//! Tests what a service manager receives. A socket of the test takes the manager's place.
 
 use crate::common::{command, Folder, Server, PATIENCE};
 use bestore_client::Client;
@@ -44,7 +44,7 @@ fn a_server_says_that_it_is_ready_lives_and_ends() {
     command.env("WATCHDOG_USEC", "30000");
     let server = Server::run(command, &manager.place());
     assert_eq!(manager.next(), "READY=1\nSTATUS=listens");
-    // It listens by then.
+    // By then, the server listens.
     Client::connect(server.socket()).unwrap().hello().unwrap();
     for _ in 0..3 {
         assert_eq!(manager.next(), "WATCHDOG=1");

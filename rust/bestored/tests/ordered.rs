@@ -1,11 +1,11 @@
-//! Pages in the order of an index, any nodes, and pages that aren't counted.
+//! Tests of pages in an index's order, of arbitrary nodes, and of pages that aren't counted.
 
 use crate::common::{start, Folder, Server, Talk};
 use bestore::{Batch, Kind, Value};
 use bestore_client::wire::{self, Command};
 use bestore_client::{Client, Query};
 
-/// Indices `size` and `name`, and nodes 1 to 4 of the sizes 2, 1, 2 and none. The first two have names.
+/// Indices `size` and `name`, and nodes 1 to 4 with sizes 2, 1, 2 and none. The first two have names.
 fn four() -> (Folder, Server, Talk) {
     let (folder, server) = start(&[]);
     let mut talk = server.talk();
@@ -87,7 +87,7 @@ fn nodes_without_a_value_are_not_in_the_order() {
     );
 }
 
-/// Asks for pages of `size>0` with these parameters, each of which has its error.
+/// Requests pages of `size>0` with each of these parameters, and checks the error.
 fn check_errors(talk: &mut Talk, errors: &[(&str, String)]) {
     for (parameters, error) in errors {
         let request = format!(r#""query":{{"query":"size>0",{parameters}}}"#);
@@ -157,7 +157,7 @@ fn a_cursor_of_another_page_is_refused() {
     talk.check(&other, &format!(r#""error":{{{}}}"#, fault(why)));
 }
 
-/// The same query may be written differently.
+/// The same query may be written in different ways.
 #[test]
 fn a_cursor_of_an_index_that_was_made_anew() {
     let (_folder, server, mut talk) = four();

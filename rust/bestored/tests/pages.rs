@@ -1,4 +1,4 @@
-//! What doesn't fit in one line comes in pages.
+//! Tests that replies too large for one line arrive in pages.
 
 use crate::common::{Folder, Server, PATIENCE};
 use bestore::{Batch, Kind};
@@ -122,7 +122,7 @@ fn long_rows_come_in_pages() {
     assert!((3..10).contains(&pages), "{pages} pages");
 }
 
-/// Copies the pinned snapshot to an empty store. Returns the index of the first batch of the last page.
+/// Copies the pinned snapshot into an empty store. Returns the index of the last page's first batch.
 fn carry_state(from: &mut Client, to: &mut Client) -> u64 {
     let mut index = 0;
     loop {
@@ -142,7 +142,7 @@ fn carry_state(from: &mut Client, to: &mut Client) -> u64 {
     }
 }
 
-/// Repeats each entry of the journal in an empty store, and compares the result.
+/// Repeats each entry of the journal in an empty store, and compares the results.
 fn carry_journal(from: &mut Client, to: &mut Client) {
     let mut index = 0;
     loop {

@@ -1,9 +1,9 @@
-//! Each command, and each way to ask for something impossible.
+//! Tests each command, and each way to ask for something impossible.
 
 use crate::common::{start, wait_until, Folder, Server, Talk};
 use std::time::{Duration, Instant};
 
-/// An index `size`, and nodes 1 to 3 of the sizes 1 to 3.
+/// An index `size`, and nodes 1 to 3 with sizes 1 to 3.
 fn three(options: &[&str]) -> (Folder, Server, Talk) {
     let (folder, server) = start(options);
     let mut talk = server.talk();
@@ -283,7 +283,7 @@ fn what_is_no_request() {
     talk.check(r#""next":{}"#, r#""ok":{"commit":0,"next":1}"#);
 }
 
-/// Parameters that don't mean what they seem to: what is wrong with them, and what would be right.
+/// Parameters that don't mean what they seem to: the error says what is wrong, and what would be right.
 #[test]
 fn no_parameter_is_read_loosely() {
     let (_folder, server) = start(&[]);
@@ -330,7 +330,7 @@ fn no_parameter_is_read_loosely() {
             "{line}: {said}"
         );
         assert!(error["message"].as_str().unwrap().contains(right), "{line}: {said}");
-        // For a list, the error names the byte before it.
+        // For a list, the error gives the position of the byte before it.
         let begin = line.find(wrong).unwrap() as u64 - 1;
         let offset = error["offset"].as_u64().unwrap();
         assert!(
@@ -431,7 +431,7 @@ fn a_snapshot_is_taken_back_while_its_client_waits_for_a_commit() {
     assert!(begin.elapsed() < Duration::from_secs(50), "{:?}", begin.elapsed());
     let said = talk.ask(r#"{"id":1,"nodes":{}}"#);
     assert!(said.starts_with(r#"{"id":1,"error":{"name":"Expired","#), "{said}");
-    // Without a snapshot it waits for the whole time.
+    // Without a snapshot, it waits for the whole time.
     let begin = Instant::now();
     let said = talk.ask(r#"{"id":1,"reach":{"commit":2,"within":1500}}"#);
     assert!(said.contains("NotReached"), "{said}");
@@ -526,7 +526,7 @@ fn a_copy_is_read_without_a_pin_and_keeps_no_pages() {
         r#""state":{"from":99,"volume":1}"#,
         r#""error":{"name":"NoVolume","message":"there is no volume 1; there are 1, counted from 0","class":"mine","volume":1,"volumes":1}"#,
     );
-    // A pinned snapshot comes before a copied one.
+    // A pinned snapshot takes precedence over a copied one.
     talk.check(r#""pin":{}"#, r#""ok":{"commit":2,"next":4}"#);
     assert!(talk.ask(r#"{"id":1,"state":{}}"#).contains(r#""commit":2"#));
     talk.check(r#""unpin":{}"#, r#""ok":{}"#);
@@ -545,7 +545,7 @@ fn two_clients_read_copies_at_the_same_time() {
             r#"at the same time","class":"retry","most":2}"#
         ),
     );
-    // A client's second copy replaces its first one.
+    // A client's second copy replaces its first.
     for (talk, reply) in [(0, copied), (1, copied), (1, copied), (2, refused)] {
         talks[talk].check(r#""collect":{}"#, reply);
     }

@@ -1,4 +1,4 @@
-//! The socket, who may connect, and how the server ends.
+//! Tests of the socket, of who may connect, and of how the server ends.
 
 use crate::common::{command, wait_until, Folder, Server, Talk, PATIENCE};
 use bestore::Batch;
@@ -12,11 +12,11 @@ use std::process::{Command, Output, Stdio};
 use std::thread;
 use std::time::{Duration, Instant};
 
-/// For how long an ending server still answers, and how many requests have arrived by then.
+/// How long a server still answers while it ends, and how many requests have arrived by then.
 const LAST: Duration = Duration::from_secs(5);
 const SENT: u64 = 200;
 
-/// Runs the server until it ends, which it has to do by itself.
+/// Runs the server until it ends by itself.
 fn said(mut command: Command) -> Output {
     let mut child = command.stdout(Stdio::piped()).stderr(Stdio::piped()).spawn().unwrap();
     wait_until("the server ends", || child.try_wait().unwrap().is_some());
@@ -187,7 +187,7 @@ fn another_user_cant_connect() {
         String::from_utf8(output.stdout).unwrap() + &String::from_utf8(output.stderr).unwrap()
     };
     assert!(as_nobody().contains("Permission denied"), "{}", as_nobody());
-    // Even if the files' permissions were lost, the server still refuses.
+    // Even without the files' permissions, the server itself refuses.
     fs::set_permissions(folder.path(), Permissions::from_mode(0o755)).unwrap();
     fs::set_permissions(folder.join("socket"), Permissions::from_mode(0o777)).unwrap();
     assert!(as_nobody().contains("NotAllowed"), "{}", as_nobody());
@@ -225,10 +225,10 @@ fn systemd_passes_the_socket() {
     assert!(socket.exists());
 }
 
-/// The reply to a client for which there is no place.
+/// The reply to a client when every place is taken.
 const NO_PLACE: &str = r#"{"id":null,"error":{"name":"NoPass","number":68,"message":"every place for a client is taken (2); try again once one is free","class":"full","clients":2}}"#;
 
-/// A server whose two places are taken.
+/// A server with both of its two places taken.
 fn full_server(folder: &Folder) -> (Server, [Talk; 2]) {
     let server = Server::start(folder, &["--passes", "2"]);
     let mut idle = [server.talk(), server.talk()];
@@ -270,7 +270,7 @@ fn a_visitor_is_answered_for_a_moment() {
     }
     assert_eq!(visitor.line(), NO_PLACE);
     assert_eq!(visitor.line(), "");
-    // Neither a snapshot nor repeated requests keep the place.
+    // Neither a snapshot nor repeated requests hold on to the place.
     let mut pinned = visiting();
     pinned.check(r#""pin":{}"#, r#""ok":{"commit":0,"next":1}"#);
     assert_eq!(pinned.line(), NO_PLACE);
@@ -313,7 +313,7 @@ fn what_was_sent_before_the_end_is_answered() {
     let is_in_time = begin.elapsed() < LAST;
     let mut replies = Vec::new();
     talk.stream.set_read_timeout(Some(PATIENCE)).unwrap();
-    // If requests were left this is an error, but the replies before it are read.
+    // If requests are left unread this fails, but the replies before that are read.
     let _ = talk.stream.read_to_end(&mut replies);
     let answered = replies.iter().filter(|byte| **byte == b'\n').count() as u64;
     assert!(answered == SENT || !is_in_time, "{answered}");

@@ -1,4 +1,4 @@
-//! Servers with several volumes.
+//! Tests of servers with several volumes.
 
 use crate::common::{command, start, wait_until, Folder, Server, PATIENCE};
 use bestore::{Batch, Kind, Node, Order};
@@ -8,7 +8,7 @@ use std::collections::BTreeSet;
 use std::thread;
 use std::time::Duration;
 
-/// A server with this many volumes and an index of sizes.
+/// A server with this many volumes and an index on `size`.
 fn sizes(volumes: &str) -> (Folder, Server) {
     let (folder, server) = start(&["--volumes", volumes, "--pages", "64"]);
     server
@@ -293,7 +293,7 @@ fn a_volume_without_an_index_is_named() {
     assert!(client.query("name==a").unwrap_err().is(ErrorName::NotCovered));
 }
 
-/// The pushes add up to the answer of all volumes, while several clients write.
+/// The pushes add up to the answer over all volumes, while several clients write.
 #[test]
 fn live_updates_come_from_all_volumes() {
     const WRITERS: u32 = 4;
@@ -376,7 +376,7 @@ fn a_state_makes_the_volumes_again() {
     );
 }
 
-/// Writers count in nodes of all volumes, and the server is killed meanwhile: no answered write is lost.
+/// Writers count in nodes of all volumes while the server is killed: no answered write is lost.
 #[test]
 fn a_killed_server_keeps_each_volume() {
     const VOLUMES: u32 = 3;
@@ -413,7 +413,7 @@ fn a_killed_server_keeps_each_volume() {
     assert!(answered.iter().all(|count| *count > 0), "{answered:?}");
 }
 
-/// Counts in each node with a client of its own, starting from what was answered, until the server is killed.
+/// Counts in each node with a separate client, starting from the answered counts, until the server is killed.
 fn write_until_killed(server: &Server, nodes: &[u64], mut answered: [u64; 3]) -> [u64; 3] {
     thread::scope(|scope| {
         for (node, answered) in nodes.iter().zip(&mut answered) {
@@ -471,7 +471,7 @@ fn folders_are_opened_with_the_volumes_that_they_have() {
     assert_eq!(again.client().query("size==5").unwrap(), [made]);
 }
 
-/// 60,000 nodes of five attributes, three of them indexed, are in four volumes.
+/// Four volumes hold 60,000 nodes with five attributes, three of them indexed.
 #[test]
 fn sixty_thousand_nodes_are_in_four_volumes() {
     const NODES: i64 = 60_000;
@@ -519,7 +519,7 @@ fn sixty_thousand_nodes_are_in_four_volumes() {
     assert_eq!(client.attributes(named[0]).unwrap().len(), 5);
 }
 
-/// Makes this volume's share of the nodes, several in each batch.
+/// Makes this volume's share of the nodes, several to a batch.
 fn fill(client: &mut Client, volume: u32, share: i64, each: i64) {
     for first in (0..share).step_by(each as usize) {
         let mut batch = Batch::new();

@@ -36,15 +36,15 @@ pub const OWN: [&str; 18] = [
     "MAIL:status",
 ];
 
-/// The node of the folder that a file is in.
+/// The node of the folder that contains the file.
 pub const PARENT: &str = "FILE:parent";
-/// The path of an imported folder.
+/// An imported folder's path.
 pub const ROOT: &str = "FILE:root";
-/// The bytes of a name that isn't UTF-8.
+/// The bytes of a name that isn't valid UTF-8.
 pub const NAME: &str = "FILE:name";
-/// How to recognise a file, and whether it was changed.
+/// Identifies the file, and shows whether it has changed.
 pub const STAT: &str = "FILE:stat";
-/// Which attributes come from extended attributes of the file: their names, separated by zero bytes.
+/// The names of the attributes that come from the file's extended attributes, separated by zero bytes.
 pub const XATTRS: &str = "FILE:xattrs";
 
 /// The indices that an import makes.
@@ -60,7 +60,7 @@ pub const INDICES: [(&str, Kind); 9] = [
     ("MAIL:status", Kind::Text),
 ];
 
-/// The maximum number of attributes of a node.
+/// The maximum number of attributes per node.
 const MOST: usize = 64;
 
 /// The maximum number of bytes in a value, and in a name.
@@ -70,7 +70,7 @@ const NAME_LENGTH: usize = 63;
 /// How many bytes to read from a file to find its type.
 const BEGIN: usize = 1 << 12;
 
-/// The attributes of a file, except for the folder that it is in.
+/// A file's attributes, except for the folder that contains it.
 #[derive(Debug, Default)]
 pub struct Content {
     pub values: BTreeMap<String, Value>,
@@ -78,16 +78,16 @@ pub struct Content {
     pub left_out: usize,
 }
 
-/// What reads files.
+/// Reads files' attributes.
 #[derive(Debug)]
 pub struct Reader {
     pub types: Types,
-    /// The kinds of the indices, by name.
+    /// The indices' kinds, by name.
     pub indices: BTreeMap<String, Kind>,
 }
 
 impl Reader {
-    /// Reads the attributes of a file. Whatever can't be read is missing.
+    /// Reads a file's attributes. Whatever can't be read is left out.
     pub fn content(&self, found: &Found) -> Content {
         let Found { path, stat } = found;
         let mut content = Content::default();
@@ -115,7 +115,7 @@ impl Reader {
         content
     }
 
-    /// Returns the type of a file, and the mail attributes if the file is a mail.
+    /// Returns the file's type, and its mail attributes if it is a mail.
     fn mime(&self, path: &Path, stat: &Stat, name: &str) -> (String, Vec<(&'static str, Value)>) {
         if let Some(mime) = stat.form.mime() {
             return (mime.into(), Vec::new());
@@ -132,7 +132,7 @@ impl Reader {
         (mail::TYPE.into(), mail::attributes(&begin, side, name_in(path)))
     }
 
-    /// Returns the type that the name gives. If it gives none or several, the content decides.
+    /// Returns the type that the name implies. If it implies none or several, the content decides.
     fn mime_of_file(&self, path: &Path, name: &str) -> &str {
         match self.types.of_name(name)[..] {
             [mime] => mime,
@@ -179,7 +179,8 @@ impl Reader {
         Some((name.into(), value))
     }
 
-    /// Converts the bytes to a value: of the kind that the index of this name takes, otherwise a string, or raw if they aren't text.
+    /// Converts the bytes to a value of the index's kind if there is an index with this name; otherwise to text, or to raw if it
+    /// isn't text.
     fn value_of(&self, name: &str, bytes: Vec<u8>) -> Option<Value> {
         let kind = self.indices.get(name).copied().unwrap_or(Kind::Text);
         if let Some(value) = std::str::from_utf8(&bytes)
@@ -197,7 +198,7 @@ impl Reader {
     }
 }
 
-/// Returns how many bytes from a list of names fit into a value, in whole names.
+/// Returns how many bytes of a list of names fit into a value without cutting a name.
 pub fn whole_names(listed: &[u8]) -> usize {
     if listed.len() <= VALUE {
         return listed.len();
@@ -205,13 +206,13 @@ pub fn whole_names(listed: &[u8]) -> usize {
     listed[..=VALUE].iter().rposition(|byte| *byte == 0).unwrap_or(0)
 }
 
-/// Returns the name of a file in its folder. The name of the root of all files is `/`.
+/// Returns a file's name within its folder. The root folder's name is `/`.
 pub fn name_in(path: &Path) -> &OsStr {
     path.file_name().unwrap_or(path.as_os_str())
 }
 
-/// The first bytes of the file, up to this many. It isn't opened through a symlink, and nothing is waited for: if a FIFO has
-/// taken its place, that isn't read.
+/// Reads up to this many bytes from the start of the file. It follows no symlink and never waits: a FIFO in the file's place
+/// isn't read.
 fn begin_of(path: &Path, most: usize) -> io::Result<Vec<u8>> {
     let flags = libc::O_NONBLOCK | libc::O_NOFOLLOW | libc::O_NOCTTY;
     let file: File = OpenOptions::new().read(true).custom_flags(flags).open(path)?;
@@ -222,14 +223,14 @@ fn begin_of(path: &Path, most: usize) -> io::Result<Vec<u8>> {
     Ok(begin)
 }
 
-/// Returns the bytes of an extended attribute with this value. Numbers become digits.
+/// Returns the bytes of an extended attribute with this value. Numbers are written as digits.
 pub fn bytes_of(value: &Value) -> Vec<u8> {
     value
         .as_bytes()
         .map_or_else(|| value.to_string().into_bytes(), <[u8]>::to_vec)
 }
 
-/// Returns whether the two are the same except for their kinds, which extended attributes don't have.
+/// Returns whether two values are equal apart from their kinds, which extended attributes don't have.
 pub fn is_same(one: &Value, other: &Value) -> bool {
     one == other || bytes_of(one) == bytes_of(other)
 }

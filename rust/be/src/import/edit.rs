@@ -1,11 +1,11 @@
-//! Changes to nodes that files already have.
+//! Changes to the nodes of known files.
 
 use super::content::{is_same, OWN, PARENT, ROOT, STAT, XATTRS};
 use bestore_types::{Batch, Value};
 use std::collections::{BTreeMap, BTreeSet};
 use std::path::PathBuf;
 
-/// What is changed on a node.
+/// One change to a node.
 #[derive(Clone, Debug, PartialEq)]
 pub enum Edit {
     Set(String, Value),
@@ -13,7 +13,7 @@ pub enum Edit {
     Remove,
 }
 
-/// The changes to a node.
+/// All changes to a node.
 #[derive(Clone, Debug)]
 pub struct Edits {
     pub path: PathBuf,
@@ -40,7 +40,7 @@ impl Edits {
     }
 }
 
-/// The operations that turn a node's attributes into those of its file. Attributes that a user has set stay.
+/// Returns the changes that turn a node's attributes into its file's. Attributes set by a user stay.
 pub fn between(had: &BTreeMap<String, Value>, wanted: &BTreeMap<String, Value>) -> Vec<Edit> {
     let listed = names_listed(had);
     let is_from_file = |name: &&String| OWN.contains(&name.as_str()) || listed.contains(name.as_str());
@@ -56,25 +56,25 @@ pub fn between(had: &BTreeMap<String, Value>, wanted: &BTreeMap<String, Value>) 
     unset.chain(set).collect()
 }
 
-/// The attributes with `FILE:stat` at the end: if they don't fit into one batch, it is written only once all others are.
+/// Returns the attributes with `FILE:stat` last. If they don't fit into one batch, it is written only after all the others.
 pub fn stat_last(values: &BTreeMap<String, Value>) -> impl Iterator<Item = (&String, &Value)> {
     let others = values.iter().filter(|(name, _)| *name != STAT);
     others.chain(values.get_key_value(STAT))
 }
 
-/// The names of the attributes that came from extended attributes.
+/// Returns the names of the attributes that came from extended attributes.
 pub fn names_listed(attributes: &BTreeMap<String, Value>) -> BTreeSet<String> {
     let bytes = attributes.get(XATTRS).and_then(Value::as_bytes).unwrap_or_default();
     let names = bytes.split(|byte| *byte == 0).filter(|name| !name.is_empty());
     names.map(|name| String::from_utf8_lossy(name).into_owned()).collect()
 }
 
-/// Whether a user has set an attribute of the node.
+/// Returns whether a user has set an attribute on the node.
 pub fn has_more(attributes: &BTreeMap<String, Value>) -> bool {
     attributes.keys().any(|name| !OWN.contains(&name.as_str()))
 }
 
-/// Records which folder a file is in: the folder's node, or its path if it is the imported folder itself.
+/// Records which folder contains the file: the folder's node, or the path for the imported folder itself.
 pub fn place(values: &mut BTreeMap<String, Value>, parent: Option<u64>, root: Option<Value>) {
     match (parent, root) {
         (Some(parent), _) => {

@@ -1,4 +1,4 @@
-//! `--follow`: writes what inotify(7) reports about the folder. If the server ends, waits for it to come back.
+//! `--follow`: writes the changes that inotify(7) reports for the folder. If the server goes away, waits for it to come back.
 
 use super::known::Known;
 use super::summary::Summary;
@@ -16,22 +16,22 @@ use std::path::{Path, PathBuf};
 use std::thread;
 use std::time::{Duration, Instant};
 
-/// Changes in quick succession are written together, once this much time has passed without another one.
+/// Changes in quick succession are written together once there has been no other change for this long.
 const QUIET: Duration = Duration::from_millis(60);
 
-/// But they wait no longer than this, so files that are constantly being written are followed too.
+/// Changes wait no longer than this, so that files that are written constantly are followed too.
 const LONGEST: Duration = Duration::from_millis(400);
 
-/// How long to wait, at most, for the second half of a move.
+/// The maximum wait for the second half of a move.
 const MOVE: Duration = Duration::from_millis(100);
 
-/// What the store has refused is retried after the first of these pauses, which doubles up to the second one.
+/// Refused changes are retried after the first of these pauses, which doubles up to the second.
 const PAUSES: (Duration, Duration) = (Duration::from_secs(1), Duration::from_secs(300));
 
-/// If the server is gone, connecting is retried after the first of these pauses, which doubles up to the second one.
+/// If the server is gone, connecting is retried after the first of these pauses, which doubles up to the second.
 const AWAY: (Duration, Duration) = (Duration::from_millis(100), Duration::from_secs(5));
 
-/// How many bytes of events to read at a time.
+/// The size of the buffer for events, in bytes.
 const EVENTS: usize = 1 << 16;
 
 /// The folders that are watched.
@@ -44,19 +44,19 @@ pub struct Watches {
 /// What has changed since the last write.
 #[derive(Debug, Default)]
 struct Dirty {
-    /// Files at these paths were added, changed or removed. `true`: if it is a folder, everything below it is read too.
+    /// Paths where files were added, changed or removed. `true`: if it is a folder, everything below it has to be read too.
     paths: BTreeMap<PathBuf, bool>,
     /// Events were lost, so the whole folder has to be read.
     lost: bool,
     /// The folder itself is gone.
     gone: bool,
-    /// Moves whose second half hasn't come yet.
+    /// Moves whose second half hasn't arrived yet.
     moves: Vec<u32>,
     /// The server has sent something unrequested, or has closed the connection.
     is_server_heard: bool,
 }
 
-/// When to try again what the store has refused.
+/// When to retry what the store has refused.
 #[derive(Debug)]
 struct Again {
     due: Option<Instant>,
@@ -87,7 +87,7 @@ impl Again {
         }
     }
 
-    /// Returns how long it is until the next try, if something was refused.
+    /// Returns how long to wait until the next retry, if something was refused.
     fn left(&self) -> Option<Duration> {
         self.due.map(|due| due.saturating_duration_since(Instant::now()))
     }
@@ -97,17 +97,17 @@ impl Again {
     }
 }
 
-/// What was found at paths, and what was known there.
+/// What was found at some paths, and what was known there before.
 #[derive(Default)]
 struct Seen {
     walked: Walked,
     known: Vec<(PathBuf, Known)>,
-    /// The last path that was read with everything below it.
+    /// The last path that was read together with everything below it.
     below: Option<PathBuf>,
 }
 
 impl Seen {
-    /// Returns whether the path was read along with a folder above it. It has to be called for paths in order.
+    /// Returns whether the path was read along with a folder above it. Paths have to be passed in order.
     fn has(&self, path: &Path) -> bool {
         self.below.as_ref().map_or(false, |folder| path.starts_with(folder))
     }
@@ -123,7 +123,7 @@ impl Watches {
         })
     }
 
-    /// Watches a folder. A folder that is gone or can't be read isn't watched.
+    /// Watches a folder. A folder that is gone or unreadable isn't watched.
     pub fn add(&mut self, folder: &Path) -> Result<(), Failure> {
         let mask = WatchMask::CREATE
             | WatchMask::DELETE
@@ -141,13 +141,13 @@ impl Watches {
                 self.folders.insert(watch, folder.into());
                 Ok(())
             }
-            // ENOSPC: there are as many watches as the system allows.
+            // ENOSPC: the system allows no more watches.
             Err(error) if error.raw_os_error() == Some(libc::ENOSPC) => Err(Failure::Watch(folder.into(), error)),
             Err(_) => Ok(()),
         }
     }
 
-    /// Waits for a change, or for the server, but no longer than the given time. Gathers changes until there is a pause.
+    /// Waits for a change or for the server, but no longer than the given time. Then gathers changes until there is a pause.
     fn wait(&mut self, server: RawFd, within: Option<Duration>) -> Result<Dirty, Failure> {
         let mut dirty = Dirty {
             is_server_heard: self.wait_readable(server, within),
@@ -169,8 +169,8 @@ impl Watches {
         }
     }
 
-    /// Waits for events or for a message from the server, up to this time, and returns whether it was the server. A signal may end the
-    /// wait earlier.
+    /// Waits up to this time for events or for the server, and returns whether it was the server. A signal may end the wait
+    /// early.
     fn wait_readable(&self, server: RawFd, within: Option<Duration>) -> bool {
         let mut polled = [self.inotify.as_raw_fd(), server].map(|fd| libc::pollfd {
             fd,
@@ -178,12 +178,12 @@ impl Watches {
             revents: 0,
         });
         let most = within.map_or(-1, |within| i32::try_from(within.as_millis()).unwrap_or(i32::MAX));
-        // SAFETY: poll reads and writes these two entries.
+        // SAFETY: poll reads and writes only these two entries.
         let count = unsafe { libc::poll(polled.as_mut_ptr(), 2, most) };
         count > 0 && polled[1].revents != 0
     }
 
-    /// Reads events. Returns whether there were any.
+    /// Reads the available events. Returns whether there were any.
     fn read(&mut self, room: &mut [u8], dirty: &mut Dirty) -> Result<bool, Failure> {
         let events = match self.inotify.read_events(room) {
             Ok(events) => events,
@@ -228,7 +228,7 @@ impl Dirty {
         let names = EventMask::CREATE | EventMask::DELETE | EventMask::MOVED_FROM | EventMask::MOVED_TO;
         let is_named = event.mask.intersects(names);
         if is_named {
-            // The folder's own time has changed too.
+            // This changes the folder's own time too.
             self.paths.entry(folder.into()).or_insert(false);
         }
         *self.paths.entry(path).or_insert(false) |= is_named;
@@ -236,7 +236,7 @@ impl Dirty {
 }
 
 impl Import<'_> {
-    /// Follows the folder until it is gone. `is_refused`: the store refused something when the folder was read.
+    /// Follows the folder until it is gone. `is_refused`: the store refused something during the first scan.
     pub fn follow(&mut self, mut watches: Watches, is_refused: bool, output: &mut Output) -> Result<(), Failure> {
         let mut again = Again::new();
         again.scanned(is_refused);
@@ -253,9 +253,9 @@ impl Import<'_> {
         }
     }
 
-    /// Waits for changes, and writes them.
+    /// Waits for changes and writes them.
     fn turn(&mut self, watches: &mut Watches, again: &mut Again) -> Result<Summary, Failure> {
-        // A missing file is looked for once more before its node is removed.
+        // If a file is missing, look for it once more before removing its node.
         let within = match self.missing.is_empty() {
             true => again.left(),
             false => Some(Duration::ZERO),
@@ -275,7 +275,7 @@ impl Import<'_> {
         Ok(summary)
     }
 
-    /// Fails if the folder isn't where it was.
+    /// Fails if the folder isn't at its path any more.
     fn look_for_folder(&self, is_gone: bool) -> Result<(), Failure> {
         match is_gone || fs::symlink_metadata(&self.folder).is_err() {
             true => Err(Failure::Gone(self.folder.clone())),
@@ -291,7 +291,7 @@ impl Import<'_> {
         Ok(summary)
     }
 
-    /// Scans the folder. If the server ends meanwhile, waits for it and starts again.
+    /// Scans the folder. If the server goes away meanwhile, waits for it and starts again.
     pub fn scan_until_done(
         &mut self,
         watches: &mut Watches,
@@ -323,7 +323,7 @@ impl Import<'_> {
         }
     }
 
-    /// Writes what has changed at these paths.
+    /// Writes the changes at these paths.
     fn step(&mut self, watches: &mut Watches, dirty: Dirty) -> Result<Summary, Failure> {
         let mut seen = Seen::default();
         let mut failed = None;
@@ -347,7 +347,7 @@ impl Import<'_> {
         }
     }
 
-    /// Reads what is at a path now: a new folder is read as a whole.
+    /// Looks at what is at a path now. A new folder is read with everything below it.
     fn see(&mut self, path: PathBuf, is_named: bool, walk: &mut Walk<'_>, seen: &mut Seen) {
         let there = fs::symlink_metadata(&path);
         let is_folder = there.as_ref().map_or(false, fs::Metadata::is_dir);
@@ -372,7 +372,7 @@ impl Import<'_> {
     }
 }
 
-/// Returns why no more folders can be watched, in words.
+/// Returns a message that says why no more folders can be watched.
 pub fn shown(folder: &Path, error: &io::Error) -> String {
     let folder = crate::text::escaped(&folder.to_string_lossy());
     match error.raw_os_error() {

@@ -11,11 +11,11 @@ use bestore_types::Value;
 use std::collections::{BTreeMap, HashMap, HashSet};
 use std::path::{Path, PathBuf};
 
-/// A file that has a node.
+/// A file with a node.
 #[derive(Clone, Debug, PartialEq, Eq)]
 pub struct Known {
     pub node: u64,
-    /// The folder's node. `None`: this is the imported folder itself.
+    /// The folder's node. `None` for the imported folder itself.
     pub parent: Option<u64>,
     /// The value of `FILE:stat`.
     pub stat: String,
@@ -27,20 +27,20 @@ impl Known {
     }
 }
 
-/// The files of a folder that have a node.
+/// A folder's files that have nodes.
 #[derive(Debug, Default)]
 pub struct Tree {
-    /// By their paths: the contents of a folder follow it.
+    /// Files by path. In this order, a folder's contents follow it.
     pub files: BTreeMap<PathBuf, Known>,
-    /// Further nodes at paths that `files` has already: a file was renamed onto another while an import read the folder, or two
-    /// imports ran at the same time.
+    /// Further nodes at paths that `files` already has. This happens if a file was renamed onto another during a scan, or if two
+    /// imports ran at once.
     pub doubles: Vec<(PathBuf, Known)>,
-    /// Those whose folder has no node any more.
+    /// Files whose folder no longer has a node.
     pub lost: Vec<Known>,
 }
 
 impl Tree {
-    /// Reads what the store knows about the folder and everything below it, except for these nodes.
+    /// Reads what the store knows about the folder and everything below it, but skips these nodes.
     pub fn read(client: &mut Client, folder: &Path, without: &HashSet<u64>) -> Result<Self, Failure> {
         let columns: Vec<&str> = COLUMNS.into_iter().chain([STAT]).collect();
         let (steps, mut stats) = pinned(client, |client| {
@@ -83,7 +83,7 @@ impl Tree {
         }
     }
 
-    /// Removes the file at this path, and everything below it, from the tree.
+    /// Removes the file at this path and everything below it from the tree, and returns them.
     pub fn take_below(&mut self, path: &Path) -> Vec<(PathBuf, Known)> {
         let range = self.files.range(path.to_path_buf()..);
         let below: Vec<PathBuf> = range

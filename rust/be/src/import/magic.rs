@@ -1,4 +1,4 @@
-//! What files of a type have in common, from `magic` in the Shared MIME-info Database. It decides between types that fit a
+//! The contents that identify file types, from `magic` in the Shared MIME-info Database. They decide between types that fit a
 //! name equally well.
 
 use std::cmp::Reverse;
@@ -7,22 +7,22 @@ use std::fs;
 use std::ops::Range;
 use std::path::Path;
 
-/// What the file begins with.
+/// The first bytes of the database's `magic`.
 const HEAD: &[u8] = b"MIME-Magic\0\n";
 
-/// According to the specification, a file without control characters in its first bytes, this many, is text.
+/// By the specification, a file is text if its first bytes, this many, have no control characters.
 const TEXT: usize = 128;
 
-/// The maximum number of steps from a type to one above it. More would be a cycle.
+/// The maximum number of steps from a type to its ancestors. More would mean a cycle.
 const STEPS: usize = 16;
 
-/// The type above all texts.
+/// The ancestor of all text types.
 const PLAIN: &str = "text/plain";
 
-/// A line of the file: bytes that the content has at one of these places.
+/// A line of the database: bytes that the content must have at one of these places.
 #[derive(Debug)]
 struct Line {
-    /// A line with a greater indent is a further condition of the last line before it with a smaller one.
+    /// A line is a further condition on the last line before it with a smaller indent.
     indent: usize,
     places: Range<usize>,
     value: Vec<u8>,
@@ -36,18 +36,18 @@ struct Section {
     lines: Vec<Line>,
 }
 
-/// What files of each type contain, and which type is a special form of which.
+/// What files of each type contain, and each type's parents.
 #[derive(Debug, Default)]
 pub struct Magic {
     sections: HashMap<String, Vec<Section>>,
     parents: HashMap<String, Vec<String>>,
 }
 
-/// How well a file's content fits a type: first by the priority of the matching section, then by the number of steps from the type to
-/// the one with that section. `Other` means that no section says anything about it.
+/// How well a file's content fits a type: first by the priority of the matching section, then by the number of steps from the
+/// type to the one with that section. `Other` means that no section matches.
 #[derive(Clone, Copy, Debug, PartialEq, Eq, PartialOrd, Ord)]
 enum Fit {
-    /// The type is a text, and the content isn't.
+    /// The type is a text type, but the content isn't text.
     No,
     Other,
     Text,
@@ -55,7 +55,7 @@ enum Fit {
 }
 
 impl Magic {
-    /// What the database in this folder says: nothing, if it can't be read.
+    /// Reads the database in this folder. If it can't be read, it is empty.
     pub fn read(database: &Path) -> Self {
         let magic = fs::read(database.join("magic")).unwrap_or_default();
         let subclasses = fs::read_to_string(database.join("subclasses")).unwrap_or_default();
@@ -73,14 +73,14 @@ impl Magic {
         }
     }
 
-    /// The type of a file with this content, out of those that its name fits equally well: the one that its content fits best, or
-    /// the first of several.
+    /// Returns the type that the content fits best, out of those that the name fits equally well. If several fit best, returns
+    /// the first.
     pub fn choose<'a>(&self, mimes: &[&'a str], begin: &[u8]) -> Option<&'a str> {
         if begin.is_empty() {
             return mimes.first().copied();
         }
         let is_text = !begin.iter().take(TEXT).any(|byte| is_control(*byte));
-        // If several are equal, this takes the last.
+        // Of several equals, `max_by_key` takes the last.
         let from_last = mimes.iter().rev();
         from_last.copied().max_by_key(|mime| self.fit(mime, begin, is_text))
     }
@@ -103,7 +103,7 @@ impl Magic {
         })
     }
 
-    /// The type, and those that it is a special form of, with the number of steps to each.
+    /// Returns the type and its ancestors, with the number of steps to each.
     fn with_those_above<'a>(&'a self, mime: &'a str) -> Vec<(&'a str, usize)> {
         let mut all = vec![(mime, 0)];
         let mut next = 0;
@@ -118,7 +118,7 @@ impl Magic {
         all
     }
 
-    /// The highest priority of this type's sections that match the content.
+    /// Returns the highest priority among this type's sections that match the content.
     fn priority(&self, mime: &str, begin: &[u8]) -> Option<u32> {
         let sections = self.sections.get(mime)?.iter();
         let had = sections.filter(|section| has_one(&section.lines, 0, begin));
@@ -126,12 +126,12 @@ impl Magic {
     }
 }
 
-/// Control characters that text doesn't contain.
+/// Whether this is a control character that doesn't occur in text.
 fn is_control(byte: u8) -> bool {
     byte < b' ' && !matches!(byte, b'\t' | b'\n' | b'\r' | b'\x08' | b'\x0c' | b'\x1b')
 }
 
-/// Whether the content matches one of the lines with this indent, and one of those below it if there are any.
+/// Whether the content matches one of the lines with this indent, and, if that has lines below it, one of those.
 fn has_one(lines: &[Line], indent: usize, begin: &[u8]) -> bool {
     let places = (0..lines.len()).filter(|at| lines[*at].indent == indent);
     places.into_iter().any(|at| {
@@ -154,7 +154,7 @@ impl Line {
     }
 }
 
-/// The sections of a file, up to the first one that can't be read.
+/// Reads the file's sections, up to the first that is invalid.
 fn sections_of(file: &[u8]) -> HashMap<String, Vec<Section>> {
     let mut sections: HashMap<String, Vec<Section>> = HashMap::new();
     let mut bytes = Bytes(file.strip_prefix(HEAD).unwrap_or_default());
@@ -164,11 +164,11 @@ fn sections_of(file: &[u8]) -> HashMap<String, Vec<Section>> {
     sections
 }
 
-/// The part of the file that hasn't been read yet.
+/// The part of the file that remains to be read.
 struct Bytes<'a>(&'a [u8]);
 
 impl<'a> Bytes<'a> {
-    /// `[50:image/png]`, a line feed, and lines.
+    /// Reads `[50:image/png]`, a newline, and lines.
     fn section(&mut self) -> Option<(String, Section)> {
         self.skip(b"[")?;
         let end = self.0.iter().position(|byte| *byte == b']')?;
@@ -183,8 +183,8 @@ impl<'a> Bytes<'a> {
         Some((mime.into(), Section { priority, lines }))
     }
 
-    /// `1>28=`, the length of the value in two bytes, the value, and perhaps `&` and a mask, `~` and the size of a word, `+` and how
-    /// many places there are. Words have this machine's byte order.
+    /// Reads `1>28=`, the value's length in two bytes, and the value. A mask after `&`, a word size after `~` and a number of
+    /// places after `+` may follow. Words have this machine's byte order.
     fn line(&mut self) -> Option<Line> {
         let indent = self.number().unwrap_or(0);
         self.skip(b">")?;
@@ -215,7 +215,7 @@ impl<'a> Bytes<'a> {
         })
     }
 
-    /// The number after this sign, if the sign is there.
+    /// Reads the number after this sign, if the sign is there.
     fn after(&mut self, sign: &[u8]) -> Option<Option<usize>> {
         match self.skip(sign) {
             Some(()) => self.number().map(Some),

@@ -1,4 +1,4 @@
-//! Which node each file has: it keeps its node when it is changed, renamed or moved, so what a user has set stays.
+//! Decides which node each file has. A file keeps its node when it is changed, renamed or moved, so what a user has set stays.
 
 use super::known::Known;
 use super::stat::Identity;
@@ -6,21 +6,21 @@ use super::walk::Found;
 use std::collections::{HashMap, HashSet};
 use std::path::PathBuf;
 
-/// A file with its earlier node, and the path that it had then.
+/// A file with its earlier node, and the path it had then.
 #[derive(Debug)]
 pub struct Matched {
     pub found: Found,
     pub known: Option<(PathBuf, Known)>,
 }
 
-/// Files with their nodes, and the nodes that no file has any more.
+/// Files with their nodes, and the nodes that no longer have a file.
 #[derive(Debug, Default)]
 pub struct Matching {
     pub files: Vec<Matched>,
     pub gone: Vec<(PathBuf, Known)>,
 }
 
-/// The nodes that no file has yet.
+/// The nodes that haven't been given to a file yet.
 struct Left {
     nodes: HashMap<u64, (PathBuf, Known)>,
     by_path: HashMap<PathBuf, Vec<u64>>,
@@ -48,13 +48,13 @@ impl Left {
         self.nodes.remove(&node)
     }
 
-    /// The node at the path of this file, if no other file has it.
+    /// Returns the node at this file's path, if no other file has got it.
     fn at_path(&self, found: &Found) -> Option<u64> {
         let nodes = self.by_path.get(&found.path)?;
         nodes.iter().copied().find(|node| self.nodes.contains_key(node))
     }
 
-    /// Sorts the nodes at the path of this file: the one that keeps the path comes first.
+    /// Sorts the nodes at this file's path, so that the one to keep comes first.
     fn sort_at_path<E>(&mut self, found: &Found, has_more: &mut impl FnMut(u64) -> Result<bool, E>) -> Result<(), E> {
         let several = match self.by_path.get(&found.path) {
             Some(nodes) if nodes.len() > 1 => nodes,
@@ -71,7 +71,7 @@ impl Left {
         Ok(())
     }
 
-    /// A node of the same file, if no other file has it.
+    /// Returns a node of the same file, if no other file has got it.
     fn same_file(&self, found: &Found) -> Option<u64> {
         let nodes = self.by_identity.get(&found.stat.identity)?;
         nodes.iter().copied().find(|node| self.nodes.contains_key(node))
@@ -85,15 +85,15 @@ impl Left {
 /// Gives each file its node. `has_more` says whether a node has attributes that a user has set.
 ///
 /// 1. The same file at the same path keeps its node.
-/// 2. So does the same file at another path.
-/// 3. Another file at the same path takes over the node that was there, such as after an editor has replaced the file.
-/// 4. Others have none.
+/// 2. The same file at another path does too.
+/// 3. Another file at the same path takes over the node there. This happens when an editor replaces the file.
+/// 4. All other files have no node.
 ///
-/// If one file is moved onto another, 2 and 3 name two nodes. The first one counts, unless only the second has attributes that a user
-/// has set.
+/// If one file is moved onto another, rules 2 and 3 name different nodes. Rule 2 wins, unless a user has set attributes only on
+/// rule 3's node.
 ///
-/// If several nodes have one path, one with attributes that a user has set comes before the others, then the node of the same file,
-/// then the oldest.
+/// If several nodes have the same path, a node on which a user has set attributes comes first, then the same file's node, then
+/// the oldest.
 pub fn matched<E>(
     found: Vec<Found>,
     known: Vec<(PathBuf, Known)>,
@@ -137,7 +137,7 @@ mod tests {
     use super::*;
     use std::fs;
 
-    /// Each name is a file of its own, whatever its path is.
+    /// Each name is a different file, whatever its path is.
     struct Files {
         folder: PathBuf,
     }
@@ -181,7 +181,7 @@ mod tests {
             files.iter().map(known).collect()
         }
 
-        /// The nodes that the files get, and those that are gone.
+        /// Returns the nodes that the files get, and those that no longer have a file.
         fn nodes(
             &self,
             found: &[(&str, &str)],
@@ -228,7 +228,7 @@ mod tests {
         assert_eq!(files.nodes(&found, &known, &[]), (vec![Some(1)], vec![2]));
         assert_eq!(files.nodes(&found, &known, &[2]), (vec![Some(2)], vec![1]));
         assert_eq!(files.nodes(&found, &known, &[1, 2]), (vec![Some(1)], vec![2]));
-        // The one that was there is elsewhere now.
+        // The file that was there is elsewhere now.
         let found = [("/b", "A"), ("/c", "B")];
         assert_eq!(files.nodes(&found, &known, &[2]), (vec![Some(1), Some(2)], vec![]));
     }
@@ -253,7 +253,7 @@ mod tests {
                 );
             }
         }
-        // The file of one of them is elsewhere.
+        // One node's file is elsewhere.
         let known = [(1, "/a", "A"), (2, "/a", "B")];
         for more in [&[][..], &[1], &[2]] {
             let found = [("/a", "A"), ("/b", "B")];

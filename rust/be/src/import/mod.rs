@@ -1,4 +1,4 @@
-//! `import`: a node for each file of a folder, which it keeps when it is changed, renamed or moved.
+//! `import`: makes a node for each file of a folder. A file keeps its node when it is changed, renamed or moved.
 
 pub mod content;
 mod edit;
@@ -38,10 +38,11 @@ use types::Types;
 use volume::Volume;
 use walk::Walk;
 
-/// The maximum number of bytes in an imported folder's path, which has to fit into a value.
+/// The maximum number of bytes in an imported folder's path, since the path has to fit into a value.
 const ROOT: usize = 255;
 
-/// How often, at most, the folder is read until no file is missing. In a folder that keeps changing, some may be missing each time.
+/// How many times the folder is read at most while files are missing. In a folder that keeps changing, some may be missing each
+/// time.
 const SCANS: u32 = 4;
 
 /// Connects to the server.
@@ -51,16 +52,16 @@ type Connect<'a> = &'a dyn Fn() -> Result<Client, Failure>;
 pub struct Import<'a> {
     folder: PathBuf,
     connect: Connect<'a>,
-    /// If given, only folders of this file system are read.
+    /// If given, only folders on this file system are read.
     device: Option<u64>,
     line: &'a Line,
     client: Client,
     volumes: Vec<Volume>,
     reader: Reader,
     tree: Tree,
-    /// Files that weren't at their paths when those were last read.
+    /// Files that weren't at their paths when these were last read.
     missing: Vec<(PathBuf, Known)>,
-    /// Those that were missing again, and whose nodes the store refused to remove.
+    /// Files that were missing twice, but whose nodes the store refused to remove.
     unremoved: Vec<(PathBuf, Known)>,
 }
 
@@ -83,11 +84,11 @@ pub fn run(connect: Connect<'_>, line: &Line, output: &mut Output) -> Result<(),
     }
 }
 
-/// The absolute path of the folder, without symlinks.
+/// Returns the folder's absolute path, without symlinks.
 fn folder_of(folder: &Path) -> Result<PathBuf, Failure> {
     let failed = |error| Failure::File(folder.into(), error);
     let whole = fs::canonicalize(folder).map_err(failed)?;
-    // It can be read, and is a folder.
+    // Check that it is a folder and can be read.
     fs::read_dir(&whole).map_err(failed)?;
     match whole.as_os_str().len() <= ROOT {
         true => Ok(whole),
@@ -116,7 +117,7 @@ impl<'a> Import<'a> {
         })
     }
 
-    /// Reads the whole folder, and writes what differs from the store, and extended attributes if the command line says so.
+    /// Reads the whole folder and writes what differs from the store. With `--xattr`, writes extended attributes too.
     fn scan_first(&mut self, watches: Option<&mut Watches>) -> Result<Summary, Failure> {
         let summary = self.scan(watches)?;
         match self.line.xattr {
@@ -137,8 +138,8 @@ impl<'a> Import<'a> {
         Ok(summary)
     }
 
-    /// Asks the store again what it knows about the folder, and scans that: after a refusal it may have less than is known here, or
-    /// more.
+    /// Reloads what the store knows about the folder, and scans it. After a refusal, the store may have more or less than this
+    /// program believes.
     fn scan_again(&mut self, watches: &mut Watches) -> Result<Summary, Failure> {
         self.missing = std::mem::take(&mut self.unremoved);
         let missing = self.missing.iter().map(|(_, known)| known.node).collect();
@@ -171,7 +172,7 @@ impl<'a> Import<'a> {
         self.update(walked, known)
     }
 
-    /// The value of `FILE:root` for the imported folder.
+    /// Returns the imported folder's value for `FILE:root`.
     fn root_value(&self) -> Value {
         let path = self.folder.as_os_str();
         path.to_str()
@@ -179,13 +180,13 @@ impl<'a> Import<'a> {
     }
 }
 
-/// The file system of a folder.
+/// Returns the file system that a folder is on.
 fn device_of(folder: &Path) -> Result<u64, Failure> {
     let about = fs::symlink_metadata(folder).map_err(|error| Failure::File(folder.into(), error))?;
     Ok(about.dev())
 }
 
-/// Makes the missing indices, and returns the kinds of all indices.
+/// Makes the missing indices, and returns all indices' kinds.
 fn make_indices(client: &mut Client) -> Result<BTreeMap<String, Kind>, Failure> {
     let kinds = |names: BTreeMap<String, String>| -> BTreeMap<String, Kind> {
         let kind = |(name, kind): (String, String)| kind_named(&kind).map(|kind| (name, kind));
@@ -215,13 +216,13 @@ fn make_indices(client: &mut Client) -> Result<BTreeMap<String, Kind>, Failure> 
     Ok(all)
 }
 
-/// A spinner on a terminal, with a count.
+/// Shows a spinner and a count on a terminal.
 fn spinner(what: &'static str) -> ProgressBar {
     let style = ProgressStyle::with_template("{spinner} {msg}: {human_pos} folders").expect("it is a template");
     ProgressBar::new_spinner().with_style(style).with_message(what)
 }
 
-/// A progress bar on a terminal.
+/// Shows a progress bar on a terminal.
 fn bar(what: &'static str, count: usize) -> ProgressBar {
     let style = ProgressStyle::with_template("{msg} {wide_bar} {human_pos} of {human_len}, {eta} left");
     ProgressBar::new(count as u64)

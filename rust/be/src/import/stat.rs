@@ -1,4 +1,4 @@
-//! What the file system says about a file, and how a file is recognised.
+//! What the file system reports about a file, and how to recognise a file.
 
 use std::fmt::{self, Write as _};
 use std::fs::Metadata;
@@ -31,7 +31,7 @@ impl Form {
         }
     }
 
-    /// Returns the MIME type that the Shared MIME-info specification gives to anything but a regular file.
+    /// Returns the MIME type that the Shared MIME-info specification gives to files that aren't regular.
     pub fn mime(self) -> Option<&'static str> {
         match self {
             Form::File => None,
@@ -45,8 +45,8 @@ impl Form {
     }
 }
 
-/// Which file it is, whatever its name is: the device, the inode, and when the inode was made, if the file system knows that.
-/// A reused inode has another time.
+/// Identifies a file, whatever its name: the device, the inode, and the inode's creation time if the file system knows it. A
+/// reused inode has a different creation time.
 #[derive(Clone, Copy, Debug, PartialEq, Eq, Hash)]
 pub struct Identity {
     device: u64,
@@ -56,7 +56,7 @@ pub struct Identity {
 }
 
 impl Identity {
-    /// Reads the identity from the text that [`Stat::text`] made.
+    /// Reads the identity from a text made by [`Stat::text`].
     pub fn read(text: &str) -> Option<Self> {
         let mut parts = text.split(':');
         let device = u64::from_str_radix(parts.next()?, 16).ok()?;
@@ -79,18 +79,18 @@ impl fmt::Display for Identity {
     }
 }
 
-/// What lstat(2) says about a file.
+/// What lstat(2) reports about a file.
 #[derive(Clone, Copy, Debug, PartialEq, Eq)]
 pub struct Stat {
     pub identity: Identity,
     pub form: Form,
-    /// Bytes of a regular file, otherwise 0.
+    /// The size of a regular file in bytes, otherwise 0.
     pub size: i64,
     /// Seconds since 1970.
     pub modified: i64,
     /// Seconds since 1970, if the file system knows it.
     pub created: Option<i64>,
-    /// When the content, an attribute or the name was changed last: seconds, and nanoseconds.
+    /// When the content, an attribute or the name last changed: seconds and nanoseconds.
     change: (i64, i64),
 }
 
@@ -118,7 +118,7 @@ impl From<&Metadata> for Stat {
 }
 
 impl Stat {
-    /// Returns the value of `FILE:stat`: the identity, and the time of the last change. The text differs if the file was changed.
+    /// Returns the value for `FILE:stat`: the identity, and the time of the last change. If the file changes, so does this text.
     pub fn text(&self) -> String {
         let (seconds, nanoseconds) = self.change;
         format!("{}:{seconds}.{nanoseconds:09}", self.identity)

@@ -12,10 +12,10 @@ use std::path::{Path, PathBuf};
 /// The maximum number of pages in a store.
 const MOST_PAGES: u64 = 16_384;
 
-/// How many paths are printed for each fault.
+/// How many paths are printed for each problem.
 const SHOWN: usize = 10;
 
-/// Errors of the server after which the same write may be accepted.
+/// Server errors after which the same write may succeed later.
 const PASSING: [ErrorName; 7] = [
     ErrorName::Full,
     ErrorName::Busy,
@@ -26,7 +26,7 @@ const PASSING: [ErrorName; 7] = [
     ErrorName::NotLeader,
 ];
 
-/// What has happened to a file.
+/// What happened to a file.
 #[derive(Clone, Copy, Debug, PartialEq, Eq)]
 pub enum Fate {
     New,
@@ -56,22 +56,23 @@ pub struct Summary {
     pub changed: usize,
     pub renamed: usize,
     pub removed: usize,
-    /// How many files the store has no space for.
+    /// How many files didn't fit into the store.
     pub left: usize,
-    /// How many extended attributes the store can't hold.
+    /// How many extended attributes don't fit into the store.
     pub xattrs_left: usize,
     /// How many extended attributes were written to files.
     pub xattrs_written: usize,
-    /// How many pages the store has, and how many of them are used.
+    /// How many pages the store has, and how many are used.
     pub pages: u64,
     pub used: u64,
     pub volumes: u64,
     #[serde(serialize_with = "count")]
     pub unread: Vec<Unread>,
-    /// The files for which the store refused something, or that refused an attribute, and why.
+    /// The files for which the store refused something, or which refused an attribute, and the
+    /// reasons.
     #[serde(serialize_with = "count")]
     pub refused: Vec<(PathBuf, String)>,
-    /// Whether the store may later accept what it has refused.
+    /// Whether the store may later accept what it refused.
     #[serde(skip)]
     is_passing: bool,
     #[serde(skip)]
@@ -99,12 +100,12 @@ impl Summary {
         self.refused.push((path, message(error)));
     }
 
-    /// Whether the store may later accept what it has refused.
+    /// Returns whether the store may later accept what it refused.
     pub fn is_worth_a_retry(&self) -> bool {
         self.is_passing || self.left > 0
     }
 
-    /// What this import and the next one of the same folder did together.
+    /// Combines the summaries of this import and of the next one of the same folder.
     pub fn and_then(self, next: Self) -> Self {
         Self {
             new: self.new + next.new,
@@ -117,7 +118,7 @@ impl Summary {
         }
     }
 
-    /// Returns whether each file is in the store, up to date.
+    /// Returns whether every file is in the store and up to date.
     pub fn is_whole(&self) -> bool {
         self.left == 0 && self.unread.is_empty() && self.refused.is_empty()
     }
@@ -178,10 +179,10 @@ impl Summary {
     }
 }
 
-/// Returns the limits that would suffice for all files, judging by the files in the store.
+/// Returns limits that would be enough for all files, judging by the files in the store.
 fn what_helps(files: usize, left: usize, pages: u64, used: u64, volumes: u64) -> String {
     let (files, left, volumes) = (files.max(1) as u64, left as u64, volumes.max(1));
-    // A tenth more, since files differ.
+    // Add a tenth, since files differ.
     let needed = (used * (files + left) / files * 11 / 10).max(pages + 1);
     let each = (needed + volumes - 1) / volumes;
     let words = match (each <= MOST_PAGES, volumes) {

@@ -1,7 +1,7 @@
-//! The MIME types of files: by name and, if the name fits no type or several, by how the content begins.
+//! Finds files' MIME types: by name or, if the name fits no type or several, by the first bytes of the content.
 //!
-//! The names are in `globs2` of the Shared MIME-info Database, which is in the package shared-mime-info. Without it the extensions
-//! are those of `/etc/mime.types` of the package media-types.
+//! The names come from `globs2` in the Shared MIME-info Database, which is in the package shared-mime-info. Without it, the
+//! extensions in `/etc/mime.types` of the package media-types are used.
 
 use super::magic::Magic;
 use glob::{MatchOptions, Pattern};
@@ -9,21 +9,21 @@ use std::collections::HashMap;
 use std::fs;
 use std::path::Path;
 
-/// The type of a file about which nothing is known.
+/// The type of a file that can't be determined.
 pub const UNKNOWN: &str = "application/octet-stream";
 
 const DATABASE: &str = "/usr/share/mime";
 const EXTENSIONS: &str = "/etc/mime.types";
 
-/// Matching a glob without regard to case, which the specification demands for those without the flag `cs`.
+/// Matches a glob in any case, which the specification requires for globs without the flag `cs`.
 const ANY_CASE: MatchOptions = MatchOptions {
     case_sensitive: false,
     require_literal_separator: false,
     require_literal_leading_dot: false,
 };
 
-/// The types that a glob stands for, in the order in which they are listed. Of the globs that match a name, the one with the
-/// greatest weight counts, and then the longest.
+/// A glob's types, in the order in which they are listed. Of the globs that match a name, the one with the greatest weight wins,
+/// and then the longest.
 #[derive(Clone, Debug)]
 struct Rule {
     weight: u32,
@@ -37,23 +37,23 @@ impl Rule {
     }
 }
 
-/// The types, by file names.
+/// The known types, by file name.
 #[derive(Debug, Default)]
 pub struct Types {
-    /// By whole names, and by what follows a `*` that is the glob's only wildcard: in lower case, and in exact case.
+    /// By whole name, and by what follows a `*` that is the glob's only wildcard. Both exist in lower case and in exact case.
     names: HashMap<String, Rule>,
     endings: HashMap<String, Rule>,
     exact_endings: HashMap<String, Rule>,
     others: Vec<(Pattern, Rule)>,
     magic: Magic,
-    /// The files that they come from, in words.
+    /// Which database the types come from, in words.
     source: &'static str,
-    /// Whether the database says how files begin.
+    /// Whether the database knows file contents.
     has_contents: bool,
 }
 
 impl Types {
-    /// The types that this machine knows.
+    /// Loads the types that this machine knows.
     pub fn of_machine() -> Self {
         if let Ok(globs) = fs::read_to_string(Path::new(DATABASE).join("globs2")) {
             return Self {
@@ -77,7 +77,7 @@ impl Types {
         }
     }
 
-    /// Where the types come from, in words.
+    /// Returns which database the types come from, in words.
     pub fn source(&self) -> &'static str {
         self.source
     }
@@ -98,7 +98,7 @@ impl Types {
         types
     }
 
-    /// Lines with a type and its extensions.
+    /// Reads lines with a type and its extensions.
     fn from_extensions(text: &str) -> Self {
         let mut types = Self::default();
         for line in text.lines().filter(|line| !line.starts_with('#')) {
@@ -118,7 +118,7 @@ impl Types {
         let is_plain = |text: &str| !text.contains(|sign| "*?[".contains(sign));
         match glob.strip_prefix('*') {
             Some(ending) if is_plain(ending) && exact => better(&mut self.exact_endings, ending.into(), rule),
-            // For programs that don't know the flag, the database has such a glob again without it.
+            // For programs that don't know the flag, the database repeats such a glob without it.
             Some(ending) if is_plain(ending) && self.exact_endings.contains_key(ending) => {}
             Some(ending) if is_plain(ending) => better(&mut self.endings, ending.to_lowercase(), rule),
             None if is_plain(glob) => better(&mut self.names, glob.to_lowercase(), rule),
@@ -126,7 +126,8 @@ impl Types {
         }
     }
 
-    /// The types that fit the name in exact case, otherwise in any case. There are several if they fit equally well.
+    /// Returns the types that fit the name in exact case, otherwise those that fit in any case. There are several if they fit
+    /// equally well.
     pub fn of_name(&self, name: &str) -> Vec<&str> {
         let best = self.best(name);
         if best.is_empty() {
@@ -153,7 +154,7 @@ impl Types {
         best.iter().flat_map(|rule| &rule.mimes).map(String::as_str).collect()
     }
 
-    /// The type of a file that begins with these bytes and whose name fits these types.
+    /// Returns the type of a file that begins with these bytes, and whose name fits these types.
     pub fn of_content<'a>(&self, mimes: &[&'a str], begin: &[u8]) -> &'a str {
         if let Some(mime) = self.magic.choose(mimes, begin) {
             return mime;
@@ -171,7 +172,7 @@ impl Types {
     }
 }
 
-/// Keeps the better of two rules, or the types of both.
+/// Keeps the better of two rules. If they are equally good, keeps the types of both.
 fn better(rules: &mut HashMap<String, Rule>, key: String, rule: Rule) {
     match rules.get_mut(&key) {
         Some(kept) if kept.rank() > rule.rank() => {}

@@ -16,24 +16,24 @@ use std::collections::{BTreeMap, HashMap, HashSet};
 use std::path::{Path, PathBuf};
 use std::thread;
 
-/// How many files are read and written at a time.
+/// How many files are read and written at once.
 const SLICE: usize = 8_192;
 
 /// The maximum number of operations in a batch.
 const OPERATIONS: usize = 64;
 
-/// About how many entries of the store's trees a page has.
+/// About how many entries of the store's trees fit on a page.
 const ENTRIES: u64 = 8;
 
 impl Import<'_> {
-    /// Writes what was found. The node of a known file that wasn't found is removed only if that happens twice in a row: a file
-    /// that is moved while folders are read can be missing at both of its paths once.
+    /// Writes what was found. If a known file wasn't found, its node is removed only when that happens twice in a row. A file
+    /// that is moved while folders are being read can be missing at both of its paths once.
     pub fn update(&mut self, walked: Walked, known: Vec<(PathBuf, Known)>) -> Result<Summary, Failure> {
         let Walked { found, unread } = walked;
         self.refuse_another(&found, &known)?;
         let lost = std::mem::take(&mut self.tree.lost);
         let lost_nodes: Vec<u64> = lost.iter().map(|known| known.node).collect();
-        // A file that has lost its folder is recognised by its identity.
+        // A file whose folder has no node is recognised by its identity.
         let lost = lost.into_iter().map(|known| (PathBuf::new(), known));
         let missing = std::mem::take(&mut self.missing);
         let missed: HashSet<u64> = missing.iter().map(|(_, known)| known.node).collect();
@@ -63,8 +63,8 @@ impl Import<'_> {
         Ok(summary)
     }
 
-    /// Removes the nodes that were already missing, and remembers as missing the others and those that the store doesn't remove.
-    /// Whatever is below a folder that can't be read stays.
+    /// Removes the nodes of files that were missing before. Remembers the other missing files, and those whose nodes the store
+    /// doesn't remove. Whatever is below an unreadable folder stays.
     fn remove(
         &mut self,
         gone: Vec<(PathBuf, Known)>,
@@ -94,7 +94,7 @@ impl Import<'_> {
         Ok(())
     }
 
-    /// Puts files into the tree, and returns those that differ from what is in the store.
+    /// Puts files into the tree, and returns those that differ from the store.
     fn keep_unchanged(&mut self, files: Vec<Matched>) -> Vec<Matched> {
         let mut nodes: HashMap<PathBuf, u64> = HashMap::new();
         for file in &files {
@@ -128,8 +128,8 @@ impl Import<'_> {
         changed
     }
 
-    /// Refuses a folder that isn't the same one as before and is empty, such as one whose disk isn't mounted. The nodes of its
-    /// files, and everything users have set on them, would be removed.
+    /// Refuses a folder that is empty and isn't the same as before, such as the mount point of an unmounted disk. Otherwise its
+    /// files' nodes, and everything users have set on them, would be removed.
     fn refuse_another(&self, found: &[Found], known: &[(PathBuf, Known)]) -> Result<(), Failure> {
         let was = known.iter().find(|(path, _)| self.is_root(path));
         match (was, found) {
@@ -147,12 +147,12 @@ impl Import<'_> {
         path == self.folder
     }
 
-    /// The node of the file at this path.
+    /// Returns the node of the file at this path.
     pub fn node_at(&self, path: &Path) -> Option<u64> {
         self.tree.files.get(path).map(|known| known.node)
     }
 
-    /// Records which folder the file is in. `false`: that folder has no node.
+    /// Records which folder contains the file. Returns `false` if that folder has no node.
     fn place(&self, path: &Path, known: Option<&Known>, content: &mut Content) -> bool {
         let parent = match self.is_root(path) {
             true => known.and_then(|known| known.parent),
@@ -205,7 +205,7 @@ impl Import<'_> {
         Ok(())
     }
 
-    /// Remembers what the store now has for a file.
+    /// Records what the store now has for a file.
     fn keep(&mut self, found: &Found) {
         let parent = found.path.parent().and_then(|folder| self.node_at(folder));
         let is_root = self.is_root(&found.path);
@@ -217,13 +217,13 @@ impl Import<'_> {
         }
     }
 
-    /// Writes changes: the changes to several nodes as one batch, or individually if the batch is refused. Returns the files for which
-    /// something was refused.
+    /// Writes changes. Changes to several nodes go into one batch; if it is refused, each node's changes are written
+    /// individually. Returns the files for which something was refused.
     pub fn write(&mut self, edits: &[Edits], summary: &mut Summary) -> Result<HashSet<PathBuf>, Failure> {
         let mut refused = HashSet::new();
         let mut at = 0;
         while at < edits.len() {
-            // The last part of a file would say that all of it has been written.
+            // A file's last part, `FILE:stat`, would claim that everything has been written.
             if refused.contains(&edits[at].path) {
                 at += 1;
                 continue;
@@ -251,7 +251,7 @@ impl Import<'_> {
             let mut batch = Batch::new();
             edit.add_to(&mut batch);
             match self.write_batch(batch) {
-                // Another program has removed it. The next import makes it again, if the file is there.
+                // Another program has removed the node. The next import makes it again if the file is there.
                 Err(error) if error.is(ErrorName::NoNode) => self.forget(edit),
                 Err(error @ Error::Refused(_)) => {
                     summary.refuse(edit.path.clone(), &error);
@@ -263,14 +263,14 @@ impl Import<'_> {
         Ok(refused)
     }
 
-    /// Removes a file whose node is gone from the tree, unless it has another node there.
+    /// Removes a file from the tree if its node is gone, unless it has another node there.
     fn forget(&mut self, edits: &Edits) {
         if self.node_at(&edits.path) == Some(edits.node) {
             self.tree.files.remove(&edits.path);
         }
     }
 
-    /// Writes a batch in one volume, in parts if it has too many operations for one batch.
+    /// Writes a batch in one volume. If it has too many operations for one batch, it is split.
     fn write_batch(&mut self, batch: Batch) -> Result<(), Error> {
         crate::server::apply(&mut self.client, &batch)
     }
@@ -325,7 +325,7 @@ fn volume_of(edits: &Edits) -> u32 {
     Node::from(edits.node).volume
 }
 
-/// The folders by depth, the shallowest first.
+/// Groups folders by depth, shallowest first.
 fn by_depth(folders: Vec<Found>) -> impl Iterator<Item = Vec<Found>> {
     let mut levels: BTreeMap<usize, Vec<Found>> = BTreeMap::new();
     for folder in folders {
@@ -342,7 +342,7 @@ fn slices<T>(files: Vec<T>) -> impl Iterator<Item = Vec<T>> {
     })
 }
 
-/// Reads files, some of them on each processor.
+/// Reads files on all processors.
 fn read(reader: &Reader, files: &[&Found]) -> Vec<Content> {
     let processors = thread::available_parallelism().map_or(1, |count| count.get());
     let part = (files.len() / processors).max(64);
@@ -359,7 +359,7 @@ fn read(reader: &Reader, files: &[&Found]) -> Vec<Content> {
     })
 }
 
-/// Makes nodes for these files in all volumes at the same time. Files for which one volume has no space go to the others.
+/// Makes nodes for these files in all volumes at once. Files that don't fit into one volume go to the others.
 fn make_in(volumes: &mut [Volume], files: Vec<New>, done: &(dyn Fn(u64) + Sync)) -> Result<Made, Failure> {
     let mut all = Made {
         left: files,

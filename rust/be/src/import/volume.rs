@@ -1,4 +1,4 @@
-//! A volume of the server: one of the stores that its queries search. A server with one store has one volume.
+//! A volume of the server: one of the stores that its queries search. A server with a single store has one volume.
 
 use super::edit::stat_last;
 use crate::failure::Failure;
@@ -15,42 +15,42 @@ use std::time::Duration;
 /// The maximum number of operations in a batch.
 const OPERATIONS: usize = 64;
 
-/// The maximum number of connections, which the volumes share: a server has up to 62.
+/// The maximum number of connections that the volumes share. A server allows up to 62.
 const CONNECTIONS: u32 = 8;
 
-/// How many batches to write before asking the volume again how full it is.
+/// How many batches to write before asking the volume how full it is again.
 const LOOK: u32 = 16;
 
-/// One in this many pages stays free, so that a full volume can still be written to.
+/// One page in this many stays free, so that a full volume can still be written to.
 const RESERVE: u64 = 64;
 
-/// How often to retry a write if another client is writing.
+/// How many times to retry a write while another client is writing.
 const TRIES: u32 = 1_000;
 
-/// A file that has no node yet.
+/// A file without a node.
 #[derive(Clone, Debug)]
 pub struct New {
     pub path: PathBuf,
     pub values: BTreeMap<String, Value>,
 }
 
-/// What has happened to files that had no node.
+/// What happened to files without nodes.
 #[derive(Debug, Default)]
 pub struct Made {
     /// The nodes that were made.
     pub nodes: Vec<(New, u64)>,
-    /// The files for which the volume had no space.
+    /// The files that didn't fit into the volume.
     pub left: Vec<New>,
-    /// The files that were refused, and why.
+    /// The files that were refused, with the errors.
     pub refused: Vec<(PathBuf, Error)>,
 }
 
-/// A volume, and a connection to its server that it may share with others.
+/// A volume, with a connection that it may share with other volumes.
 pub struct Volume {
     client: Arc<Mutex<Client>>,
-    /// Its number, if the server has several.
+    /// The volume's number, if the server has several.
     number: Option<u32>,
-    /// The commit number of the volume, and the number of its next node, as far as they are known.
+    /// The volume's commit number and its next node's number, as far as known.
     commit: u64,
     next: u64,
     pub pages: u64,
@@ -60,7 +60,7 @@ pub struct Volume {
 }
 
 impl Volume {
-    /// The volumes of a server.
+    /// Returns all volumes of a server.
     pub fn all(connect: &dyn Fn() -> Result<Client, Failure>) -> Result<Vec<Self>, Failure> {
         let mut first = connect()?;
         let count = first.hello()?.volumes;
@@ -114,7 +114,7 @@ impl Volume {
         Ok(())
     }
 
-    /// Writes the batch if nobody else has written to this volume since it was last asked.
+    /// Writes the batch if no one else has written to this volume since it was last asked.
     fn write(&mut self, batch: &Batch) -> Result<Written, Error> {
         let mut client = self.client();
         match self.number {
@@ -123,7 +123,7 @@ impl Volume {
         }
     }
 
-    /// Makes nodes for the files, with as many in a batch as fit, and calls `done` with how many were made.
+    /// Makes nodes for the files, with as many in a batch as fit. Calls `done` with how many were made.
     pub fn make(&mut self, files: Vec<New>, done: &dyn Fn(u64)) -> Result<Made, Failure> {
         let mut made = Made::default();
         let mut files = files.into_iter().peekable();
@@ -134,7 +134,7 @@ impl Volume {
                 operations += 1 + file.values.len();
                 together.push(file);
             }
-            // A file with 64 attributes doesn't fit into a batch.
+            // A file with 64 attributes doesn't fit into a batch together with its new node.
             if together.is_empty() {
                 together.extend(files.next());
             }
@@ -146,7 +146,7 @@ impl Volume {
         Ok(made)
     }
 
-    /// Makes nodes for files that fit into a batch. If the batch is refused, the nodes are made individually.
+    /// Makes nodes for files that fit into one batch. If the batch is refused, makes the nodes one by one.
     fn make_together(&mut self, files: Vec<New>, made: &mut Made) -> Result<(), Failure> {
         if self.batches % LOOK == 0 {
             self.look()?;
@@ -171,7 +171,7 @@ impl Volume {
         Ok(())
     }
 
-    /// Writes a batch based on what is known about the volume. If another client has written meanwhile, the batch is made again.
+    /// Writes a batch based on what is known about the volume. If another client has written meanwhile, builds the batch again.
     fn try_to_make(&mut self, files: &[New]) -> Result<Vec<u64>, Failure> {
         let mut left = TRIES;
         loop {
@@ -195,7 +195,7 @@ impl Volume {
     }
 }
 
-/// A batch that makes a node for each file, from this number on, and the operations that don't fit into it.
+/// Returns a batch that makes a node for each file, from this number on, and the operations that don't fit into it.
 fn batch_of(files: &[New], first: u64) -> (Batch, Option<Batch>) {
     let (mut batch, mut rest) = (Batch::new(), Batch::new());
     for (node, file) in (first..).zip(files) {

@@ -1,4 +1,4 @@
-//! The files of a folder and of those inside it.
+//! Walks a folder: finds its files and everything below it.
 
 use super::stat::{Form, Stat};
 use std::collections::HashSet;
@@ -8,10 +8,10 @@ use std::os::unix::ffi::OsStrExt;
 use std::os::unix::fs::MetadataExt;
 use std::path::{Path, PathBuf};
 
-/// How the names of kept stores' files end.
+/// The suffixes of the files of kept stores.
 const STORES: [&[u8]; 4] = [b".bestore", b".bestore-wal", b".bestore-shm", b".bestore-journal"];
 
-/// A file, and what the file system says about it.
+/// A file, and what the file system reports about it.
 #[derive(Clone, Debug)]
 pub struct Found {
     pub path: PathBuf,
@@ -25,30 +25,30 @@ pub struct Unread {
     pub error: io::Error,
 }
 
-/// What a walk has found: a folder comes before its contents.
+/// What a walk found. A folder comes before its contents.
 #[derive(Debug, Default)]
 pub struct Walked {
     pub found: Vec<Found>,
     pub unread: Vec<Unread>,
 }
 
-/// Whether a file belongs to a kept store, or is one that SQLite puts beside it. Such a file is left out: recording its changes
-/// would change it again.
+/// Whether a file belongs to a kept store, including the files that SQLite puts next to it. Such a file is left out, since
+/// recording its changes would change it again.
 pub fn is_of_a_store(path: &Path) -> bool {
     let name = path.file_name().map_or(&b""[..], OsStrExt::as_bytes);
     STORES.iter().any(|end| name.ends_with(end))
 }
 
-/// A walk. Symlinks are not followed, and files of kept stores are left out.
+/// A walk. It doesn't follow symlinks, and skips files of kept stores.
 pub struct Walk<'a> {
     /// Called with each folder before it is read.
     pub before: &'a mut dyn FnMut(&Path),
-    /// If given, folders of other file systems are found, but not read.
+    /// If given, folders on other file systems are found but not read.
     pub device: Option<u64>,
 }
 
 impl Walk<'_> {
-    /// The folder, or file, and everything below it. What disappears meanwhile isn't found.
+    /// Returns the file or folder and everything below it. Anything that disappears meanwhile isn't found.
     pub fn below(&mut self, path: &Path) -> Walked {
         let mut walked = Walked::default();
         match fs::symlink_metadata(path) {
@@ -88,8 +88,8 @@ fn is_elsewhere(folder: &Path, device: u64) -> bool {
 }
 
 impl Walked {
-    /// For files that were found several times, keeps what was found last. A large folder may list a name again that was removed and
-    /// recreated while it was being read.
+    /// If a file was found several times, keeps the last. A large folder may list a name again if it is removed and recreated
+    /// during the reading.
     fn keep_last(&mut self) {
         let mut seen = HashSet::new();
         self.found.reverse();
@@ -120,7 +120,7 @@ impl Walked {
         }
     }
 
-    /// Remembers why a file can't be read, unless it has gone.
+    /// Records why a file can't be read, unless it is gone.
     fn failed(&mut self, path: &Path, error: io::Error) {
         if error.kind() != ErrorKind::NotFound {
             self.unread.push(Unread {

@@ -1,4 +1,4 @@
-//! Folders of files, for tests that import them.
+//! Folders of files for tests that import them.
 
 use super::{Said, Server};
 use std::collections::BTreeSet;
@@ -8,7 +8,7 @@ use std::os::unix::ffi::{OsStrExt, OsStringExt};
 use std::path::{Path, PathBuf};
 use std::sync::atomic::{AtomicU32, Ordering};
 
-/// A folder that is removed at the end of a test.
+/// A folder that is removed when the test ends.
 pub struct Folder(pub PathBuf);
 
 impl Folder {
@@ -20,16 +20,21 @@ impl Folder {
         Self(path.canonicalize().unwrap())
     }
 
+    /// A server, and a folder for it. `None` if the server isn't built.
+    pub fn with_server() -> Option<(Server, Self)> {
+        Some((Server::start()?, Self::new()))
+    }
+
     pub fn path(&self, name: impl AsRef<OsStr>) -> PathBuf {
         self.0.join(name.as_ref())
     }
 
-    /// The path of a file in it, as a word of a command line.
+    /// The path of one of its files, as a command-line argument.
     pub fn word(&self, name: &str) -> String {
         self.path(name).to_str().unwrap().into()
     }
 
-    /// The folder, as a word of a command line.
+    /// The folder itself, as a command-line argument.
     pub fn all(&self) -> String {
         self.0.to_str().unwrap().into()
     }
@@ -50,7 +55,7 @@ impl Folder {
         fs::rename(self.path(from), self.path(to)).unwrap();
     }
 
-    /// The paths of the folder and of all below it, as the file system has them.
+    /// The paths of the folder and everything below it, as the file system reports them.
     pub fn paths(&self) -> BTreeSet<PathBuf> {
         let mut paths = BTreeSet::from([self.0.clone()]);
         let mut waiting = vec![self.0.clone()];
@@ -89,7 +94,7 @@ impl Server {
         set
     }
 
-    /// The paths of the nodes that a query finds, sorted. While an import writes, two nodes may have one path for a moment.
+    /// The paths of the nodes that a query finds, sorted. While an import writes, two nodes may briefly have the same path.
     pub fn listed(&self, query: &str) -> Vec<PathBuf> {
         let output = self.command(&["query", "-0", "--path", query]).output().unwrap();
         assert!(output.status.success(), "{output:?}");
@@ -103,7 +108,7 @@ impl Server {
         paths
     }
 
-    /// The text of an attribute of a file, as `catattr --raw` prints it.
+    /// The text of a file's attribute, as `catattr --raw` prints it.
     pub fn value(&self, name: &str, path: &Path) -> String {
         let said: Said = self
             .command(&[
@@ -119,7 +124,7 @@ impl Server {
         said.out
     }
 
-    /// How many nodes each volume has, judging by the nodes that are printed.
+    /// How many nodes each volume has, judging by the printed node numbers.
     pub fn spread(&self, volumes: usize) -> Vec<usize> {
         let mut spread = vec![0; volumes];
         for line in self.done(&["query", "name==*"]).lines() {

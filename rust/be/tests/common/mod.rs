@@ -1,4 +1,4 @@
-//! A server of its own for each test, and the tool as a process. Not every test uses all of it.
+//! A separate server for each test, and the tool as a process. Not every test uses all of this.
 #![allow(dead_code, unused_macros)]
 
 pub mod files;
@@ -16,7 +16,7 @@ use std::sync::Once;
 use std::time::{Duration, Instant};
 use std::{env, fs, thread};
 
-/// Takes the server, or leaves the test: a line has already said why.
+/// Unwraps the server, or leaves the test. A line has already said why.
 macro_rules! server {
     ($server:expr) => {
         match $server {
@@ -36,7 +36,7 @@ pub struct Server {
     options: Vec<String>,
 }
 
-/// What a run of the tool has printed, and its exit status.
+/// What a run of the tool printed, and its exit status.
 #[derive(Debug, PartialEq, Eq)]
 pub struct Said {
     pub status: i32,
@@ -54,14 +54,14 @@ impl From<Output> for Said {
     }
 }
 
-/// The program `bestored`: beside the tool, or where the environment says.
+/// The program `bestored`: next to the tool, or where the environment says.
 pub fn server_program() -> Option<PathBuf> {
     let beside = Path::new(BE).with_file_name("bestored");
     let program = env::var_os("BESTORED").map_or(beside, PathBuf::from);
     program.exists().then_some(program)
 }
 
-/// Starts a server in its folder, in which it may keep its store.
+/// Starts a server in its folder, where it may also keep its store.
 fn spawn(program: &Path, folder: &Path, options: &[String]) -> Child {
     let mut command = Command::new(program);
     command.arg("--socket").arg(folder.join("socket"));
@@ -69,7 +69,7 @@ fn spawn(program: &Path, folder: &Path, options: &[String]) -> Child {
 }
 
 impl Server {
-    /// Starts a server. `None`, and a line that says so, if it isn't built.
+    /// Starts a server. If it isn't built, prints that and returns `None`.
     pub fn start() -> Option<Self> {
         Self::start_with(&["--pages", "1024"])
     }
@@ -95,7 +95,7 @@ impl Server {
         Some(server)
     }
 
-    /// Starts a server again that has ended.
+    /// Restarts a server that has ended.
     pub fn start_again(&mut self) {
         let program = server_program().expect("it has been there");
         self.child = spawn(&program, &self.folder, &self.options);
@@ -114,13 +114,13 @@ impl Server {
         self.folder.join("socket")
     }
 
-    /// Ends the server at once.
+    /// Kills the server.
     pub fn end(&mut self) {
         self.child.kill().unwrap();
         self.child.wait().unwrap();
     }
 
-    /// The tool with these words, ready to be run where no library is found.
+    /// The tool with these arguments, ready to run in an environment where no library is found.
     pub fn command(&self, words: &[impl AsRef<OsStr>]) -> Command {
         let mut command = Command::new(BE);
         command.env_remove("LD_LIBRARY_PATH");
@@ -129,19 +129,20 @@ impl Server {
         command
     }
 
-    /// Runs the tool with these words.
+    /// Runs the tool with these arguments.
     pub fn be(&self, words: &[&str]) -> Said {
         self.command(words).output().unwrap().into()
     }
 
-    /// Runs the tool with these words, and returns what it printed. It has to succeed without an error.
+    /// Runs the tool with these arguments, which has to succeed without an error. Returns what it
+    /// printed.
     pub fn done(&self, words: &[&str]) -> String {
         let said = self.be(words);
         assert_eq!((said.status, said.error.as_str()), (0, ""), "{words:?}");
         said.out
     }
 
-    /// Runs the tool with these words and this input.
+    /// Runs the tool with these arguments and this input.
     pub fn fed(&self, words: &[&str], input: &[u8]) -> Said {
         let mut command = self.command(words);
         command
@@ -149,12 +150,12 @@ impl Server {
             .stdout(Stdio::piped())
             .stderr(Stdio::piped());
         let mut child = command.spawn().unwrap();
-        // It isn't an error if the tool doesn't read all of it.
+        // The tool may leave some input unread; that isn't an error.
         let _ = child.stdin.take().unwrap().write_all(input);
         child.wait_with_output().unwrap().into()
     }
 
-    /// Makes this many nodes with this attribute, with the client of the protocol.
+    /// Makes this many nodes with this attribute through the client library.
     pub fn make(&self, count: u64, name: &str, value: &str) {
         let mut client = Client::connect(self.socket()).unwrap();
         for _ in 0..count {
@@ -167,10 +168,16 @@ impl Server {
         }
     }
 
+    /// A store with an index of this name for texts.
+    pub fn with_index(name: &str) -> Option<Self> {
+        let server = Self::start()?;
+        server.done(&["mkindex", name]);
+        Some(server)
+    }
+
     /// A store with indices `name` and `size`, and nodes 1 to 3: `a` of 10, `b` of 20, and `c` without a size.
     pub fn with_three() -> Option<Self> {
-        let server = Self::start()?;
-        server.done(&["mkindex", "name"]);
+        let server = Self::with_index("name")?;
         server.done(&["mkindex", "-t", "int64", "size"]);
         for (node, name) in [("1", "a"), ("2", "b"), ("3", "c")] {
             assert_eq!(server.done(&["addattr", "--new", "name", name]), format!("{node}\n"));

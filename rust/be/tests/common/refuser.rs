@@ -1,5 +1,6 @@
-//! Stands between a client and its server, and refuses writes while a test says so.
+//! Sits between clients and their server, and refuses writes when a test says so.
 
+use super::files::Folder;
 use super::Server;
 use std::fs;
 use std::io::{self, BufRead, BufReader, Write};
@@ -8,14 +9,14 @@ use std::path::{Path, PathBuf};
 use std::sync::{Arc, Mutex, MutexGuard};
 use std::thread;
 
-/// The operation of the writes to refuse, and those that were refused.
+/// The operation whose writes are refused, and those refused so far.
 #[derive(Debug, Default)]
 struct State {
     refuses: Option<&'static str>,
     refused: Vec<String>,
 }
 
-/// A socket, from which requests are forwarded to a server until the program ends.
+/// A socket whose requests are forwarded to a server until the program ends.
 #[derive(Debug)]
 pub struct Refuser {
     socket: PathBuf,
@@ -38,6 +39,13 @@ impl Refuser {
         Self { socket, state }
     }
 
+    /// A server, a refuser between it and its clients, and a folder. `None` if the server isn't built.
+    pub fn with_server() -> Option<(Server, Self, Folder)> {
+        let (server, folder) = Folder::with_server()?;
+        let refuser = Self::start(&server);
+        Some((server, refuser, folder))
+    }
+
     pub fn socket(&self) -> &Path {
         &self.socket
     }
@@ -46,17 +54,17 @@ impl Refuser {
         self.state.lock().unwrap()
     }
 
-    /// Refuses writes with this operation from now on.
+    /// From now on, refuses writes that contain this operation.
     pub fn refuse(&self, operation: &'static str) {
         self.state().refuses = Some(operation);
     }
 
-    /// Refuses no more writes.
+    /// Stops refusing writes.
     pub fn accept(&self) {
         self.state().refuses = None;
     }
 
-    /// Whether a write with this operation was refused.
+    /// Whether a write with this operation has been refused.
     pub fn has_refused(&self, operation: &str) -> bool {
         self.state().refused.iter().any(|line| line.contains(operation))
     }
@@ -68,13 +76,13 @@ impl Drop for Refuser {
     }
 }
 
-/// Has threads forward what comes from either one to the other.
+/// Starts threads that forward what each side sends to the other.
 fn forward(client: UnixStream, server: UnixStream, state: Arc<Mutex<State>>) {
     let (mut replies, mut to) = (server.try_clone().unwrap(), client.try_clone().unwrap());
     thread::spawn(move || io::copy(&mut replies, &mut to));
     thread::spawn(move || {
         for line in BufReader::new(&client).lines().map_while(Result::ok) {
-            // The client may be gone.
+            // The client may have disconnected.
             let _ = match refusal(&line, &state) {
                 Some(refusal) => writeln!(&client, "{refusal}"),
                 None => writeln!(&server, "{line}"),
@@ -83,7 +91,7 @@ fn forward(client: UnixStream, server: UnixStream, state: Arc<Mutex<State>>) {
     });
 }
 
-/// The reply to a write that is refused.
+/// The reply to a write if it is to be refused.
 fn refusal(line: &str, state: &Mutex<State>) -> Option<String> {
     let request: serde_json::Value = serde_json::from_str(line).unwrap();
     let mut state = state.lock().unwrap();

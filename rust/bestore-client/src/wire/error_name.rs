@@ -38,8 +38,8 @@ macro_rules! names {
                 }
             }
 
-            /// Returns what a program can do about the error. If the error is unknown, nothing says that the same request may succeed
-            /// later.
+            /// Returns what a program can do about the error. If the error is unknown, it is assumed that the same request won't
+            /// succeed later.
             #[must_use]
             pub const fn class(&self) -> Class {
                 match self {

@@ -1,7 +1,7 @@
 //! The protocol: requests, replies and values as JSON. `docs/SERVER.md` describes it.
 
 /// Defines replies, each as a struct. A field `name?: T` may be missing. `commit and commits` are a snapshot: its number, and the number of
-/// each volume if there are several.
+/// each volume if there are several. `pages to oldest` are how full a store is.
 macro_rules! replies {
     ($($(#$attribute:tt)* $name:ident { $($fields:tt)* })*) => {
         $(reply! { [$(#$attribute)* $name] {} $($fields)* })*
@@ -25,6 +25,27 @@ macro_rules! reply {
                 /// The snapshot of each volume, if there are several.
                 #[serde(default, skip_serializing_if = "Vec::is_empty")]
                 pub commits: Vec<u64>,
+            }
+            $($rest)*
+        }
+    };
+    ($reply:tt { $($fields:tt)* } pub pages to oldest, $($rest:tt)*) => {
+        reply! {
+            $reply
+            {
+                $($fields)*
+                /// The number of pages.
+                pub pages: u64,
+                /// The pages that a write can use.
+                pub free: u64,
+                /// The pages of older snapshots.
+                pub retired: u64,
+                /// How many entries the journal has.
+                pub entries: u64,
+                /// How many entries the journal can have.
+                pub commits: u64,
+                /// The oldest active reader.
+                pub oldest: Option<HeldBy>,
             }
             $($rest)*
         }

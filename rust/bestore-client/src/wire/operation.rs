@@ -37,7 +37,7 @@ impl<'de> Deserialize<'de> for Operations {
     }
 }
 
-/// The operations in a request, in which the server numbers new nodes.
+/// The operations in a request. The server numbers their new nodes.
 pub(super) mod asked_operations {
     use super::{made, Deserializer, ListVisitor, Operations, Serialize, Serializer};
 

@@ -189,18 +189,7 @@ replies! {
 
     /// The reply to `status`.
     Status {
-        /// The number of pages.
-        pub pages: u64,
-        /// The pages that a write can use.
-        pub free: u64,
-        /// The pages of older snapshots.
-        pub retired: u64,
-        /// How many entries the journal has.
-        pub entries: u64,
-        /// How many entries the journal can have.
-        pub commits: u64,
-        /// The oldest active reader.
-        pub oldest: Option<HeldBy>,
+        pub pages to oldest,
         /// How many clients are connected.
         pub clients: u64,
         /// How many live queries the clients have.
@@ -214,18 +203,7 @@ replies! {
 
     /// How full a volume is.
     VolumeStatus {
-        /// The number of pages.
-        pub pages: u64,
-        /// The pages that a write can use.
-        pub free: u64,
-        /// The pages of older snapshots.
-        pub retired: u64,
-        /// How many entries the journal has.
-        pub entries: u64,
-        /// How many entries the journal can have.
-        pub commits: u64,
-        /// The oldest active reader.
-        pub oldest: Option<HeldBy>,
+        pub pages to oldest,
     }
 
     /// The oldest active reader of a store.
@@ -254,7 +232,7 @@ replies! {
         pub commit: u64,
         /// The pass that wrote it.
         pub pass: u64,
-        /// The operations, in which each new node has its number.
+        /// The operations, with the number of each new node filled in.
         pub operations: Operations,
     }
 
@@ -280,7 +258,7 @@ replies! {
     Push {
         /// The number of the watch.
         pub watch: u64,
-        /// The snapshot to which the changes lead.
+        /// The snapshot that the changes lead to.
         pub commit and commits,
         /// The nodes that joined the answer.
         #[serde(default)]

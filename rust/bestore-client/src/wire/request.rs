@@ -204,10 +204,10 @@ parameters_with_texts! {
         /// Whether only the number of nodes is wanted.
         #[serde(default)]
         pub count: bool,
-        /// Whether the reply omits `count`, for which the whole answer is needed.
+        /// Whether the reply omits `count`, which takes the whole answer to find.
         #[serde(default, skip_serializing_if = "std::ops::Not::not")]
         pub uncounted: bool,
-        /// The index in whose order the nodes come. Nodes without a value there are left out.
+        /// The index that orders the nodes. Nodes that have no value in it are left out.
         #[serde(borrow, default, deserialize_with = "given", skip_serializing_if = "Option::is_none")]
         pub by: Option<Cow<'a, str>>,
         /// Whether the greatest values come first.
@@ -291,26 +291,46 @@ impl<'de: 'a, 'a> Deserialize<'de> for Columns<'a> {
     }
 }
 
-/// The parameters, which must be an object: otherwise a list of their values in order would be accepted too.
-struct Object<T>(T);
+/// What is read from an object.
+trait FromObject<'de>: Sized {
+    /// What the object is, for the text of an error.
+    const EXPECTED: &'static str;
 
-impl<'de, T: Deserialize<'de>> Deserialize<'de> for Object<T> {
-    fn deserialize<D: Deserializer<'de>>(from: D) -> Result<Self, D::Error> {
-        from.deserialize_map(ObjectVisitor(PhantomData)).map(Object)
-    }
+    fn read_from<A: MapAccess<'de>>(map: A) -> Result<Self, A::Error>;
 }
 
 struct ObjectVisitor<T>(PhantomData<T>);
 
-impl<'de, T: Deserialize<'de>> Visitor<'de> for ObjectVisitor<T> {
+impl<'de, T: FromObject<'de>> Visitor<'de> for ObjectVisitor<T> {
     type Value = T;
 
     fn expecting(&self, f: &mut fmt::Formatter<'_>) -> fmt::Result {
-        f.write_str("an object of parameters")
+        f.write_str(T::EXPECTED)
     }
 
     fn visit_map<A: MapAccess<'de>>(self, map: A) -> Result<T, A::Error> {
-        T::deserialize(MapAccessDeserializer::new(map))
+        T::read_from(map)
+    }
+}
+
+fn read_object<'de, T: FromObject<'de>, D: Deserializer<'de>>(from: D) -> Result<T, D::Error> {
+    from.deserialize_map(ObjectVisitor(PhantomData))
+}
+
+/// The parameters, which must be an object: otherwise a list of their values in order would be accepted too.
+struct Object<T>(T);
+
+impl<'de, T: Deserialize<'de>> FromObject<'de> for Object<T> {
+    const EXPECTED: &'static str = "an object of parameters";
+
+    fn read_from<A: MapAccess<'de>>(map: A) -> Result<Self, A::Error> {
+        T::deserialize(MapAccessDeserializer::new(map)).map(Object)
+    }
+}
+
+impl<'de, T: Deserialize<'de>> Deserialize<'de> for Object<T> {
+    fn deserialize<D: Deserializer<'de>>(from: D) -> Result<Self, D::Error> {
+        read_object(from)
     }
 }
 
@@ -425,20 +445,14 @@ impl Serialize for Request<'_> {
 
 impl<'de: 'a, 'a> Deserialize<'de> for Request<'a> {
     fn deserialize<D: Deserializer<'de>>(from: D) -> Result<Self, D::Error> {
-        from.deserialize_map(RequestVisitor)
+        read_object::<Request<'de>, D>(from)
     }
 }
 
-struct RequestVisitor;
+impl<'de> FromObject<'de> for Request<'de> {
+    const EXPECTED: &'static str = "an object of an id and a command";
 
-impl<'de> Visitor<'de> for RequestVisitor {
-    type Value = Request<'de>;
-
-    fn expecting(&self, f: &mut fmt::Formatter<'_>) -> fmt::Result {
-        f.write_str("an object of an id and a command")
-    }
-
-    fn visit_map<A: MapAccess<'de>>(self, mut map: A) -> Result<Request<'de>, A::Error> {
+    fn read_from<A: MapAccess<'de>>(mut map: A) -> Result<Self, A::Error> {
         let (mut id, mut command) = (None, None);
         while let Some(key) = map.next_key::<super::value::Text<'_>>()? {
             if key.0 == "id" {
@@ -463,33 +477,29 @@ impl<'de> Visitor<'de> for RequestVisitor {
     }
 }
 
+/// The `id` of an object, whatever else it has.
+struct Id(Option<u64>);
+
+impl<'de> FromObject<'de> for Id {
+    const EXPECTED: &'static str = "an object with an id";
+
+    fn read_from<A: MapAccess<'de>>(mut map: A) -> Result<Self, A::Error> {
+        let mut id = None;
+        while let Some(key) = map.next_key::<super::value::Text<'_>>()? {
+            if key.0 == "id" {
+                id = Some(map.next_value()?);
+            } else {
+                map.next_value::<IgnoredAny>()?;
+            }
+        }
+        Ok(Id(id))
+    }
+}
+
 /// Returns the `id` in a line that isn't a request, if it can be read.
 #[must_use]
 pub fn id_of(line: &[u8]) -> Option<u64> {
-    struct Id;
-
-    impl<'de> Visitor<'de> for Id {
-        type Value = Option<u64>;
-
-        fn expecting(&self, f: &mut fmt::Formatter<'_>) -> fmt::Result {
-            f.write_str("an object with an id")
-        }
-
-        fn visit_map<A: MapAccess<'de>>(self, mut map: A) -> Result<Option<u64>, A::Error> {
-            let mut id = None;
-            while let Some(key) = map.next_key::<super::value::Text<'_>>()? {
-                if key.0 == "id" {
-                    id = Some(map.next_value()?);
-                } else {
-                    map.next_value::<IgnoredAny>()?;
-                }
-            }
-            Ok(id)
-        }
-    }
-
-    let mut from = serde_json::Deserializer::from_slice(line);
-    let id = from.deserialize_map(Id).ok().flatten();
+    let Id(id) = read_object(&mut serde_json::Deserializer::from_slice(line)).ok()?;
     id.filter(|id| *id <= super::EXACT)
 }
 

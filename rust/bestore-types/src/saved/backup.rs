@@ -9,7 +9,7 @@ use std::os::unix::fs::DirBuilderExt;
 use std::path::{Path, PathBuf};
 use std::sync::atomic::{AtomicU32, Ordering};
 
-/// A backup in progress. It is written beside its path, with mode 0600, and removed if it is dropped before [`finish`](Self::finish).
+/// A backup in progress. It is written next to its path, with mode 0600, and removed if it is dropped before [`finish`](Self::finish).
 ///
 /// ```
 /// use bestore_types::saved::{self, About, Backup};
@@ -39,7 +39,7 @@ struct Part {
     batches: u64,
 }
 
-/// What is written beside the path. It is removed when it is dropped.
+/// What is written next to the path. It is removed when it is dropped.
 #[derive(Debug)]
 struct Beside {
     path: PathBuf,

@@ -2,7 +2,7 @@
 
 use crc32fast::Hasher;
 
-/// A column of a row, beside the checksum.
+/// A column of a row, in addition to the checksum.
 pub(super) enum Column<'a> {
     Number(u64),
     Bytes(&'a [u8]),

@@ -46,20 +46,35 @@ const LEAST_DUE: u64 = 512 << 10;
 /// About how many bytes a row of the file has besides its batch.
 const ROW_BYTES: u64 = 20;
 
-/// For a file that nobody sees before it is complete. It uses SQLite's default journal, so everything is in one file.
+/// For a file that no one sees before it is complete. It uses SQLite's default journal, so that everything is in one file.
 const STATE_SETTINGS: &str = "
     PRAGMA auto_vacuum = FULL;
     PRAGMA journal_mode = MEMORY;
     PRAGMA synchronous = OFF;
 ";
 
-/// An accepted transaction on its way into the file.
+/// An accepted transaction on its way into the file, or into the log of several machines.
 #[derive(Debug)]
 pub struct Row {
     pub number: u64,
     pub pass: u64,
     pub batch: Vec<u8>,
     pub token: Option<Token>,
+}
+
+impl Row {
+    /// Returns the row of a batch that has made these nodes.
+    pub fn new(number: u64, pass: u64, batch: &Batch, nodes: &[u64]) -> crate::Result<Self> {
+        Ok(Self {
+            number,
+            pass,
+            batch: batch.clone().set_nodes(nodes).to_bytes()?,
+            token: batch.token().map(|text| Token {
+                text: text.into(),
+                nodes: nodes.into(),
+            }),
+        })
+    }
 }
 
 /// The token of an entry, and the nodes that it made.
@@ -114,7 +129,7 @@ impl File {
     /// Opens or creates the file, for this process only.
     pub fn open(path: &Path) -> Result<Self> {
         let flags = OpenFlags::SQLITE_OPEN_READ_WRITE | OpenFlags::SQLITE_OPEN_CREATE | OpenFlags::SQLITE_OPEN_NO_MUTEX;
-        // SQLite doesn't take ":memory:" or an empty name for a file, and neither has a folder before it.
+        // SQLite doesn't treat `:memory:` or an empty name as a file. With a folder in front, every name is a file's.
         let within = Path::new(".").join(path);
         make_private(&within);
         let mut file = Self::connect(&within, path, flags)?;
@@ -227,7 +242,7 @@ impl File {
         !self.has_checksums
     }
 
-    /// The column of the checksums in a statement that reads rows.
+    /// Returns the column that has the checksums, for a statement that reads rows.
     fn checksum(&self) -> &'static str {
         match self.has_checksums {
             true => "checksum",
@@ -327,7 +342,7 @@ impl File {
         Ok(())
     }
 
-    /// From now on, also keeps the number of the last entry beside the file. It is this one now.
+    /// From now on, also keeps the number of the last entry next to the file. That entry is now `last`.
     pub fn keep_last(&mut self, last: u64) -> Result<()> {
         if self.has_checksums {
             self.last = LastEntry::begin(&self.path, self.number("file")?, last);
@@ -335,7 +350,7 @@ impl File {
         Ok(())
     }
 
-    /// Says that the file is refused: the WAL then stays beside it when it is closed.
+    /// Leaves a refused file as it is: its WAL stays next to it when it is closed.
     pub fn leave(&self) {
         // Otherwise SQLite would copy the undamaged part of the WAL into the file, and remove the rest.
         let _ = self
@@ -418,7 +433,7 @@ impl File {
         Ok(())
     }
 
-    /// The number of a row that has a batch, and whether its checksum fits.
+    /// Returns the number of a row that has a batch, and whether its checksum is right.
     fn check_row(&self, row: &rusqlite::Row<'_>) -> rusqlite::Result<(u64, bool)> {
         let number = row.get::<_, i64>(0)? as u64;
         if !self.has_checksums {
@@ -539,7 +554,7 @@ impl File {
         next: u64,
         batches: impl Iterator<Item = crate::Result<Batch>>,
     ) -> Result<()> {
-        // If it fails, it isn't due again immediately.
+        // If this fails, the next rewrite isn't due at once.
         self.due_bytes = self.due_bytes.max(self.entry_bytes) + LEAST_DUE;
         let mut failed = None;
         let batches = batches.map(|batch| batch.and_then(|batch| batch.to_bytes()));

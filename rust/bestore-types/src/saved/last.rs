@@ -1,8 +1,8 @@
 //! The file with `-last`: the number of a file's last entry.
 //!
-//! SQLite leaves out everything after a damaged frame of the WAL, and doesn't report that. So the number is also kept beside the file
-//! while that is open, and after a crash. It is written after each commit and isn't waited for: after a power failure it may be too
-//! small.
+//! SQLite leaves out everything after a damaged frame of the WAL, and doesn't report it. So the number is also kept next to the
+//! file while the file is open, and after a crash. It is written after each commit, but no one waits for it to reach the disk:
+//! after a power failure it may be too small.
 
 use super::checksum::{checksum, Column};
 use std::fs::{self, OpenOptions};
@@ -22,13 +22,13 @@ pub(super) struct LastEntry {
 impl Drop for LastEntry {
     fn drop(&mut self) {
         if !self.wal.exists() {
-            // One that stays only says less than the file has.
+            // If it stays, it only claims fewer entries than the file has.
             let _ = fs::remove_file(&self.path);
         }
     }
 }
 
-/// The path of a file beside a store's, named as SQLite names its own: a link is followed.
+/// Returns the path of a file next to a store's, named as SQLite names its own. It follows links.
 fn beside(path: &Path, ending: &str) -> PathBuf {
     let mut path = fs::canonicalize(path)
         .unwrap_or_else(|_| path.to_owned())
@@ -43,14 +43,14 @@ fn line(id: u64, number: u64) -> String {
 }
 
 impl LastEntry {
-    /// The last entry that the file with this id had, if that is known.
+    /// Returns the last entry that the file with this id had, if that is known.
     pub(super) fn read(path: &Path, id: u64) -> Option<u64> {
         let text = fs::read_to_string(beside(path, "-last")).ok()?;
         let number = text.split(' ').nth(1)?.parse().ok()?;
         (text == line(id, number)).then_some(number)
     }
 
-    /// Begins with this entry. `None`: the number can't be kept, for example because the disk is full.
+    /// Begins with this entry. Returns `None` if the number can't be kept, for example because the disk is full.
     pub(super) fn begin(path: &Path, id: u64, number: u64) -> Option<Self> {
         let (path, wal) = (beside(path, "-last"), beside(path, "-wal"));
         let file = OpenOptions::new()
@@ -65,9 +65,9 @@ impl LastEntry {
         Some(last)
     }
 
-    /// The file has this entry now.
+    /// Records that the file now has this entry.
     pub(super) fn set(&self, number: u64) {
-        // If it isn't written, less is known.
+        // If the number can't be written, the file only claims fewer entries.
         let _ = self.file.write_all_at(line(self.id, number).as_bytes(), 0);
     }
 }

@@ -72,7 +72,7 @@ pub(super) fn add_checksums(connection: &Connection) -> rusqlite::Result<()> {
     sums.into_iter().try_for_each(|sum| set.execute(sum).map(drop))
 }
 
-/// Tells this file from all others.
+/// Gives the file a random id, so that it isn't taken for another file.
 fn set_id(connection: &Connection) -> rusqlite::Result<()> {
     let id: i64 = connection.query_row("SELECT random() & 0x7fffffffffffffff", [], |row| row.get(0))?;
     set_number(connection, "file", id as u64)
@@ -109,7 +109,7 @@ pub(super) fn of_token(number: u64, token: &str, nodes: &[u8]) -> u32 {
     ])
 }
 
-/// Whether the last column of the row is this checksum.
+/// Returns whether this column of the row has this checksum.
 pub(super) fn fits(row: &Row<'_>, column: usize, sum: u32) -> rusqlite::Result<bool> {
     Ok(row.get::<_, Option<i64>>(column)? == Some(sum.into()))
 }

@@ -20,7 +20,7 @@ pub fn files_of(place: &Path, volumes: u32) -> Vec<PathBuf> {
     }
 }
 
-/// Refuses entries up to which volumes are to be read, if there aren't so many volumes at the path.
+/// Fails if `until` has a volume that doesn't exist at the path.
 ///
 /// # Errors
 /// [`Error::NoVolume`] with the first volume that doesn't exist.

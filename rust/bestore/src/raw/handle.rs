@@ -14,7 +14,7 @@ extern "C" fn count_fork() {
     FORKS.fetch_add(1, Ordering::Relaxed);
 }
 
-/// The process in which something was made.
+/// The process that something was made in.
 #[derive(Clone, Copy, Debug)]
 pub(crate) struct Birthplace(u64);
 

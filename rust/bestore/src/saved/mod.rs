@@ -26,7 +26,7 @@
 //! and everything that is promised are in `docs/KEPT.md` in the repository.
 //!
 //! When a commit fails, for example because the disk is full, the writes that wait for it return [`NotSaved`](crate::Error::NotSaved), and
-//! later writes return [`Stopped`](crate::Error::Stopped). Reads go on.
+//! later writes return [`Stopped`](crate::Error::Stopped). Reads still work.
 //!
 //! Opening the file and [`Saved::compact`] rewrite the state, so the file doesn't grow forever.
 
@@ -276,7 +276,7 @@ impl Saved {
     }
 
     /// Writes a [copy](Store::copy_state) of the current snapshot into the file, where it replaces the state and the entries that the copy
-    /// contains. Writes go on meanwhile, and are saved after it. It takes the memory of the state's batches.
+    /// contains. Writes continue meanwhile, and are saved after it. It takes the memory of the state's batches.
     ///
     /// # Errors
     /// The same as [`flush`](Self::flush); [`Error::DiskFull`], [`Error::Sqlite`]: the file is unchanged.
@@ -288,8 +288,8 @@ impl Saved {
             .with_file(|file| file.write_state(number, copy.next, copy.batches.into_iter().map(Ok)))
     }
 
-    /// Returns whether the entries since the state take more bytes in the file than half of the state and 512 KiB, so that
-    /// [`compact`](Self::compact) makes the file smaller and faster to open. After a failed `compact`, it takes another 512 KiB.
+    /// Returns whether [`compact`](Self::compact) would make the file smaller and faster to open: the entries since the state
+    /// take more than half of the state's bytes, and at least 512 KiB. After a failed `compact`, it takes another 512 KiB.
     #[must_use]
     pub fn is_due(&self) -> bool {
         self.queue.is_due()

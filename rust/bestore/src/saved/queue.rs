@@ -1,10 +1,10 @@
 //! The order of the writes, and who saves them: one of the waiting writers, or a thread if writes are saved within a given time.
 
 use super::{Error, Result};
-use crate::pass::Keeper;
+use crate::pass::{Keeper, MakeWrite};
 use crate::raw::Birthplace;
 use crate::{Batch, Written};
-use bestore_types::saved::file::{File, Row, Token};
+use bestore_types::saved::file::{File, Row};
 use std::mem;
 use std::sync::atomic::{AtomicBool, Ordering};
 use std::sync::{Arc, Condvar, Mutex, MutexGuard, PoisonError};
@@ -31,9 +31,9 @@ struct Line {
     due: Option<Instant>,
     written: u64,
     saved: u64,
-    /// Whether somebody is making a commit.
+    /// Whether someone is making a commit.
     is_saving: bool,
-    /// Whether somebody is waiting for queued writes, so that they are saved immediately.
+    /// Whether someone is waiting for queued writes, so that they are saved immediately.
     is_urgent: bool,
     is_closed: bool,
     failed: Option<Arc<Error>>,
@@ -90,7 +90,7 @@ impl Shared {
         Ok(())
     }
 
-    /// Commits the waiting rows, or waits until somebody else has done so.
+    /// Commits the waiting rows, or waits until someone else has done so.
     fn advance<'a>(&'a self, mut line: MutexGuard<'a, Line>) -> MutexGuard<'a, Line> {
         if self.every.is_none() && !line.is_saving {
             return self.save_rows(line);
@@ -171,37 +171,24 @@ impl Drop for Saving<'_> {
 }
 
 impl Keeper for Shared {
-    fn keep(
-        &self,
-        pass: u64,
-        batch: &Batch,
-        write: &mut dyn FnMut() -> crate::Result<Written>,
-    ) -> crate::Result<(Written, u64)> {
+    fn keep(&self, pass: u64, batch: &Batch, write: MakeWrite<'_>) -> crate::Result<(Written, u64)> {
         let mut line = lock(&self.line);
         while line.waiting_bytes > WAITING && line.failed.is_none() {
             line = self.advance(line);
         }
         line.check().map_err(crate::Error::Stopped)?;
         let written = write()?;
-        let bytes = match batch.clone().set_nodes(&written.nodes).to_bytes() {
-            Ok(bytes) => bytes,
+        let number = self.number_in_file(written.number);
+        let row = match Row::new(number, pass, batch, &written.nodes) {
+            Ok(row) => row,
             Err(error) => {
                 let error = line.failed.insert(Arc::new(Error::Store(error)));
                 return Err(crate::Error::NotSaved(error.clone()));
             }
         };
-        let number = self.number_in_file(written.number);
         line.written = number;
-        line.waiting_bytes += bytes.len();
-        line.waiting.push(Row {
-            number,
-            pass,
-            batch: bytes,
-            token: batch.token().map(|text| Token {
-                text: text.into(),
-                nodes: written.nodes.clone(),
-            }),
-        });
+        line.waiting_bytes += row.batch.len();
+        line.waiting.push(row);
         if let (Some(time), None) = (self.every, line.due) {
             line.due = Some(Instant::now() + time);
             self.work.notify_one();

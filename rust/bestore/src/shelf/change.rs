@@ -17,7 +17,7 @@ pub struct ShelfChange<'a> {
 }
 
 impl<'a> ShelfChange<'a> {
-    /// Returns the snapshot on which the change is made.
+    /// Returns the snapshot that the change is based on.
     #[must_use]
     pub fn snapshot(&self) -> &'a ShelfSnapshot<'a> {
         self.snapshot

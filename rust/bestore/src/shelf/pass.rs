@@ -61,7 +61,7 @@ impl ShelfPass {
         at(&self.volumes, volume)
     }
 
-    /// Sets how often this pass retries its calls.
+    /// Sets how many times this pass retries its calls.
     pub fn set_retry(&mut self, retry: Retry) {
         self.volumes.iter_mut().for_each(|pass| pass.set_retry(retry));
     }
@@ -227,7 +227,7 @@ impl ShelfPass {
         self.apply(Batch::new().unset(node, name)).map(drop)
     }
 
-    /// Makes an index of this name for values of this kind in each volume, like [`ShelfSnapshot::make_index`] on a new snapshot.
+    /// Makes an index with this name for values of this kind in each volume, like [`ShelfSnapshot::make_index`] on a new snapshot.
     ///
     /// # Errors
     /// The same as that call.
@@ -235,7 +235,7 @@ impl ShelfPass {
         self.pin()?.make_index(name, kind)
     }
 
-    /// Sets attributes that the index of this name lacks to the same values again, like [`Pass::reindex`] in each volume. Returns how many
+    /// Sets attributes that the index with this name lacks to the same values again, like [`Pass::reindex`] in each volume. Returns how many
     /// were set.
     ///
     /// # Errors

@@ -118,7 +118,7 @@ impl<'a> ShelfSnapshot<'a> {
         self.sum(|snapshot| snapshot.count_prepared(prepared))
     }
 
-    /// Returns how many pairs of a value and a node the index of this name has in all volumes.
+    /// Returns how many pairs of a value and a node the index with this name has in all volumes.
     ///
     /// # Errors
     /// The same as [`Snapshot::pairs`].
@@ -240,7 +240,7 @@ impl<'a> ShelfSnapshot<'a> {
             .collect())
     }
 
-    /// Makes an index of this name for values of this kind in each volume that has none, one volume after another. Until it is done, no
+    /// Makes an index with this name for values of this kind in each volume that has none, one volume after another. Until it is done, no
     /// other call on the shelf makes or removes indices in all volumes.
     ///
     /// # Errors
@@ -258,7 +258,7 @@ impl<'a> ShelfSnapshot<'a> {
         self.write_each(&batch, Error::IndexExists, |error| matches!(error, Error::IndexExists))
     }
 
-    /// Removes the index of this name from each volume that has it, one after another.
+    /// Removes the index with this name from each volume that has it, one after another.
     ///
     /// # Errors
     /// [`Error::NoIndex`] if no volume has the index; otherwise the same as [`make_index`](Self::make_index).
@@ -336,7 +336,7 @@ pub(super) fn roomiest<'p>(passes: impl ExactSizeIterator<Item = &'p Pass>) -> R
     Ok(roomiest)
 }
 
-/// An iterator over the nodes of a shelf, returned by [`ShelfSnapshot::nodes_from`]. After an error it goes on with the next volume.
+/// An iterator over the nodes of a shelf, returned by [`ShelfSnapshot::nodes_from`]. After an error, it continues with the next volume.
 #[derive(Debug)]
 pub struct ShelfNodes<'a> {
     snapshot: &'a ShelfSnapshot<'a>,

@@ -1,14 +1,74 @@
 //! What the tests share. Not every test uses all of it.
 #![allow(dead_code)]
 
+#[cfg(feature = "saved")]
+use bestore::saved::{Options, Saved};
 use bestore::{Kind, Limits, Pass, ShelfPass, Store};
+use std::fs;
+use std::path::{Path, PathBuf};
+#[cfg(feature = "saved")]
+use std::time::Duration;
+
+/// A test's folder, which is removed at its end.
+pub struct Folder(pub PathBuf);
+
+impl Folder {
+    /// An empty folder.
+    pub fn new(name: &str) -> Self {
+        let folder = Self::absent(name);
+        fs::create_dir_all(&folder.0).unwrap();
+        folder
+    }
+
+    /// A folder that isn't there yet.
+    pub fn absent(name: &str) -> Self {
+        let path = Path::new(env!("CARGO_TARGET_TMPDIR")).join(name);
+        let _ = fs::remove_dir_all(&path);
+        Self(path)
+    }
+
+    /// A folder in memory if there may be one, for a test that opens or saves many files.
+    pub fn in_memory(name: &str) -> Self {
+        let name = format!("bestore-{}-{name}", std::process::id());
+        let path = Path::new("/dev/shm").join(&name);
+        match fs::create_dir(&path) {
+            Ok(()) => Self(path),
+            Err(_) => Self::new(&name),
+        }
+    }
+
+    /// The file of the test's store.
+    pub fn file(&self) -> PathBuf {
+        self.0.join("test.bestore")
+    }
+}
+
+#[cfg(feature = "saved")]
+impl Folder {
+    /// Opens the file as a store of this many pages. Writes are saved when the test says so, or after an hour.
+    pub fn open_lazily(&self, pages: u64) -> Saved {
+        let limits = Limits {
+            pages,
+            ..Limits::default()
+        };
+        let mut options = Options::new();
+        options.limits(limits).every(Duration::from_secs(3_600));
+        options.open(self.file()).unwrap()
+    }
+}
+
+impl Drop for Folder {
+    fn drop(&mut self) {
+        let _ = fs::remove_dir_all(&self.0);
+    }
+}
 
 /// A small store.
 pub fn store() -> Store {
     sized(256)
 }
 
-/// A store of this many pages.
+/// A store with this many pages.
 pub fn sized(pages: u64) -> Store {
     let limits = Limits {
         pages,
@@ -27,7 +87,7 @@ pub fn shared(passes: u64) -> Store {
     Store::open(limits).unwrap()
 }
 
-/// Makes a node of this size in this volume of a shelf.
+/// Makes a node with this size in a shelf's volume.
 pub fn make_sized(pass: &mut ShelfPass, volume: u32, size: i64) -> u64 {
     let made = pass.change_in(volume, |change| {
         let node = change.new_node()?;
@@ -37,7 +97,8 @@ pub fn make_sized(pass: &mut ShelfPass, volume: u32, size: i64) -> u64 {
     made.unwrap()
 }
 
-/// A pass of a small store with an index `size` of 64 bits, and nodes 1 to 10 of the sizes 1 to 10.
+/// A pass of a small store with an index `size` of kind `Int64`, and nodes 1 to 10 with sizes 1 to
+/// 10.
 pub fn ten() -> Pass {
     let pass = store().pass().unwrap();
     pass.make_index("size", Kind::Int64).unwrap();

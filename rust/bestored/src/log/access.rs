@@ -20,7 +20,7 @@ const PLAIN: [&str; 3] = ["disable", "allow", "prefer"];
 #[derive(Clone, Debug)]
 pub struct Access {
     pub config: Config,
-    /// A name for this server that people can read: its machine and its socket.
+    /// A readable name for this server: its machine and its socket.
     pub name: String,
     /// A different string for each run.
     pub run: String,
@@ -107,7 +107,7 @@ fn default_passfile() -> Option<PathBuf> {
     named.map(PathBuf::from).or_else(home)
 }
 
-/// Returns the text in a file that nobody else may read.
+/// Returns the text of a file that no one else may read.
 fn private_text(path: &Path) -> std::result::Result<String, String> {
     let about = fs::metadata(path).map_err(|error| error.to_string())?;
     let mode = about.permissions().mode() & 0o777;

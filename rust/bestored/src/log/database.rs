@@ -2,6 +2,7 @@
 
 use super::error::{Error, Result};
 use bestore::saved::TOKENS;
+use bestore_types::saved::file::Row;
 use std::fmt;
 use std::future::Future;
 use std::pin::Pin;
@@ -25,8 +26,8 @@ pub const ENTRIES: usize = 500;
 /// How many entries before the state stay in the log, for followers that are slightly late.
 const SPARE: u64 = 10_000;
 
-/// PostgreSQL gives up after about 11 seconds on a leader whose machine is gone, so that another server can lead. A confirmed write is on
-/// PostgreSQL's disk, whatever the database's default is.
+/// PostgreSQL gives up on a leader whose machine is gone after about 11 seconds, so that another server can lead. A confirmed
+/// write is on PostgreSQL's disk, whatever the database's default is.
 const SETTINGS: &str = "
     SET statement_timeout = '6s';
     SET tcp_keepalives_idle = 5;
@@ -56,8 +57,8 @@ const TABLES: &str = "
     );
 ";
 
-/// Adds entries if the log ends with `$2` and this term is still the last one. It is one statement, so no other leader can add entries in
-/// between. The row in `bestore_log` is locked until the commit.
+/// Adds entries if the log ends with `$2` and this term is still the last one. It is a single statement, so no other leader can
+/// add entries in between. The row in `bestore_log` is locked until the commit.
 const APPEND: &str = "
     WITH head AS (
         UPDATE bestore_log SET last = last + cardinality($3::bigint[]), touched = clock_timestamp(), touched_term = term
@@ -69,24 +70,25 @@ const APPEND: &str = "
     )
     SELECT pg_notify('bestore_log', last::text) FROM head";
 
-/// Adds what earlier versions lacked.
+/// Adds columns that earlier versions lacked.
 const COLUMNS: &str = "
     ALTER TABLE bestore_entry ADD COLUMN IF NOT EXISTS token text;
     ALTER TABLE bestore_log ADD COLUMN IF NOT EXISTS touched timestamptz, ADD COLUMN IF NOT EXISTS touched_term bigint;
 ";
 
-/// Reads the head, and for how many seconds its leader has been silent, if that leader reports that it is alive.
+/// Reads the head, and how many seconds its leader has been silent, if that leader reports that it is alive.
 const HEAD: &str = "
     SELECT *, CASE WHEN touched_term = term THEN extract(epoch FROM clock_timestamp() - touched)::float8 END AS silence
     FROM bestore_log";
 
-/// Reports that the leader of the term `$1` is alive. The report needn't be on a standby's disk.
+/// Reports that the leader of term `$1` is alive. The report doesn't have to be on a standby's disk.
 const TOUCH: &str = "
     UPDATE bestore_log SET touched = clock_timestamp(), touched_term = term
     FROM (SELECT set_config('synchronous_commit', 'local', true)) AS once
     WHERE term = $1 RETURNING bestore_log.*";
 
-/// Ends the session that holds the lock if it has done nothing for `$1` seconds. So a follower that has just taken the lock keeps it.
+/// Ends the session that holds the lock if it has done nothing for `$1` seconds. A follower that has just taken the lock keeps
+/// it.
 const END_LEADER: &str = "
     SELECT pg_terminate_backend(pid) FROM pg_locks JOIN pg_stat_activity USING (pid)
     WHERE locktype = 'advisory' AND datname = current_database() AND granted
@@ -112,7 +114,7 @@ pub struct Head {
     pub log: String,
     /// The number of the last entry.
     pub last: u64,
-    /// Counts the leaders.
+    /// How many leaders there have been.
     pub term: u64,
     /// The last leader.
     pub leader: String,
@@ -143,15 +145,6 @@ impl Head {
 
 fn unsigned(row: &SqlRow, name: &str) -> Result<u64> {
     Ok(row.try_get::<_, i64>(name)? as u64)
-}
-
-/// An accepted transaction on its way into the log.
-#[derive(Debug)]
-pub struct Row {
-    pub number: u64,
-    pub pass: u64,
-    pub batch: Vec<u8>,
-    pub token: Option<String>,
 }
 
 /// An entry of the log.
@@ -222,7 +215,7 @@ impl Database {
             while let Some(Ok(_)) = NextMessage(&mut connection).await {
                 of_task.notify_one();
             }
-            // The client's calls report what has happened.
+            // The client's calls report what happened.
             of_task.notify_one();
         });
         let database = Self {
@@ -347,7 +340,10 @@ impl Database {
         };
         let passes: Vec<i64> = rows.iter().map(|row| row.pass as i64).collect();
         let batches: Vec<&[u8]> = rows.iter().map(|row| &*row.batch).collect();
-        let tokens: Vec<Option<&str>> = rows.iter().map(|row| row.token.as_deref()).collect();
+        let tokens: Vec<Option<&str>> = rows
+            .iter()
+            .map(|row| row.token.as_ref().map(|token| &*token.text))
+            .collect();
         let parameters: [&(dyn ToSql + Sync); 5] = [&(term as i64), &(last as i64), &passes, &batches, &tokens];
         Ok(limited(self.client.query_opt(&statement, &parameters)).await?.is_some())
     }

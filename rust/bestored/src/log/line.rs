@@ -1,8 +1,8 @@
-//! The writes on their way into the log, and what this server knows about the log.
+//! Writes that are on their way into the log, and what this server knows about the log.
 
-use super::database::Row;
 use super::error::{Error, Refused};
-use bestore::{Batch, Keeper, Written};
+use bestore::{Batch, Keeper, MakeWrite, Written};
+use bestore_types::saved::file::Row;
 use std::mem;
 use std::sync::{Arc, Condvar, Mutex, MutexGuard, PoisonError};
 use std::time::{Duration, Instant};
@@ -18,7 +18,7 @@ const PATIENCE: Duration = Duration::from_secs(10);
 #[derive(Clone, Copy, Debug, PartialEq, Eq)]
 pub enum Role {
     Follower,
-    /// The term, by the log's count of leaders.
+    /// The term: the number of leaders so far.
     Leader {
         term: u64,
     },
@@ -34,7 +34,7 @@ impl Role {
     }
 }
 
-/// Since when the log hasn't been readable or writable, and why.
+/// Since when the log couldn't be read or written, and why.
 #[derive(Clone, Debug)]
 pub struct Trouble {
     pub since: Instant,
@@ -63,7 +63,7 @@ pub struct State {
     waiting_bytes: usize,
     /// Whether the server is ending.
     is_closing: bool,
-    /// How often somebody has asked whether this server still leads, and the last question that was answered with yes.
+    /// How many times someone has asked whether this server still leads, and the last question whose answer was yes.
     asked: u64,
     confirmed: u64,
     /// Whether reading and writing have ended.
@@ -106,7 +106,7 @@ pub struct Line {
 }
 
 impl Line {
-    /// For a store whose last commit has the number `commit`, and which contains the log's entries up to `entry`.
+    /// Makes the line for a store whose last commit has the number `commit`, and which contains the log's entries up to `entry`.
     pub fn new(role: Role, leader: String, entry: u64, commit: u64) -> Self {
         role.say(&leader);
         let state = State {
@@ -141,7 +141,7 @@ impl Line {
         waited.unwrap_or_else(PoisonError::into_inner).0
     }
 
-    /// Changes the state, and wakes everybody who is waiting for a change.
+    /// Changes the state, and wakes everyone who is waiting for a change.
     pub fn change<T>(&self, change: impl FnOnce(&mut State) -> T) -> T {
         let changed = change(&mut self.lock());
         self.changed.notify_all();
@@ -180,7 +180,7 @@ impl Line {
         });
     }
 
-    /// Records that the log hasn't been readable or writable since then. Returns whether that is new.
+    /// Records that the log hasn't been readable or writable since then. Returns whether this is news.
     pub fn trouble(&self, error: Error, since: Instant) -> bool {
         let why = Arc::new(error);
         self.change(|state| match &mut state.trouble {
@@ -219,7 +219,7 @@ impl Line {
         Ok(())
     }
 
-    /// Returns the number of the last question, if somebody is waiting for an answer.
+    /// Returns the number of the last question, if someone is waiting for an answer.
     pub fn asked(&self) -> Option<u64> {
         let state = self.lock();
         (state.confirmed < state.asked).then_some(state.asked)
@@ -306,12 +306,7 @@ impl Line {
 }
 
 impl Keeper for Line {
-    fn keep(
-        &self,
-        pass: u64,
-        batch: &Batch,
-        write: &mut dyn FnMut() -> bestore::Result<Written>,
-    ) -> bestore::Result<(Written, u64)> {
+    fn keep(&self, pass: u64, batch: &Batch, write: MakeWrite<'_>) -> bestore::Result<(Written, u64)> {
         let mut state = self.lock();
         while state.waiting_bytes > WAITING && state.refused().is_none() {
             state = self.wait(state, Duration::from_secs(1));
@@ -322,16 +317,10 @@ impl Keeper for Line {
         let written = write()?;
         let number = self.entry(written.number);
         state.written = number;
-        let token = batch.token().map(String::from);
-        match batch.clone().set_nodes(&written.nodes).to_bytes() {
-            Ok(batch) => {
-                state.waiting_bytes += batch.len();
-                state.waiting.push(Row {
-                    number,
-                    pass,
-                    batch,
-                    token,
-                });
+        match Row::new(number, pass, batch, &written.nodes) {
+            Ok(row) => {
+                state.waiting_bytes += row.batch.len();
+                state.waiting.push(row);
             }
             // A batch that the store has accepted can be encoded, if there is memory. Nothing may follow a missing entry.
             Err(error) => {

@@ -1,6 +1,6 @@
-//! What the thread for the log does: it follows, and it leads.
+//! What the log's thread does: it follows, and it leads.
 
-use super::database::{Database, Entry, Head, Row, ENTRIES};
+use super::database::{Database, Entry, Head, ENTRIES};
 use super::error::{Error, Result};
 use super::line::{Line, Role};
 use super::{state, Access, FOR_LOCK, REST};
@@ -10,18 +10,19 @@ use crate::tokens::Tokens;
 use crate::volumes;
 use bestore::saved::Place;
 use bestore::{Batch, Pass, Written};
+use bestore_types::saved::file::Row;
 use std::sync::Arc;
 use std::thread;
 use std::time::{Duration, Instant};
 
-/// How often a follower checks whether anybody leads.
+/// How often a follower checks whether anyone leads.
 const LOOK: Duration = Duration::from_millis(100);
 
 /// How often a leader that has nothing to write checks whether it still leads.
 const LEADING: Duration = Duration::from_secs(1);
 
-/// A follower takes over after the leader has been silent for this many seconds, so that some server leads within 10 seconds after a leader
-/// is paused. A database call that begins a second after the leader's last report takes less.
+/// A follower takes over after the leader has been silent for this many seconds, so that some server leads within 10 seconds
+/// after a leader is paused. A database call that begins one second after the leader's last report takes less time than this.
 const LEASE: f64 = 9.0;
 
 /// How long a follower gives the leader to come back after the connection to the database has broken.
@@ -50,7 +51,7 @@ pub struct Member {
     tokens: Arc<Tokens>,
     database: Database,
     pass: Pass,
-    /// Which log it is.
+    /// The identity of the log.
     log: String,
     /// The writes that are being added.
     sending: Vec<Row>,
@@ -118,7 +119,7 @@ impl Member {
         }
     }
 
-    /// Reports once that the log can't be read or written to.
+    /// Reports once that the log can't be read or written.
     fn note(&self, error: Error) {
         let text = error.to_string();
         if self.line.trouble(error, self.tried) {
@@ -126,7 +127,7 @@ impl Member {
         }
     }
 
-    /// Tries to connect until it succeeds. A leader then has to find the log unchanged.
+    /// Tries to connect until it succeeds. For a leader, the log then has to be unchanged.
     async fn connect_again(&mut self, role: Role) -> Result<Turn> {
         // Otherwise a session that hangs and resumes later would keep the lock.
         self.database.close();
@@ -171,7 +172,7 @@ impl Member {
         }
     }
 
-    /// Gets new entries and applies them. Leads once nobody does.
+    /// Gets new entries and applies them. Leads once no one does.
     async fn follow(&mut self, shared: &Shared) -> Result<Turn> {
         self.database.listen().await?;
         let mut looked = None;
@@ -227,7 +228,7 @@ impl Member {
         Ok(())
     }
 
-    /// Gives up a store that was carried on. If that fails, it is tried again.
+    /// Gives up a store that was carried on. If this fails, it is tried again.
     fn let_go(&mut self) {
         let _ = self.pass.follow();
     }
@@ -286,14 +287,14 @@ impl Member {
         }
     }
 
-    /// Remembers the token of an entry, for a client that sends it to this server.
+    /// Records an entry's token, for a client that sends it to this server.
     fn add_token(&self, entry: &Entry, written: &Written) {
         if let Some(token) = &entry.token {
             self.tokens.add(token.as_str().into(), volumes::shown(None, written));
         }
     }
 
-    /// Applies a batch, waiting for a while if clients' snapshots keep pages.
+    /// Applies a batch. If clients' snapshots hold pages, waits for a while.
     fn apply_with(&self, pressure: &Pressure, batch: &Batch) -> bestore::Result<Written> {
         let until = Instant::now() + FOR_PAGES;
         loop {
@@ -308,8 +309,8 @@ impl Member {
         }
     }
 
-    /// Adds writes to the log, until another server leads or this one ends. By then, live queries may have stopped waiting for what is in
-    /// the log.
+    /// Adds writes to the log until another server leads or this one ends. By then, live queries may have stopped waiting for
+    /// entries to be in the log.
     async fn lead(&mut self, term: u64, shared: &Arc<Shared>) -> Result<Turn> {
         shared.watcher.written();
         loop {
@@ -389,8 +390,8 @@ impl Member {
         }
     }
 
-    /// Finds out from the head whether the entries that were sent are in the log, if this server still leads in this term. In that
-    /// case nobody else can have added any.
+    /// Finds out from the head whether the entries that were sent are in the log, if this server still leads in this term. If it
+    /// does, no one else can have added any.
     fn settle(&mut self, head: &Head, term: u64) -> Result<()> {
         self.check(head)?;
         if (&head.run, head.term) != (&self.access.run, term) {

@@ -1,8 +1,8 @@
 //! A log in PostgreSQL that several machines share. One server leads: it writes, and adds each accepted transaction to the log before it
 //! replies. The others follow: they apply the entries in order, and compare each outcome with the leader's.
 //!
-//! The leader holds an advisory lock in the database, so there is only one leader. But the statement that adds entries is what ensures that
-//! nobody else writes: it adds them only in the last term, and only after the last entry.
+//! The leader holds an advisory lock in the database, so there is only one leader. But it is the statement that adds entries
+//! which ensures that no one else writes: it adds them only in the last term, and only after the last entry.
 
 mod access;
 mod database;
@@ -60,8 +60,8 @@ pub struct Log {
 }
 
 impl Log {
-    /// Connects, retrying while the database can't be reached, and rebuilds the store up to the end of the log. Returns `None` if a signal
-    /// came first.
+    /// Connects, retrying while the database can't be reached, and rebuilds the store up to the end of the log. Returns `None` if
+    /// a signal came first.
     pub fn open(opening: Opening<'_>) -> Result<Option<Self>> {
         let options = opening.options;
         let in_log = options.log.as_ref().ok_or(Error::NoLog)?;

@@ -1,4 +1,4 @@
-//! A test's server, in a folder of its own. Not every test uses all of it.
+//! A test's server, in its own folder. Not every test uses all of this.
 #![allow(dead_code)]
 
 pub mod disk;
@@ -20,10 +20,10 @@ use std::sync::{Mutex, MutexGuard, PoisonError};
 use std::thread;
 use std::time::{Duration, Instant, SystemTime};
 
-/// How long a server may take for anything. Under memcheck, and on a busy machine, it takes a long time.
+/// How long a server may take for anything. It is slow under memcheck and on a busy machine.
 pub const PATIENCE: Duration = Duration::from_secs(300);
 
-/// A folder that is removed at the end.
+/// A folder that is removed when the test ends.
 #[derive(Debug)]
 pub struct Folder(PathBuf);
 
@@ -32,7 +32,7 @@ impl Folder {
         Self::new_in(&std::env::temp_dir())
     }
 
-    /// A folder in memory, if possible. What is in it outlives a killed process.
+    /// A folder in memory if possible. Its contents outlive a killed process.
     pub fn in_memory() -> Self {
         match Path::new("/dev/shm") {
             memory if memory.is_dir() => Self::new_in(memory),
@@ -63,7 +63,7 @@ impl Drop for Folder {
     }
 }
 
-/// Numbers that differ from run to run.
+/// Pseudo-random numbers that differ from run to run.
 #[derive(Debug)]
 pub struct Random(u64);
 
@@ -82,7 +82,7 @@ impl Random {
     }
 }
 
-/// Starts a server in a folder of its own.
+/// Starts a server in a new folder.
 pub fn start(options: &[&str]) -> (Folder, Server) {
     let folder = Folder::new();
     let server = Server::start(&folder, options);
@@ -110,7 +110,7 @@ pub fn wait_within(time: Duration, what: &str, mut is_so: impl FnMut() -> bool) 
     }
 }
 
-/// A server, which is killed at the end.
+/// A server, which is killed when the test ends.
 #[derive(Debug)]
 pub struct Server {
     child: Mutex<Child>,
@@ -156,7 +156,7 @@ impl Server {
         self.child.lock().unwrap_or_else(PoisonError::into_inner)
     }
 
-    /// Waits until the server answers. `false`: it has ended instead.
+    /// Waits until the server answers. Returns `false` if it has ended instead.
     pub fn answers(&self) -> bool {
         let mut is_there = false;
         wait_until("the server answers or ends", || {
@@ -180,7 +180,7 @@ impl Server {
         Client::connect(&self.socket).unwrap()
     }
 
-    /// A client that tries again while there is no pass.
+    /// A client that retries while there is no free pass.
     pub fn patient_client(&self) -> Client {
         let mut client = self.client();
         wait_until("there is a pass", || match client.hello() {
@@ -197,10 +197,10 @@ impl Server {
         Talk::new(UnixStream::connect(&self.socket).unwrap())
     }
 
-    /// Kills the server, even while others use it, and waits for its end.
+    /// Kills the server, even while others use it, and waits until it has ended.
     pub fn kill(&self) {
         let mut child = self.child();
-        // It fails if the server has ended.
+        // This fails if the server has already ended.
         let _ = child.kill();
         let _ = child.wait();
     }
@@ -225,13 +225,13 @@ impl Server {
         });
     }
 
-    /// Sends a signal, and waits for the end.
+    /// Sends a signal, and waits until the server has ended.
     pub fn end_by(&self, signal: &str) -> ExitStatus {
         self.signal(signal);
         self.wait_end()
     }
 
-    /// Waits for the end.
+    /// Waits until the server has ended.
     pub fn wait_end(&self) -> ExitStatus {
         wait_until("the server ends", || self.has_ended());
         self.child().wait().unwrap()
@@ -245,7 +245,7 @@ impl Server {
     }
 }
 
-/// A connection by lines.
+/// A connection that sends and receives lines.
 #[derive(Debug)]
 pub struct Talk {
     pub stream: UnixStream,
@@ -263,7 +263,7 @@ impl Talk {
         BufReader::new(Cursor::new(first).chain(stream.try_clone().unwrap()))
     }
 
-    /// Puts what was already read from the stream before the next lines.
+    /// Puts bytes that were already read from the stream before the next lines.
     pub fn begin_with(&mut self, first: Vec<u8>) {
         self.reader = Self::reader_of(&self.stream, first);
     }
@@ -272,7 +272,7 @@ impl Talk {
         self.stream.write_all(bytes).unwrap();
     }
 
-    /// The next line, without its end. Empty at the end.
+    /// Reads the next line, without its newline. Returns an empty text at the end of the stream.
     pub fn line(&mut self) -> String {
         let mut line = String::new();
         match self.reader.read_line(&mut line) {
@@ -288,14 +288,15 @@ impl Talk {
         self.line()
     }
 
-    /// Sends a request without its `{"id":1,` and `}`, and checks what comes after the `id`.
+    /// Sends a request, given without `{"id":1,` and `}`, and checks what the reply has after its
+    /// `id`.
     #[track_caller]
     pub fn check(&mut self, request: &str, reply: &str) {
         let said = self.ask(&format!("{{\"id\":1,{request}}}"));
         assert_eq!(said, format!("{{\"id\":1,{reply}}}"), "{request}");
     }
 
-    /// Sends a request as `check` does, and checks that the reply has each of these parts.
+    /// Sends a request as `check` does, and checks that the reply contains each of these parts.
     #[track_caller]
     pub fn check_parts(&mut self, request: &str, parts: &[&str]) {
         let said = self.ask(&format!("{{\"id\":1,{request}}}"));

@@ -1,4 +1,4 @@
-//! A test's PostgreSQL, in a folder of its own.
+//! A test's PostgreSQL, in its own folder.
 
 use super::{wait_until, Folder};
 use std::fs;
@@ -18,7 +18,7 @@ const OPTIONS: [&str; 5] = [
     "max_wal_size=64MB",
 ];
 
-/// A database server, which is stopped at the end.
+/// A database server, which is stopped when the tests end.
 #[derive(Debug)]
 pub struct Postgres {
     child: Mutex<Option<Child>>,
@@ -35,7 +35,7 @@ impl Drop for Postgres {
     }
 }
 
-/// The folder of the latest version that is installed.
+/// The folder of the latest installed version.
 fn programs() -> Option<PathBuf> {
     let versions = fs::read_dir("/usr/lib/postgresql").ok()?;
     let programs = versions.flatten().map(|version| version.path().join("bin"));
@@ -44,7 +44,7 @@ fn programs() -> Option<PathBuf> {
     programs.pop()
 }
 
-/// The user that PostgreSQL runs as if this is root, since it refuses to run as root.
+/// The user that runs PostgreSQL if the tests run as root, since PostgreSQL refuses to run as root.
 fn other_user() -> Option<(u32, u32)> {
     let status = fs::read_to_string("/proc/self/status").ok()?;
     let ids = status.lines().find_map(|line| line.strip_prefix("Uid:"))?;
@@ -60,15 +60,15 @@ fn other_user() -> Option<(u32, u32)> {
     id_of("postgres").or_else(|| id_of("nobody"))
 }
 
-/// A port on which nobody listens.
+/// A port that nobody listens on.
 fn free_port() -> u16 {
     let listener = TcpListener::bind("127.0.0.1:0").unwrap();
     listener.local_addr().unwrap().port()
 }
 
 impl Postgres {
-    /// Starts a server in memory. A test kills only the server and not the machine, so nothing has to be on a disk. `None`: PostgreSQL
-    /// isn't installed.
+    /// Starts a server in memory. A test kills only the server and not the machine, so nothing has to be on a disk. Returns
+    /// `None` if PostgreSQL isn't installed.
     pub fn start() -> Option<Arc<Self>> {
         Self::start_in(Folder::in_memory(), "fsync=off")
     }
@@ -78,7 +78,7 @@ impl Postgres {
         Self::start_in(Folder::new(), "fsync=on")
     }
 
-    /// The server that running tests share.
+    /// The server that all running tests share.
     pub fn shared() -> Option<Arc<Self>> {
         static SHARED: Mutex<Option<Weak<Postgres>>> = Mutex::new(None);
         let mut shared = SHARED.lock().unwrap_or_else(PoisonError::into_inner);
@@ -119,7 +119,7 @@ impl Postgres {
         Some(Arc::new(postgres))
     }
 
-    /// From now on this role is asked for its password over TCP.
+    /// Requires a password from this role over TCP from now on.
     pub fn ask_for_password(&self, role: &str) {
         let path = self.data().join("pg_hba.conf");
         let rules = fs::read_to_string(&path).unwrap();
@@ -156,7 +156,7 @@ impl Postgres {
         command
     }
 
-    /// Starts the server, and waits until it takes connections.
+    /// Starts the server, and waits until it accepts connections.
     pub fn begin(&self) {
         let mut command = self.command("postgres");
         command.arg("-D").arg(self.data()).arg("-k").arg(self.path());
@@ -169,7 +169,7 @@ impl Postgres {
         });
     }
 
-    /// Ends the server by a signal: INT rolls sessions back, and QUIT is like a crash.
+    /// Ends the server with a signal: INT rolls sessions back, and QUIT acts like a crash.
     pub fn end(&self, signal: &str) {
         if let Some(mut child) = self.child.lock().unwrap().take() {
             let number = child.id().to_string();
@@ -208,13 +208,13 @@ pub struct Database {
 }
 
 impl Database {
-    /// Its URL through a Unix socket.
+    /// Its URL over a Unix socket.
     pub fn url(&self) -> String {
         let (folder, port) = (self.postgres.path().display(), self.postgres.port);
         format!("postgresql:///{}?user=bestore&host={folder}&port={port}", self.name)
     }
 
-    /// Its URL, by TCP.
+    /// Its URL over TCP.
     pub fn url_of_tcp(&self) -> String {
         self.url_at(self.postgres.port)
     }
@@ -224,12 +224,12 @@ impl Database {
         format!("postgresql://{role}@127.0.0.1:{}/{}", self.postgres.port, self.name)
     }
 
-    /// Its URL through the listener on this port.
+    /// Its URL through the listener at this port.
     pub fn url_at(&self, port: u16) -> String {
         format!("postgresql://bestore@127.0.0.1:{port}/{}", self.name)
     }
 
-    /// Runs statements, and returns the lines of what the last one finds, with `|` between columns.
+    /// Runs statements, and returns the rows of the last one, with `|` between columns.
     #[track_caller]
     pub fn sql(&self, statements: &str) -> String {
         self.postgres.sql(&self.name, statements)

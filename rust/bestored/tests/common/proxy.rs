@@ -1,4 +1,4 @@
-//! A TCP connection between a server and its database, which breaks when a test says so.
+//! A TCP connection between a server and its database that breaks when a test says so.
 
 use std::io::{Read, Write};
 use std::net::{Shutdown, TcpListener, TcpStream};
@@ -6,7 +6,7 @@ use std::sync::atomic::{AtomicU8, Ordering::SeqCst};
 use std::sync::Arc;
 use std::thread;
 
-/// Which bytes are lost, together with the connection.
+/// Which bytes are lost when the connection breaks.
 #[derive(Clone, Copy, Debug, PartialEq, Eq)]
 pub enum Lost {
     Nothing = 0,
@@ -14,7 +14,7 @@ pub enum Lost {
     Replies = 2,
 }
 
-/// A listener, which forwards each connection.
+/// A listener that forwards each connection.
 #[derive(Debug)]
 pub struct Proxy {
     pub port: u16,
@@ -22,7 +22,7 @@ pub struct Proxy {
 }
 
 impl Proxy {
-    /// Forwards connections to this port, until the program ends.
+    /// Forwards connections to this port until the program ends.
     pub fn start(to: u16) -> Self {
         let listener = TcpListener::bind("127.0.0.1:0").unwrap();
         let proxy = Self {
@@ -41,18 +41,18 @@ impl Proxy {
         proxy
     }
 
-    /// The next bytes of this kind are lost.
+    /// Drops the next bytes of this kind, and breaks the connection.
     pub fn lose(&self, what: Lost) {
         self.lost.store(what as u8, SeqCst);
     }
 
-    /// Whether they were lost.
+    /// Whether they have been dropped.
     pub fn has_lost(&self) -> bool {
         self.lost.load(SeqCst) == Lost::Nothing as u8
     }
 }
 
-/// Has a thread forward what comes from one to the other.
+/// Starts a thread that forwards what one side sends to the other.
 fn forward(from: &TcpStream, to: &TcpStream, what: Lost, lost: &Arc<AtomicU8>) {
     let (mut from, mut to, lost) = (from.try_clone().unwrap(), to.try_clone().unwrap(), lost.clone());
     thread::spawn(move || {
@@ -63,7 +63,7 @@ fn forward(from: &TcpStream, to: &TcpStream, what: Lost, lost: &Arc<AtomicU8>) {
                 break;
             }
         }
-        // Either may be closed already.
+        // Either side may already be closed.
         let _ = from.shutdown(Shutdown::Both);
         let _ = to.shutdown(Shutdown::Both);
     });

@@ -9,11 +9,11 @@ use std::path::Path;
 use std::sync::atomic::{AtomicU64, Ordering::Relaxed};
 use std::thread;
 
-/// How many clients write at the same time.
+/// How many clients write at once.
 pub const WRITERS: usize = 8;
 
-/// What a writer knows of its writes: how many were answered, how many were sent, and the node that the last answered one made,
-/// or 0.
+/// What a writer knows about its writes: how many were answered, how many were sent, and the node made by the last answered
+/// write, or 0.
 #[derive(Debug, Default)]
 struct Known {
     answered: AtomicU64,
@@ -22,7 +22,7 @@ struct Known {
 }
 
 impl Known {
-    /// Writes until a write gets no answer or is refused. Each one makes a node, removes the one before, and counts in the
+    /// Writes until a write gets no reply or is refused. Each write makes a node, removes the one before, and counts up in the
     /// writer's own node.
     fn write(&self, socket: &Path, own: u64) -> Result<Infallible> {
         let mut client = Client::connect(socket)?;
@@ -42,16 +42,16 @@ impl Known {
     }
 }
 
-/// The writers. Each has a node of its own, from 1 on.
+/// The writers. Each has its own node, from 1 on.
 #[derive(Debug, Default)]
 pub struct Writers {
     known: [Known; WRITERS],
-    /// The next node before they write.
+    /// The next node number before they write.
     first: AtomicU64,
 }
 
 impl Writers {
-    /// Makes the writers' nodes, and others whose texts make up a state of some size.
+    /// Makes the writers' nodes, and others whose texts make the state fairly large.
     pub fn begin(&self, client: &mut Client, others: u64) {
         let mut batch = Batch::new();
         for own in 1..=WRITERS as u64 {
@@ -90,14 +90,14 @@ impl Writers {
         wait_until("writes are answered", || self.answered() >= before + more);
     }
 
-    /// Whether a write was sent that isn't answered yet.
+    /// Whether a write has been sent and isn't answered yet.
     pub fn are_writing(&self) -> bool {
         let mut known = self.known.iter();
         known.any(|known| known.sent.load(Relaxed) > known.answered.load(Relaxed))
     }
 
-    /// Compares what is there with what was answered: no write is missing, and none was made twice. Returns how many
-    /// writes each writer has.
+    /// Compares the store with what was answered: no write is missing, and none was made twice. Returns how many writes each
+    /// writer has.
     pub fn check(&self, client: &mut Client) -> Vec<u64> {
         let next = client.pin().unwrap().next;
         let mut asked = Vec::new();
@@ -114,7 +114,7 @@ impl Writers {
             let last: Option<Result<wire::Attributes>> = last.map(|last| client.receive(last));
             let (answered, sent) = (known.answered.load(Relaxed), known.sent.load(Relaxed));
             assert!(answered <= found && found <= sent, "{answered} <= {found} <= {sent}");
-            // What the last answered write made is there, unless an unanswered one came after it.
+            // The last answered write's node is there, unless a later write replaced it.
             assert!(found > answered || last.map_or(true, |last| last.is_ok()));
             found
         });
@@ -125,7 +125,7 @@ impl Writers {
         found
     }
 
-    /// Like `check`, after the server has ended and another one has opened its file. From here on the contents are known.
+    /// Like `check`, after the server has ended and another has opened its file. From then on, the contents are known.
     pub fn go_on(&self, client: &mut Client) {
         for (known, found) in self.known.iter().zip(self.check(client)) {
             if found > known.answered.swap(found, Relaxed) {
@@ -136,8 +136,8 @@ impl Writers {
     }
 }
 
-/// Repeats the server's journal, from its start to the snapshot that is pinned here, in a store of this process. The nodes that
-/// it makes and the states are the same.
+/// Repeats the server's journal, from its start to the snapshot that is pinned here, in a store of this process. It has to make
+/// the same nodes and reach the same state.
 pub fn check_history(client: &mut Client) {
     let commit = client.pin().unwrap().commit;
     let limits = Limits {
@@ -167,7 +167,7 @@ fn batches_of(snapshot: &Snapshot<'_>) -> (u64, Vec<Batch>) {
     (snapshot.next_node().unwrap(), batches)
 }
 
-/// The next node and the batches of the snapshot that the client has pinned.
+/// The next node number and the batches of the snapshot that the client has pinned.
 pub fn state_of(client: &mut Client) -> (u64, Vec<Batch>) {
     let mut batches = Vec::new();
     let mut from = Some(0);
