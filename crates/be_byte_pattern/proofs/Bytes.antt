@@ -11,7 +11,7 @@ use Rattle.std.proofs.lemmas.Str.{encode_same, encodes-chars}
 use Rattle.be_pattern.specs.Match.{Part, Run, One, Among, Only, matches, some_tail}
 use Rattle.be_byte_pattern.specs.Runs.{byte_parts, has_runs_alone, IsOfRuns, parts_of_runs}
 use Rattle.be_byte_pattern.specs.declared.runs.Runs.{Runs}
-use Rattle.be_byte_pattern.proofs.Standing.{tail_further, tail_whole, run_taken, takes_run}
+use Rattle.be_byte_pattern.proofs.LiteralRuns.{tail_further, tail_whole, run_taken, takes_run}
 
 -- a byte inside a character, after its first
 abbrev pub IsInside : ℕ → Type 0
@@ -22,7 +22,7 @@ AreInside [] = Unit {0}
 AreInside (b ∷ bs) = IsInside b × AreInside bs
 
 -- a character's bytes: the first, which never occurs inside a character, and the others
-record Spelled (c : ℕ) : Type 0 where
+record Encoded (c : ℕ) : Type 0 where
   pub lead : ℕ
   pub more : List ℕ
   pub bytes : encode_utf8 c ≡ lead ∷ more
@@ -32,9 +32,9 @@ record Spelled (c : ℕ) : Type 0 where
 next_inside : (n : ℕ) → IsInside (128 + n % 64)
 next_inside n = (omega arith, omega arith)
 
-spelled : (c : ℕ) → Spelled c
+encoded : (c : ℕ) → Encoded c
 unfolding encode_utf8
-spelled c = ⊎_elim
+encoded c = ⊎_elim
     (λ one. record { lead = c; more = []; bytes = cond-true _ _ _ one; begins = λ h. let k = ltb-true c 128 one in omega (arith, k, h.0); inside = tt })
     (λ more. ⊎_elim
     (λ two. record { lead = 192 + c / 64; more = (128 + c % 64) ∷ []; bytes = cond-false _ _ _ more ∙ cond-true _ _ _ two; begins = λ h. omega (arith, h.1); inside = (next_inside c, tt) })
@@ -60,7 +60,7 @@ from_inside (Run ∷ ps) alone b k ds inside h = tails_in (matches (byte_parts p
 from_inside (One ∷ ps) alone b k ds inside h = absurd (true≢false (sym alone))
 from_inside (Among n ms ∷ ps) alone b k ds inside h = absurd (true≢false (sym alone))
 from_inside (Only d ∷ ps) alone b k ds inside h =
-    let s = spelled d in
+    let s = encoded d in
     let first : matches (map Only (s.lead ∷ s.more) ++ byte_parts ps) (b ∷ (k ++ ds)) ≡ true = ap (λ l. matches (map Only l ++ byte_parts ps) (b ∷ (k ++ ds))) (sym s.bytes) ∙ h in
     let same : b ≡ s.lead = eqb-true b s.lead (and_parts _ _ first).0 in
     absurd (s.begins (subst IsInside same inside.0))
@@ -69,10 +69,10 @@ from_inside (Only d ∷ ps) alone b k ds inside h =
 
 none_left : (cs : List ℕ) → matches [] (encode_utf8_all cs) ≡ matches [] cs
 none_left [] = refl
-none_left (c ∷ cs) = let s = spelled c in ap (λ l. matches [] (l ++ encode_utf8_all cs)) s.bytes
+none_left (c ∷ cs) = let s = encoded c in ap (λ l. matches [] (l ++ encode_utf8_all cs)) s.bytes
 
 literal_ended : (d : ℕ) (ps : List Part) → matches (map Only (encode_utf8 d) ++ ps) [] ≡ false
-literal_ended d ps = let s = spelled d in ap (λ l. matches (map Only l ++ ps) []) s.bytes
+literal_ended d ps = let s = encoded d in ap (λ l. matches (map Only l ++ ps) []) s.bytes
 
 other_literal : (c d : ℕ) (rest : List ℕ) (ps : List Part) → (c ≡ d → ⊥) → matches (map Only (encode_utf8 d) ++ ps) (encode_utf8 c ++ rest) ≡ false
 other_literal c d rest ps other = false_from_ne_true _ (λ h. let t = takes_run (encode_utf8 d) (encode_utf8 c ++ rest) ps h in other (encode_same c d rest t.0 t.1.0).0)
@@ -81,7 +81,7 @@ run_bytes : (ps : List Part) → has_runs_alone ps ≡ true → ((cs : List ℕ)
     → (cs : List ℕ) → some_tail (matches (byte_parts ps)) (encode_utf8_all cs) ≡ some_tail (matches ps) cs
 run_bytes ps alone same [] = same []
 run_bytes ps alone same (c ∷ cs) =
-    let s = spelled c in
+    let s = encoded c in
     let p = matches (byte_parts ps) in
     let rest = encode_utf8_all cs in
     let whole : encode_utf8 c ++ rest ≡ s.lead ∷ (s.more ++ rest) = ap (λ l. l ++ rest) s.bytes in

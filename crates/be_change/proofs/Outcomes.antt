@@ -60,19 +60,19 @@ or_in : {A : Type 0} → A → Result A Refusal → A
 or_in x (Ok y) = y
 or_in x (Err e) = x
 
-dones_in : Result (State × List Done) Refusal → List Done
-dones_in (Ok x) = x.1
-dones_in (Err e) = []
+outcomes_in : Result (State × List Done) Refusal → List Done
+outcomes_in (Ok x) = x.1
+outcomes_in (Err e) = []
 
 record Returned (s t : State) (old dones : List Done) (ops : List Op) : Type 0 where
   pub next : t.next ≡ s.next + count_by is_new ops
   pub each : dones ≡ old ++ outcomes s.next ops
 
 returned : (s t : State) (old dones : List Done) (ops : List Op) → fold advance (Ok (s, old)) ops ≡ Ok (t, dones) → Returned s t old dones ops
-unfolding dones_in or_in
+unfolding outcomes_in or_in
 returned s t old dones [] e = record {
   next = let same : s.next ≡ t.next = ap (λ r. (reached s r).next) e in omega arith;
-  each = ap dones_in (sym e) ∙ sym (append_nil old);
+  each = ap outcomes_in (sym e) ∙ sym (append_nil old);
 }
   where
     append_nil : (xs : List Done) → xs ++ [] ≡ xs

@@ -277,9 +277,9 @@ fn run_task(alloc: Global, matches: &ArgMatches) -> Result<Option<Task>, AllocEr
     };
     match (matches.get_flag(STRICT), matches.get_flag(JOURNAL)) {
         (false, false) => Ok(Some(Task::Run(file, limits))),
-        (false, true) => Ok(Some(Task::RunAndTell(file, limits))),
+        (false, true) => Ok(Some(Task::RunWithJournal(file, limits))),
         (true, false) => Ok(Some(Task::RunStrictly(file, limits))),
-        (true, true) => Ok(Some(Task::RunStrictlyAndTell(file, limits))),
+        (true, true) => Ok(Some(Task::RunStrictlyWithJournal(file, limits))),
     }
 }
 
@@ -310,7 +310,7 @@ fn shell_task(alloc: Global, matches: &ArgMatches) -> Result<Option<Task>, Alloc
     };
     let file = file_of(alloc, matches)?;
     match value_of(alloc, matches, JOURNAL)? {
-        Some(journal) => Ok(Some(Task::ShellAndTell(file, journal, limits))),
+        Some(journal) => Ok(Some(Task::ShellWithJournal(file, journal, limits))),
         None => Ok(Some(Task::Shell(file, limits))),
     }
 }

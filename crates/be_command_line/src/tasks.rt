@@ -8,18 +8,18 @@ pub enum Task {
     /// Run the script in a file, on a store with one pass.
     Run(String, Limits),
     /// The same, and write the journal after the replies.
-    RunAndTell(String, Limits),
+    RunWithJournal(String, Limits),
     /// Run it up to the first line that is refused.
     RunStrictly(String, Limits),
     /// The same, and write the journal after the replies.
-    RunStrictlyAndTell(String, Limits),
+    RunStrictlyWithJournal(String, Limits),
     /// Race the scripts in these files against each other, on a store with a pass for each.
     Race(Vec<String>, Limits),
     /// Run the lines of a file, if one is named, and then those of standard input, on a store with
     /// one pass.
     Shell(Option<String>, Limits),
     /// The same, and write the journal into the second file at the end.
-    ShellAndTell(Option<String>, String, Limits),
+    ShellWithJournal(Option<String>, String, Limits),
     /// Check the journal in a file.
     Check(String),
     /// Print the script that makes the writes of the journal in a file.

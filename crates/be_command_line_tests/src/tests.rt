@@ -10,10 +10,10 @@ use std::test::Fail;
 /// A task's pages, passes and commits; zeros if it has no store.
 fn numbers(task: &Task) -> (u64, u64, u64) {
     let limits = match task {
-        Task::Run(_, limits) | Task::RunAndTell(_, limits) => limits,
-        Task::RunStrictly(_, limits) | Task::RunStrictlyAndTell(_, limits) => limits,
+        Task::Run(_, limits) | Task::RunWithJournal(_, limits) => limits,
+        Task::RunStrictly(_, limits) | Task::RunStrictlyWithJournal(_, limits) => limits,
         Task::Race(_, limits) | Task::Shell(_, limits) => limits,
-        Task::ShellAndTell(_, _, limits) => limits,
+        Task::ShellWithJournal(_, _, limits) => limits,
         Task::Check(_) | Task::Dump(_) | Task::DumpState(_) => return (0, 0, 0),
     };
     (limits.pages, limits.passes, limits.commits)
@@ -23,15 +23,15 @@ fn numbers(task: &Task) -> (u64, u64, u64) {
 fn name_of(task: &Task) -> &'static str {
     match task {
         Task::Run(..) => "run",
-        Task::RunAndTell(..) => "run --journal",
+        Task::RunWithJournal(..) => "run --journal",
         Task::RunStrictly(..) => "run --strict",
-        Task::RunStrictlyAndTell(..) => "run --strict --journal",
+        Task::RunStrictlyWithJournal(..) => "run --strict --journal",
         Task::Check(..) => "check",
         Task::Dump(..) => "dump",
         Task::DumpState(..) => "dump --state",
         Task::Race(..) => "race",
         Task::Shell(..) => "shell",
-        Task::ShellAndTell(..) => "shell --journal",
+        Task::ShellWithJournal(..) => "shell --journal",
     }
 }
 
@@ -39,22 +39,22 @@ fn name_of(task: &Task) -> &'static str {
 /// journal.
 fn file_at(task: &Task, place: usize) -> Option<&str> {
     match task {
-        Task::Run(file, _) | Task::RunAndTell(file, _) if place == 0 => Some(file.as_str()),
-        Task::RunStrictly(file, _) | Task::RunStrictlyAndTell(file, _) if place == 0 => {
+        Task::Run(file, _) | Task::RunWithJournal(file, _) if place == 0 => Some(file.as_str()),
+        Task::RunStrictly(file, _) | Task::RunStrictlyWithJournal(file, _) if place == 0 => {
             Some(file.as_str())
         }
         Task::Check(file) | Task::Dump(file) if place == 0 => Some(file.as_str()),
         Task::DumpState(file) if place == 0 => Some(file.as_str()),
         Task::Shell(Some(file), _) if place == 0 => Some(file.as_str()),
-        Task::ShellAndTell(_, journal, _) if place == 0 => Some(journal.as_str()),
-        Task::ShellAndTell(Some(file), _, _) if place == 1 => Some(file.as_str()),
+        Task::ShellWithJournal(_, journal, _) if place == 0 => Some(journal.as_str()),
+        Task::ShellWithJournal(Some(file), _, _) if place == 1 => Some(file.as_str()),
         Task::Race(files, _) => files.get(place).map(|file| file.as_str()),
         _ => None,
     }
 }
 
 /// A task as a text, with up to eight files.
-fn told_task(alloc: Global, task: &Task) -> Result<String, AllocError> {
+fn task_text(alloc: Global, task: &Task) -> Result<String, AllocError> {
     let name = name_of(task);
     let (pages, passes, commits) = numbers(task);
     let mut text = format!(in alloc; "{name} {pages} {passes} {commits}")?;
@@ -68,7 +68,7 @@ fn told_task(alloc: Global, task: &Task) -> Result<String, AllocError> {
 }
 
 /// An error as a text, or `None` if memory ran out.
-fn told_fault(alloc: Global, fault: &Error) -> Option<String> {
+fn fault_text(alloc: Global, fault: &Error) -> Option<String> {
     let kind = fault.kind();
     if matches!(kind, ErrorKind::OutOfMemory) {
         return None;
@@ -89,11 +89,11 @@ fn words_of(alloc: Global, line: &str) -> Result<Vec<&str>, AllocError> {
 }
 
 /// The result of a command line as a text, or `None` if memory ran out.
-fn told(alloc: Global, line: &str) -> Option<String> {
+fn text_of(alloc: Global, line: &str) -> Option<String> {
     let words = words_of(alloc, line).ok()?;
     match task(alloc, &words) {
-        Ok(task) => told_task(alloc, &task).ok(),
-        Err(fault) => told_fault(alloc, &fault),
+        Ok(task) => task_text(alloc, &task).ok(),
+        Err(fault) => fault_text(alloc, &fault),
     }
 }
 
@@ -101,8 +101,8 @@ fn told(alloc: Global, line: &str) -> Option<String> {
 fn check_tasks(alloc: Global, lines: &str) -> Result<(), Fail> {
     for line in lines.lines() {
         let (words, expected) = line.split_once(" => ").unwrap_or((line, ""));
-        let found = match told(alloc, words) {
-            None => told(alloc, words),
+        let found = match text_of(alloc, words) {
+            None => text_of(alloc, words),
             found => found,
         };
         match found {

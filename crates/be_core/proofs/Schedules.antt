@@ -25,10 +25,10 @@ first-sound pages passes commits words some = record {
   now = λ p i r. refl;
   was_reached = λ p r e. absurd (cc);
   counted = λ h is. absurd (cc);
-  least_in_time = λ h is. absurd (cc);
+  lowest_in_time = λ h is. absurd (cc);
   unheld = λ e p. refl;
   inside = λ n p r. only_first n p r;
-  holder_inside = λ h is. absurd (cc);
+  writer_inside = λ h is. absurd (cc);
 }
   where
     no_and : (b : Bool) → IsTrue (b && false) → ⊥

@@ -12,7 +12,7 @@ use Rattle.be_core.specs.declared.event.Event.TheVariants.{Lock, Scan, Fill, Pub
 
 -- the writer: its pass, how many reader slots its scan has read, the minimum so far, and whether it
 -- has published
-pub record Holder : Type 0 where
+pub record Writer : Type 0 where
   pub pass : ℕ
   pub scanned : ℕ
   pub least : ℕ
@@ -31,7 +31,7 @@ pub record World : Type 0 where
   pub free : ℕ → Bool
   pub taken : ℕ → Bool
   pub retired : ℕ → Option ℕ
-  pub holder : Option Holder
+  pub writer : Option Writer
   pub phases : ℕ → Phase
 
 -- f, except that it has the value b at a
@@ -68,7 +68,7 @@ first_state pages passes commits words =
       free = λ p. nat_lt p pages && not (p == 0);
       taken = nowhere;
       retired = λ p. None;
-      holder = None;
+      writer = None;
       phases = λ k. Idle;
     }
 
@@ -127,25 +127,25 @@ MayUnpin w k = (k < w.passes) × ((a : ℕ) × (n : ℕ) × (w.phases k ≡ Pinn
 -- ## The writer's events
 
 -- h holds the lock, is pass k, and hasn't published
-abbrev pub HasOpenWrite : World → ℕ → Holder → Type 0
-HasOpenWrite w k h = (w.holder ≡ Some h) × (h.pass ≡ k) × IsFalse h.published
+abbrev pub HasOpenWrite : World → ℕ → Writer → Type 0
+HasOpenWrite w k h = (w.writer ≡ Some h) × (h.pass ≡ k) × IsFalse h.published
 
 abbrev pub MayLock : World → ℕ → Type 0
-MayLock w k = (k < w.passes) × (w.holder ≡ None)
+MayLock w k = (k < w.passes) × (w.writer ≡ None)
 
 abbrev pub after_lock : World → ℕ → World
 after_lock w k = record w {
-  holder = Some
+  writer = Some
       record { pass = k; scanned = 0; least = w.current; published = false };
   taken = nowhere;
 }
 
 -- the minimum, once the reader slot of a pass in this phase is read
-abbrev pub least_with : ℕ → Phase → ℕ
-least_with l Idle = l
-least_with l (Looked a) = l
-least_with l (Announced a) = min l a
-least_with l (Pinned a n) = min l a
+abbrev pub lowest_with : ℕ → Phase → ℕ
+lowest_with l Idle = l
+lowest_with l (Looked a) = l
+lowest_with l (Announced a) = min l a
+lowest_with l (Pinned a n) = min l a
 
 -- the page is retired with a number below l
 abbrev pub is_below : ℕ → Option ℕ → Bool
@@ -161,35 +161,35 @@ swept w l =
     }
 
 -- the minimum, once the j-th reader slot is read
-abbrev pub least_after : World → Holder → ℕ → ℕ
-least_after w h j = least_with (if j == 0 then w.current else h.least) (w.phases j)
+abbrev pub lowest_after : World → Writer → ℕ → ℕ
+lowest_after w h j = lowest_with (if j == 0 then w.current else h.least) (w.phases j)
 
 -- the state once one more reader slot is read that isn't the last
-abbrev pub scanned_on : World → Holder → ℕ → World
+abbrev pub scanned_on : World → Writer → ℕ → World
 scanned_on w h j = record w {
-  holder = Some record h
-      { scanned = suc j; least = least_after w h j };
+  writer = Some record h
+      { scanned = suc j; least = lowest_after w h j };
 }
 
 -- the state once the last reader slot is read
-abbrev pub scanned_out : World → Holder → ℕ → World
+abbrev pub scanned_out : World → Writer → ℕ → World
 scanned_out w h j = swept (record w {
-  holder = Some record h
-      { scanned = 0; least = least_after w h j };
-}) (least_after w h j)
+  writer = Some record h
+      { scanned = 0; least = lowest_after w h j };
+}) (lowest_after w h j)
 
-abbrev pub scanned_by : World → Option Holder → ℕ → World
+abbrev pub scanned_by : World → Option Writer → ℕ → World
 scanned_by w None j = w
 scanned_by w (Some h) j = if suc j == w.passes then scanned_out w h j else scanned_on w h j
 
 abbrev pub MayScan : World → ℕ → ℕ → Type 0
-MayScan w k j = (j < w.passes) × ((h : Holder) × HasOpenWrite w k h × (j ≡ h.scanned))
+MayScan w k j = (j < w.passes) × ((h : Writer) × HasOpenWrite w k h × (j ≡ h.scanned))
 
 abbrev pub after_scan : World → ℕ → World
-after_scan w j = scanned_by w w.holder j
+after_scan w j = scanned_by w w.writer j
 
 abbrev pub MayFill : World → ℕ → ℕ → ℕ → Type 0
-MayFill w k p i = (p < w.pages) × (i < 512) × ((h : Holder) × HasOpenWrite w k h)
+MayFill w k p i = (p < w.pages) × (i < 512) × ((h : Writer) × HasOpenWrite w k h)
     × IsTrue (w.taken p || w.free p)
 
 abbrev pub after_fill : World → ℕ → ℕ → ℕ → World
@@ -206,11 +206,11 @@ has given p = list_any (λ q. q == p) given
 
 abbrev pub MayPublish : World → ℕ → ℕ → List ℕ → Type 0
 MayPublish w k v given =
-    (w.current < w.commits) × (v < w.pages) × ((h : Holder) × HasOpenWrite w k h)
+    (w.current < w.commits) × (v < w.pages) × ((h : Writer) × HasOpenWrite w k h)
     × IsTrue (w.taken v)
     × AllPairs ◌≢◌ given × All (λ p. IsTrue (w.reach w.current p)) given
 
-abbrev pub with_published : Option Holder → Option Holder
+abbrev pub with_published : Option Writer → Option Writer
 with_published None = None
 with_published (Some h) = Some record h { published = true }
 
@@ -223,14 +223,14 @@ after_publish w given =
       image = update w.image (suc w.current) w.words;
       retired = λ p. if has given p then Some w.current else w.retired p;
       taken = nowhere;
-      holder = with_published w.holder;
+      writer = with_published w.writer;
     }
 
 abbrev pub MayUnlock : World → ℕ → Type 0
-MayUnlock w k = (h : Holder) × (w.holder ≡ Some h) × (h.pass ≡ k)
+MayUnlock w k = (h : Writer) × (w.writer ≡ Some h) × (h.pass ≡ k)
 
 abbrev pub after_unlock : World → World
-after_unlock w = record w { holder = None; taken = nowhere; free = λ p. w.free p || w.taken p }
+after_unlock w = record w { writer = None; taken = nowhere; free = λ p. w.free p || w.taken p }
 
 -- ## Any event
 
@@ -326,10 +326,10 @@ pub record Sound (w : World) : Type 0 where
   pub was_reached : (p r : ℕ) → w.retired p ≡ Some r → (r < w.current) × IsTrue (w.reach r p)
   -- while the writer hasn't published, each pass that was scanned and is pinned to an older version
   -- has announced at least the minimum
-  pub counted : (h : Holder) → w.holder ≡ Some h → IsFalse h.published
+  pub counted : (h : Writer) → w.writer ≡ Some h → IsFalse h.published
       → (k a n : ℕ) → k < h.scanned → w.phases k ≡ Pinned a n → n < w.current → h.least ≤ a
-  pub least_in_time : (h : Holder) → w.holder ≡ Some h → h.least ≤ w.current
-  pub unheld : w.holder ≡ None → (p : ℕ) → IsFalse (w.taken p)
+  pub lowest_in_time : (h : Writer) → w.writer ≡ Some h → h.least ≤ w.current
+  pub unheld : w.writer ≡ None → (p : ℕ) → IsFalse (w.taken p)
   -- each version has only pages of the machine, and the writer is one of its passes
   pub inside : (n p : ℕ) → IsTrue (w.reach n p) → p < w.pages
-  pub holder_inside : (h : Holder) → w.holder ≡ Some h → h.pass < w.passes
+  pub writer_inside : (h : Writer) → w.writer ≡ Some h → h.pass < w.passes

@@ -3,7 +3,7 @@ use Rattle.std.specs.Prelude.{◌≡◌, ℕ, Bool, true, false, Option, Some, N
 use Rattle.std.specs.Prelude.{slice_index_or, vec_len, Vec, []}
 use Rattle.std.specs.declared.alloc.Global.{Global}
 use Rattle.be_core.specs.declared.event.Phase.TheVariants.{Idle}
-use Rattle.be_core.specs.declared.state.Holder.{Holder}
+use Rattle.be_core.specs.declared.state.Writer.{Writer}
 use Rattle.be_core.specs.declared.state.State.{State}
 use Rattle.be_core.specs.Machine.{World, Sound}
 use Rattle.be_core.specs.Machine as machine
@@ -20,17 +20,17 @@ abbrev pub is_marked : Option (Vec Bool Global) → ℕ → Bool
 is_marked None p = false
 is_marked (Some row) p = slice_index_or row.items p false
 
-abbrev pub as_holder : Holder → machine.Holder
-as_holder h = record {
+abbrev pub as_writer : Writer → machine.Writer
+as_writer h = record {
   pass = h.pass;
   scanned = h.scanned;
   least = h.least;
   published = h.published;
 }
 
-abbrev pub holder_of : Option Holder → Option machine.Holder
-holder_of None = None
-holder_of (Some h) = Some (as_holder h)
+abbrev pub writer_of : Option Writer → Option machine.Writer
+writer_of None = None
+writer_of (Some h) = Some (as_writer h)
 
 abbrev pub shown : State → Images → World
 shown s image =
@@ -45,7 +45,7 @@ shown s image =
       free = λ p. slice_index_or s.free.items p false;
       taken = λ p. slice_index_or s.taken.items p false;
       retired = λ p. slice_index_or s.retired.items p None;
-      holder = holder_of s.holder;
+      writer = writer_of s.writer;
       phases = λ k. slice_index_or s.phases.items k Idle;
     }
 

@@ -9,12 +9,12 @@ ghost use Rattle.be_core.specs.Machine.{World, Sound, first_state, Protected, Pa
 ghost use Rattle.be_core.specs.Machine.{after_look, MayAnnounce, after_announce};
 ghost use Rattle.be_core.specs.Machine.{MayLookAgain, after_look_again, MayRead, MayUnpin};
 ghost use Rattle.be_core.specs.Machine.{after_unpin, MayLock, after_lock, MayScan};
-ghost use Rattle.be_core.specs.Machine.{after_scan, Holder, HasOpenWrite, scanned_on, scanned_out};
-ghost use Rattle.be_core.specs.Machine.{least_after, Unreached, MayFill, after_fill};
+ghost use Rattle.be_core.specs.Machine.{after_scan, Writer, HasOpenWrite, scanned_on, scanned_out};
+ghost use Rattle.be_core.specs.Machine.{lowest_after, Unreached, MayFill, after_fill};
 ghost use Rattle.be_core.specs.Machine.{MayPublish, after_publish, MayUnlock, after_unlock};
 ghost use Rattle.be_core.specs.Machine.{after_return};
 ghost use Rattle.be_core.specs.Laws.{FillsNoPinned, ScanLeavesNone};
-ghost use Rattle.be_core.specs.Least.{FindsLeast};
+ghost use Rattle.be_core.specs.Lowest.{FindsLowest};
 
 /// The first state is sound, whatever its words are.
 pub fn first()
@@ -70,18 +70,18 @@ pub fn lock()
 pub fn scan()
     ensures kept { (w : World) (k j : ℕ) → Sound w → MayScan w k j → Sound (after_scan w j) }
     // the two outcomes of a scan, if the caller knows the writer's state
-    ensures on { (w : World) (k j : ℕ) (h : Holder) → Sound w → HasOpenWrite w k h → j ≡ h.scanned
+    ensures on { (w : World) (k j : ℕ) (h : Writer) → Sound w → HasOpenWrite w k h → j ≡ h.scanned
         → Sound (scanned_on w h j) }
-    ensures out { (w : World) (k j : ℕ) (h : Holder) → Sound w → HasOpenWrite w k h → j ≡ h.scanned
+    ensures out { (w : World) (k j : ℕ) (h : Writer) → Sound w → HasOpenWrite w k h → j ≡ h.scanned
         → suc j ≡ w.passes → Sound (scanned_out w h j) }
     // a page that is still retired after a whole scan has at least the minimum as its number
-    ensures gone { (w : World) (j p r : ℕ) (h : Holder) → (scanned_out w h j).retired p ≡ Some r
-        → least_after w h j ≤ r }
-    ensures leaves { (w : World) (k j p : ℕ) (h : Holder) → Sound w → HasOpenWrite w k h → j
+    ensures gone { (w : World) (j p r : ℕ) (h : Writer) → (scanned_out w h j).retired p ≡ Some r
+        → lowest_after w h j ≤ r }
+    ensures leaves { (w : World) (k j p : ℕ) (h : Writer) → Sound w → HasOpenWrite w k h → j
         ≡ h.scanned → suc j ≡ w.passes
-        → p < w.pages → Unreached w (least_after w h j) w.current p
+        → p < w.pages → Unreached w (lowest_after w h j) w.current p
         → IsTrue ((scanned_out w h j).free p || (scanned_out w h j).taken p) }
-    ensures least { FindsLeast }
+    ensures least { FindsLowest }
     ensures leaves_none { (w : World) → Sound w → ScanLeavesNone w }
 {}
 

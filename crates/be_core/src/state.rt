@@ -17,7 +17,7 @@ use std::alloc::{AllocError, Global};
 /// The writer: its pass, how many reader slots its scan has read, the minimum so far, and whether
 /// it has published.
 #[derive(Clone, Copy)]
-struct Holder {
+struct Writer {
     pass: u64,
     scanned: u64,
     least: u64,
@@ -36,7 +36,7 @@ pub struct State {
     free: Vec<bool>,
     taken: Vec<bool>,
     retired: Vec<Option<u64>>,
-    holder: Option<Holder>,
+    writer: Option<Writer>,
     phases: Vec<Phase>,
     ghost in_free: { vec_len free ≡ vec_len words },
     ghost in_taken: { vec_len taken ≡ vec_len words },
@@ -194,7 +194,7 @@ impl State {
     ghost use Rattle.be_core.specs.Machine.{zeros, AreLimits};
     ghost use Rattle.be_core.specs.Machine as machine;
     ghost use Rattle.be_core.specs.Laws.{LeavesNone};
-    ghost use Rattle.be_core.specs.Shown.{shown, MakesStep, ShowsSound, Images, blank, as_holder};
+    ghost use Rattle.be_core.specs.Shown.{shown, MakesStep, ShowsSound, Images, blank, as_writer};
     ghost use Rattle.be_core.specs.Shown.{IsUnchanged, page_count};
 
     /// The first state, with every word 0: version 0 has only page 0, and every other page is free.
@@ -227,7 +227,7 @@ impl State {
             free: first_free(alloc, len)?,
             taken: empty_set(alloc, len)?,
             retired: none_retired(alloc, len)?,
-            holder: None,
+            writer: None,
             phases: all_idle(alloc, passes as usize)?,
         })
     }
@@ -339,11 +339,11 @@ impl State {
         ensures done { MakesStep self.old (λ w. MayLock w k) (λ w. after_lock w k) result self.new }
         ensures size { page_count self.new ≡ page_count self.old }
     {
-        if k >= self.phases.len() as u64 || self.holder.is_some() {
+        if k >= self.phases.len() as u64 || self.writer.is_some() {
             return false;
         }
         clear(&mut self.taken);
-        self.holder = Some(Holder {
+        self.writer = Some(Writer {
             pass: k,
             scanned: 0,
             least: self.current,
@@ -357,21 +357,21 @@ impl State {
             self.new }
         ensures size { page_count self.new ≡ page_count self.old }
     {
-        match self.holder {
+        match self.writer {
             Some(h) if h.pass == k => {}
             _ => return false,
         }
         add_all(&mut self.free, &self.taken);
         clear(&mut self.taken);
-        self.holder = None;
+        self.writer = None;
         true
     }
 
     /// Whether pass k holds the lock and hasn't published.
     fn writes(&self, k: u64) -> bool
-        ensures { IsTrue result ↔ ((h : machine.Holder) × HasOpenWrite (shown self.now blank) k h) }
+        ensures { IsTrue result ↔ ((h : machine.Writer) × HasOpenWrite (shown self.now blank) k h) }
     {
-        match self.holder {
+        match self.writer {
             Some(h) => h.pass == k && !h.published,
             None => false,
         }
@@ -404,24 +404,24 @@ impl State {
     }
 
     /// The writer's state, if pass k may read the reader slot of pass j.
-    fn scanner(&self, k: u64, j: u64) -> Option<Holder>
-        ensures some { IfSome result (λ h. (self.now.holder ≡ Some h)
+    fn scanner(&self, k: u64, j: u64) -> Option<Writer>
+        ensures some { IfSome result (λ h. (self.now.writer ≡ Some h)
             × MayScan (shown self.now blank) k j) }
         ensures none { IsNone result → ¬ (MayScan (shown self.now blank) k j) }
     {
         if j >= self.phases.len() as u64 || !self.writes(k) {
             return None;
         }
-        match self.holder {
+        match self.writer {
             Some(h) if h.scanned == j => Some(h),
             _ => None,
         }
     }
 
     /// The minimum, once the reader slot of pass j is read.
-    fn least_after(&self, h: Holder, j: u64) -> u64
+    fn lowest_after(&self, h: Writer, j: u64) -> u64
         requires { j < vec_len self.now.phases }
-        ensures { result ≡ machine.least_after (shown self.now blank) (as_holder h) j }
+        ensures { result ≡ machine.lowest_after (shown self.now blank) (as_writer h) j }
     {
         let least = if j == 0 { self.current } else { h.least };
         match self.phases[j as usize] {
@@ -441,16 +441,16 @@ impl State {
         let Some(h) = self.scanner(k, j) else {
             return false;
         };
-        let least = self.least_after(h, j);
+        let least = self.lowest_after(h, j);
         if j + 1 == self.phases.len() as u64 {
             sweep(&mut self.free, &mut self.retired, least);
-            self.holder = Some(Holder {
+            self.writer = Some(Writer {
                 scanned: 0,
                 least,
                 ..h
             });
         } else {
-            self.holder = Some(Holder {
+            self.writer = Some(Writer {
                 scanned: j + 1,
                 least,
                 ..h
@@ -516,8 +516,8 @@ impl State {
         retire(&mut self.retired, given, self.current);
         clear(&mut self.taken);
         self.current += 1;
-        if let Some(h) = self.holder {
-            self.holder = Some(Holder {
+        if let Some(h) = self.writer {
+            self.writer = Some(Writer {
                 published: true,
                 ..h
             });

@@ -91,7 +91,7 @@ entry_again by ops dones rest is =
     ∙ rw (
       number_again by (number_bytes (length ops) ++ (steps_bytes ops dones ++ rest)) is.pass,
       number_again (length ops) (steps_bytes ops dones ++ rest) (omega (arith, few)),
-      steps_again ops dones rest is.each is.of_ops is.of_dones,
+      steps_again ops dones rest is.each is.of_ops is.of_outcomes,
     ) refl
 
 -- an entry is its operations and outcomes, after its head

@@ -109,4 +109,4 @@ pub record CanBeEntry (by : ℕ) (ops : List Op) (dones : List Done) : Type 0 wh
   pub few : length ops ≤ 64
   pub each : length dones ≡ length ops
   pub of_ops : All CanBeOp ops
-  pub of_dones : All CanBeDone dones
+  pub of_outcomes : All CanBeDone dones

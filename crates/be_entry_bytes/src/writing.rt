@@ -5,7 +5,7 @@ ghost use Rattle.std.specs.Prelude.{◌≡◌, ◌+◌, ◌<◌, ◌≤◌, ◌+
 ghost use Rattle.std.specs.Prelude.{vec_capacity};
 ghost use Rattle.be_entry_bytes.specs.Encoding as spec;
 
-use crate::ranges::{dones_can_be, ops_can_be};
+use crate::ranges::{ops_can_be, outcomes_can_be};
 use be_value::Value;
 use be_volume::{Done, Op};
 
@@ -228,6 +228,6 @@ pub fn write_entry(bytes: &mut Vec<u8>, by: u64, ops: &[Op], dones: &[Done])
     ensures can_be { spec.CanBeEntry by ops.now dones.now }
 {
     ops_can_be(ops);
-    dones_can_be(dones);
+    outcomes_can_be(dones);
     write_parts(bytes, by, ops, dones);
 }

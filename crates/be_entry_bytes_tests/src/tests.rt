@@ -76,7 +76,7 @@ fn bytes_of(alloc: Global, entry: &Entry) -> Result<String, Refusal> {
 }
 
 /// The bytes of the entry in a line.
-fn bytes_told(alloc: Global, line: &str) -> Result<String, Refusal> {
+fn bytes_of_line(alloc: Global, line: &str) -> Result<String, Refusal> {
     let text = format!(in alloc; "{line}\n")?;
     let Some(entries) = read_journal(alloc, text.as_bytes())? else {
         return Ok(String::from_str(alloc, "no entry\n")?);
@@ -113,7 +113,7 @@ impl Answers for Encoder {
     fn reply(&mut self, alloc: Global, request: &str) -> Result<String, Refusal> {
         match request.strip_prefix("bytes ") {
             Some(bytes) => bytes_again(alloc, bytes),
-            None => bytes_told(alloc, request),
+            None => bytes_of_line(alloc, request),
         }
     }
 }

@@ -21,7 +21,7 @@ pub fn entry_line(alloc: Global, number: u64, entry: &Entry) -> Result<String, A
 {
     let by = entry.by;
     let ops = ops_text(alloc, entry.ops.as_slice())?;
-    let dones = dones_text(alloc, entry.dones.as_slice())?;
+    let dones = outcomes_text(alloc, entry.dones.as_slice())?;
     format!(in alloc; "{number} by {by} {ops} -> {dones}\n")
 }
 
@@ -47,7 +47,7 @@ fn push_ops(alloc: Global, text: &mut String, ops: &[Op]) -> Result<(), AllocErr
     Ok(())
 }
 
-fn dones_text(alloc: Global, dones: &[Done]) -> Result<String, AllocError>
+fn outcomes_text(alloc: Global, dones: &[Done]) -> Result<String, AllocError>
     ensures { IfOk result (λ text. string_bytes text
         ≡ join_by spec.done_text (codes "; ") dones.now) }
 {
@@ -55,11 +55,11 @@ fn dones_text(alloc: Global, dones: &[Done]) -> Result<String, AllocError>
         return Ok(String::new(alloc));
     };
     let mut text = done_text(alloc, first)?;
-    push_dones(alloc, &mut text, rest)?;
+    push_outcomes(alloc, &mut text, rest)?;
     Ok(text)
 }
 
-fn push_dones(alloc: Global, text: &mut String, dones: &[Done]) -> Result<(), AllocError>
+fn push_outcomes(alloc: Global, text: &mut String, dones: &[Done]) -> Result<(), AllocError>
     ensures { OnOk result (string_bytes text.new ≡ string_bytes text.old
         ++ flat_map (λ y. codes "; " ++ spec.done_text y) dones.now) }
 {

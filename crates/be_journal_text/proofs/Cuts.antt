@@ -57,8 +57,8 @@ after_by number line = after 32 (after_number number line)
 abbrev pub ops_part : ℕ → List ℕ → List ℕ
 ops_part number line = without_last_two (before 62 (after_by number line))
 
-abbrev pub dones_part : ℕ → List ℕ → List ℕ
-dones_part number line = before 10 (drop 1 (after 62 (after_by number line)))
+abbrev pub outcomes_part : ℕ → List ℕ → List ℕ
+outcomes_part number line = before 10 (drop 1 (after 62 (after_by number line)))
 
 -- the first line with its LF, and what follows it
 abbrev pub first_line : List ℕ → List ℕ

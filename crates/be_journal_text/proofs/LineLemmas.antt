@@ -23,7 +23,7 @@ use Rattle.be_journal.specs.declared.entries.Entry.{Entry}
 use Rattle.be_journal.specs.Text.{done_text, entry_line, hex, hex_digit, op_text, quoted, value_text}
 use Rattle.be_journal_text.specs.History.{CanBeDone, CanBeOp, HasBytes, CanBeEntry}
 use Rattle.be_journal_text.specs.Parts.{IsLinePart}
-use Rattle.be_journal_text.proofs.Cuts.{after, before, after_by, after_line, after_number, by_part, done_in, dones_part, first_line, ops_part, without_last_two}
+use Rattle.be_journal_text.proofs.Cuts.{after, before, after_by, after_line, after_number, by_part, done_in, outcomes_part, first_line, ops_part, without_last_two}
 use Rattle.be_journal_text.proofs.NumberLemmas.{decimal_digits, word_of_decimal}
 use Rattle.be_journal_text.proofs.PartLemmas.{both_parts, bytes_part, hex_part, is_word_byte, no_part, part_before, part_whole, quoted_part, unlike, words_part}
 
@@ -205,11 +205,11 @@ module _ (number : ℕ) (entry : Entry) (w : CanBeEntry entry) where
   abbrev pub ops_of : List ℕ
   ops_of = join_by op_text (codes "; ") entry.ops
 
-  abbrev pub dones_of : List ℕ
-  dones_of = join_by done_text (codes "; ") entry.dones
+  abbrev pub outcomes_of : List ℕ
+  outcomes_of = join_by done_text (codes "; ") entry.dones
 
   abbrev pub after_arrow : List ℕ
-  after_arrow = dones_of ++ codes "\n"
+  after_arrow = outcomes_of ++ codes "\n"
 
   abbrev pub after_pass : List ℕ
   after_pass = ops_of ++ (codes " -> " ++ after_arrow)
@@ -246,21 +246,21 @@ module _ (number : ℕ) (entry : Entry) (w : CanBeEntry entry) where
   ops_read = ap (λ l. without_last_two (before 62 l)) (by_taken ∙ arrow_split)
       ∙ (ap without_last_two (before_end 62 (ops_of ++ codes " -") (32 ∷ after_arrow) before_arrow) ∙ less_two ops_of)
 
-  pub answers_part : IsLinePart 10 dones_of
+  pub answers_part : IsLinePart 10 outcomes_of
   answers_part = list_part 10 CanBeDone done_text refl refl (λ done h. done_part 10 refl refl done h)
       (bytes_part 10 (codes "; ") refl) entry.dones w.dones
 
-  pub dones_read : dones_part number (entry_line number entry) ≡ join_by done_text (codes "; ") entry.dones
-  dones_read = ap (λ l. before 10 (drop 1 (after 62 l))) (by_taken ∙ arrow_split)
-      ∙ (ap (λ l. before 10 (drop 1 l)) (after_end 62 (ops_of ++ codes " -") (32 ∷ after_arrow) before_arrow) ∙ before_end 10 dones_of [] answers_part)
+  pub outcomes_read : outcomes_part number (entry_line number entry) ≡ join_by done_text (codes "; ") entry.dones
+  outcomes_read = ap (λ l. before 10 (drop 1 (after 62 l))) (by_taken ∙ arrow_split)
+      ∙ (ap (λ l. before 10 (drop 1 l)) (after_end 62 (ops_of ++ codes " -") (32 ∷ after_arrow) before_arrow) ∙ before_end 10 outcomes_of [] answers_part)
 
   -- the line is a part that its LF ends
   abbrev pub body : List ℕ
-  body = decimal number ++ (codes " by " ++ (decimal entry.by ++ (codes " " ++ (ops_of ++ (codes " -> " ++ dones_of)))))
+  body = decimal number ++ (codes " by " ++ (decimal entry.by ++ (codes " " ++ (ops_of ++ (codes " -> " ++ outcomes_of)))))
 
   pub body_line : entry_line number entry ≡ body ++ 10 ∷ []
   body_line =
-      let a = append_assoc (codes " -> ") dones_of (10 ∷ []) in
+      let a = append_assoc (codes " -> ") outcomes_of (10 ∷ []) in
       sym (append_assoc (decimal number) _ (10 ∷ []) ∙ ap (λ l. decimal number ++ (codes " by " ++ l)) (append_assoc (decimal entry.by) _ (10 ∷ [])
       ∙ ap (λ l. decimal entry.by ++ (codes " " ++ l)) (append_assoc ops_of _ (10 ∷ []) ∙ ap (λ l. ops_of ++ l) a)))
 
@@ -273,7 +273,7 @@ module _ (number : ℕ) (entry : Entry) (w : CanBeEntry entry) where
       (both_parts 10 ops_of _
       (list_part 10 CanBeOp op_text refl refl (λ op k. op_part 10 refl refl op k) (bytes_part 10 (codes "; ") refl)
       entry.ops w.ops)
-      (both_parts 10 (codes " -> ") dones_of (bytes_part 10 (codes " -> ") refl) answers_part)))))
+      (both_parts 10 (codes " -> ") outcomes_of (bytes_part 10 (codes " -> ") refl) answers_part)))))
 
   -- the first line of a text that begins with this line, and the text after it
   pub line_first : number < 2 ^ 64 → (more : List ℕ) → first_line (entry_line number entry ++ more) ≡ entry_line number entry

@@ -112,65 +112,65 @@ bytes_chars : (text : List ℕ) → IsUtf8 text → bytes_of (chars text) ≡ te
 bytes_chars text u = bytes_encoded (chars text) ∙ encodes-chars text u
 
 -- the text has these characters
-record Spells (cs text : List ℕ) : Type 0 where
+record Encodes (cs text : List ℕ) : Type 0 where
   utf8 : IsUtf8 text
   are : chars text ≡ cs
 
-spelled_low : (xs : List ℕ) → list_all is_low xs ≡ true → Spells xs xs
-spelled_low xs h = let a = low_ascii xs h in record { utf8 = IsUtf8-from_ascii xs a; are = chars-IsAscii xs a }
+encoded_low : (xs : List ℕ) → list_all is_low xs ≡ true → Encodes xs xs
+encoded_low xs h = let a = low_ascii xs h in record { utf8 = IsUtf8-from_ascii xs a; are = chars-IsAscii xs a }
 
-spelled_both : (cs text ds more : List ℕ) → Spells cs text → Spells ds more → Spells (cs ++ ds) (text ++ more)
-spelled_both cs text ds more h g = record {
+encoded_both : (cs text ds more : List ℕ) → Encodes cs text → Encodes ds more → Encodes (cs ++ ds) (text ++ more)
+encoded_both cs text ds more h g = record {
   utf8 = IsUtf8-append text more h.utf8 g.utf8;
   are = chars-append text more h.utf8 ∙ (ap (λ l. l ++ chars more) h.are ∙ ap (λ l. cs ++ l) g.are);
 }
 
-spelled_char : (c : ℕ) → IsScalar c → Spells (c ∷ []) (encode_utf8 c)
-spelled_char c h =
+encoded_char : (c : ℕ) → IsScalar c → Encodes (c ∷ []) (encode_utf8 c)
+encoded_char c h =
     let u = IsUtf8-encode c h in
     record { utf8 = u; are = chars_past_char (encode_utf8 c) [] c u (sym (append-nil (encode_utf8 c))) ∙ ap (λ l. c ∷ l) chars-nil }
 
-spelled_escaped : (c : ℕ) → IsScalar c → Spells (escaped_chars c) (escaped c)
-spelled_escaped c h = by34 (nat_eq c 34) refl
+encoded_escaped : (c : ℕ) → IsScalar c → Encodes (escaped_chars c) (escaped c)
+encoded_escaped c h = by34 (nat_eq c 34) refl
   where
-    by13 : (b : Bool) → nat_eq c 13 ≡ b → nat_eq c 34 ≡ false → nat_eq c 92 ≡ false → nat_eq c 10 ≡ false → Spells (escaped_chars c) (escaped c)
-    by13 true e q s n = rw q (rw s (rw n (rw e (spelled_low (92 ∷ 114 ∷ []) refl))))
-    by13 false e q s n = rw q (rw s (rw n (rw e (spelled_char c h))))
+    by13 : (b : Bool) → nat_eq c 13 ≡ b → nat_eq c 34 ≡ false → nat_eq c 92 ≡ false → nat_eq c 10 ≡ false → Encodes (escaped_chars c) (escaped c)
+    by13 true e q s n = rw q (rw s (rw n (rw e (encoded_low (92 ∷ 114 ∷ []) refl))))
+    by13 false e q s n = rw q (rw s (rw n (rw e (encoded_char c h))))
 
-    by10 : (b : Bool) → nat_eq c 10 ≡ b → nat_eq c 34 ≡ false → nat_eq c 92 ≡ false → Spells (escaped_chars c) (escaped c)
-    by10 true e q s = rw q (rw s (rw e (spelled_low (92 ∷ 110 ∷ []) refl)))
+    by10 : (b : Bool) → nat_eq c 10 ≡ b → nat_eq c 34 ≡ false → nat_eq c 92 ≡ false → Encodes (escaped_chars c) (escaped c)
+    by10 true e q s = rw q (rw s (rw e (encoded_low (92 ∷ 110 ∷ []) refl)))
     by10 false e q s = by13 (nat_eq c 13) refl q s e
 
-    by92 : (b : Bool) → nat_eq c 92 ≡ b → nat_eq c 34 ≡ false → Spells (escaped_chars c) (escaped c)
-    by92 true e q = rw q (rw e (spelled_low (92 ∷ 92 ∷ []) refl))
+    by92 : (b : Bool) → nat_eq c 92 ≡ b → nat_eq c 34 ≡ false → Encodes (escaped_chars c) (escaped c)
+    by92 true e q = rw q (rw e (encoded_low (92 ∷ 92 ∷ []) refl))
     by92 false e q = by10 (nat_eq c 10) refl q e
 
-    by34 : (b : Bool) → nat_eq c 34 ≡ b → Spells (escaped_chars c) (escaped c)
-    by34 true e = rw e (spelled_low (92 ∷ 34 ∷ []) refl)
+    by34 : (b : Bool) → nat_eq c 34 ≡ b → Encodes (escaped_chars c) (escaped c)
+    by34 true e = rw e (encoded_low (92 ∷ 34 ∷ []) refl)
     by34 false e = by92 (nat_eq c 92) refl e
 
-spelled_inside : (cs : List ℕ) → all_scalars cs ≡ true → Spells (flat_map escaped_chars cs) (flat_map escaped cs)
-spelled_inside [] h = record { utf8 = IsUtf8-nil; are = chars-nil }
-spelled_inside (c ∷ cs) h =
+encoded_inside : (cs : List ℕ) → all_scalars cs ≡ true → Encodes (flat_map escaped_chars cs) (flat_map escaped cs)
+encoded_inside [] h = record { utf8 = IsUtf8-nil; are = chars-nil }
+encoded_inside (c ∷ cs) h =
     let p = and_parts (scalar c) (all_scalars cs) h in
-    spelled_both (escaped_chars c) (escaped c) (flat_map escaped_chars cs) (flat_map escaped cs) (spelled_escaped c p.0) (spelled_inside cs p.1)
+    encoded_both (escaped_chars c) (escaped c) (flat_map escaped_chars cs) (flat_map escaped cs) (encoded_escaped c p.0) (encoded_inside cs p.1)
 
 -- a text in quotes, as characters
 abbrev quoted_chars : List ℕ → List ℕ
 quoted_chars text = 34 ∷ (flat_map escaped_chars (chars text) ++ 34 ∷ [])
 
-spelled_in_quotes : (cs text : List ℕ) → Spells cs text → Spells (34 ∷ (cs ++ 34 ∷ [])) (34 ∷ (text ++ 34 ∷ []))
-spelled_in_quotes cs text h =
-    let quote = spelled_low (34 ∷ []) refl in
-    spelled_both (34 ∷ []) (34 ∷ []) (cs ++ 34 ∷ []) (text ++ 34 ∷ []) quote (spelled_both cs text (34 ∷ []) (34 ∷ []) h quote)
+encoded_in_quotes : (cs text : List ℕ) → Encodes cs text → Encodes (34 ∷ (cs ++ 34 ∷ [])) (34 ∷ (text ++ 34 ∷ []))
+encoded_in_quotes cs text h =
+    let quote = encoded_low (34 ∷ []) refl in
+    encoded_both (34 ∷ []) (34 ∷ []) (cs ++ 34 ∷ []) (text ++ 34 ∷ []) quote (encoded_both cs text (34 ∷ []) (34 ∷ []) h quote)
 
-spelled_quoted : (text : List ℕ) → IsUtf8 text → Spells (quoted_chars text) (quoted text)
-spelled_quoted text u = spelled_in_quotes (flat_map escaped_chars (chars text)) (flat_map escaped (chars text))
-    (spelled_inside (chars text) (scalars-chars text u))
+encoded_quoted : (text : List ℕ) → IsUtf8 text → Encodes (quoted_chars text) (quoted text)
+encoded_quoted text u = encoded_in_quotes (flat_map escaped_chars (chars text)) (flat_map escaped (chars text))
+    (encoded_inside (chars text) (scalars-chars text u))
 
 -- ASCII before other characters
-spelled_then : {cs text : List ℕ} (head : List ℕ) → list_all is_low head ≡ true → Spells cs text → Spells (head ++ cs) (head ++ text)
-spelled_then {cs} {text} head low h = spelled_both head head cs text (spelled_low head low) h
+encoded_then : {cs text : List ℕ} (head : List ℕ) → list_all is_low head ≡ true → Encodes cs text → Encodes (head ++ cs) (head ++ text)
+encoded_then {cs} {text} head low h = encoded_both head head cs text (encoded_low head low) h
 
 -- the last byte isn't a CR
 abbrev Ends : List ℕ → Type 0
@@ -191,7 +191,7 @@ kept text h = by h.0 h.1 h.2 h.3
         rw last (rw other refl)
 
 -- what a line of these characters requests
-asked_of : (text cs : List ℕ) → Spells cs text → Ends text → (list_all is_blank text || is_comment text) ≡ false → asked text ≡ command_of (skip cs)
+asked_of : (text cs : List ℕ) → Encodes cs text → Ends text → (list_all is_blank text || is_comment text) ≡ false → asked text ≡ command_of (skip cs)
 asked_of text cs h ends some = ap request_in (kept text ends) ∙ rw (is_utf8-from_IsUtf8 text h.utf8) (rw some (ap (λ l. command_of (skip l)) h.are))
 
 -- A word without quotes.
@@ -322,8 +322,8 @@ decimal_plain n h = digits_plain (decimal n) (decimal_digits n h)
 number_read : (n : ℕ) (rest : List ℕ) → n < 2 ^ 64 → ends_word rest ≡ true → first_word (32 ∷ (decimal n ++ rest)) ≡ Some (decimal n, rest)
 number_read n rest h e = plain_read (decimal n) rest (decimal_plain n h) (decimal_nonempty n h) e
 
-spelled_plain : (w : List ℕ) → list_all is_plain w ≡ true → Spells w w
-spelled_plain w h = spelled_low w (plain_low w h)
+encoded_plain : (w : List ℕ) → list_all is_plain w ≡ true → Encodes w w
+encoded_plain w h = encoded_low w (plain_low w h)
 
 kind_plain : (k : Kind) → list_all is_plain (kind_name k) ≡ true
 kind_plain kinds.Cstr = refl
@@ -346,20 +346,20 @@ kind_long kinds.Ullg = omega arith
 -- A printed value: its characters, its last byte, and the word that is read from it.
 record IsValueText (text word : List ℕ) : Type 0 where
   characters : List ℕ
-  spelled : Spells characters text
+  encoded : Encodes characters text
   ends : Ends text
   read : first_word (32 ∷ characters) ≡ Some (word, [])
 
 quoted_value : (text : List ℕ) → IsUtf8 text → IsValueText (quoted text) text
 quoted_value text u = record {
   characters = quoted_chars text;
-  spelled = spelled_quoted text u;
+  encoded = encoded_quoted text u;
   ends = (34 ∷ flat_map escaped (chars text), 34, refl, refl);
   read = last_name text u;
 }
 
 plain_value : (w : List ℕ) → list_all is_plain w ≡ true → 1 ≤ length w → IsValueText w w
-plain_value w h some = record { characters = w; spelled = spelled_plain w h; ends = ends_plain w h some; read = last_plain w h some }
+plain_value w h some = record { characters = w; encoded = encoded_plain w h; ends = ends_plain w h some; read = last_plain w h some }
 
 number_value : (n : ℕ) → n < 2 ^ 64 → IsValueText (decimal n) (decimal n)
 number_value n h = plain_value (decimal n) (decimal_plain n h) (decimal_nonempty n h)
@@ -367,7 +367,7 @@ number_value n h = plain_value (decimal n) (decimal_plain n h) (decimal_nonempty
 raw_value : (ws : List ℕ) → list_all is_word_byte ws ≡ true → IsValueText (34 ∷ (ws ++ 34 ∷ [])) ws
 raw_value ws h = record {
   characters = 34 ∷ (ws ++ 34 ∷ []);
-  spelled = spelled_in_quotes ws ws (spelled_low ws (words_low ws h));
+  encoded = encoded_in_quotes ws ws (encoded_low ws (words_low ws h));
   ends = (34 ∷ ws, 34, refl, refl);
   read = ap (λ l. first_word (32 ∷ l)) (sym (append-nil (34 ∷ (ws ++ 34 ∷ [])))) ∙ quotes_read ws ws [] (words_read ws [] h) refl;
 }
@@ -389,14 +389,14 @@ abbrev answer : Option Request → Request
 answer o = unwrap_or o malformed
 
 new_asked : asked (op_text New) ≡ write (Ok New)
-new_asked = asked_of (codes "new") (codes "new") (spelled_low (codes "new") refl) (ends_plain (codes "new") refl (omega arith)) refl
+new_asked = asked_of (codes "new") (codes "new") (encoded_low (codes "new") refl) (ends_plain (codes "new") refl (omega arith)) refl
     ∙ command_read (codes "new") [] commands.New refl refl refl
 
 drop_asked : (node : ℕ) → node < 2 ^ 64 → asked (op_text (Drop node)) ≡ write (Ok (Drop node))
 drop_asked node h =
     let number = number_value node h in
     asked_of (codes "drop " ++ decimal node) (codes "drop " ++ decimal node)
-    (spelled_then (codes "drop ") refl (spelled_plain (decimal node) (decimal_plain node h)))
+    (encoded_then (codes "drop ") refl (encoded_plain (decimal node) (decimal_plain node h)))
     (ends_after (codes "drop ") (decimal node) number.ends) refl
     ∙ (command_read (codes "drop") (32 ∷ decimal node) commands.Drop refl refl refl
     ∙ (ap (λ (o : Option (List ℕ)). answer (option_map (λ n. write (Ok (Drop n))) (option_and_then word_in o)))
@@ -410,8 +410,8 @@ unset_asked node name h is u =
     let text = codes " " ++ quoted name in
     let rest = codes " " ++ quoted_chars name in
     asked_of (codes "unset " ++ (decimal node ++ text)) (codes "unset " ++ (decimal node ++ rest))
-    (spelled_then (codes "unset ") refl
-    (spelled_then (decimal node) (plain_low (decimal node) (decimal_plain node h)) (spelled_then (codes " ") refl (spelled_quoted name u))))
+    (encoded_then (codes "unset ") refl
+    (encoded_then (decimal node) (plain_low (decimal node) (decimal_plain node h)) (encoded_then (codes " ") refl (encoded_quoted name u))))
     (ends_after (codes "unset ") (decimal node ++ text) (ends_after (decimal node) text (ends_after (codes " ") (quoted name) word.ends))) refl
     ∙ (command_read (codes "unset") (32 ∷ (decimal node ++ rest)) commands.Unset refl refl refl
     ∙ (ap (λ (o : Option (List ℕ × List ℕ)). answer
@@ -427,9 +427,9 @@ mkindex_asked name kind is u =
     let plain = kind_plain kind in
     let text = codes " " ++ kind_name kind in
     asked_of (codes "mkindex " ++ (quoted name ++ text)) (codes "mkindex " ++ (quoted_chars name ++ text))
-    (spelled_then (codes "mkindex ") refl
-    (spelled_both (quoted_chars name) (quoted name) text text (spelled_quoted name u)
-    (spelled_then (codes " ") refl (spelled_plain (kind_name kind) plain))))
+    (encoded_then (codes "mkindex ") refl
+    (encoded_both (quoted_chars name) (quoted name) text text (encoded_quoted name u)
+    (encoded_then (codes " ") refl (encoded_plain (kind_name kind) plain))))
     (ends_after (codes "mkindex ") (quoted name ++ text)
     (ends_after (quoted name) text (ends_after (codes " ") (kind_name kind) (ends_plain (kind_name kind) plain (kind_long kind))))) refl
     ∙ (command_read (codes "mkindex") (32 ∷ (quoted_chars name ++ text)) commands.MkIndex refl refl refl
@@ -442,7 +442,7 @@ mkindex_asked name kind is u =
 rmindex_asked : (name : List ℕ) → name_from name ≡ Ok name → IsUtf8 name → asked (op_text (RmIndex name)) ≡ write (Ok (RmIndex name))
 rmindex_asked name is u =
     let word = quoted_value name u in
-    asked_of (codes "rmindex " ++ quoted name) (codes "rmindex " ++ quoted_chars name) (spelled_then (codes "rmindex ") refl (spelled_quoted name u))
+    asked_of (codes "rmindex " ++ quoted name) (codes "rmindex " ++ quoted_chars name) (encoded_then (codes "rmindex ") refl (encoded_quoted name u))
     (ends_after (codes "rmindex ") (quoted name) word.ends) refl
     ∙ (command_read (codes "rmindex") (32 ∷ quoted_chars name) commands.RmIndex refl refl refl
     ∙ (ap (λ (o : Option (List ℕ)). answer (option_map (λ m. write (named RmIndex m)) o)) (one_read (32 ∷ quoted_chars name) name (last_name name u))
@@ -487,14 +487,14 @@ set_asked node name v h named_is u is bytes =
     let kind = codes " " ++ (k ++ value) in
     let words = codes " " ++ (quoted name ++ kind) in
     let rest = 32 ∷ (decimal node ++ 32 ∷ (quoted_chars name ++ 32 ∷ (k ++ 32 ∷ p.characters))) in
-    let spelled_kind : Spells (codes " " ++ (k ++ 32 ∷ p.characters)) kind =
-    spelled_then (codes " ") refl (spelled_then k low (spelled_then (codes " ") refl p.spelled)) in
-    let spelled_words : Spells (codes " " ++ (quoted_chars name ++ 32 ∷ (k ++ 32 ∷ p.characters))) words =
-    spelled_then (codes " ") refl (spelled_both (quoted_chars name) (quoted name) (32 ∷ (k ++ 32 ∷ p.characters)) kind (spelled_quoted name u) spelled_kind) in
+    let encoded_kind : Encodes (codes " " ++ (k ++ 32 ∷ p.characters)) kind =
+    encoded_then (codes " ") refl (encoded_then k low (encoded_then (codes " ") refl p.encoded)) in
+    let encoded_words : Encodes (codes " " ++ (quoted_chars name ++ 32 ∷ (k ++ 32 ∷ p.characters))) words =
+    encoded_then (codes " ") refl (encoded_both (quoted_chars name) (quoted name) (32 ∷ (k ++ 32 ∷ p.characters)) kind (encoded_quoted name u) encoded_kind) in
     let ends_kind : Ends kind = ends_after (codes " ") (k ++ value) (ends_after k value (ends_after (codes " ") (value_text v) p.ends)) in
     let ends_words : Ends words = ends_after (codes " ") (quoted name ++ kind) (ends_after (quoted name) kind ends_kind) in
     asked_of (codes "set " ++ (decimal node ++ words)) (codes "set" ++ rest)
-    (spelled_then (codes "set ") refl (spelled_then (decimal node) (plain_low (decimal node) (decimal_plain node h)) spelled_words))
+    (encoded_then (codes "set ") refl (encoded_then (decimal node) (plain_low (decimal node) (decimal_plain node h)) encoded_words))
     (ends_after (codes "set ") (decimal node ++ words) (ends_after (decimal node) words ends_words)) refl
     ∙ (command_read (codes "set") rest commands.Set refl refl refl
     ∙ (ap answer (set_read node name v p.characters h u p.read) ∙ set_made node name v h named_is is bytes))

@@ -10,8 +10,8 @@ use Rattle.be_volume.specs.declared.ops.Done.{Done}
 use Rattle.be_volume.specs.declared.ops.Op.{Op}
 use Rattle.be_journal_text.specs.History.{CanBeDone, CanBeOp, CanBeEntry, entry_of}
 use Rattle.be_journal_text.specs.Parts.{IsLinePart}
-use Rattle.be_journal_text.proofs.Cuts.{after, before, after_line, by_part, done_in, dones_part, first_line, ops_part}
-use Rattle.be_journal_text.proofs.LineLemmas.{by_read, done_part, done_read, dones_read, first_joined, line_after, line_first, op_part, ops_read, rest_joined}
+use Rattle.be_journal_text.proofs.Cuts.{after, before, after_line, by_part, done_in, outcomes_part, first_line, ops_part}
+use Rattle.be_journal_text.proofs.LineLemmas.{by_read, done_part, done_read, outcomes_read, first_joined, line_after, line_first, op_part, ops_read, rest_joined}
 use Rattle.be_journal_text.proofs.OpLemmas.{op_asked}
 use Rattle.be_journal_text.proofs.ReadLemmas.{done_long, entry_line_long, entry_made, inside, op_long}
 
@@ -50,7 +50,7 @@ same_entry n e o w v h =
     (sym (ops_read n e w) ∙ (ap (ops_part n) h ∙ ops_read n o v)) in
     let dones : e.dones ≡ o.dones =
     same_lists CanBeDone done_text (λ y k. done_part 59 refl refl y k) done_long same_done e.dones o.dones w.dones v.dones
-    (sym (dones_read n e w) ∙ (ap (dones_part n) h ∙ dones_read n o v)) in
+    (sym (outcomes_read n e w) ∙ (ap (outcomes_part n) h ∙ outcomes_read n o v)) in
     inside e o (sym (entry_made e w) ∙ (ap (λ b. entry_of b e.ops e.dones) by ∙ (ap (λ l. entry_of o.by l e.dones) ops
     ∙ (ap (λ l. entry_of o.by o.ops l) dones ∙ entry_made o v))))
 

@@ -8,7 +8,7 @@ use Rattle.be_journal.specs.declared.entries.Entry.{Entry}
 use Rattle.be_volume_state.specs.Rebuilding.{state_ops}
 use Rattle.be_volume.specs.Volume.{State}
 use Rattle.be_volume.specs.declared.ops.Op.{Op}
-use Rattle.be_journal_text.specs.Finding.{TextTells}
+use Rattle.be_journal_text.specs.Finding.{TextReports}
 use Rattle.be_journal_text.specs.History.{CanBeJournal, CanBeOp}
 
 abbrev pub op_line : Op → List ℕ
@@ -49,8 +49,8 @@ state_dump s = cut_lines (state_ops s)
 -- The script of the volume that a text's journal makes, if the program can make each of its
 -- operations; None if the text has no journal.
 abbrev pub IsStateDump : List ℕ → Option (List ℕ) → Type 0
-IsStateDump text None = (entries : List Entry) → CanBeJournal entries → TextTells text entries → ⊥
+IsStateDump text None = (entries : List Entry) → CanBeJournal entries → TextReports text entries → ⊥
 IsStateDump text (Some script) =
-    (entries : List Entry) × CanBeJournal entries × TextTells text entries
+    (entries : List Entry) × CanBeJournal entries × TextReports text entries
     × All CanBeOp (state_ops (replay entries))
     × (script ≡ state_dump (replay entries))

@@ -21,8 +21,8 @@ head count = codes "journal " ++ (decimal count ++ codes "\n")
 
 -- A text has a journal if it is the journal's text, or if it ends with it as a race's result, after
 -- whole lines.
-abbrev pub TextTells : List ℕ → List Entry → Type 0
-TextTells text entries = (text ≡ lines_from 1 entries)
+abbrev pub TextReports : List ℕ → List Entry → Type 0
+TextReports text entries = (text ≡ lines_from 1 entries)
     ⊎ ((front : List ℕ) × AreLines front × (text ≡ front ++ result_text entries))
 
 -- `rest` is the text from some line on that begins with `j`
@@ -62,9 +62,9 @@ IsFound entries (wrong count line) =
 
 -- what the check of a text finds
 abbrev pub IsFinding : List ℕ → Found → Type 0
-IsFinding text no_journal = (entries : List Entry) → CanBeJournal entries → TextTells text entries
+IsFinding text no_journal = (entries : List Entry) → CanBeJournal entries → TextReports text entries
     → ⊥
 IsFinding text (right count) = (entries : List Entry) × CanBeJournal entries
-    × TextTells text entries × IsFound entries (right count)
+    × TextReports text entries × IsFound entries (right count)
 IsFinding text (wrong count line) = (entries : List Entry) × CanBeJournal entries
-    × TextTells text entries × IsFound entries (wrong count line)
+    × TextReports text entries × IsFound entries (wrong count line)

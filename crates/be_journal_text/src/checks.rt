@@ -2,7 +2,7 @@
 ghost use Rattle.std.specs.Prelude.{IfOk};
 ghost use Rattle.be_journal_text.specs.Finding as spec;
 
-use crate::outputs::journal_told;
+use crate::outputs::reported_journal;
 use be_journal::{Entry, entry_line, first_wrong};
 use std::alloc::{AllocError, Global};
 
@@ -37,7 +37,7 @@ fn finding_of(alloc: Global, entries: &[Entry]) -> Result<Finding, AllocError>
 pub fn check(alloc: Global, text: &[u8]) -> Result<Finding, AllocError>
     ensures { IfOk result (λ found. spec.IsFinding text.now (spec.found_of found)) }
 {
-    match journal_told(alloc, text)? {
+    match reported_journal(alloc, text)? {
         Some(entries) => finding_of(alloc, &entries),
         None => Ok(Finding::NoJournal),
     }

@@ -10,9 +10,9 @@ ghost use Rattle.be_journal.specs.declared.entries.Entry.{Entry as AnyEntry};
 ghost use Rattle.be_journal_text.specs.History as history;
 ghost use Rattle.be_journal_text.specs.Parts as spec;
 
-use crate::lists::{read_dones, read_ops};
+use crate::lists::{read_ops, read_outcomes};
 use crate::parts::{skip, split_around, without_last_two};
-use crate::ranges::{dones_can_be, ops_can_be};
+use crate::ranges::{ops_can_be, outcomes_can_be};
 use be_journal::{Entry, Items, entry_line};
 use be_value::word_of;
 use be_volume::{Done, Op};
@@ -74,7 +74,7 @@ fn guess_entry(alloc: Global, number: u64, line: &[u8]) -> Result<Option<Entry>,
     let Some(ops) = read_ops(alloc, ops)? else {
         return Ok(None);
     };
-    let Some(dones) = read_dones(alloc, dones)? else {
+    let Some(dones) = read_outcomes(alloc, dones)? else {
         return Ok(None);
     };
     Ok(entry_of(by, ops, dones))
@@ -95,7 +95,7 @@ fn read_entry(alloc: Global, number: u64, line: &[u8]) -> Result<Option<Entry>, 
         return Ok(None);
     }
     ops_can_be(entry.ops.as_slice());
-    dones_can_be(entry.dones.as_slice());
+    outcomes_can_be(entry.dones.as_slice());
     Ok(Some(entry))
 }
 

@@ -4,7 +4,7 @@ ghost use Rattle.be_volume.specs.declared.ops.Op.{Op as AnyOp};
 ghost use Rattle.be_journal.specs.Text.{lines_from, op_text};
 ghost use Rattle.be_journal.specs.declared.entries.Entry.{Entry as AnyEntry};
 ghost use Rattle.be_script_language.specs.Request.{asked, write};
-ghost use Rattle.be_journal_text.specs.Finding.{TextTells};
+ghost use Rattle.be_journal_text.specs.Finding.{TextReports};
 ghost use Rattle.be_journal_text.specs.History.{CanBeJournal, CanBeOp};
 
 /// A printed operation, read as a script's line, requests that operation.
@@ -19,8 +19,8 @@ pub fn texts_differ()
 {}
 
 /// No text encodes two journals.
-pub fn text_tells_one()
+pub fn text_reports_one()
     ensures { (text : List ℕ) (entries others : List AnyEntry) → CanBeJournal entries
-        → CanBeJournal others → TextTells text entries → TextTells text others →
+        → CanBeJournal others → TextReports text entries → TextReports text others →
         entries ≡ others }
 {}

@@ -21,5 +21,5 @@ mod state_dumps;
 pub use checks::{Finding, check};
 pub use dumps::dump;
 pub use journals::read_journal;
-pub use outputs::journal_told;
+pub use outputs::reported_journal;
 pub use state_dumps::{dump_state, push_write, volume_text};

@@ -66,7 +66,7 @@ pub fn read_ops(alloc: Global, text: &[u8]) -> Result<Option<Vec<Op>>, AllocErro
 }
 
 /// The outcomes in a text, separated by `; `.
-pub fn read_dones(alloc: Global, text: &[u8]) -> Result<Option<Vec<Done>>, AllocError>
+pub fn read_outcomes(alloc: Global, text: &[u8]) -> Result<Option<Vec<Done>>, AllocError>
     ensures { IfOk result (λ read. (dones : List AnyDone) → All history.CanBeDone dones → text.now
         ≡ join_by done_text (codes "; ") dones →
         option_map (λ v. v.items) read ≡ Some dones) }

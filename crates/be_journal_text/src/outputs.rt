@@ -78,11 +78,11 @@ fn read_result(alloc: Global, text: &[u8]) -> Result<Option<Vec<Entry>>, AllocEr
 ///
 /// It is exact: the journal that it returns is the text's, and it returns any journal that a text
 /// has. So no text has two journals.
-pub fn journal_told(alloc: Global, text: &[u8]) -> Result<Option<Vec<Entry>>, AllocError>
+pub fn reported_journal(alloc: Global, text: &[u8]) -> Result<Option<Vec<Entry>>, AllocError>
     ensures reads { IfOk result (λ read. IfSome read
-        (λ entries. CanBeJournal entries.items × spec.TextTells text.now entries.items)) }
+        (λ entries. CanBeJournal entries.items × spec.TextReports text.now entries.items)) }
     ensures whole { IfOk result (λ read. (entries : List AnyEntry) → CanBeJournal entries
-        → spec.TextTells text.now entries →
+        → spec.TextReports text.now entries →
         option_map (λ v. v.items) read ≡ Some entries) }
 {
     match from_last_j(text) {

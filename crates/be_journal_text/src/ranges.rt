@@ -64,7 +64,7 @@ fn done_can_be(done: &Done)
 }
 
 /// The same for outcomes.
-pub fn dones_can_be(dones: &[Done])
+pub fn outcomes_can_be(dones: &[Done])
     ensures { All history.CanBeDone dones.now }
 {
     for done in dones {

@@ -13,7 +13,7 @@ ghost use Rattle.be_journal_text.specs.Finding.{AreChecked};
 ghost use Rattle.be_journal_text.specs.History.{CanBeOp};
 
 use crate::dumps::write_text;
-use crate::outputs::journal_told;
+use crate::outputs::reported_journal;
 use crate::ranges::ops_can_be;
 use be_journal::{Entry, replay};
 use be_volume::{Op, Volume};
@@ -87,7 +87,7 @@ fn entries_text(alloc: Global, entries: &[Entry]) -> Result<String, AllocError>
 pub fn dump_state(alloc: Global, text: &[u8]) -> Result<Option<String>, AllocError>
     ensures { IfOk result (λ script. spec.IsStateDump text.now (option_map string_bytes script)) }
 {
-    let Some(entries) = journal_told(alloc, text)? else {
+    let Some(entries) = reported_journal(alloc, text)? else {
         return Ok(None);
     };
     let script = entries_text(alloc, &entries)?;

@@ -4,7 +4,7 @@
 //! Every test passes even if any one request for memory is refused: a call that runs out of memory
 //! is repeated.
 use be_journal::{Entry, entry_line};
-use be_journal_text::{Finding, check, dump, dump_state, journal_told, read_journal};
+use be_journal_text::{Finding, check, dump, dump_state, read_journal, reported_journal};
 use std::alloc::{AllocError, Global};
 use std::test::Fail;
 
@@ -67,10 +67,10 @@ fn read(alloc: Global, text: &str) -> Result<Option<Vec<Entry>>, AllocError> {
     }
 }
 
-fn told(alloc: Global, text: &str) -> Result<Option<Vec<Entry>>, AllocError> {
-    match journal_told(alloc, text.as_bytes()) {
+fn reported(alloc: Global, text: &str) -> Result<Option<Vec<Entry>>, AllocError> {
+    match reported_journal(alloc, text.as_bytes()) {
         Ok(read) => Ok(read),
-        Err(_) => journal_told(alloc, text.as_bytes()),
+        Err(_) => reported_journal(alloc, text.as_bytes()),
     }
 }
 
@@ -164,7 +164,7 @@ fn other_texts_are_not(rt: HostRuntime) -> Result<(), Fail> {
 
 /// The text before the last `journal N` doesn't matter, but the text after it does.
 #[test]
-fn results_are_told(rt: HostRuntime) -> Result<(), Fail> {
+fn results_are_reported(rt: HostRuntime) -> Result<(), Fail> {
     let alloc = rt.alloc();
     for (text, count) in [
         ("", Some(0)),
@@ -185,7 +185,7 @@ fn results_are_told(rt: HostRuntime) -> Result<(), Fail> {
         ("journal 0\n1 by 0 new -> node 1\nreplay ok\n", None),
         ("okjournal 0\nreplay ok\n", None),
     ] {
-        let read = told(alloc, text)?;
+        let read = reported(alloc, text)?;
         let found = match &read {
             Some(entries) => Some(entries.len()),
             None => None,
@@ -226,8 +226,8 @@ fn journals_are_checked(rt: HostRuntime) -> Result<(), Fail> {
         ),
     ] {
         let found = checked(alloc, text)?;
-        let (told, counted) = shown(&found);
-        assert_eq!(rt; told, expected);
+        let (reported, counted) = shown(&found);
+        assert_eq!(rt; reported, expected);
         assert_eq!(rt; counted, count);
     }
     Ok(())
@@ -272,7 +272,7 @@ fn states_are_dumped(rt: HostRuntime) -> Result<(), Fail> {
 }
 
 /// The text of a journal with this many nodes.
-fn nodes_told(alloc: Global, count: u64) -> Result<String, AllocError> {
+fn journal_of_nodes(alloc: Global, count: u64) -> Result<String, AllocError> {
     let mut text = String::new(alloc);
     for n in 1..=count {
         text.push_str(format!(in alloc; "{n} by 0 new -> node {n}\n")?.as_str())?;
@@ -297,7 +297,7 @@ fn nodes_dumped(alloc: Global, count: u64) -> Result<String, AllocError> {
 }
 
 fn texts_of_nodes(alloc: Global, count: u64) -> Result<(String, String), AllocError> {
-    Ok((nodes_told(alloc, count)?, nodes_dumped(alloc, count)?))
+    Ok((journal_of_nodes(alloc, count)?, nodes_dumped(alloc, count)?))
 }
 
 /// Numbers of operations at and next to the maximum length of a list.
@@ -305,11 +305,11 @@ fn texts_of_nodes(alloc: Global, count: u64) -> Result<(String, String), AllocEr
 fn states_of_many_lists(rt: HostRuntime) -> Result<(), Fail> {
     let alloc = rt.alloc();
     for count in [2, 63, 64, 65, 66, 128, 129] {
-        let (told, dumped) = match texts_of_nodes(alloc, count) {
+        let (reported, dumped) = match texts_of_nodes(alloc, count) {
             Ok(texts) => texts,
             Err(_) => texts_of_nodes(alloc, count)?,
         };
-        check_state(alloc, told.as_str(), Some(dumped.as_str()))?;
+        check_state(alloc, reported.as_str(), Some(dumped.as_str()))?;
     }
     Ok(())
 }

@@ -8,8 +8,8 @@ use Rattle.be_value.specs.Value.{kind_of, is_indexable}
 use Rattle.be_value.specs.declared.refusals.Refusal.{Refusal}
 use Rattle.be_value.specs.declared.values.Kind.{Kind}
 use Rattle.be_value.specs.declared.values.Value.{Value}
-use Rattle.be_pages.specs.declared.room.Standing.{Standing}
-use Rattle.be_pages.specs.declared.room.Standing.TheVariants.{Filled}
+use Rattle.be_pages.specs.declared.room.PageState.{PageState}
+use Rattle.be_pages.specs.declared.room.PageState.TheVariants.{Filled}
 use Rattle.be_pages.specs.Pages.{Swaps, KeepsStart, IsUnchanged}
 use Rattle.be_pages.specs.Refusal.{IsFullOf}
 use Rattle.be_tree_reading.specs.Forest.{pages_of}
@@ -29,7 +29,7 @@ use Rattle.be_volume.specs.declared.ops.Op.TheVariants.{New, Set, MkIndex, Drop,
 use Rattle.be_paged.specs.declared.changes.Turn.{Turn}
 use Rattle.be_paged.specs.declared.changes.Turn.TheVariants as turns
 use Rattle.be_paged_reading.specs.Page.{Contents, contents_of, roots, reach}
-use Rattle.be_paged_reading.specs.Version.{IsInHand, IsVersion, Spells}
+use Rattle.be_paged_reading.specs.Version.{IsInHand, IsVersion, Encodes}
 
 -- an index without the node's pair, or with the pair of the node and a value
 abbrev pub repaired : Index → ℕ → Option Value → Index
@@ -83,17 +83,17 @@ pub record IsReady (index : Index) (kind : Kind) (node : ℕ) (old : Option Valu
   pub own : (value : Value) → map.get index.pairs node ≡ Some value → old ≡ Some value
 
 -- contents in hand, with enough numbers left for `more` nodes
-abbrev pub IsInHandFor : (standing : ℕ → Standing) (words : ℕ → ℕ → ℕ) (more : ℕ) → Contents
+abbrev pub IsInHandFor : (page_state : ℕ → PageState) (words : ℕ → ℕ → ℕ) (more : ℕ) → Contents
     → Type 0
-IsInHandFor standing words more c = IsInHand standing words c × (c.next + more < 2 ^ 64)
+IsInHandFor page_state words more c = IsInHand page_state words c × (c.next + more < 2 ^ 64)
 
 -- a write has changed the contents in hand, and exchanged the pages of their trees for those of the
 -- new ones
-pub record Changes {S K : Type 0} (kept_of : S → K) (standing_of : S → ℕ → Standing)
+pub record Changes {S K : Type 0} (kept_of : S → K) (page_state_of : S → ℕ → PageState)
     (words_of : S → ℕ → ℕ → ℕ)
     (before after : Contents) (old new : S) : Type 0 where
-  pub in_hand : IsInHand (standing_of new) (words_of new) after
-  pub swaps : Swaps kept_of standing_of words_of (pages_of (words_of old) (roots before))
+  pub in_hand : IsInHand (page_state_of new) (words_of new) after
+  pub swaps : Swaps kept_of page_state_of words_of (pages_of (words_of old) (roots before))
       (pages_of (words_of new) (roots after)) old new
 
 -- an accepted operation on contents in hand: they encode the volume after the step
@@ -101,14 +101,14 @@ pub record Steps (words : ℕ → ℕ → ℕ) (after : Contents) (volume : Stat
     Type 0 where
   pub made : State
   pub stepped : step volume op ≡ Ok (made, done)
-  pub spells : Spells words after made
+  pub encodes : Encodes words after made
 
 -- the same for a list of operations; the resulting volume is sound
 pub record Reaches (words : ℕ → ℕ → ℕ) (after : Contents) (volume : State) (ops : List Op)
     (dones : List Done) : Type 0 where
   pub made : State
   pub stepped : steps volume ops ≡ Ok (made, dones)
-  pub spells : Spells words after made
+  pub encodes : Encodes words after made
   pub sound : IsSound made
 
 -- the contents encode the volume without some of a node's attributes, of which at most 64 - `gone`
@@ -116,52 +116,52 @@ pub record Reaches (words : ℕ → ℕ → ℕ) (after : Contents) (volume : St
 pub record IsThinned (words : ℕ → ℕ → ℕ) (c : Contents) (volume : State) (node gone : ℕ) : Type 0
   where
     pub left : State
-    pub spells : Spells words c left
+    pub encodes : Encodes words c left
     pub leaves : Leaves volume left node
     pub counted : map.len (attributes_of left.nodes node) + gone ≤ 64
 
 -- the contents encode the volume without any of a node's attributes; the node is still there
 pub record IsBare (words : ℕ → ℕ → ℕ) (c : Contents) (volume : State) (node : ℕ) : Type 0 where
   pub left : State
-  pub spells : Spells words c left
+  pub encodes : Encodes words c left
   pub leaves : Leaves volume left node
   pub bare : map.len (attributes_of left.nodes node) ≡ 0
 
 -- the operation sets what is already set: a Set that leaves the volume as it is, including its
 -- indices
-abbrev pub SetsWhatStands : State → Op → Type 0
-SetsWhatStands volume New = ⊥
-SetsWhatStands volume (Set node name value) = step volume (Set node name value)
+abbrev pub SetsSameValue : State → Op → Type 0
+SetsSameValue volume New = ⊥
+SetsSameValue volume (Set node name value) = step volume (Set node name value)
     ≡ Ok (volume, Nothing)
-SetsWhatStands volume (MkIndex name kind) = ⊥
-SetsWhatStands volume (Drop node) = ⊥
-SetsWhatStands volume (Unset node name) = ⊥
-SetsWhatStands volume (RmIndex name) = ⊥
+SetsSameValue volume (MkIndex name kind) = ⊥
+SetsSameValue volume (Drop node) = ⊥
+SetsSameValue volume (Unset node name) = ⊥
+SetsSameValue volume (RmIndex name) = ⊥
 
 -- The result of a list of operations on a version. The new version page encodes the volume after
 -- the steps. The pages of the old version are exchanged for exactly those of the new one, each of
 -- which is old or filled. This write has taken the new version page. If all operations set what is
 -- already set, each index keeps its root.
-pub record Applies {S K : Type 0} (kept_of : S → K) (standing_of : S → ℕ → Standing)
+pub record Applies {S K : Type 0} (kept_of : S → K) (page_state_of : S → ℕ → PageState)
     (words_of : S → ℕ → ℕ → ℕ)
     (page new_page : ℕ) (volume : State) (ops : List Op) (dones : List Done) (old new : S) : Type 0
   where
     pub made : State
     pub stepped : steps volume ops ≡ Ok (made, dones)
-    pub version : IsVersion (standing_of new) (words_of new) new_page made
-    pub swaps : Swaps kept_of standing_of words_of (reach (words_of old) page)
+    pub version : IsVersion (page_state_of new) (words_of new) new_page made
+    pub swaps : Swaps kept_of page_state_of words_of (reach (words_of old) page)
         (reach (words_of new) new_page) old new
-    pub taken : standing_of new new_page ≡ Filled
-    pub stays : All (SetsWhatStands volume) ops → (contents_of (words_of new new_page)).entries
+    pub taken : page_state_of new new_page ≡ Filled
+    pub stays : All (SetsSameValue volume) ops → (contents_of (words_of new new_page)).entries
         ≡ (contents_of (words_of old page)).entries
 
 -- A list is refused in one of two ways. Either the steps refuse it with this error, and nothing has
 -- changed. Or the steps accept it but no page was free, and undoing the write restores what was
 -- there when it began.
-abbrev pub IsRefusedList : {S K : Type 0} (kept_of : S → K) (standing_of : S → ℕ → Standing)
+abbrev pub IsRefusedList : {S K : Type 0} (kept_of : S → K) (page_state_of : S → ℕ → PageState)
     (words_of : S → ℕ → ℕ → ℕ) (full_of : S → ℕ → Type 0)
     (volume : State) (ops : List Op) (e : Refusal) (old new : S) → Type 0
-IsRefusedList kept_of standing_of words_of full_of volume ops e old new =
-    ((steps volume ops ≡ Err e) × IsUnchanged kept_of standing_of words_of old new)
+IsRefusedList kept_of page_state_of words_of full_of volume ops e old new =
+    ((steps volume ops ≡ Err e) × IsUnchanged kept_of page_state_of words_of old new)
     ⊎ (IsFullOf (full_of new) e × IsOk (steps volume ops)
-    × KeepsStart kept_of standing_of words_of old new)
+    × KeepsStart kept_of page_state_of words_of old new)

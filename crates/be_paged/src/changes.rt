@@ -25,7 +25,7 @@ ghost use Rattle.be_paged.specs.Changes.{IsReady, repaired, with_indices, key_tu
 ghost use Rattle.be_paged_reading.specs.Page.{contents, IsNamedAt};
 ghost use Rattle.be_paged_reading.specs.Place.{IsKnownIn};
 ghost use Rattle.be_paged.specs.Stops.{Grows, GrowsTree, RefusesAt, RefusesNear, StopsTree};
-ghost use Rattle.be_paged_reading.specs.Version.{IsInHand, Spells};
+ghost use Rattle.be_paged_reading.specs.Version.{IsInHand, Encodes};
 
 use arrayvec::ArrayVec;
 use be_paged_reading::{Version, index_at, search, set_root, value_in};
@@ -60,13 +60,13 @@ fn holds_both<L: Look>(
     other: &Option<ArrayVec<u8, 264>>,
     key: &Option<ArrayVec<u8, 264>>,
 ) -> bool
-    requires tree { IsTree (L.standing look.old) (L.words look.old) root }
+    requires tree { IsTree (L.page_state look.old) (L.words look.old) root }
     ensures found { result ≡ true → (k : List ℕ) × (option_map (λ k. k.items) key.now ≡ Some k)
         × (is_some (payload_at (pairs (L.words look.old) root) k) ≡ true) }
     ensures finds { (k : List ℕ) → option_map (λ k. k.items) other.now ≡ Some k
         → option_map (λ k. k.items) key.now ≡ Some k →
         is_some (payload_at (pairs (L.words look.old) root) k) ≡ true → result ≡ true }
-    ensures unchanged { IsUnchanged L.kept L.standing L.words look.old look.new }
+    ensures unchanged { IsUnchanged L.kept L.page_state L.words look.old look.new }
 {
     match (other, key) {
         (Some(other), Some(key)) => other.as_slice() == key.as_slice() && has_key(look, root, key),
@@ -88,17 +88,17 @@ fn turn_key<R: Room>(
     turn: Turn,
     key: &Option<ArrayVec<u8, 264>>,
 ) -> Result<u64, Refusal>
-    requires tree { IsTree (R.standing room.old) (R.words room.old) root }
+    requires tree { IsTree (R.page_state room.old) (R.words room.old) root }
     requires open { IsTrue (R.is_open (R.kept room.old)) }
-    ensures ok { IfOk result (λ new. BecomesTree R.kept R.standing R.words
+    ensures ok { IfOk result (λ new. BecomesTree R.kept R.page_state R.words
         (pages (R.words room.old) root)
         (key_turned turn (option_map (λ k. k.items) key.now) (pairs (R.words room.old) root)) new
         room.old room.new) }
     ensures none { IfOk result (λ new. option_map (λ k. k.items) key.now ≡ None → new ≡ root) }
-    ensures err { OnErr result (KeepsStart R.kept R.standing R.words room.old room.new) }
+    ensures err { OnErr result (KeepsStart R.kept R.page_state R.words room.old room.new) }
     ensures full { IfErr result (IsFullOf (R.full room.new)) }
     ensures takes { OnErr result (TakesFewer (most_taken (level_of_root (R.words room.old) root))
-        (R.standing room.old) (R.standing room.new)) }
+        (R.page_state room.old) (R.page_state room.new)) }
 {
     let Some(key) = key else {
         return Ok(root);
@@ -121,9 +121,9 @@ fn change_root<R: Room>(
     old: Option<&Value>,
     new: Option<&Value>,
 ) -> Result<u64, Refusal>
-    requires tree { IsTree (R.standing room.old) (R.words room.old) root }
+    requires tree { IsTree (R.page_state room.old) (R.words room.old) root }
     requires open { IsTrue (R.is_open (R.kept room.old)) }
-    ensures grows { IfOk result (λ r. GrowsTree R.kept R.standing R.words
+    ensures grows { IfOk result (λ r. GrowsTree R.kept R.page_state R.words
         (one_of (is_some (option_copied new.entry))) root r room.old room.new) }
     ensures keys { IfOk result (λ r. (index : AnyIndex)
         → IsIndexOf (pairs (R.words room.old) root) index
@@ -133,11 +133,11 @@ fn change_root<R: Room>(
         →
         option_copied old.entry ≡ Some v → option_copied new.entry ≡ Some v →
         is_some (payload_at (pairs (R.words room.old) root) (key v node)) ≡ true → (r ≡ root)
-        × IsUnchanged R.kept R.standing R.words room.old room.new) }
+        × IsUnchanged R.kept R.page_state R.words room.old room.new) }
     ensures apart { IfOk result (λ r. (v : AnyValue) → (kind_in v ≡ kind → ⊥) →
         option_copied old.entry ≡ Some v → option_copied new.entry ≡ Some v → r ≡ root) }
-    ensures refused { RefusesAt R.kept R.standing R.words R.full
-        (StopsTree R.kept R.standing R.words root) result room.old room.new }
+    ensures refused { RefusesAt R.kept R.page_state R.words R.full
+        (StopsTree R.kept R.page_state R.words root) result room.old room.new }
 {
     let leaves = key_in(kind, old, node);
     let enters = key_in(kind, new, node);
@@ -158,28 +158,28 @@ fn change_at<R: Room>(
     old: Option<&Value>,
     new: Option<&Value>,
 ) -> Result<(), Refusal>
-    requires in_hand { IsInHand (R.standing room.old) (R.words room.old) (contents version.old) }
+    requires in_hand { IsInHand (R.page_state room.old) (R.words room.old) (contents version.old) }
     requires in_range { at < length version.old.entries.items }
     requires open { IsTrue (R.is_open (R.kept room.old)) }
-    ensures changes { OnOk result (Grows R.kept R.standing R.words
+    ensures changes { OnOk result (Grows R.kept R.page_state R.words
         (one_of (is_some (option_copied new.entry))) (contents version.old) (contents version.new)
         room.old room.new) }
-    ensures spells { OnOk result ((volume : State) (name : List ℕ)
+    ensures encodes { OnOk result ((volume : State) (name : List ℕ)
         → IsNamedAt version.old.entries.items name at →
-        Spells (R.words room.old) (contents version.old) volume → IsSound volume
+        Encodes (R.words room.old) (contents version.old) volume → IsSound volume
         → option_copied old.entry ≡ attribute volume node name →
-        Spells (R.words room.new) (contents version.new)
+        Encodes (R.words room.new) (contents version.new)
         (with_indices volume name node (option_copied new.entry))) }
     ensures stays { OnOk result ((volume : State) (name : List ℕ)
         → IsNamedAt version.old.entries.items name at →
-        Spells (R.words room.old) (contents version.old) volume → IsSound volume
+        Encodes (R.words room.old) (contents version.old) volume → IsSound volume
         → option_copied old.entry ≡ attribute volume node name → (v : AnyValue) →
         option_copied old.entry ≡ Some v → option_copied new.entry ≡ Some v
         → with_pair volume.indices name node v ≡ volume.indices →
         version.new.entries.items ≡ version.old.entries.items) }
     ensures rest { OnOk result ((version.new.catalog ≡ version.old.catalog)
         × (version.new.next ≡ version.old.next)) }
-    ensures refused { RefusesNear R.kept R.standing R.words R.full 0 (contents version.old) result
+    ensures refused { RefusesNear R.kept R.page_state R.words R.full 0 (contents version.old) result
         room.old room.new }
 {
     let (kind, root) = index_at(&version.entries, at);
@@ -198,25 +198,25 @@ pub(crate) fn change_entry<R: Room>(
     known: Option<Option<(u64, usize)>>,
     new: Option<&Value>,
 ) -> Result<(), Refusal>
-    requires in_hand { IsInHand (R.standing room.old) (R.words room.old) (contents version.old) }
-    requires known { IsKnownIn R.standing R.words room.old version.old node name.now known }
+    requires in_hand { IsInHand (R.page_state room.old) (R.words room.old) (contents version.old) }
+    requires known { IsKnownIn R.page_state R.words room.old version.old node name.now known }
     requires open { IsTrue (R.is_open (R.kept room.old)) }
-    ensures changes { OnOk result (Grows R.kept R.standing R.words
+    ensures changes { OnOk result (Grows R.kept R.page_state R.words
         (one_of (is_some (option_copied new.entry))) (contents version.old) (contents version.new)
         room.old room.new) }
-    ensures spells { OnOk result ((volume : State)
-        → Spells (R.words room.old) (contents version.old) volume → IsSound volume →
-        Spells (R.words room.new) (contents version.new)
+    ensures encodes { OnOk result ((volume : State)
+        → Encodes (R.words room.old) (contents version.old) volume → IsSound volume →
+        Encodes (R.words room.new) (contents version.new)
         (with_indices volume name.now node (option_copied new.entry))) }
     ensures stays { OnOk result ((volume : State)
-        → Spells (R.words room.old) (contents version.old) volume → IsSound volume → (v : AnyValue)
+        → Encodes (R.words room.old) (contents version.old) volume → IsSound volume → (v : AnyValue)
         →
         attribute volume node name.now ≡ Some v → option_copied new.entry ≡ Some v
         → with_pair volume.indices name.now node v ≡ volume.indices →
         version.new.entries.items ≡ version.old.entries.items) }
     ensures rest { OnOk result ((version.new.catalog ≡ version.old.catalog)
         × (version.new.next ≡ version.old.next)) }
-    ensures refused { RefusesNear R.kept R.standing R.words R.full 0 (contents version.old) result
+    ensures refused { RefusesNear R.kept R.page_state R.words R.full 0 (contents version.old) result
         room.old room.new }
 {
     let Ok(at) = search(&version.entries, name) else {

@@ -9,11 +9,11 @@ ghost use Rattle.be_volume.specs.Sound.{IsSound};
 ghost use Rattle.be_volume.specs.Volume.{State, step, steps};
 ghost use Rattle.be_volume.specs.declared.ops.Op.TheVariants as ops;
 ghost use Rattle.be_paged.specs.Changes.{Changes, IsBare, IsInHandFor, Reaches};
-ghost use Rattle.be_paged.specs.Changes.{SetsWhatStands, Steps};
+ghost use Rattle.be_paged.specs.Changes.{SetsSameValue, Steps};
 ghost use Rattle.be_paged_reading.specs.Page.{contents};
 ghost use Rattle.be_paged_reading.specs.Place.{IsAsked, IsKnownIn};
 ghost use Rattle.be_paged.specs.Stops.{Grows, RefusesAt, RefusesNear, StopsList};
-ghost use Rattle.be_paged_reading.specs.Version.{IsInHand, Spells};
+ghost use Rattle.be_paged_reading.specs.Version.{IsInHand, Encodes};
 
 use crate::changes::change_entry;
 use arrayvec::ArrayVec;
@@ -27,16 +27,16 @@ use be_volume::{Done, MAX_ATTRIBUTES, MAX_INDICES, Op};
 
 /// Makes a node: its mark is inserted into the catalog.
 fn add_node<R: Room>(room: &mut R, version: &mut Version) -> Result<Done, Refusal>
-    requires in_hand { IsInHandFor (R.standing room.old) (R.words room.old) 1
+    requires in_hand { IsInHandFor (R.page_state room.old) (R.words room.old) 1
         (contents version.old) }
     requires open { IsTrue (R.is_open (R.kept room.old)) }
-    ensures changes { OnOk result (Changes R.kept R.standing R.words (contents version.old)
+    ensures changes { OnOk result (Changes R.kept R.page_state R.words (contents version.old)
         (contents version.new) room.old room.new) }
     ensures steps { IfOk result (λ done. (volume : State)
-        → Spells (R.words room.old) (contents version.old) volume → IsSound volume →
+        → Encodes (R.words room.old) (contents version.old) volume → IsSound volume →
         Steps (R.words room.new) (contents version.new) volume ops.New done) }
     ensures next { OnOk result (version.new.next ≡ version.old.next + 1) }
-    ensures refused { RefusesNear R.kept R.standing R.words R.full 0 (contents version.old) result
+    ensures refused { RefusesNear R.kept R.page_state R.words R.full 0 (contents version.old) result
         room.old room.new }
 {
     let node = version.next;
@@ -54,22 +54,22 @@ fn set_value<R: Room>(
     value: &Value,
     known: Option<Option<(u64, usize)>>,
 ) -> Result<Done, Refusal>
-    requires in_hand { IsInHand (R.standing room.old) (R.words room.old) (contents version.old) }
-    requires known { IsKnownIn R.standing R.words room.old version.old node name.now known }
+    requires in_hand { IsInHand (R.page_state room.old) (R.words room.old) (contents version.old) }
+    requires known { IsKnownIn R.page_state R.words room.old version.old node name.now known }
     requires open { IsTrue (R.is_open (R.kept room.old)) }
-    ensures changes { OnOk result (Changes R.kept R.standing R.words (contents version.old)
+    ensures changes { OnOk result (Changes R.kept R.page_state R.words (contents version.old)
         (contents version.new) room.old room.new) }
     ensures steps { IfOk result (λ done. (volume : State)
-        → Spells (R.words room.old) (contents version.old) volume → IsSound volume →
+        → Encodes (R.words room.old) (contents version.old) volume → IsSound volume →
         IsOk (step volume (ops.Set node name.now value.now))
         → Steps (R.words room.new) (contents version.new) volume (ops.Set node name.now value.now)
         done) }
     ensures stays { IfOk result (λ done. (volume : State)
-        → Spells (R.words room.old) (contents version.old) volume → IsSound volume →
-        SetsWhatStands volume (ops.Set node name.now value.now) → version.new.entries.items
+        → Encodes (R.words room.old) (contents version.old) volume → IsSound volume →
+        SetsSameValue volume (ops.Set node name.now value.now) → version.new.entries.items
         ≡ version.old.entries.items) }
     ensures next { OnOk result (version.new.next ≡ version.old.next) }
-    ensures refused { RefusesNear R.kept R.standing R.words R.full 1 (contents version.old) result
+    ensures refused { RefusesNear R.kept R.page_state R.words R.full 1 (contents version.old) result
         room.old room.new }
 {
     change_entry(room, version, node, name, known, Some(value))?;
@@ -86,17 +86,17 @@ fn unset_value<R: Room>(
     name: &Name,
     known: Option<Option<(u64, usize)>>,
 ) -> Result<Done, Refusal>
-    requires in_hand { IsInHand (R.standing room.old) (R.words room.old) (contents version.old) }
-    requires known { IsKnownIn R.standing R.words room.old version.old node name.now known }
+    requires in_hand { IsInHand (R.page_state room.old) (R.words room.old) (contents version.old) }
+    requires known { IsKnownIn R.page_state R.words room.old version.old node name.now known }
     requires open { IsTrue (R.is_open (R.kept room.old)) }
-    ensures changes { OnOk result (Grows R.kept R.standing R.words 0 (contents version.old)
+    ensures changes { OnOk result (Grows R.kept R.page_state R.words 0 (contents version.old)
         (contents version.new) room.old room.new) }
     ensures steps { IfOk result (λ done. (volume : State)
-        → Spells (R.words room.old) (contents version.old) volume → IsSound volume →
+        → Encodes (R.words room.old) (contents version.old) volume → IsSound volume →
         IsOk (step volume (ops.Unset node name.now))
         → Steps (R.words room.new) (contents version.new) volume (ops.Unset node name.now) done) }
     ensures next { OnOk result (version.new.next ≡ version.old.next) }
-    ensures refused { RefusesNear R.kept R.standing R.words R.full 0 (contents version.old) result
+    ensures refused { RefusesNear R.kept R.page_state R.words R.full 0 (contents version.old) result
         room.old room.new }
 {
     change_entry(room, version, node, name, known, None)?;
@@ -107,11 +107,11 @@ fn unset_value<R: Room>(
 
 /// Makes an index. It is empty, whatever the nodes have, and takes no page.
 fn make_index<R: Room>(room: &mut R, version: &mut Version, name: &Name, kind: Kind) -> Done
-    requires in_hand { IsInHand (R.standing room.old) (R.words room.old) (contents version.old) }
+    requires in_hand { IsInHand (R.page_state room.old) (R.words room.old) (contents version.old) }
     ensures room { room.new ≡ room.old }
-    ensures changes { Changes R.kept R.standing R.words (contents version.old)
+    ensures changes { Changes R.kept R.page_state R.words (contents version.old)
         (contents version.new) room.old room.old }
-    ensures steps { (volume : State) → Spells (R.words room.old) (contents version.old) volume →
+    ensures steps { (volume : State) → Encodes (R.words room.old) (contents version.old) volume →
         IsOk (step volume (ops.MkIndex name.now kind))
         → Steps (R.words room.old) (contents version.new) volume (ops.MkIndex name.now kind)
         result }
@@ -127,11 +127,11 @@ fn make_index<R: Room>(room: &mut R, version: &mut Version, name: &Name, kind: K
 
 /// Removes an index, and gives up every page of its tree.
 fn remove_index<R: Room>(room: &mut R, version: &mut Version, name: &Name) -> Done
-    requires in_hand { IsInHand (R.standing room.old) (R.words room.old) (contents version.old) }
+    requires in_hand { IsInHand (R.page_state room.old) (R.words room.old) (contents version.old) }
     requires open { IsTrue (R.is_open (R.kept room.old)) }
-    ensures changes { Changes R.kept R.standing R.words (contents version.old)
+    ensures changes { Changes R.kept R.page_state R.words (contents version.old)
         (contents version.new) room.old room.new }
-    ensures steps { (volume : State) → Spells (R.words room.old) (contents version.old) volume →
+    ensures steps { (volume : State) → Encodes (R.words room.old) (contents version.old) volume →
         IsOk (step volume (ops.RmIndex name.now))
         → Steps (R.words room.new) (contents version.new) volume (ops.RmIndex name.now) result }
     ensures next { version.new.next ≡ version.old.next }
@@ -146,16 +146,16 @@ fn remove_index<R: Room>(room: &mut R, version: &mut Version, name: &Name) -> Do
 /// Removes all attributes of a node, each with its pair. It reads each attribute's name, and its
 /// value only if the name has an index.
 fn unset_all<R: Room>(room: &mut R, version: &mut Version, node: u64) -> Result<(), Refusal>
-    requires in_hand { IsInHand (R.standing room.old) (R.words room.old) (contents version.old) }
+    requires in_hand { IsInHand (R.page_state room.old) (R.words room.old) (contents version.old) }
     requires open { IsTrue (R.is_open (R.kept room.old)) }
-    ensures changes { OnOk result (Grows R.kept R.standing R.words 0 (contents version.old)
+    ensures changes { OnOk result (Grows R.kept R.page_state R.words 0 (contents version.old)
         (contents version.new) room.old room.new) }
     ensures bare { OnOk result ((volume : State)
-        → Spells (R.words room.old) (contents version.old) volume → IsSound volume →
+        → Encodes (R.words room.old) (contents version.old) volume → IsSound volume →
         volume.next + 1 < 2 ^ 64 → IsOk (step volume (ops.Drop node))
         → IsBare (R.words room.new) (contents version.new) volume node) }
     ensures next { OnOk result (version.new.next ≡ version.old.next) }
-    ensures refused { RefusesNear R.kept R.standing R.words R.full 0 (contents version.old) result
+    ensures refused { RefusesNear R.kept R.page_state R.words R.full 0 (contents version.old) result
         room.old room.new }
 {
     for _ in 0..MAX_ATTRIBUTES {
@@ -169,16 +169,16 @@ fn unset_all<R: Room>(room: &mut R, version: &mut Version, node: u64) -> Result<
 
 /// Drops a node: first each attribute with its pair, then the node's mark.
 fn drop_node<R: Room>(room: &mut R, version: &mut Version, node: u64) -> Result<Done, Refusal>
-    requires in_hand { IsInHand (R.standing room.old) (R.words room.old) (contents version.old) }
+    requires in_hand { IsInHand (R.page_state room.old) (R.words room.old) (contents version.old) }
     requires open { IsTrue (R.is_open (R.kept room.old)) }
-    ensures changes { OnOk result (Changes R.kept R.standing R.words (contents version.old)
+    ensures changes { OnOk result (Changes R.kept R.page_state R.words (contents version.old)
         (contents version.new) room.old room.new) }
     ensures steps { IfOk result (λ done. (volume : State)
-        → Spells (R.words room.old) (contents version.old) volume → IsSound volume →
+        → Encodes (R.words room.old) (contents version.old) volume → IsSound volume →
         volume.next + 1 < 2 ^ 64 → IsOk (step volume (ops.Drop node))
         → Steps (R.words room.new) (contents version.new) volume (ops.Drop node) done) }
     ensures next { OnOk result (version.new.next ≡ version.old.next) }
-    ensures refused { RefusesNear R.kept R.standing R.words R.full 0 (contents version.old) result
+    ensures refused { RefusesNear R.kept R.page_state R.words R.full 0 (contents version.old) result
         room.old room.new }
 {
     unset_all(room, version, node)?;
@@ -193,22 +193,22 @@ fn edit<R: Room>(
     op: &Op,
     asked: &Option<Asked>,
 ) -> Result<Done, Refusal>
-    requires in_hand { IsInHandFor (R.standing room.old) (R.words room.old) 1
+    requires in_hand { IsInHandFor (R.page_state room.old) (R.words room.old) 1
         (contents version.old) }
-    requires asked { IsAsked (R.standing room.old) (R.words room.old) version.old.catalog
+    requires asked { IsAsked (R.page_state room.old) (R.words room.old) version.old.catalog
         asked.now }
     requires open { IsTrue (R.is_open (R.kept room.old)) }
-    ensures changes { OnOk result (Changes R.kept R.standing R.words (contents version.old)
+    ensures changes { OnOk result (Changes R.kept R.page_state R.words (contents version.old)
         (contents version.new) room.old room.new) }
     ensures steps { IfOk result (λ done. (volume : State)
-        → Spells (R.words room.old) (contents version.old) volume → IsSound volume →
+        → Encodes (R.words room.old) (contents version.old) volume → IsSound volume →
         volume.next + 1 < 2 ^ 64 → IsOk (step volume op.now)
         → Steps (R.words room.new) (contents version.new) volume op.now done) }
     ensures stays { IfOk result (λ done. (volume : State)
-        → Spells (R.words room.old) (contents version.old) volume → IsSound volume →
-        SetsWhatStands volume op.now → version.new.entries.items ≡ version.old.entries.items) }
+        → Encodes (R.words room.old) (contents version.old) volume → IsSound volume →
+        SetsSameValue volume op.now → version.new.entries.items ≡ version.old.entries.items) }
     ensures next { OnOk result (version.new.next ≤ version.old.next + 1) }
-    ensures refused { RefusesNear R.kept R.standing R.words R.full 1 (contents version.old) result
+    ensures refused { RefusesNear R.kept R.page_state R.words R.full 1 (contents version.old) result
         room.old room.new }
 {
     match op {
@@ -239,22 +239,22 @@ pub(crate) fn edit_all<R: Room>(
     dones: &mut ArrayVec<Done, 64>,
 ) -> Result<(), Refusal>
     requires lists { (length ops.now ≤ 64) × (dones.old.items ≡ []) }
-    requires in_hand { IsInHandFor (R.standing room.old) (R.words room.old) 64
+    requires in_hand { IsInHandFor (R.page_state room.old) (R.words room.old) 64
         (contents version.old) }
-    requires asked { IsAsked (R.standing room.old) (R.words room.old) version.old.catalog asked }
+    requires asked { IsAsked (R.page_state room.old) (R.words room.old) version.old.catalog asked }
     requires open { IsTrue (R.is_open (R.kept room.old)) }
-    ensures changes { OnOk result (Changes R.kept R.standing R.words (contents version.old)
+    ensures changes { OnOk result (Changes R.kept R.page_state R.words (contents version.old)
         (contents version.new) room.old room.new) }
     ensures steps { OnOk result ((volume : State)
-        → Spells (R.words room.old) (contents version.old) volume → IsSound volume →
+        → Encodes (R.words room.old) (contents version.old) volume → IsSound volume →
         IsOk (steps volume ops.now) → Reaches (R.words room.new) (contents version.new) volume
         ops.now dones.new.items) }
     ensures stays { OnOk result ((volume : State)
-        → Spells (R.words room.old) (contents version.old) volume → IsSound volume →
-        All (SetsWhatStands volume) ops.now → version.new.entries.items
+        → Encodes (R.words room.old) (contents version.old) volume → IsSound volume →
+        All (SetsSameValue volume) ops.now → version.new.entries.items
         ≡ version.old.entries.items) }
-    ensures refused { RefusesAt R.kept R.standing R.words R.full
-        (StopsList R.kept R.standing R.words ops.now (contents version.old)) result room.old
+    ensures refused { RefusesAt R.kept R.page_state R.words R.full
+        (StopsList R.kept R.page_state R.words ops.now (contents version.old)) result room.old
         room.new }
 {
     let mut first = asked;

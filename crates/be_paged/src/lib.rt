@@ -10,9 +10,9 @@
 mod changes;
 mod counting;
 mod edits;
+mod encoding;
 mod first;
 pub mod laws;
-mod spelling;
 mod writes;
 
 pub use be_paged_reading::{
@@ -20,6 +20,6 @@ pub use be_paged_reading::{
     get_into, indices, next, nodes, source, whole,
 };
 pub use counting::version_pages;
+pub use encoding::one_encoding;
 pub use first::first_page;
-pub use spelling::one_spelling;
 pub use writes::{apply, apply_into};

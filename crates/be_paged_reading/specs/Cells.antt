@@ -7,7 +7,7 @@ use Rattle.std.specs.Int.{cast_unsigned, w64}
 use Rattle.std.specs.Option.{option_map_or}
 use Rattle.std.specs.declared.option.Option.{Option}
 use Rattle.std.specs.declared.result.Result.{Result}
-use Rattle.be_pages.specs.declared.room.Standing.{Standing}
+use Rattle.be_pages.specs.declared.room.PageState.{PageState}
 use Rattle.be_tree_reading.specs.Cursor.{IsCursor, remaining}
 use Rattle.be_tree_reading.specs.Page.{item_at}
 use Rattle.be_tree_reading.specs.Pair.{Pair}
@@ -108,7 +108,7 @@ cells_from offset (x ∷ xs) = cell_of offset x ∷ cells_from (offset + length 
 
 -- The results' cells and bytes are written: how many of each there are, and as many of both as
 -- there are places.
-pub record AreTold (found : List (Result Value Refusal)) (cell_places cells : List Cell)
+pub record AreReported (found : List (Result Value Refusal)) (cell_places cells : List Cell)
     (byte_places bytes : List ℕ) (filled : Filled) : Type 0 where
   pub cells_are : cells ≡ over (cells_from 0 found) cell_places
   pub bytes_are : bytes ≡ over (all_data found) byte_places
@@ -131,28 +131,28 @@ StartsElsewhere key [] = Unit {0}
 StartsElsewhere key (x ∷ xs) = x.key ≢ key
 
 -- the cursor can continue, and is in this tree
-pub record WalksIn (standing : ℕ → Standing) (words : ℕ → ℕ → ℕ) (root : ℕ) (cursor : Cursor) :
+pub record WalksIn (page_state : ℕ → PageState) (words : ℕ → ℕ → ℕ) (root : ℕ) (cursor : Cursor) :
     Type 0 where
-  pub walks : IsCursor standing words cursor
+  pub walks : IsCursor page_state words cursor
   pub among : IsAmong words root cursor
 
 -- What is known about a row of the catalog's tree: where the cursor is, and whether the node
 -- exists, if that was asked.
-pub record IsInRow (standing : ℕ → Standing) (words : ℕ → ℕ → ℕ) (row : Row) : Type 0 where
-  pub tree : IsTree standing words row.catalog
-  pub cursor : WalksIn standing words row.catalog row.cursor
+pub record IsInRow (page_state : ℕ → PageState) (words : ℕ → ℕ → ℕ) (row : Row) : Type 0 where
+  pub tree : IsTree page_state words row.catalog
+  pub cursor : WalksIn page_state words row.catalog row.cursor
   pub is_known : (nodes : Nodes) → IsCatalog (pairs words row.catalog) nodes → AreValid nodes
       → IfSome row.known (λ there. there ≡ map.contains_key nodes row.node)
 
 -- the row continues with the same node
-pub record GoesOn (standing : ℕ → Standing) (words : ℕ → ℕ → ℕ) (old new : Row) : Type 0 where
-  pub in_row : IsInRow standing words new
+pub record GoesOn (page_state : ℕ → PageState) (words : ℕ → ℕ → ℕ) (old new : Row) : Type 0 where
+  pub in_row : IsInRow page_state words new
   pub same_catalog : new.catalog ≡ old.catalog
   pub same_node : new.node ≡ old.node
 
 -- The cells of nodes at names in a volume are written, one for each node and name, and the bytes of
 -- all texts: as many of both as there are places. `needed` is how many bytes the texts take.
-pub record TellsColumns (volume : State) (nodes : List ℕ) (names : List (List ℕ))
+pub record ReportsColumns (volume : State) (nodes : List ℕ) (names : List (List ℕ))
     (cell_places cells : List Cell) (byte_places bytes : List ℕ) (needed : ℕ) : Type 0 where
   pub cells_are : cells ≡ over (cells_from 0 (found_in volume.nodes nodes names)) cell_places
   pub bytes_are : bytes ≡ over (all_data (found_in volume.nodes nodes names)) byte_places
@@ -161,8 +161,9 @@ pub record TellsColumns (volume : State) (nodes : List ℕ) (names : List (List 
 -- What a read of an attribute writes: its cell, and as many of its bytes as there are places. For a
 -- missing attribute it writes nothing.
 abbrev pub IsReadInto : Option Value → Option Cell → List ℕ → List ℕ → Type 0
-IsReadInto None told places bytes = (told ≡ None) × (bytes ≡ places)
-IsReadInto (Some value) told places bytes = IsValue value × (told ≡ Some (cell_of 0 (Ok value)))
+IsReadInto None reported places bytes = (reported ≡ None) × (bytes ≡ places)
+IsReadInto (Some value) reported places bytes = IsValue value
+    × (reported ≡ Some (cell_of 0 (Ok value)))
     × (bytes ≡ over (data_of value) places)
 
 -- the node has an attribute with this name, whose value has this payload
@@ -187,10 +188,10 @@ IsValueAbsent words catalog node name place = (nodes : Nodes)
     → IfNone place (value_at nodes node name ≡ None)
 
 -- the call writes these answers, from the nodes of the catalog, after what was written before
-abbrev pub Tells : (words : ℕ → ℕ → ℕ) (catalog : ℕ) → (Nodes → List (Result Value Refusal))
+abbrev pub Reports : (words : ℕ → ℕ → ℕ) (catalog : ℕ) → (Nodes → List (Result Value Refusal))
     → (old_cells new_cells : List Cell) (old_bytes new_bytes : List ℕ) (old new : Filled) → Type 0
-Tells words catalog answers old_cells new_cells old_bytes new_bytes old new = (nodes : Nodes)
+Reports words catalog answers old_cells new_cells old_bytes new_bytes old new = (nodes : Nodes)
     → IsCatalog (pairs words catalog) nodes → AreValid nodes
     → (found : List (Result Value Refusal)) (cell_places : List Cell) (byte_places : List ℕ)
-    → AreTold found cell_places old_cells byte_places old_bytes old
-    → AreTold (found ++ answers nodes) cell_places new_cells byte_places new_bytes new
+    → AreReported found cell_places old_cells byte_places old_bytes old
+    → AreReported (found ++ answers nodes) cell_places new_cells byte_places new_bytes new

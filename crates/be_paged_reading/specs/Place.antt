@@ -2,7 +2,7 @@
 use Rattle.std.specs.Prelude.{◌≡◌, ℕ, List, Some, None, IfSome}
 use Rattle.std.specs.declared.option.Option.{Option}
 use Rattle.std.specs.declared.option.Option.TheVariants as options
-use Rattle.be_pages.specs.declared.room.Standing.{Standing}
+use Rattle.be_pages.specs.declared.room.PageState.{PageState}
 use Rattle.be_tree_reading.specs.Key.{payload_at}
 use Rattle.be_tree_reading.specs.Page.{IsReadableAt, item_at}
 use Rattle.be_tree_reading.specs.Tree.{pairs}
@@ -11,33 +11,33 @@ use Rattle.be_paged_reading.specs.declared.asked.Asked.{Asked}
 use Rattle.be_paged_reading.specs.declared.version.Version.{Version}
 
 -- there is an item at this place of the page, with the payload that the tree has at the key
-pub record IsPlaceOf (standing : ℕ → Standing) (words : ℕ → ℕ → ℕ) (root : ℕ) (key : List ℕ)
+pub record IsPlaceOf (page_state : ℕ → PageState) (words : ℕ → ℕ → ℕ) (root : ℕ) (key : List ℕ)
     (page at : ℕ) : Type 0 where
-  pub item : IsReadableAt standing words page at
+  pub item : IsReadableAt page_state words page at
   pub there : payload_at (pairs words root) key ≡ Some (item_at (words page) at).payload
 
 -- what a look-up of the key found: such a page and place, or that the tree doesn't have the key
-abbrev pub IsFoundAt : (standing : ℕ → Standing) (words : ℕ → ℕ → ℕ) (root : ℕ) (key : List ℕ)
+abbrev pub IsFoundAt : (page_state : ℕ → PageState) (words : ℕ → ℕ → ℕ) (root : ℕ) (key : List ℕ)
     → Option (ℕ × ℕ) → Type 0
-IsFoundAt standing words root key options.None = payload_at (pairs words root) key ≡ None
-IsFoundAt standing words root key (options.Some place) = IsPlaceOf standing words root key place.0
-    place.1
+IsFoundAt page_state words root key options.None = payload_at (pairs words root) key ≡ None
+IsFoundAt page_state words root key (options.Some place) = IsPlaceOf page_state words root key
+    place.0 place.1
 
 -- what is known about a node's attribute, if anything, is what a look-up would find
-abbrev pub IsKnownOf : (standing : ℕ → Standing) (words : ℕ → ℕ → ℕ) (root node : ℕ) (name : List ℕ)
-    → Option (Option (ℕ × ℕ)) → Type 0
-IsKnownOf standing words root node name known = IfSome known
-    (IsFoundAt standing words root (catalog_key node name))
+abbrev pub IsKnownOf : (page_state : ℕ → PageState) (words : ℕ → ℕ → ℕ) (root node : ℕ)
+    (name : List ℕ) → Option (Option (ℕ × ℕ)) → Type 0
+IsKnownOf page_state words root node name known = IfSome known
+    (IsFoundAt page_state words root (catalog_key node name))
 
 -- the same for the catalog of a loaded version
-abbrev pub IsKnownIn : {S : Type 0} → (standing_of : S → ℕ → Standing)
+abbrev pub IsKnownIn : {S : Type 0} → (page_state_of : S → ℕ → PageState)
     → (words_of : S → ℕ → ℕ → ℕ) → S → Version → (node : ℕ) (name : List ℕ)
     → Option (Option (ℕ × ℕ)) → Type 0
-IsKnownIn standing_of words_of now version node name known =
-    IsKnownOf (standing_of now) (words_of now) version.catalog node name known
+IsKnownIn page_state_of words_of now version node name known =
+    IsKnownOf (page_state_of now) (words_of now) version.catalog node name known
 
 -- the same for the attribute that was looked up and remembered
-abbrev pub IsAsked : (standing : ℕ → Standing) (words : ℕ → ℕ → ℕ) (root : ℕ) → Option Asked
+abbrev pub IsAsked : (page_state : ℕ → PageState) (words : ℕ → ℕ → ℕ) (root : ℕ) → Option Asked
     → Type 0
-IsAsked standing words root asked = IfSome asked
-    (λ a. IsFoundAt standing words root (catalog_key a.node a.name) a.place)
+IsAsked page_state words root asked = IfSome asked
+    (λ a. IsFoundAt page_state words root (catalog_key a.node a.name) a.place)

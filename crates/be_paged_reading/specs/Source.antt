@@ -2,7 +2,7 @@
 use Rattle.std.specs.Prelude.{◌≡◌, ℕ, ◌<◌, ◌&&◌, Bool, IfSome, IfNone, List, Some, true}
 use Rattle.std.specs.Prelude.{◌++◌, is_some, length, slice_index_or, take}
 use Rattle.std.specs.declared.option.Option.{Option}
-use Rattle.be_pages.specs.declared.room.Standing.{Standing}
+use Rattle.be_pages.specs.declared.room.PageState.{PageState}
 use Rattle.be_tree_reading.specs.Page.{IsReadableAt, item_at}
 use Rattle.be_tree_reading.specs.Cursor.{IsCursor, remaining}
 use Rattle.be_tree_reading.specs.Key.{payload_at}
@@ -27,15 +27,15 @@ use Rattle.be_paged_reading.specs.Version.{IsVersion}
 use Rattle.be_paged_reading.specs.declared.on_page.FoundIndex.{FoundIndex}
 
 -- if a look-up found a place, there is a readable item
-abbrev pub HasItem : (standing : ℕ → Standing) (words : ℕ → ℕ → ℕ) → Option (ℕ × ℕ) → Type 0
-HasItem standing words place = IfSome place (λ at. IsReadableAt standing words at.0 at.1)
+abbrev pub HasItem : (page_state : ℕ → PageState) (words : ℕ → ℕ → ℕ) → Option (ℕ × ℕ) → Type 0
+HasItem page_state words place = IfSome place (λ at. IsReadableAt page_state words at.0 at.1)
 
 -- the cursor is in the tree of the index at this place, just past the key of the last item; if the
 -- place is past the indices, the cursor is in no tree
-pub record StandsAfter (standing : ℕ → Standing) (words : ℕ → ℕ → ℕ) (entries : List Entry)
+pub record LiesAfter (page_state : ℕ → PageState) (words : ℕ → ℕ → ℕ) (entries : List Entry)
     (cursor : Cursor) (place : ℕ) (last_page last_at : ℕ) : Type 0 where
-  pub can_go_on : place < length entries → IsCursor standing words cursor
-  pub last : place < length entries → IsReadableAt standing words last_page last_at
+  pub can_go_on : place < length entries → IsCursor page_state words cursor
+  pub last : place < length entries → IsReadableAt page_state words last_page last_at
   pub rest : (d : Entry) → place < length entries → remaining words cursor
       ≡ pairs_from (pairs words (slice_index_or entries place d).root)
       (item_at (words last_page) last_at).key true
@@ -80,12 +80,12 @@ DecidesPair words index node page at has = (v : Value) → IsValue v
 
 -- the page encodes the volume, what is remembered is about that page, and the cursor is where it
 -- says
-pub record SourceOf (standing : ℕ → Standing) (words : ℕ → ℕ → ℕ) (page : ℕ)
+pub record SourceOf (page_state : ℕ → PageState) (words : ℕ → ℕ → ℕ) (page : ℕ)
     (known : Option FoundIndex)
     (cursor : Cursor) (place : ℕ) (last_page last_at : ℕ) (volume : State) : Type 0 where
-  pub version : IsVersion standing words page volume
+  pub version : IsVersion page_state words page volume
   pub known_is : IsKnown (contents_of (words page)).entries known
-  pub beyond : StandsAfter standing words (contents_of (words page)).entries cursor place last_page
+  pub beyond : LiesAfter page_state words (contents_of (words page)).entries cursor place last_page
       last_at
 
 -- A walk over the index with this name tests its keys. The list has the nodes of the first keys

@@ -4,7 +4,7 @@
 //! attribute, it doesn't have to look it up again.
 ghost use Rattle.std.specs.Prelude.{◌≡◌, ℕ, Some};
 ghost use Rattle.std.specs.Option.{option_or};
-ghost use Rattle.be_pages.specs.declared.room.Standing.{Standing as Stands};
+ghost use Rattle.be_pages.specs.declared.room.PageState.{PageState as AnyPageState};
 ghost use Rattle.be_paged_reading.specs.Place.{IsAsked, IsKnownOf};
 
 use be_value::Name;
@@ -33,9 +33,9 @@ pub fn remember(asked: &mut Option<Asked>, node: u64, name: &Name, place: Option
 
 /// What a look-up of a node's attribute found, if it is the remembered attribute.
 pub fn known_of(asked: &Option<Asked>, node: u64, name: &Name) -> Option<Option<(u64, usize)>>
-    ensures { (standing : ℕ → Stands) (words : ℕ → ℕ → ℕ) (root : ℕ)
-        → IsAsked standing words root asked.now
-        → IsKnownOf standing words root node name.now result }
+    ensures { (page_state : ℕ → AnyPageState) (words : ℕ → ℕ → ℕ) (root : ℕ)
+        → IsAsked page_state words root asked.now
+        → IsKnownOf page_state words root node name.now result }
 {
     match asked {
         Some(last) if last.node == node && last.name == *name => Some(last.place),

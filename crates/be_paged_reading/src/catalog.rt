@@ -37,12 +37,12 @@ pub fn catalog_key(node: u64, name: &Name) -> ArrayVec<u8, 72>
 /// own, so only a text costs clearing the room for one.
 #[inline(always)]
 pub(crate) fn value_at<L: Look>(look: &mut L, page: u64, at: usize) -> Option<Value>
-    requires readable { IsTrue (is_readable (L.standing look.old page)) }
+    requires readable { IsTrue (is_readable (L.page_state look.old page)) }
     requires in_page { at + 42 ≤ 512 }
     requires item { IsItem (L.words look.old page) at }
     ensures value { (v : AnyValue) → IsValue v → (item_at (L.words look.old page) at).payload
         ≡ payload v → result ≡ Some v }
-    ensures unchanged { IsUnchanged L.kept L.standing L.words look.old look.new }
+    ensures unchanged { IsUnchanged L.kept L.page_state L.words look.old look.new }
 {
     let kind = kind_at(look, page, at)?;
     match kind {
@@ -59,12 +59,12 @@ pub(crate) fn value_at<L: Look>(look: &mut L, page: u64, at: usize) -> Option<Va
 /// The text after a payload's first byte, as a `Cstr`.
 #[inline(never)]
 fn cstr_at<L: Look>(look: &mut L, page: u64, at: usize) -> Option<Value>
-    requires readable { IsTrue (is_readable (L.standing look.old page)) }
+    requires readable { IsTrue (is_readable (L.page_state look.old page)) }
     requires in_page { at + 42 ≤ 512 }
     requires item { IsItem (L.words look.old page) at }
     ensures value { (k : ℕ) (t : List ℕ) → text_from t ≡ Ok t → IsUtf8 t
         → (item_at (L.words look.old page) at).payload ≡ k ∷ t → result ≡ Some (AnyValue.Cstr t) }
-    ensures unchanged { IsUnchanged L.kept L.standing L.words look.old look.new }
+    ensures unchanged { IsUnchanged L.kept L.page_state L.words look.old look.new }
 {
     Some(Value::Cstr(text_at(look, page, at)?))
 }
@@ -72,12 +72,12 @@ fn cstr_at<L: Look>(look: &mut L, page: u64, at: usize) -> Option<Value>
 /// The same, as a `Mims`.
 #[inline(never)]
 fn mims_at<L: Look>(look: &mut L, page: u64, at: usize) -> Option<Value>
-    requires readable { IsTrue (is_readable (L.standing look.old page)) }
+    requires readable { IsTrue (is_readable (L.page_state look.old page)) }
     requires in_page { at + 42 ≤ 512 }
     requires item { IsItem (L.words look.old page) at }
     ensures value { (k : ℕ) (t : List ℕ) → text_from t ≡ Ok t → IsUtf8 t
         → (item_at (L.words look.old page) at).payload ≡ k ∷ t → result ≡ Some (AnyValue.Mims t) }
-    ensures unchanged { IsUnchanged L.kept L.standing L.words look.old look.new }
+    ensures unchanged { IsUnchanged L.kept L.page_state L.words look.old look.new }
 {
     Some(Value::Mims(text_at(look, page, at)?))
 }
@@ -85,25 +85,25 @@ fn mims_at<L: Look>(look: &mut L, page: u64, at: usize) -> Option<Value>
 /// The bytes after a payload's first byte, as a `Rawt`.
 #[inline(never)]
 fn rawt_at<L: Look>(look: &mut L, page: u64, at: usize) -> Option<Value>
-    requires readable { IsTrue (is_readable (L.standing look.old page)) }
+    requires readable { IsTrue (is_readable (L.page_state look.old page)) }
     requires in_page { at + 42 ≤ 512 }
     requires item { IsItem (L.words look.old page) at }
     ensures value { (k : ℕ) (bytes : List ℕ) → length bytes ≤ 255
         → (item_at (L.words look.old page) at).payload ≡ k ∷ bytes → result
         ≡ Some (AnyValue.Rawt bytes) }
-    ensures unchanged { IsUnchanged L.kept L.standing L.words look.old look.new }
+    ensures unchanged { IsUnchanged L.kept L.page_state L.words look.old look.new }
 {
     Some(Value::Rawt(bytes_at(look, page, at)?))
 }
 
 /// The kind whose number is the payload's first byte, if there is one.
 pub(crate) fn kind_at<L: Look>(look: &mut L, page: u64, at: usize) -> Option<Kind>
-    requires readable { IsTrue (is_readable (L.standing look.old page)) }
+    requires readable { IsTrue (is_readable (L.page_state look.old page)) }
     requires in_page { at + 42 ≤ 512 }
     requires item { IsItem (L.words look.old page) at }
     ensures kind { (v : AnyValue) → (item_at (L.words look.old page) at).payload ≡ payload v
         → result ≡ Some (kind_of v) }
-    ensures unchanged { IsUnchanged L.kept L.standing L.words look.old look.new }
+    ensures unchanged { IsUnchanged L.kept L.page_state L.words look.old look.new }
 {
     let len = payload_len_at(look, page, at);
     if len == 0 {
@@ -115,12 +115,12 @@ pub(crate) fn kind_at<L: Look>(look: &mut L, page: u64, at: usize) -> Option<Kin
 
 /// The number after a payload's first byte, if it takes four bytes.
 pub(crate) fn number32_at<L: Look>(look: &mut L, page: u64, at: usize) -> Option<u32>
-    requires readable { IsTrue (is_readable (L.standing look.old page)) }
+    requires readable { IsTrue (is_readable (L.page_state look.old page)) }
     requires in_page { at + 42 ≤ 512 }
     requires item { IsItem (L.words look.old page) at }
     ensures number { (k n : ℕ) → n < 2 ^ 32 → (item_at (L.words look.old page) at).payload ≡ k
         ∷ to_be_bytes w32 n → result ≡ Some n }
-    ensures unchanged { IsUnchanged L.kept L.standing L.words look.old look.new }
+    ensures unchanged { IsUnchanged L.kept L.page_state L.words look.old look.new }
 {
     let len = payload_len_at(look, page, at);
     if len != 5 {
@@ -131,12 +131,12 @@ pub(crate) fn number32_at<L: Look>(look: &mut L, page: u64, at: usize) -> Option
 
 /// The number after a payload's first byte, if it takes eight bytes.
 pub(crate) fn number64_at<L: Look>(look: &mut L, page: u64, at: usize) -> Option<u64>
-    requires readable { IsTrue (is_readable (L.standing look.old page)) }
+    requires readable { IsTrue (is_readable (L.page_state look.old page)) }
     requires in_page { at + 42 ≤ 512 }
     requires item { IsItem (L.words look.old page) at }
     ensures number { (k n : ℕ) → n < 2 ^ 64 → (item_at (L.words look.old page) at).payload ≡ k
         ∷ to_be_bytes w64 n → result ≡ Some n }
-    ensures unchanged { IsUnchanged L.kept L.standing L.words look.old look.new }
+    ensures unchanged { IsUnchanged L.kept L.page_state L.words look.old look.new }
 {
     let len = payload_len_at(look, page, at);
     if len != 9 {
@@ -147,12 +147,12 @@ pub(crate) fn number64_at<L: Look>(look: &mut L, page: u64, at: usize) -> Option
 
 /// The text after a payload's first byte, if it is a value's text.
 fn text_at<L: Look>(look: &mut L, page: u64, at: usize) -> Option<Text>
-    requires readable { IsTrue (is_readable (L.standing look.old page)) }
+    requires readable { IsTrue (is_readable (L.page_state look.old page)) }
     requires in_page { at + 42 ≤ 512 }
     requires item { IsItem (L.words look.old page) at }
     ensures text { (k : ℕ) (t : List ℕ) → text_from t ≡ Ok t → IsUtf8 t
         → (item_at (L.words look.old page) at).payload ≡ k ∷ t → result ≡ Some t }
-    ensures unchanged { IsUnchanged L.kept L.standing L.words look.old look.new }
+    ensures unchanged { IsUnchanged L.kept L.page_state L.words look.old look.new }
 {
     let mut payload = ArrayVec::new();
     fill_payload(look, page, at, &mut payload);
@@ -169,12 +169,12 @@ fn text_of(payload: &[u8]) -> Option<Text>
 
 /// The bytes after a payload's first byte, if a value may have that many.
 fn bytes_at<L: Look>(look: &mut L, page: u64, at: usize) -> Option<Bytes>
-    requires readable { IsTrue (is_readable (L.standing look.old page)) }
+    requires readable { IsTrue (is_readable (L.page_state look.old page)) }
     requires in_page { at + 42 ≤ 512 }
     requires item { IsItem (L.words look.old page) at }
     ensures bytes { (k : ℕ) (bytes : List ℕ) → length bytes ≤ 255
         → (item_at (L.words look.old page) at).payload ≡ k ∷ bytes → result ≡ Some bytes }
-    ensures unchanged { IsUnchanged L.kept L.standing L.words look.old look.new }
+    ensures unchanged { IsUnchanged L.kept L.page_state L.words look.old look.new }
 {
     let mut payload = ArrayVec::new();
     fill_payload(look, page, at, &mut payload);

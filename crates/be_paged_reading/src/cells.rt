@@ -12,7 +12,7 @@ ghost use Rattle.be_value.specs.declared.refusals.Refusal.{Refusal as AnyRefusal
 ghost use Rattle.be_value.specs.declared.values.Value.{Value as AnyValue};
 ghost use Rattle.be_paged_reading.specs.Catalog.{catalog_key as key_in_catalog};
 ghost use Rattle.be_paged_reading.specs.Catalog.{payload_of as payload};
-ghost use Rattle.be_paged_reading.specs.Cells.{AreTold, IsFew, cell_of, data_in};
+ghost use Rattle.be_paged_reading.specs.Cells.{AreReported, IsFew, cell_of, data_in};
 ghost use Rattle.be_paged_reading.specs.Cells.{data_of, name_in, over};
 ghost use Rattle.be_paged_reading.specs.declared.cells.Cell.{Cell as AnyCell};
 
@@ -94,7 +94,7 @@ fn put_at<T: Copy>(places: &mut [T], at: usize, items: &[T])
 }
 
 /// Writes one more result: its cell and its bytes.
-pub(crate) fn tell(
+pub(crate) fn report(
     cells: &mut [Cell],
     bytes: &mut [u8],
     filled: &mut Filled,
@@ -104,12 +104,12 @@ pub(crate) fn tell(
     requires cells { filled.old.cells < 2 ^ 32 }
     requires few { IsFew filled.old }
     requires short { length content.now ≤ 512 }
-    ensures told { (x : AnyResult AnyValue AnyRefusal)
+    ensures reported { (x : AnyResult AnyValue AnyRefusal)
         (found : List (AnyResult AnyValue AnyRefusal)) (cell_places : List AnyCell)
         (byte_places : List ℕ)
         → cell ≡ cell_of filled.old.bytes x → content.now ≡ data_in x
-        → AreTold found cell_places cells.old byte_places bytes.old filled.old
-        → AreTold (found ++ x ∷ []) cell_places cells.new byte_places bytes.new filled.new }
+        → AreReported found cell_places cells.old byte_places bytes.old filled.old
+        → AreReported (found ++ x ∷ []) cell_places cells.new byte_places bytes.new filled.new }
     ensures one { filled.new.cells ≡ filled.old.cells + 1 }
     ensures few { IsFew filled.new }
 {
@@ -184,10 +184,10 @@ fn widened(number: u32) -> u64
 /// The cell of the value at this place of the catalog, if its payload encodes a value. The value's
 /// bytes begin at this offset.
 fn value_cell<L: Look>(look: &mut L, page: u64, at: usize, offset: usize) -> Option<Cell>
-    requires item { IsReadableAt (L.standing look.old) (L.words look.old) page at }
+    requires item { IsReadableAt (L.page_state look.old) (L.words look.old) page at }
     ensures cell { (v : AnyValue) → IsValue v → (item_at (L.words look.old page) at).payload
         ≡ payload v → result ≡ Some (cell_of offset (Ok v)) }
-    ensures unchanged { IsUnchanged L.kept L.standing L.words look.old look.new }
+    ensures unchanged { IsUnchanged L.kept L.page_state L.words look.old look.new }
 {
     let kind = kind_at(look, page, at)?;
     let payload_len = payload_len_at(look, page, at);
@@ -219,7 +219,7 @@ fn after_first(payload: &[u8]) -> &[u8]
 }
 
 /// Writes a text's cell, and the text's bytes from this place of the catalog.
-fn tell_data<L: Look>(
+fn report_data<L: Look>(
     look: &mut L,
     item: (u64, usize),
     cell: Cell,
@@ -227,30 +227,30 @@ fn tell_data<L: Look>(
     bytes: &mut [u8],
     filled: &mut Filled,
 )
-    requires item { IsReadableAt (L.standing look.old) (L.words look.old) item.0 item.1 }
+    requires item { IsReadableAt (L.page_state look.old) (L.words look.old) item.0 item.1 }
     requires cells { filled.old.cells < 2 ^ 32 }
     requires few { IsFew filled.old }
-    ensures told { (x : AnyResult AnyValue AnyRefusal)
+    ensures reported { (x : AnyResult AnyValue AnyRefusal)
         (found : List (AnyResult AnyValue AnyRefusal)) (cell_places : List AnyCell)
         (byte_places : List ℕ)
         → cell ≡ cell_of filled.old.bytes x
         → drop 1 (item_at (L.words look.old item.0) item.1).payload ≡ data_in x
-        → AreTold found cell_places cells.old byte_places bytes.old filled.old
-        → AreTold (found ++ x ∷ []) cell_places cells.new byte_places bytes.new filled.new }
+        → AreReported found cell_places cells.old byte_places bytes.old filled.old
+        → AreReported (found ++ x ∷ []) cell_places cells.new byte_places bytes.new filled.new }
     ensures one { filled.new.cells ≡ filled.old.cells + 1 }
     ensures few { IsFew filled.new }
-    ensures unchanged { IsUnchanged L.kept L.standing L.words look.old look.new }
+    ensures unchanged { IsUnchanged L.kept L.page_state L.words look.old look.new }
 {
     let (page, at) = item;
     let mut payload = ArrayVec::new();
     fill_payload(look, page, at, &mut payload);
     let content = after_first(payload.as_slice());
-    tell(cells, bytes, filled, cell, content);
+    report(cells, bytes, filled, cell, content);
 }
 
 /// Writes the value of the item at this place of the catalog. A text's bytes go from the page to
 /// the caller.
-pub(crate) fn tell_value<L: Look>(
+pub(crate) fn report_value<L: Look>(
     look: &mut L,
     page: u64,
     at: usize,
@@ -258,21 +258,21 @@ pub(crate) fn tell_value<L: Look>(
     bytes: &mut [u8],
     filled: &mut Filled,
 )
-    requires item { IsReadableAt (L.standing look.old) (L.words look.old) page at }
+    requires item { IsReadableAt (L.page_state look.old) (L.words look.old) page at }
     requires cells { filled.old.cells < 2 ^ 32 }
     requires few { IsFew filled.old }
-    ensures told { (v : AnyValue) (found : List (AnyResult AnyValue AnyRefusal))
+    ensures reported { (v : AnyValue) (found : List (AnyResult AnyValue AnyRefusal))
         (cell_places : List AnyCell) (byte_places : List ℕ)
         → IsValue v → (item_at (L.words look.old page) at).payload ≡ payload v
-        → AreTold found cell_places cells.old byte_places bytes.old filled.old
-        → AreTold (found ++ Ok v ∷ []) cell_places cells.new byte_places bytes.new filled.new }
+        → AreReported found cell_places cells.old byte_places bytes.old filled.old
+        → AreReported (found ++ Ok v ∷ []) cell_places cells.new byte_places bytes.new filled.new }
     ensures one { filled.new.cells ≡ filled.old.cells + 1 }
     ensures few { IsFew filled.new }
-    ensures unchanged { IsUnchanged L.kept L.standing L.words look.old look.new }
+    ensures unchanged { IsUnchanged L.kept L.page_state L.words look.old look.new }
 {
     let Some(cell) = value_cell(look, page, at, filled.bytes) else {
         let offset = filled.bytes;
-        tell(
+        report(
             cells,
             bytes,
             filled,
@@ -282,10 +282,10 @@ pub(crate) fn tell_value<L: Look>(
         return;
     };
     if cell.length == 0 {
-        tell(cells, bytes, filled, cell, b"");
+        report(cells, bytes, filled, cell, b"");
         return;
     }
-    tell_data(look, (page, at), cell, cells, bytes, filled);
+    report_data(look, (page, at), cell, cells, bytes, filled);
 }
 
 /// The cell of the value at this place of the catalog, if its payload encodes one. Writes the
@@ -296,12 +296,12 @@ pub(crate) fn read_into<L: Look>(
     at: usize,
     bytes: &mut [u8],
 ) -> Option<Cell>
-    requires item { IsReadableAt (L.standing look.old) (L.words look.old) page at }
+    requires item { IsReadableAt (L.page_state look.old) (L.words look.old) page at }
     ensures cell { (v : AnyValue) → IsValue v → (item_at (L.words look.old page) at).payload
         ≡ payload v → result ≡ Some (cell_of 0 (Ok v)) }
     ensures bytes { (v : AnyValue) → IsValue v → (item_at (L.words look.old page) at).payload
         ≡ payload v → bytes.new ≡ over (data_of v) bytes.old }
-    ensures unchanged { IsUnchanged L.kept L.standing L.words look.old look.new }
+    ensures unchanged { IsUnchanged L.kept L.page_state L.words look.old look.new }
 {
     let cell = value_cell(look, page, at, 0)?;
     if cell.length > 0 {
@@ -312,10 +312,10 @@ pub(crate) fn read_into<L: Look>(
 
 /// Writes the text's bytes at this place of the catalog to the first places.
 fn put_payload<L: Look>(look: &mut L, page: u64, at: usize, bytes: &mut [u8])
-    requires item { IsReadableAt (L.standing look.old) (L.words look.old) page at }
+    requires item { IsReadableAt (L.page_state look.old) (L.words look.old) page at }
     ensures bytes { bytes.new ≡ over (drop 1 (item_at (L.words look.old page) at).payload)
         bytes.old }
-    ensures unchanged { IsUnchanged L.kept L.standing L.words look.old look.new }
+    ensures unchanged { IsUnchanged L.kept L.page_state L.words look.old look.new }
 {
     let mut payload = ArrayVec::new();
     fill_payload(look, page, at, &mut payload);

@@ -34,7 +34,7 @@ pub(crate) fn holds_at<L: Look>(
     comparison: &Comparison,
     test: Option<&TextTest<'_>>,
 ) -> bool
-    requires readable { IsTrue (is_readable (L.standing look.old page)) }
+    requires readable { IsTrue (is_readable (L.page_state look.old page)) }
     requires in_page { at + 42 ≤ 512 }
     requires item { IsItem (L.words look.old page) at }
     requires test { IfSome (option_copied test) (λ t. t
@@ -42,7 +42,7 @@ pub(crate) fn holds_at<L: Look>(
     ensures holds { (v : AnyValue) → IsValue v → (item_at (L.words look.old page) at).payload
         ≡ payload v →
         result ≡ holds comparison.now.op v (literal_of comparison.now.literal) }
-    ensures unchanged { IsUnchanged L.kept L.standing L.words look.old look.new }
+    ensures unchanged { IsUnchanged L.kept L.page_state L.words look.old look.new }
 {
     let Some(kind) = kind_at(look, page, at) else {
         return false;
@@ -77,7 +77,7 @@ fn text_holds_at<L: Look>(
     comparison: &Comparison,
     test: Option<&TextTest<'_>>,
 ) -> bool
-    requires readable { IsTrue (is_readable (L.standing look.old page)) }
+    requires readable { IsTrue (is_readable (L.page_state look.old page)) }
     requires in_page { at + 42 ≤ 512 }
     requires item { IsItem (L.words look.old page) at }
     requires test { IfSome (option_copied test) (λ t. t
@@ -85,7 +85,7 @@ fn text_holds_at<L: Look>(
     ensures holds { (k : ℕ) (t : List ℕ) → text_from t ≡ Ok t → IsUtf8 t
         → (item_at (L.words look.old page) at).payload ≡ k ∷ t →
         result ≡ holds_of_text comparison.now.op t (literal_of comparison.now.literal) }
-    ensures unchanged { IsUnchanged L.kept L.standing L.words look.old look.new }
+    ensures unchanged { IsUnchanged L.kept L.page_state L.words look.old look.new }
 {
     let mut payload = ArrayVec::new();
     fill_payload(look, page, at, &mut payload);

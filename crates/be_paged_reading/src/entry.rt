@@ -1,7 +1,7 @@
 //! An index as a version page has it.
 ghost use Rattle.std.specs.Prelude.{◌≡◌, ℕ, ◌+◌, ◌<◌, ◌≤◌, IsTrue, slice_index};
 ghost use Rattle.be_pages.specs.Pages.{IsUnchanged, is_readable, OnlyWrites};
-ghost use Rattle.be_pages.specs.declared.room.Standing.TheVariants.{Filled};
+ghost use Rattle.be_pages.specs.declared.room.PageState.TheVariants.{Filled};
 ghost use Rattle.be_volume.specs.Maps.{name_cmp};
 ghost use Rattle.be_volume.specs.Sound.{IsName};
 ghost use Rattle.be_paged_reading.specs.Entry.{Entry as AnyEntry};
@@ -79,10 +79,10 @@ fn kind_number(kind: Kind) -> u64
 
 /// The eight words from this place of a page on.
 fn load_words<L: Look>(look: &mut L, page: u64, at: usize) -> [u64; 8]
-    requires readable { IsTrue (is_readable (L.standing look.old page)) }
+    requires readable { IsTrue (is_readable (L.page_state look.old page)) }
     requires in_page { at + 8 ≤ 512 }
     ensures words { (j : ℕ) → j < 8 → slice_index result j ≡ L.words look.old page (at + j) }
-    ensures unchanged { IsUnchanged L.kept L.standing L.words look.old look.new }
+    ensures unchanged { IsUnchanged L.kept L.page_state L.words look.old look.new }
 {
     let mut words = [0; 8];
     for j in 0..8 {
@@ -93,11 +93,11 @@ fn load_words<L: Look>(look: &mut L, page: u64, at: usize) -> [u64; 8]
 
 /// Writes eight words from this place on, to a page that has a filled word.
 fn store_words<R: Room>(room: &mut R, page: u64, at: usize, words: &[u64; 8])
-    requires filled { R.standing room.old page ≡ Filled }
+    requires filled { R.page_state room.old page ≡ Filled }
     requires in_page { at + 8 ≤ 512 }
     requires open { IsTrue (R.is_open (R.kept room.old)) }
     ensures stored { (j : ℕ) → j < 8 → R.words room.new page (at + j) ≡ slice_index words.now j }
-    ensures only { OnlyWrites R.kept R.standing R.words page at (at + 8) room.old room.new }
+    ensures only { OnlyWrites R.kept R.page_state R.words page at (at + 8) room.old room.new }
 {
     for j in 0..8 {
         room.refill(page, at + j, words[j]);
@@ -189,11 +189,11 @@ impl Entry {
     /// The index at this place of a version page.
     #[tactic(auto, unfolding(crate::specs::Page::entry_at))]
     pub fn load<L: Look>(look: &mut L, page: u64, at: usize) -> Entry
-        requires readable { IsTrue (is_readable (L.standing look.old page)) }
+        requires readable { IsTrue (is_readable (L.page_state look.old page)) }
         requires in_page { at + 11 ≤ 512 }
         requires entry { IsEntry (L.words look.old page) at }
         ensures entry { result ≡ entry_at (L.words look.old page) at }
-        ensures unchanged { IsUnchanged L.kept L.standing L.words look.old look.new }
+        ensures unchanged { IsUnchanged L.kept L.page_state L.words look.old look.new }
     {
         let len = look.word(page, at) as usize;
         let words = load_words(look, page, at + 1);
@@ -210,13 +210,13 @@ impl Entry {
     /// Writes the index to this place of a page that has a filled word. It takes eleven words.
     #[tactic(auto, unfolding(crate::specs::Page::entry_at))]
     pub fn store<R: Room>(&self, room: &mut R, page: u64, at: usize)
-        requires filled { R.standing room.old page ≡ Filled }
+        requires filled { R.page_state room.old page ≡ Filled }
         requires in_page { at + 11 ≤ 512 }
         requires named { IsName self.now.name }
         requires open { IsTrue (R.is_open (R.kept room.old)) }
         ensures stored { entry_at (R.words room.new page) at ≡ self.now }
         ensures entry { IsEntry (R.words room.new page) at }
-        ensures only { OnlyWrites R.kept R.standing R.words page at (at + 11) room.old room.new }
+        ensures only { OnlyWrites R.kept R.page_state R.words page at (at + 11) room.old room.new }
     {
         room.refill(page, at, self.len as u64);
         store_words(room, page, at + 1, &self.words);

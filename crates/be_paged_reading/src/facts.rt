@@ -34,10 +34,10 @@ pub struct PageFacts<'a, L: Look> {
 
 /// How many attributes a node has, if it exists. A number that no node has had yet isn't looked up.
 fn count_anew<L: Look>(look: &mut L, version: &Version, node: u64) -> Option<usize>
-    requires tree { IsTree (L.standing look.old) (L.words look.old) version.now.catalog }
-    ensures count { (volume : State) → AnswersFor (L.standing look.old) (L.words look.old)
+    requires tree { IsTree (L.page_state look.old) (L.words look.old) version.now.catalog }
+    ensures count { (volume : State) → AnswersFor (L.page_state look.old) (L.words look.old)
         (contents version.now) volume → result ≡ count_in volume.nodes node }
-    ensures unchanged { IsUnchanged L.kept L.standing L.words look.old look.new }
+    ensures unchanged { IsUnchanged L.kept L.page_state L.words look.old look.new }
 {
     if node >= version.next {
         return None;
@@ -53,15 +53,15 @@ fn count_of<L: Look>(
     counted: &mut Option<(u64, Option<usize>)>,
     node: u64,
 ) -> Option<usize>
-    requires tree { IsTree (L.standing look.old) (L.words look.old) version.now.catalog }
-    ensures count { (volume : State) → AnswersFor (L.standing look.old) (L.words look.old)
+    requires tree { IsTree (L.page_state look.old) (L.words look.old) version.now.catalog }
+    ensures count { (volume : State) → AnswersFor (L.page_state look.old) (L.words look.old)
         (contents version.now) volume → IsCounted counted.old volume →
         result ≡ count_in volume.nodes node }
     ensures counted { (volume : State)
-        → AnswersFor (L.standing look.old) (L.words look.old) (contents version.now) volume
+        → AnswersFor (L.page_state look.old) (L.words look.old) (contents version.now) volume
         → IsCounted counted.old volume →
         IsCounted counted.new volume }
-    ensures unchanged { IsUnchanged L.kept L.standing L.words look.old look.new }
+    ensures unchanged { IsUnchanged L.kept L.page_state L.words look.old look.new }
 {
     if let Some((last, count)) = *counted {
         if last == node {
@@ -92,24 +92,24 @@ fn is_bare(version: &Version, counted: Option<(u64, Option<usize>)>, node: u64) 
 impl<L: Look> Facts for PageFacts<'_, L> {
     ghost use Rattle.std.specs.Prelude.{ℕ};
     ghost use base.Fml.{GName};
-    ghost use Rattle.be_pages.specs.declared.room.Standing.{Standing as Stands};
+    ghost use Rattle.be_pages.specs.declared.room.PageState.{PageState as AnyPageState};
     ghost use Rattle.be_paged_reading.specs.Page.{contents};
     ghost use Rattle.be_paged_reading.specs.Facts.{FactsOf};
 
-    ghost Kept = { (GName × GName) × (L.Kept × ((ℕ → Stands) × ((ℕ → ℕ → ℕ) × ℕ))) };
+    ghost Kept = { (GName × GName) × (L.Kept × ((ℕ → AnyPageState) × ((ℕ → ℕ → ℕ) × ℕ))) };
 
     ghost kept = { λ f. (
       (f.look.ghost_name, f.asked.ghost_name),
       (
         L.kept f.look.now,
         (
-          L.standing f.look.now,
+          L.page_state f.look.now,
           (L.words f.look.now, f.version.now.catalog),
         ),
       ),
     ) };
 
-    ghost answers_for = { λ f volume. FactsOf (L.standing f.look.now) (L.words f.look.now)
+    ghost answers_for = { λ f volume. FactsOf (L.page_state f.look.now) (L.words f.look.now)
         (contents f.version.now) f.counted f.asked.now volume };
 
     fn next(&mut self) -> u64 {

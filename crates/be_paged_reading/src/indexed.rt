@@ -19,11 +19,11 @@ use be_value::{Kind, counted64, key_of};
 
 /// Whether an index's tree has a number, given by its bytes in a key, with a node.
 fn has_number<L: Look>(look: &mut L, index: u64, number: &[u8], node: u64) -> bool
-    requires tree { IsTree (L.standing look.old) (L.words look.old) index }
+    requires tree { IsTree (L.page_state look.old) (L.words look.old) index }
     requires short { length number.now ≤ 8 }
     ensures has { result ≡ is_some (payload_at (pairs (L.words look.old) index)
         (number.now ++ to_be_bytes w64 node)) }
-    ensures unchanged { IsUnchanged L.kept L.standing L.words look.old look.new }
+    ensures unchanged { IsUnchanged L.kept L.page_state L.words look.old look.new }
 {
     let mut key: ArrayVec<u8, 16> = ArrayVec::new();
     key.try_extend_from_slice(number).unwrap();
@@ -36,10 +36,10 @@ fn has_number<L: Look>(look: &mut L, index: u64, number: &[u8], node: u64) -> bo
 /// key.
 #[inline(never)]
 fn any_is_indexed_at<L: Look>(look: &mut L, index: u64, page: u64, at: usize, node: u64) -> bool
-    requires tree { IsTree (L.standing look.old) (L.words look.old) index }
-    requires item { IsReadableAt (L.standing look.old) (L.words look.old) page at }
+    requires tree { IsTree (L.page_state look.old) (L.words look.old) index }
+    requires item { IsReadableAt (L.page_state look.old) (L.words look.old) page at }
     ensures has { DecidesPair (L.words look.old) index node page at result }
-    ensures unchanged { IsUnchanged L.kept L.standing L.words look.old look.new }
+    ensures unchanged { IsUnchanged L.kept L.page_state L.words look.old look.new }
 {
     match value_at(look, page, at) {
         Some(value) => {
@@ -57,10 +57,10 @@ pub(crate) fn is_indexed_at<L: Look>(
     at: usize,
     node: u64,
 ) -> bool
-    requires tree { IsTree (L.standing look.old) (L.words look.old) index }
-    requires item { IsReadableAt (L.standing look.old) (L.words look.old) page at }
+    requires tree { IsTree (L.page_state look.old) (L.words look.old) index }
+    requires item { IsReadableAt (L.page_state look.old) (L.words look.old) page at }
     ensures has { DecidesPair (L.words look.old) index node page at result }
-    ensures unchanged { IsUnchanged L.kept L.standing L.words look.old look.new }
+    ensures unchanged { IsUnchanged L.kept L.page_state L.words look.old look.new }
 {
     let Some(kind) = kind_at(look, page, at) else {
         return false;

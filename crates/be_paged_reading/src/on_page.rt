@@ -37,11 +37,11 @@ pub(crate) type Known = Option<FoundIndex>;
 /// found first.
 #[inline(always)]
 pub(crate) fn known_index<L: Look>(look: &mut L, page: u64, name: &Name, known: &mut Known) -> Known
-    requires version { HasVersion L.standing L.words look.old page }
+    requires version { HasVersion L.page_state L.words look.old page }
     requires known { IsKnown (contents_of (L.words look.old page)).entries known.old }
     ensures found { IsFound (contents_of (L.words look.new page)).entries name.now result }
     ensures known { IsKnown (contents_of (L.words look.new page)).entries known.new }
-    ensures unchanged { IsUnchanged L.kept L.standing L.words look.old look.new }
+    ensures unchanged { IsUnchanged L.kept L.page_state L.words look.old look.new }
 {
     let Some(last) = *known else {
         return find_to_know(look, page, name, known);
@@ -54,9 +54,9 @@ pub(crate) fn known_index<L: Look>(look: &mut L, page: u64, name: &Name, known: 
 
 /// The index at this number on a version page, if there is one.
 pub(crate) fn index_there<L: Look>(look: &mut L, page: u64, place: usize) -> Option<FoundIndex>
-    requires version { HasVersion L.standing L.words look.old page }
+    requires version { HasVersion L.page_state L.words look.old page }
     ensures known { IsKnown (contents_of (L.words look.new page)).entries result }
-    ensures unchanged { IsUnchanged L.kept L.standing L.words look.old look.new }
+    ensures unchanged { IsUnchanged L.kept L.page_state L.words look.old look.new }
 {
     let count = look.word(page, 1);
     if place as u64 >= count {
@@ -68,10 +68,10 @@ pub(crate) fn index_there<L: Look>(look: &mut L, page: u64, place: usize) -> Opt
 /// Finds the index with this name, and keeps it for the next call.
 #[inline(never)]
 fn find_to_know<L: Look>(look: &mut L, page: u64, name: &Name, known: &mut Known) -> Known
-    requires version { HasVersion L.standing L.words look.old page }
+    requires version { HasVersion L.page_state L.words look.old page }
     ensures found { IsFound (contents_of (L.words look.new page)).entries name.now result }
     ensures known { IsKnown (contents_of (L.words look.new page)).entries known.new }
-    ensures unchanged { IsUnchanged L.kept L.standing L.words look.old look.new }
+    ensures unchanged { IsUnchanged L.kept L.page_state L.words look.old look.new }
 {
     let index = find_index(look, page, name);
     *known = index;
@@ -80,11 +80,11 @@ fn find_to_know<L: Look>(look: &mut L, page: u64, name: &Name, known: &mut Known
 
 /// Whether the index at this number on a version page has this name.
 fn is_named<L: Look>(look: &mut L, page: u64, i: usize, name: &Name) -> bool
-    requires version { HasVersion L.standing L.words look.old page }
+    requires version { HasVersion L.page_state L.words look.old page }
     requires in_range { i < length (contents_of (L.words look.old page)).entries }
     ensures named { result ≡ true → IsNamedAt (contents_of (L.words look.old page)).entries name.now
         i }
-    ensures unchanged { IsUnchanged L.kept L.standing L.words look.old look.new }
+    ensures unchanged { IsUnchanged L.kept L.page_state L.words look.old look.new }
 {
     let text = name.as_str().as_bytes();
     let first = word_from(text, 0);
@@ -97,9 +97,9 @@ fn is_named<L: Look>(look: &mut L, page: u64, i: usize, name: &Name) -> bool
 /// The index with this name on a version page, if there is one. For most indices that the search
 /// passes it reads one word.
 pub(crate) fn find_index<L: Look>(look: &mut L, page: u64, name: &Name) -> Option<FoundIndex>
-    requires version { HasVersion L.standing L.words look.old page }
+    requires version { HasVersion L.page_state L.words look.old page }
     ensures found { IsFound (contents_of (L.words look.new page)).entries name.now result }
-    ensures unchanged { IsUnchanged L.kept L.standing L.words look.old look.new }
+    ensures unchanged { IsUnchanged L.kept L.page_state L.words look.old look.new }
 {
     let text = name.as_str().as_bytes();
     let first = word_from(text, 0);
@@ -128,14 +128,14 @@ fn middle(low: usize, high: usize) -> usize
 /// `first`. The words after a name are zeros, so the first word that differs decides. If none
 /// differs, the lengths decide.
 fn compare_at<L: Look>(look: &mut L, page: u64, at: usize, name: &[u8], first: u64) -> Ordering
-    requires readable { IsTrue (is_readable (L.standing look.old page)) }
+    requires readable { IsTrue (is_readable (L.page_state look.old page)) }
     requires in_page { at + 11 ≤ 512 }
     requires entry { IsEntry (L.words look.old page) at }
     requires short { length name.now ≤ 63 }
     requires first { to_be_bytes w64 first
         ≡ map (λ k. slice_index name.now k) (range_with_len 0 8) }
     ensures order { result ≡ name_cmp (entry_at (L.words look.old page) at).name name.now }
-    ensures unchanged { IsUnchanged L.kept L.standing L.words look.old look.new }
+    ensures unchanged { IsUnchanged L.kept L.page_state L.words look.old look.new }
 {
     let mine = look.word(page, at + 1);
     if mine != first {
@@ -154,7 +154,7 @@ fn compare_at<L: Look>(look: &mut L, page: u64, at: usize, name: &[u8], first: u
 
 /// The index at this number on a version page.
 fn index_at<L: Look>(look: &mut L, page: u64, i: usize) -> FoundIndex
-    requires readable { IsTrue (is_readable (L.standing look.old page)) }
+    requires readable { IsTrue (is_readable (L.page_state look.old page)) }
     requires page { IsVersionPage (L.words look.old page) }
     requires in_range { i < L.words look.old page 1 }
     ensures place { result.place ≡ i }
@@ -162,7 +162,7 @@ fn index_at<L: Look>(look: &mut L, page: u64, i: usize) -> FoundIndex
         ≡ (slice_index_or (contents_of (L.words look.old page)).entries i d).kind }
     ensures root { (d : AnyEntry) → result.root
         ≡ (slice_index_or (contents_of (L.words look.old page)).entries i d).root }
-    ensures unchanged { IsUnchanged L.kept L.standing L.words look.old look.new }
+    ensures unchanged { IsUnchanged L.kept L.page_state L.words look.old look.new }
 {
     let kind = kind_numbered(look.word(page, 13 + 11 * i));
     let root = look.word(page, 14 + 11 * i);

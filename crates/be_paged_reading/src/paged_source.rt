@@ -16,7 +16,7 @@ ghost use Rattle.be_value.specs.declared.refusals.Refusal.TheVariants.{OutOfMemo
 ghost use Rattle.be_value.specs.declared.values.Kind.TheVariants.{Cstr};
 ghost use Rattle.be_volume.specs.Volume.{State};
 ghost use Rattle.be_paged_reading.specs.Page.{contents_of};
-ghost use Rattle.be_paged_reading.specs.Source.{HasNumbers, HasPassing, IsIndexOf, StandsAfter};
+ghost use Rattle.be_paged_reading.specs.Source.{HasNumbers, HasPassing, IsIndexOf, LiesAfter};
 ghost use Rattle.be_paged_reading.specs.Version.{HasVersion, IsVersion};
 
 use crate::on_page::{FoundIndex, known_index};
@@ -67,8 +67,8 @@ fn is_testable(kind: Kind, test: KeyTest<'_, '_>) -> bool
 /// About how many keys a tree has. A page has 6 to 12 items; the estimate is eight for each page
 /// below the root.
 fn about_keys<L: Look>(look: &mut L, root: u64) -> u64
-    requires tree { IsTree (L.standing look.old) (L.words look.old) root }
-    ensures unchanged { IsUnchanged L.kept L.standing L.words look.old look.new }
+    requires tree { IsTree (L.page_state look.old) (L.words look.old) root }
+    ensures unchanged { IsUnchanged L.kept L.page_state L.words look.old look.new }
 {
     if root == 0 {
         return 0;
@@ -81,12 +81,12 @@ fn about_keys<L: Look>(look: &mut L, root: u64) -> u64
 /// An index reader for the version at this page. It reads nothing yet, and keeps the page reader
 /// until `into_look`.
 pub fn source<L: Look>(look: L, version_page: u64) -> PagedSource<L>
-    requires version { HasVersion L.standing L.words look version_page }
+    requires version { HasVersion L.page_state L.words look version_page }
     ensures answers { (volume : State)
-        → IsVersion (L.standing look) (L.words look) version_page volume
+        → IsVersion (L.page_state look) (L.words look) version_page volume
         → ⟦<PagedSource<L> as Source>⟧.answers_for result volume }
     ensures look { ⟦<PagedSource<L> as Source>⟧.kept result
-        ≡ (L.kept look, (L.standing look, L.words look)) }
+        ≡ (L.kept look, (L.page_state look, L.words look)) }
 {
     PagedSource {
         look,
@@ -101,7 +101,7 @@ pub fn source<L: Look>(look: L, version_page: u64) -> PagedSource<L>
 impl<L: Look> PagedSource<L> {
     /// Gives the page reader back, with the facts that it had.
     pub fn into_look(self) -> L
-        ensures look { (L.kept result, (L.standing result, L.words result))
+        ensures look { (L.kept result, (L.page_state result, L.words result))
             ≡ ⟦<PagedSource<L> as Source>⟧.kept self }
     {
         self.look
@@ -112,17 +112,17 @@ impl<L: Look> PagedSource<L> {
     fn walk_to(&mut self, index: FoundIndex, from: &[u8], after: bool)
         requires index { IsIndexOf (contents_of (L.words self.old.look self.old.page)).entries
             index }
-        requires tree { IsTree (L.standing self.old.look) (L.words self.old.look) index.root }
-        requires beyond { StandsAfter (L.standing self.old.look) (L.words self.old.look)
+        requires tree { IsTree (L.page_state self.old.look) (L.words self.old.look) index.root }
+        requires beyond { LiesAfter (L.page_state self.old.look) (L.words self.old.look)
             (contents_of (L.words self.old.look self.old.page)).entries self.old.cursor
             self.old.place self.old.last.0 self.old.last.1 }
-        ensures cursor { IsCursor (L.standing self.new.look) (L.words self.new.look)
+        ensures cursor { IsCursor (L.page_state self.new.look) (L.words self.new.look)
             self.new.cursor }
         ensures rest { remaining (L.words self.new.look) self.new.cursor
             ≡ pairs_from (pairs (L.words self.new.look) index.root) from.now after }
         ensures page { self.new.page ≡ self.old.page }
         ensures known { self.new.known ≡ self.old.known }
-        ensures unchanged { IsUnchanged L.kept L.standing L.words self.old.look self.new.look }
+        ensures unchanged { IsUnchanged L.kept L.page_state L.words self.old.look self.new.look }
     {
         if after && index.place == self.place {
             let (page, at) = self.last;
@@ -206,14 +206,14 @@ impl<L: Look> PagedSource<L> {
 
 impl<L: Look> Source for PagedSource<L> {
     ghost use Rattle.std.specs.Prelude.{ℕ};
-    ghost use Rattle.be_pages.specs.declared.room.Standing.{Standing as Stands};
+    ghost use Rattle.be_pages.specs.declared.room.PageState.{PageState as AnyPageState};
     ghost use Rattle.be_paged_reading.specs.Source.{SourceOf};
 
-    ghost Kept = { L.Kept × ((ℕ → Stands) × (ℕ → ℕ → ℕ)) };
+    ghost Kept = { L.Kept × ((ℕ → AnyPageState) × (ℕ → ℕ → ℕ)) };
 
-    ghost kept = { λ s. (L.kept s.look, (L.standing s.look, L.words s.look)) };
+    ghost kept = { λ s. (L.kept s.look, (L.page_state s.look, L.words s.look)) };
 
-    ghost answers_for = { λ s volume. SourceOf (L.standing s.look) (L.words s.look) s.page s.known
+    ghost answers_for = { λ s volume. SourceOf (L.page_state s.look) (L.words s.look) s.page s.known
         s.cursor s.place s.last.0 s.last.1 volume };
 
     ghost sound = { λ s volume is. is.version.sound };

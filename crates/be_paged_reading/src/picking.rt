@@ -31,14 +31,14 @@ fn pick_item<L: Look>(
     room: &mut [u8],
     found: &mut Vec<u64>,
 ) -> Result<(), AllocError>
-    requires readable { IsTrue (is_readable (L.standing look.old page)) }
+    requires readable { IsTrue (is_readable (L.page_state look.old page)) }
     requires in_page { at + 42 ≤ 512 }
     requires item { IsItem (L.words look.old page) at }
     requires testable { IsTestable test (item_at (L.words look.old page) at).key }
     requires fits { length room.old ≡ 256 }
     ensures added { OnOk result (found.new.items ≡ found.old.items
         ++ node_if test.entry (item_at (L.words look.old page) at)) }
-    ensures unchanged { IsUnchanged L.kept L.standing L.words look.old look.new }
+    ensures unchanged { IsUnchanged L.kept L.page_state L.words look.old look.new }
 {
     match test {
         KeyTest::Text(test) => test_item(look, page, at, test, room, found),
@@ -76,13 +76,13 @@ fn is_ahead<L: Look>(
     first: u64,
     endless: bool,
 ) -> bool
-    requires readable { IsTrue (is_readable (L.standing look.old page)) }
+    requires readable { IsTrue (is_readable (L.page_state look.old page)) }
     requires in_page { at + 42 ≤ 512 }
     requires item { IsItem (L.words look.old page) at }
     requires first { IsFirstOf (end_of_way way) first }
     requires endless { endless ≡ true → (key : List ℕ) → is_on_way way key ≡ true }
     ensures within { result ≡ is_on_way way.entry (item_at (L.words look.old page) at).key }
-    ensures unchanged { IsUnchanged L.kept L.standing L.words look.old look.new }
+    ensures unchanged { IsUnchanged L.kept L.page_state L.words look.old look.new }
 {
     endless || is_within(look, page, at, way, first)
 }
@@ -99,7 +99,7 @@ fn pick_ahead<L: Look>(
     most: usize,
     found: &mut Vec<u64>,
 ) -> Result<bool, AllocError>
-    requires leaf { IsLeaf (L.standing look.old) (L.words look.old) leaf }
+    requires leaf { IsLeaf (L.page_state look.old) (L.words look.old) leaf }
     requires back { leaf.back ≡ way.back }
     requires testable { AreTestable test (items_ahead (L.words look.old) leaf) }
     requires fits { length room.old ≡ 256 }
@@ -112,7 +112,7 @@ fn pick_ahead<L: Look>(
     ensures goes_on { IfOk result (λ ended. ended ≡ false → found.new.items
         ≡ found.old.items ++ passing_on test.entry way.entry
         (items_ahead (L.words look.old) leaf)) }
-    ensures unchanged { IsUnchanged L.kept L.standing L.words look.old look.new }
+    ensures unchanged { IsUnchanged L.kept L.page_state L.words look.old look.new }
 {
     let first = first_of_end(way);
     let endless = is_endless(way);
@@ -140,14 +140,14 @@ fn pick_all<L: Look>(
     most: usize,
     found: &mut Vec<u64>,
 ) -> Result<(), AllocError>
-    requires walk { IsWalk (L.standing look.old) (L.words look.old) walk.old }
+    requires walk { IsWalk (L.page_state look.old) (L.words look.old) walk.old }
     requires back { walk.old.back ≡ way.back }
     requires testable { AreTestable test (ahead (L.words look.old) walk.old) }
     requires ends { StaysFalse (is_on_way way) (ahead (L.words look.old) walk.old) }
     requires empty { found.old.items ≡ [] }
     ensures found { OnOk result (found.new.items ≡ take most (passing_on test.entry
         way.entry (ahead (L.words look.old) walk.old))) }
-    ensures unchanged { IsUnchanged L.kept L.standing L.words look.old look.new }
+    ensures unchanged { IsUnchanged L.kept L.page_state L.words look.old look.new }
 {
     let mut room = [0u8; ROOM];
     'leaves: while let Some(leaf) = walk.step_leaf(look) {
@@ -170,11 +170,11 @@ pub(crate) fn passing_in_order<L: Look>(
     most: usize,
     found: &mut Vec<u64>,
 ) -> Result<(), AllocError>
-    requires tree { IsTree (L.standing look.old) (L.words look.old) root }
+    requires tree { IsTree (L.page_state look.old) (L.words look.old) root }
     requires testable { AreTestable test (pairs (L.words look.old) root) }
     ensures found { OnOk result (found.new.items ≡ take most (nodes_passing test.entry
         (walk_of way.entry (pairs (L.words look.old) root)))) }
-    ensures unchanged { IsUnchanged L.kept L.standing L.words look.old look.new }
+    ensures unchanged { IsUnchanged L.kept L.page_state L.words look.old look.new }
 {
     found.clear();
     let mut walk = Walk::begin(look, root, way);

@@ -30,11 +30,11 @@ fn meet_index<L: Look>(
     version_page: u64,
     prepared: &mut PreparedQuery,
 ) -> Option<FoundIndex>
-    requires version { HasVersion L.standing L.words look.old version_page }
+    requires version { HasVersion L.page_state L.words look.old version_page }
     ensures found { IfSome result (λ index. (name : List ℕ) → AreAllOn prepared.old name →
         IsFound (contents_of (L.words look.new version_page)).entries name (Some index)) }
     ensures same { prepared.new ≡ prepared.old }
-    ensures unchanged { IsUnchanged L.kept L.standing L.words look.old look.new }
+    ensures unchanged { IsUnchanged L.kept L.page_state L.words look.old look.new }
 {
     let mut known = index_there(look, version_page, prepared.place());
     let Some(name) = prepared.name() else {
@@ -55,19 +55,19 @@ fn nodes_of<L: Look>(
     keys: KeyRange<'_>,
     found: &mut Vec<u64>,
 ) -> Result<(), Refusal>
-    requires version { HasVersion L.standing L.words look.old version_page }
+    requires version { HasVersion L.page_state L.words look.old version_page }
     requires index { IsFound (contents_of (L.words look.old version_page)).entries keys.name.now
         (Some index) }
     ensures memory { IfErr result (λ e. e ≡ OutOfMemory) }
-    ensures only { (volume : State) → IsVersion (L.standing look.old) (L.words look.old)
+    ensures only { (volume : State) → IsVersion (L.page_state look.old) (L.words look.old)
         version_page volume →
         HasOnly volume keys.entry.name.now keys.entry.low.now (option_copied keys.entry.high)
         found.old.items found.new.items }
     ensures has { OnOk result ((volume : State)
-        → IsVersion (L.standing look.old) (L.words look.old) version_page volume →
+        → IsVersion (L.page_state look.old) (L.words look.old) version_page volume →
         HasNodes volume keys.entry.name.now keys.entry.low.now (option_copied keys.entry.high)
         found.new.items) }
-    ensures unchanged { IsUnchanged L.kept L.standing L.words look.old look.new }
+    ensures unchanged { IsUnchanged L.kept L.page_state L.words look.old look.new }
 {
     numbers_within(look, index.root, keys.low, keys.high, found)?;
     Ok(())
@@ -85,15 +85,15 @@ pub fn answer_decided<L: Look>(
     prepared: &mut PreparedQuery,
     found: &mut Vec<u64>,
 ) -> Result<bool, Refusal>
-    requires version { HasVersion L.standing L.words look.old version_page }
+    requires version { HasVersion L.page_state L.words look.old version_page }
     ensures answer { IfOk result (λ decided. decided ≡ true → (volume : State) →
-        IsVersion (L.standing look.old) (L.words look.old) version_page volume
+        IsVersion (L.page_state look.old) (L.words look.old) version_page volume
         → scan volume prepared.old ≡ Ok found.new.items) }
     ensures rising { IfOk result (λ decided. decided ≡ true
         → IsStrictlyIncreasing found.new.items) }
     ensures memory { IfErr result (λ e. e ≡ OutOfMemory) }
     ensures same { prepared.new ≡ prepared.old }
-    ensures unchanged { IsUnchanged L.kept L.standing L.words look.old look.new }
+    ensures unchanged { IsUnchanged L.kept L.page_state L.words look.old look.new }
 {
     found.clear();
     let Some(index) = meet_index(look, version_page, prepared) else {

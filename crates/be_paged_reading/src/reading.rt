@@ -44,12 +44,12 @@ pub(crate) fn attribute_place<L: Look>(
     node: u64,
     name: &Name,
 ) -> Option<(u64, usize)>
-    requires tree { IsTree (L.standing look.old) (L.words look.old) catalog }
+    requires tree { IsTree (L.page_state look.old) (L.words look.old) catalog }
     ensures there { (nodes : AllNodes) → IsCatalog (pairs (L.words look.old) catalog) nodes
         → is_some result ≡ map.contains_key (attributes_of nodes node) name.now }
-    ensures found { IsFoundAt (L.standing look.new) (L.words look.new) catalog
+    ensures found { IsFoundAt (L.page_state look.new) (L.words look.new) catalog
         (key_in_catalog node name.now) result }
-    ensures unchanged { IsUnchanged L.kept L.standing L.words look.old look.new }
+    ensures unchanged { IsUnchanged L.kept L.page_state L.words look.old look.new }
 {
     find_place(look, catalog, &catalog_key(node, name))
 }
@@ -62,11 +62,11 @@ fn place_of<L: Look>(
     key: &[u8],
     known: Option<Option<(u64, usize)>>,
 ) -> Option<(u64, usize)>
-    requires tree { IsTree (L.standing look.old) (L.words look.old) catalog }
-    requires known { IfSome known (IsFoundAt (L.standing look.old) (L.words look.old) catalog
+    requires tree { IsTree (L.page_state look.old) (L.words look.old) catalog }
+    requires known { IfSome known (IsFoundAt (L.page_state look.old) (L.words look.old) catalog
         key.now) }
-    ensures found { IsFoundAt (L.standing look.new) (L.words look.new) catalog key.now result }
-    ensures unchanged { IsUnchanged L.kept L.standing L.words look.old look.new }
+    ensures found { IsFoundAt (L.page_state look.new) (L.words look.new) catalog key.now result }
+    ensures unchanged { IsUnchanged L.kept L.page_state L.words look.old look.new }
 {
     match known {
         Some(found) => found,
@@ -84,12 +84,12 @@ pub fn value_in<L: Look>(
     name: &Name,
     known: Option<Option<(u64, usize)>>,
 ) -> Option<Value>
-    requires tree { IsTree (L.standing look.old) (L.words look.old) catalog }
-    requires known { IsKnownOf (L.standing look.old) (L.words look.old) catalog node name.now
+    requires tree { IsTree (L.page_state look.old) (L.words look.old) catalog }
+    requires known { IsKnownOf (L.page_state look.old) (L.words look.old) catalog node name.now
         known }
     ensures value { (nodes : AllNodes) → IsCatalog (pairs (L.words look.old) catalog) nodes
         → AreValid nodes → result ≡ value_at nodes node name.now }
-    ensures unchanged { IsUnchanged L.kept L.standing L.words look.old look.new }
+    ensures unchanged { IsUnchanged L.kept L.page_state L.words look.old look.new }
 {
     let key = catalog_key(node, name);
     let (page, at) = place_of(look, catalog, &key, known)?;
@@ -107,16 +107,16 @@ pub(crate) fn holds_in<L: Look>(
     test: Option<&TextTest<'_>>,
     known: &mut Option<FoundIndex>,
 ) -> bool
-    requires version { HasVersion L.standing L.words look.old version_page }
+    requires version { HasVersion L.page_state L.words look.old version_page }
     requires test { IfSome (option_copied test) (λ t. t
         ≡ (comparison.now.op, literal comparison.now.literal)) }
     requires known { IsKnown (contents_of (L.words look.old version_page)).entries known.old }
-    ensures answer { (volume : State) → IsVersion (L.standing look.old) (L.words look.old)
+    ensures answer { (volume : State) → IsVersion (L.page_state look.old) (L.words look.old)
         version_page volume →
         result ≡ sat volume (Leaf comparison.now.name comparison.now.op
         (literal comparison.now.literal)) node }
     ensures known { IsKnown (contents_of (L.words look.new version_page)).entries known.new }
-    ensures unchanged { IsUnchanged L.kept L.standing L.words look.old look.new }
+    ensures unchanged { IsUnchanged L.kept L.page_state L.words look.old look.new }
 {
     let catalog = look.word(version_page, 3);
     let key = catalog_key(node, &comparison.name);
@@ -134,10 +134,10 @@ pub(crate) fn holds_in<L: Look>(
 
 /// The number of the next new node. It costs one load.
 pub fn next<L: Look>(look: &mut L, version_page: u64) -> u64
-    requires version { HasVersion L.standing L.words look.old version_page }
-    ensures next { (volume : State) → IsVersion (L.standing look.old) (L.words look.old)
+    requires version { HasVersion L.page_state L.words look.old version_page }
+    ensures next { (volume : State) → IsVersion (L.page_state look.old) (L.words look.old)
         version_page volume → result ≡ volume.next }
-    ensures unchanged { IsUnchanged L.kept L.standing L.words look.old look.new }
+    ensures unchanged { IsUnchanged L.kept L.page_state L.words look.old look.new }
 {
     look.word(version_page, 2)
 }
@@ -146,10 +146,10 @@ pub fn next<L: Look>(look: &mut L, version_page: u64) -> u64
 /// and takes no memory.
 #[inline(always)]
 pub fn get<L: Look>(look: &mut L, version_page: u64, node: u64, name: &Name) -> Option<Value>
-    requires version { HasVersion L.standing L.words look.old version_page }
-    ensures value { (volume : State) → IsVersion (L.standing look.old) (L.words look.old)
+    requires version { HasVersion L.page_state L.words look.old version_page }
+    ensures value { (volume : State) → IsVersion (L.page_state look.old) (L.words look.old)
         version_page volume → result ≡ attribute volume node name.now }
-    ensures unchanged { IsUnchanged L.kept L.standing L.words look.old look.new }
+    ensures unchanged { IsUnchanged L.kept L.page_state L.words look.old look.new }
 {
     let catalog = look.word(version_page, 3);
     value_in(look, catalog, node, name, None)
@@ -164,14 +164,14 @@ pub fn attrs<L: Look>(
     version_page: u64,
     node: u64,
 ) -> Result<Vec<(Name, Value)>, Refusal>
-    requires version { HasVersion L.standing L.words look.old version_page }
-    ensures answer { (volume : State) → IsVersion (L.standing look.old) (L.words look.old)
+    requires version { HasVersion L.page_state L.words look.old version_page }
+    ensures answer { (volume : State) → IsVersion (L.page_state look.old) (L.words look.old)
         version_page volume →
         Answers (λ list. list.items) result (attributes_at volume node) }
-    ensures wanted { (volume : State) → IsVersion (L.standing look.old) (L.words look.old)
+    ensures wanted { (volume : State) → IsVersion (L.page_state look.old) (L.words look.old)
         version_page volume →
         IfErr result (λ e. e ≡ OutOfMemory → IsOk (attributes_at volume node)) }
-    ensures unchanged { IsUnchanged L.kept L.standing L.words look.old look.new }
+    ensures unchanged { IsUnchanged L.kept L.page_state L.words look.old look.new }
 {
     let catalog = look.word(version_page, 3);
     if !has_key(look, catalog, &node.to_be_bytes()) {
@@ -187,11 +187,11 @@ pub fn indices<L: Look>(
     look: &mut L,
     version_page: u64,
 ) -> Result<Vec<(Name, Kind)>, Refusal>
-    requires version { HasVersion L.standing L.words look.old version_page }
-    ensures answer { (volume : State) → IsVersion (L.standing look.old) (L.words look.old)
+    requires version { HasVersion L.page_state L.words look.old version_page }
+    ensures answer { (volume : State) → IsVersion (L.page_state look.old) (L.words look.old)
         version_page volume →
         Answers (λ list. list.items) result (Ok (index_kinds volume)) }
-    ensures unchanged { IsUnchanged L.kept L.standing L.words look.old look.new }
+    ensures unchanged { IsUnchanged L.kept L.page_state L.words look.old look.new }
 {
     let mut version = Version::new();
     fill_version(look, version_page, &mut version);
@@ -208,11 +208,11 @@ pub fn nodes<L: Look>(
     from: u64,
     most: usize,
 ) -> Result<Vec<u64>, Refusal>
-    requires version { HasVersion L.standing L.words look.old version_page }
-    ensures answer { (volume : State) → IsVersion (L.standing look.old) (L.words look.old)
+    requires version { HasVersion L.page_state L.words look.old version_page }
+    ensures answer { (volume : State) → IsVersion (L.page_state look.old) (L.words look.old)
         version_page volume →
         Answers (λ list. list.items) result (Ok (nodes_from volume from most)) }
-    ensures unchanged { IsUnchanged L.kept L.standing L.words look.old look.new }
+    ensures unchanged { IsUnchanged L.kept L.page_state L.words look.old look.new }
 {
     let catalog = look.word(version_page, 3);
     Ok(list_nodes(alloc, look, catalog, from, most)?)

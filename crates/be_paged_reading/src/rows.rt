@@ -9,7 +9,7 @@ ghost use Rattle.std.specs.Prelude.{None, Some, IfSome, IfNone, drop, length, ma
 ghost use Rattle.std.specs.Prelude.{slice_get};
 ghost use Rattle.std.specs.FinMap as map;
 ghost use Rattle.be_pages.specs.Pages.{IsUnchanged};
-ghost use Rattle.be_pages.specs.declared.room.Standing.{Standing as Stands};
+ghost use Rattle.be_pages.specs.declared.room.PageState.{PageState as AnyPageState};
 ghost use Rattle.be_tree_reading.specs.Cursor.{IsCursor, remaining};
 ghost use Rattle.be_tree_reading.specs.Page.{IsReadableAt, item_at};
 ghost use Rattle.be_tree_reading.specs.Tree.{IsTree, pairs};
@@ -18,14 +18,15 @@ ghost use Rattle.be_volume.specs.Reading.{attribute};
 ghost use Rattle.be_volume.specs.Volume.{State};
 ghost use Rattle.be_paged_reading.specs.Catalog.{IsCatalog};
 ghost use Rattle.be_paged_reading.specs.Cells.{GoesOn, IsFew, IsInRow, IsReadInto, IsValueAbsent};
-ghost use Rattle.be_paged_reading.specs.Cells.{IsValuePlace, StartsElsewhere, Tells, TellsColumns};
+ghost use Rattle.be_paged_reading.specs.Cells.{IsValuePlace, StartsElsewhere, Reports};
+ghost use Rattle.be_paged_reading.specs.Cells.{ReportsColumns};
 ghost use Rattle.be_paged_reading.specs.Cells.{WalksIn, cell_of, found_at, name_in, why_none};
 ghost use Rattle.be_paged_reading.specs.Place.{IsFoundAt};
 ghost use Rattle.be_paged_reading.specs.Reading.{AreValid};
 ghost use Rattle.be_paged_reading.specs.Source.{HasItem};
 ghost use Rattle.be_paged_reading.specs.Version.{HasVersion, IsVersion};
 
-use crate::cells::{Cell, Filled, HeldName, empty_cell, held_key, read_into, tell, tell_value};
+use crate::cells::{Cell, Filled, HeldName, empty_cell, held_key, read_into, report, report_value};
 use be_pages::Look;
 use be_tree_reading::{Cursor, find_place, has_key, is_key_at};
 use be_value::Refusal;
@@ -46,8 +47,9 @@ struct Row {
 impl Row {
     /// A row that nothing was read from yet.
     fn new(catalog: u64, node: u64) -> Row
-        ensures row { (standing : ℕ → Stands) (words : ℕ → ℕ → ℕ) → IsTree standing words catalog
-            → IsInRow standing words result }
+        ensures row { (page_state : ℕ → AnyPageState) (words : ℕ → ℕ → ℕ)
+            → IsTree page_state words catalog
+            → IsInRow page_state words result }
         ensures catalog { result.catalog ≡ catalog }
         ensures node { result.node ≡ node }
     {
@@ -62,18 +64,18 @@ impl Row {
 
 /// Steps the cursor, and returns the place of the item that it passed if the item has this key.
 fn step_to<L: Look>(look: &mut L, cursor: &mut Cursor, key: &[u8]) -> Option<(u64, usize)>
-    requires cursor { IsCursor (L.standing look.old) (L.words look.old) cursor.old }
-    ensures item { IfSome result (λ at. IsReadableAt (L.standing look.old) (L.words look.old) at.0
+    requires cursor { IsCursor (L.page_state look.old) (L.words look.old) cursor.old }
+    ensures item { IfSome result (λ at. IsReadableAt (L.page_state look.old) (L.words look.old) at.0
         at.1) }
     ensures found { IfSome result (λ at. slice_get (remaining (L.words look.old) cursor.old) 0
         ≡ Some (item_at (L.words look.old at.0) at.1)) }
     ensures same { IfSome result (λ at. (item_at (L.words look.old at.0) at.1).key ≡ key.now) }
     ensures none { IfNone result (StartsElsewhere key.now
         (remaining (L.words look.old) cursor.old)) }
-    ensures cursor { IsCursor (L.standing look.old) (L.words look.old) cursor.new }
+    ensures cursor { IsCursor (L.page_state look.old) (L.words look.old) cursor.new }
     ensures rest { remaining (L.words look.old) cursor.new
         ≡ drop 1 (remaining (L.words look.old) cursor.old) }
-    ensures unchanged { IsUnchanged L.kept L.standing L.words look.old look.new }
+    ensures unchanged { IsUnchanged L.kept L.page_state L.words look.old look.new }
 {
     let (page, at) = cursor.step(look)?;
     if !is_key_at(look, page, at, key) {
@@ -90,11 +92,11 @@ fn next_place<L: Look>(
     cursor: &mut Cursor,
     key: &[u8],
 ) -> Option<(u64, usize)>
-    requires tree { IsTree (L.standing look.old) (L.words look.old) catalog }
-    requires cursor { WalksIn (L.standing look.old) (L.words look.old) catalog cursor.old }
-    ensures found { IsFoundAt (L.standing look.new) (L.words look.new) catalog key.now result }
-    ensures cursor { WalksIn (L.standing look.new) (L.words look.new) catalog cursor.new }
-    ensures unchanged { IsUnchanged L.kept L.standing L.words look.old look.new }
+    requires tree { IsTree (L.page_state look.old) (L.words look.old) catalog }
+    requires cursor { WalksIn (L.page_state look.old) (L.words look.old) catalog cursor.old }
+    ensures found { IsFoundAt (L.page_state look.new) (L.words look.new) catalog key.now result }
+    ensures cursor { WalksIn (L.page_state look.new) (L.words look.new) catalog cursor.new }
+    ensures unchanged { IsUnchanged L.kept L.page_state L.words look.old look.new }
 {
     if let Some(place) = step_to(look, cursor, key) {
         return Some(place);
@@ -111,14 +113,14 @@ fn value_place<L: Look>(
     name: &HeldName,
     cursor: &mut Cursor,
 ) -> Option<(u64, usize)>
-    requires tree { IsTree (L.standing look.old) (L.words look.old) catalog }
-    requires cursor { WalksIn (L.standing look.old) (L.words look.old) catalog cursor.old }
-    ensures item { HasItem (L.standing look.new) (L.words look.new) result }
+    requires tree { IsTree (L.page_state look.old) (L.words look.old) catalog }
+    requires cursor { WalksIn (L.page_state look.old) (L.words look.old) catalog cursor.old }
+    ensures item { HasItem (L.page_state look.new) (L.words look.new) result }
     ensures some { IsValuePlace (L.words look.old) (L.words look.new) catalog node
         (name_in name.now) result }
     ensures none { IsValueAbsent (L.words look.old) catalog node (name_in name.now) result }
-    ensures cursor { WalksIn (L.standing look.new) (L.words look.new) catalog cursor.new }
-    ensures unchanged { IsUnchanged L.kept L.standing L.words look.old look.new }
+    ensures cursor { WalksIn (L.page_state look.new) (L.words look.new) catalog cursor.new }
+    ensures unchanged { IsUnchanged L.kept L.page_state L.words look.old look.new }
 {
     let key = held_key(node, name);
     if key.len() <= 8 {
@@ -129,14 +131,14 @@ fn value_place<L: Look>(
 
 /// Whether the node exists. A row looks it up only once.
 fn is_there<L: Look>(look: &mut L, catalog: u64, node: u64, known: &mut Option<bool>) -> bool
-    requires tree { IsTree (L.standing look.old) (L.words look.old) catalog }
+    requires tree { IsTree (L.page_state look.old) (L.words look.old) catalog }
     requires known { (nodes : AllNodes) → IsCatalog (pairs (L.words look.old) catalog) nodes
         → AreValid nodes → IfSome known.old (λ there. there ≡ map.contains_key nodes node) }
     ensures there { (nodes : AllNodes) → IsCatalog (pairs (L.words look.old) catalog) nodes
         → AreValid nodes → result ≡ map.contains_key nodes node }
     ensures known { (nodes : AllNodes) → IsCatalog (pairs (L.words look.old) catalog) nodes
         → AreValid nodes → IfSome known.new (λ there. there ≡ map.contains_key nodes node) }
-    ensures unchanged { IsUnchanged L.kept L.standing L.words look.old look.new }
+    ensures unchanged { IsUnchanged L.kept L.page_state L.words look.old look.new }
 {
     if let Some(there) = *known {
         return there;
@@ -158,7 +160,7 @@ fn none_cell(there: bool, offset: usize) -> Cell
 }
 
 /// Writes what the row's node has at a name.
-fn tell_attribute<L: Look>(
+fn report_attribute<L: Look>(
     look: &mut L,
     row: &mut Row,
     name: &HeldName,
@@ -166,30 +168,30 @@ fn tell_attribute<L: Look>(
     bytes: &mut [u8],
     filled: &mut Filled,
 )
-    requires row { IsInRow (L.standing look.old) (L.words look.old) row.old }
+    requires row { IsInRow (L.page_state look.old) (L.words look.old) row.old }
     requires cells { filled.old.cells < 2 ^ 32 }
     requires few { IsFew filled.old }
-    ensures told { Tells (L.words look.old) row.old.catalog
+    ensures reported { Reports (L.words look.old) row.old.catalog
         (λ nodes. found_at nodes row.old.node (name_in name.now) ∷ []) cells.old cells.new
         bytes.old bytes.new filled.old filled.new }
-    ensures row { GoesOn (L.standing look.new) (L.words look.new) row.old row.new }
+    ensures row { GoesOn (L.page_state look.new) (L.words look.new) row.old row.new }
     ensures one { filled.new.cells ≡ filled.old.cells + 1 }
     ensures few { IsFew filled.new }
-    ensures unchanged { IsUnchanged L.kept L.standing L.words look.old look.new }
+    ensures unchanged { IsUnchanged L.kept L.page_state L.words look.old look.new }
 {
     let place = value_place(look, row.catalog, row.node, name, &mut row.cursor);
     if let Some((page, at)) = place {
         row.known = Some(true);
-        tell_value(look, page, at, cells, bytes, filled);
+        report_value(look, page, at, cells, bytes, filled);
         return;
     }
     let there = is_there(look, row.catalog, row.node, &mut row.known);
     let cell = none_cell(there, filled.bytes);
-    tell(cells, bytes, filled, cell, b"");
+    report(cells, bytes, filled, cell, b"");
 }
 
 /// Writes what the row's node has at each of the names.
-fn tell_row<L: Look>(
+fn report_row<L: Look>(
     look: &mut L,
     row: &mut Row,
     names: &[HeldName],
@@ -197,18 +199,18 @@ fn tell_row<L: Look>(
     bytes: &mut [u8],
     filled: &mut Filled,
 )
-    requires row { IsInRow (L.standing look.old) (L.words look.old) row.old }
+    requires row { IsInRow (L.page_state look.old) (L.words look.old) row.old }
     requires cells { filled.old.cells + length names.now ≤ 2 ^ 32 }
     requires few { IsFew filled.old }
-    ensures told { Tells (L.words look.old) row.old.catalog
+    ensures reported { Reports (L.words look.old) row.old.catalog
         (λ nodes. each (found_at nodes row.old.node) (each name_in names.now)) cells.old cells.new
         bytes.old bytes.new filled.old filled.new }
     ensures count { filled.new.cells ≡ filled.old.cells + length names.now }
     ensures few { IsFew filled.new }
-    ensures unchanged { IsUnchanged L.kept L.standing L.words look.old look.new }
+    ensures unchanged { IsUnchanged L.kept L.page_state L.words look.old look.new }
 {
     for name in names {
-        tell_attribute(look, row, name, cells, bytes, filled);
+        report_attribute(look, row, name, cells, bytes, filled);
     }
 }
 
@@ -226,19 +228,19 @@ pub fn columns<L: Look>(
     cells: &mut [Cell],
     bytes: &mut [u8],
 ) -> u64
-    requires version { HasVersion L.standing L.words look.old version_page }
+    requires version { HasVersion L.page_state L.words look.old version_page }
     requires few { length nodes.now * length names.now ≤ 2 ^ 32 }
-    ensures told { (volume : State) → IsVersion (L.standing look.old) (L.words look.old)
+    ensures reported { (volume : State) → IsVersion (L.page_state look.old) (L.words look.old)
         version_page volume →
-        TellsColumns volume nodes.now (each name_in names.now) cells.old cells.new bytes.old
+        ReportsColumns volume nodes.now (each name_in names.now) cells.old cells.new bytes.old
         bytes.new result }
-    ensures unchanged { IsUnchanged L.kept L.standing L.words look.old look.new }
+    ensures unchanged { IsUnchanged L.kept L.page_state L.words look.old look.new }
 {
     let catalog = look.word(version_page, 3);
     let mut filled = Filled { cells: 0, bytes: 0 };
     for node in nodes {
         let mut row = Row::new(catalog, *node);
-        tell_row(look, &mut row, names, cells, bytes, &mut filled);
+        report_row(look, &mut row, names, cells, bytes, &mut filled);
     }
     filled.bytes as u64
 }
@@ -253,11 +255,11 @@ pub fn get_into<L: Look>(
     name: &HeldName,
     bytes: &mut [u8],
 ) -> Option<Cell>
-    requires version { HasVersion L.standing L.words look.old version_page }
-    ensures value { (volume : State) → IsVersion (L.standing look.old) (L.words look.old)
+    requires version { HasVersion L.page_state L.words look.old version_page }
+    ensures value { (volume : State) → IsVersion (L.page_state look.old) (L.words look.old)
         version_page volume →
         IsReadInto (attribute volume node (name_in name.now)) result bytes.old bytes.new }
-    ensures unchanged { IsUnchanged L.kept L.standing L.words look.old look.new }
+    ensures unchanged { IsUnchanged L.kept L.page_state L.words look.old look.new }
 {
     let catalog = look.word(version_page, 3);
     let (page, at) = found_value(look, catalog, node, name)?;
@@ -267,12 +269,12 @@ pub fn get_into<L: Look>(
 /// The place of a node's value at a name, if the node has it. It costs one descent.
 #[inline(always)]
 fn found_value<L: Look>(look: &mut L, catalog: u64, node: u64, name: &HeldName) -> FoundItem
-    requires tree { IsTree (L.standing look.old) (L.words look.old) catalog }
-    ensures item { HasItem (L.standing look.new) (L.words look.new) result }
+    requires tree { IsTree (L.page_state look.old) (L.words look.old) catalog }
+    ensures item { HasItem (L.page_state look.new) (L.words look.new) result }
     ensures some { IsValuePlace (L.words look.old) (L.words look.new) catalog node
         (name_in name.now) result }
     ensures none { IsValueAbsent (L.words look.old) catalog node (name_in name.now) result }
-    ensures unchanged { IsUnchanged L.kept L.standing L.words look.old look.new }
+    ensures unchanged { IsUnchanged L.kept L.page_state L.words look.old look.new }
 {
     let key = held_key(node, name);
     if key.len() <= 8 {

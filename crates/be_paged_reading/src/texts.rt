@@ -30,12 +30,12 @@ pub(crate) const ROOM: usize = 256;
 /// The length of the text in the key at this place of a page.
 #[inline(always)]
 fn text_len_at<L: Look>(look: &mut L, page: u64, at: usize) -> usize
-    requires readable { IsTrue (is_readable (L.standing look.old page)) }
+    requires readable { IsTrue (is_readable (L.page_state look.old page)) }
     requires in_page { at + 42 ≤ 512 }
     requires item { IsItem (L.words look.old page) at }
     ensures len { result ≡ length (item_at (L.words look.old page) at).key - 9 }
     ensures short { result ≤ 255 }
-    ensures unchanged { IsUnchanged L.kept L.standing L.words look.old look.new }
+    ensures unchanged { IsUnchanged L.kept L.page_state L.words look.old look.new }
 {
     let key_len = (look.word(page, at) >> LENGTH_BITS) as usize;
     key_len.saturating_sub(9)
@@ -53,11 +53,11 @@ fn put_word(room: &mut [u8], at: usize, word: u64)
 /// Writes the first `n` bytes of the page's words from this place on to the beginning of `room`.
 #[inline(always)]
 fn put_bytes<L: Look>(look: &mut L, page: u64, at: usize, n: usize, room: &mut [u8])
-    requires readable { IsTrue (is_readable (L.standing look.old page)) }
+    requires readable { IsTrue (is_readable (L.page_state look.old page)) }
     requires in_page { at + words_for n ≤ 512 }
     requires fits { 8 * words_for n ≤ length room.old }
     ensures bytes { take n room.new ≡ bytes_at (L.words look.old page) at n }
-    ensures unchanged { IsUnchanged L.kept L.standing L.words look.old look.new }
+    ensures unchanged { IsUnchanged L.kept L.page_state L.words look.old look.new }
 {
     for i in 0..(n + 7) / 8 {
         let word = look.word(page, at + i);
@@ -69,13 +69,13 @@ fn put_bytes<L: Look>(look: &mut L, page: u64, at: usize, n: usize, room: &mut [
 /// length.
 #[inline(always)]
 fn put_text<L: Look>(look: &mut L, page: u64, at: usize, room: &mut [u8]) -> usize
-    requires readable { IsTrue (is_readable (L.standing look.old page)) }
+    requires readable { IsTrue (is_readable (L.page_state look.old page)) }
     requires in_page { at + 42 ≤ 512 }
     requires item { IsItem (L.words look.old page) at }
     requires fits { length room.old ≡ 256 }
     ensures text { take result room.new ≡ text_in (item_at (L.words look.old page) at).key }
     ensures short { result ≤ 255 }
-    ensures unchanged { IsUnchanged L.kept L.standing L.words look.old look.new }
+    ensures unchanged { IsUnchanged L.kept L.page_state L.words look.old look.new }
 {
     let length = text_len_at(look, page, at);
     put_bytes(look, page, at + 1, length, room);
@@ -102,7 +102,7 @@ pub(crate) fn test_item<L: Look>(
     room: &mut [u8],
     found: &mut Vec<u64>,
 ) -> Result<(), AllocError>
-    requires readable { IsTrue (is_readable (L.standing look.old page)) }
+    requires readable { IsTrue (is_readable (L.page_state look.old page)) }
     requires in_page { at + 42 ≤ 512 }
     requires item { IsItem (L.words look.old page) at }
     requires is_text { IsTextKey (item_at (L.words look.old page) at).key }
@@ -110,7 +110,7 @@ pub(crate) fn test_item<L: Look>(
     ensures added { OnOk result (found.new.items ≡ found.old.items
         ++ node_if_passing test.now.0 test.now.1 (item_at (L.words look.old page) at)) }
     ensures kept { IfErr result (λ _. found.new.items ≡ found.old.items) }
-    ensures unchanged { IsUnchanged L.kept L.standing L.words look.old look.new }
+    ensures unchanged { IsUnchanged L.kept L.page_state L.words look.old look.new }
 {
     let length = put_text(look, page, at, room);
     let passes = test.passes(front(room, length));
@@ -131,7 +131,7 @@ fn test_leaf<L: Look>(
     room: &mut [u8],
     found: &mut Vec<u64>,
 ) -> Result<bool, AllocError>
-    requires leaf { IsTreeAt 0 1 (L.standing look.old) (L.words look.old) leaf.0 }
+    requires leaf { IsTreeAt 0 1 (L.page_state look.old) (L.words look.old) leaf.0 }
     requires left { leaf.1 < L.words look.old leaf.0 1 }
     requires texts { AreTexts (drop leaf.1 (items_of (L.words look.old leaf.0))) }
     requires fits { length room.old ≡ 256 }
@@ -144,7 +144,7 @@ fn test_leaf<L: Look>(
     ensures past { IfOk result (λ past. past
         ≡ list_any (λ x. is_past (option_copied high.entry) x.key)
         (drop leaf.1 (items_of (L.words look.old leaf.0)))) }
-    ensures unchanged { IsUnchanged L.kept L.standing L.words look.old look.new }
+    ensures unchanged { IsUnchanged L.kept L.page_state L.words look.old look.new }
 {
     let (page, from) = leaf;
     let first = first_of(high);
@@ -169,14 +169,14 @@ fn test_rest<L: Look>(
     test: &TextTest<'_>,
     found: &mut Vec<u64>,
 ) -> Result<(), AllocError>
-    requires cursor { IsCursor (L.standing look.old) (L.words look.old) cursor.old }
+    requires cursor { IsCursor (L.page_state look.old) (L.words look.old) cursor.old }
     requires texts { AreTexts (remaining (L.words look.old) cursor.old) }
     ensures first { HasFirst found.old.items (nodes_passing_to test.now.0 test.now.1
         (remaining (L.words look.old) cursor.old) (option_copied high.entry)) found.new.items }
     ensures found { OnOk result (found.new.items ≡ found.old.items
         ++ nodes_passing_to test.now.0 test.now.1
         (remaining (L.words look.old) cursor.old) (option_copied high.entry)) }
-    ensures unchanged { IsUnchanged L.kept L.standing L.words look.old look.new }
+    ensures unchanged { IsUnchanged L.kept L.page_state L.words look.old look.new }
 {
     let mut room = [0u8; ROOM];
     'leaves: while let Some((page, from)) = cursor.step_leaf(look) {
@@ -198,7 +198,7 @@ pub(crate) fn nodes_passing<L: Look>(
     test: &TextTest<'_>,
     found: &mut Vec<u64>,
 ) -> Result<(), AllocError>
-    requires tree { IsTree (L.standing look.old) (L.words look.old) root }
+    requires tree { IsTree (L.page_state look.old) (L.words look.old) root }
     requires texts { AreTexts (pairs (L.words look.old) root) }
     ensures first { HasFirst found.old.items (nodes_passing_to test.now.0 test.now.1
         (pairs_from (pairs (L.words look.old) root) low.now false) (option_copied high.entry))
@@ -206,7 +206,7 @@ pub(crate) fn nodes_passing<L: Look>(
     ensures found { OnOk result (found.new.items ≡ found.old.items
         ++ nodes_passing_to test.now.0 test.now.1
         (pairs_from (pairs (L.words look.old) root) low.now false) (option_copied high.entry)) }
-    ensures unchanged { IsUnchanged L.kept L.standing L.words look.old look.new }
+    ensures unchanged { IsUnchanged L.kept L.page_state L.words look.old look.new }
 {
     let mut cursor = Cursor::new();
     cursor.seek(look, root, low, false);

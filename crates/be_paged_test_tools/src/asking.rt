@@ -84,8 +84,8 @@ pub fn query_both<L: Look + Drop>(
     query: &Query,
     pick: Option<usize>,
 ) -> Result<(L, Result<Vec<u64>, Refusal>), Fail>
-    requires version { IsVersion (L.standing look) (L.words look) page plain.now }
-    ensures unchanged { IfOk result (λ r. IsUnchanged L.kept L.standing L.words look r.0) }
+    requires version { IsVersion (L.page_state look) (L.words look) page plain.now }
+    ensures unchanged { IfOk result (λ r. IsUnchanged L.kept L.page_state L.words look r.0) }
 {
     let mut reader = source(look, page);
     let answer = again!(ask(alloc, plain, query, pick, &mut reader));

@@ -36,9 +36,9 @@ impl Model for Both {
 
     ghost view = { λ b. b.page };
 
-    ghost invariant = { λ b. IsVersion (⟦<VecRoom as Look>⟧.standing b.room)
+    ghost invariant = { λ b. IsVersion (⟦<VecRoom as Look>⟧.page_state b.room)
         (⟦<VecRoom as Look>⟧.words b.room) b.page b.plain
-        × IsWriteStart (⟦<VecRoom as Look>⟧.standing b.room) };
+        × IsWriteStart (⟦<VecRoom as Look>⟧.page_state b.room) };
 }
 
 /// An answer, if both forms gave it.

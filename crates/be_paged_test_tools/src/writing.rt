@@ -21,9 +21,9 @@ use std::test::Fail;
 
 /// A page writer with the first version, and that version's page.
 pub fn room_of(alloc: Global, pages: u64) -> Result<(VecRoom, u64), Refusal>
-    ensures version { IfOk result (λ r. IsVersion (⟦<VecRoom as Look>⟧.standing r.0)
+    ensures version { IfOk result (λ r. IsVersion (⟦<VecRoom as Look>⟧.page_state r.0)
         (⟦<VecRoom as Look>⟧.words r.0) r.1 empty) }
-    ensures start { IfOk result (λ r. IsWriteStart (⟦<VecRoom as Look>⟧.standing r.0)) }
+    ensures start { IfOk result (λ r. IsWriteStart (⟦<VecRoom as Look>⟧.page_state r.0)) }
 {
     let mut room = again!(VecRoom::new(alloc, pages))?;
     let page = room.take()?;
@@ -55,16 +55,16 @@ pub fn apply_pages(
     ops: &[Op],
 ) -> Result<(u64, ArrayVec<Done, 64>), Refusal>
     ghost volume: { State }
-    requires version { IsVersion (⟦<VecRoom as Look>⟧.standing room.old)
+    requires version { IsVersion (⟦<VecRoom as Look>⟧.page_state room.old)
         (⟦<VecRoom as Look>⟧.words room.old) page volume }
     requires some { 1 ≤ length ops.now }
     requires few { length ops.now ≤ 64 }
     requires fits { volume.next + 64 < 2 ^ 64 }
-    ensures ok { IfOk result (λ r. Applies ⟦<VecRoom as Look>⟧.kept ⟦<VecRoom as Look>⟧.standing
+    ensures ok { IfOk result (λ r. Applies ⟦<VecRoom as Look>⟧.kept ⟦<VecRoom as Look>⟧.page_state
         ⟦<VecRoom as Look>⟧.words
         page r.0 volume ops.now r.1.items room.old room.new) }
     ensures err { IfErr result (λ e. IsRefusedList ⟦<VecRoom as Look>⟧.kept
-        ⟦<VecRoom as Look>⟧.standing ⟦<VecRoom as Look>⟧.words
+        ⟦<VecRoom as Look>⟧.page_state ⟦<VecRoom as Look>⟧.words
         ⟦<VecRoom as Room>⟧.full volume ops.now e room.old room.new) }
 {
     apply(room, page, ops)

@@ -185,10 +185,10 @@ module _ (list places : List ℕ) (n p k l : ℕ) (place : k ≡ place_in places
       | inr ne ↦
           let same : place_in (slice_set (slice_set places l k) p 0) q ≡ place_in places q = rest q (out q some) ne in
           let was : 0 < place_in places q = omega (arith, same, some) in
-          let stood : page_at list (place_in places q - 1) ≡ q = is.lies q was in
+          let lay : page_at list (place_in places q - 1) ≡ q = is.lies q was in
           ap (λ m. page_at (slice_set list (k - 1) l) (m - 1)) same
-          ∙ get_or-set_other list (k - 1) (place_in places q - 1) l 0 (λ h. absurd (out q some (sym stood ∙ ap (page_at list) h ∙ at)))
-          ∙ stood
+          ∙ get_or-set_other list (k - 1) (place_in places q - 1) l 0 (λ h. absurd (out q some (sym lay ∙ ap (page_at list) h ∙ at)))
+          ∙ lay
     ];
     placed = λ i lt. elim (cases_eq i (k - 1)) [
       | inl e ↦

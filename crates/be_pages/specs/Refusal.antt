@@ -5,7 +5,7 @@ use Rattle.be_value.specs.declared.refusals.Refusal.TheVariants.{OutOfMemory, Fu
 
 -- no page was free, and this holds of the number that the error carries
 abbrev pub IsFullOf : (ℕ → Type 0) → Refusal → Type 0
-IsFullOf tells refusal = (least : ℕ) × (refusal ≡ Full least) × tells least
+IsFullOf reports refusal = (least : ℕ) × (refusal ≡ Full least) × reports least
 
 -- for a number of pages: the error is BadLimits exactly if it is out of its range; otherwise memory
 -- ran out

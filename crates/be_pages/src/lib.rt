@@ -13,7 +13,7 @@
 //! until the write ends, and undoing the write changes no words.
 //!
 //! # Who keeps where each page is
-//! To a tree, a page has one of five states (`Standing`): free, old, given up, taken, or filled. A
+//! To a tree, a page has one of five states (`PageState`): free, old, given up, taken, or filled. A
 //! pool knows one more: a page that an earlier write gave up is retired while a reader may still
 //! read it. `PagePool` keeps a place for each page (`Place`), and each change costs only what it
 //! changes. `VecRoom` and the shared table are built on it.
@@ -31,5 +31,5 @@ mod room;
 mod vec_room;
 
 pub use page_pool::{PagePool, Place};
-pub use room::{Look, PAGE_WORDS, Room, Standing};
+pub use room::{Look, PAGE_WORDS, PageState, Room};
 pub use vec_room::VecRoom;

@@ -1,14 +1,14 @@
 //! The traits of page readers and page writers.
 //!
 //! # Page states
-//! A page's state in a write (`Standing`) is one function of the page. So the sets of pages that
+//! A page's state in a write (`PageState`) is one function of the page. So the sets of pages that
 //! can be read, taken or given up can't disagree. Ghost members give this function, the words of
 //! each page, and the facts that no call changes. None of them says where the words are stored.
 ghost use Rattle.std.specs.Prelude.{◌≡◌, ℕ, ◌<◌, ◌^◌, ◌==◌, ◌≢◌, if◌then◌else◌, IsTrue, Bool, IfOk};
 ghost use Rattle.std.specs.Prelude.{IfErr, OnErr};
-ghost use Rattle.be_pages.specs.declared.room.Standing.{Standing as Stands};
-ghost use Rattle.be_pages.specs.declared.room.Standing.TheVariants.{Free, Taken, Filled};
-ghost use Rattle.be_pages.specs.Pages.{is_readable, is_taken, is_held, after_give_up, StandsAt};
+ghost use Rattle.be_pages.specs.declared.room.PageState.{PageState as AnyPageState};
+ghost use Rattle.be_pages.specs.declared.room.PageState.TheVariants.{Free, Taken, Filled};
+ghost use Rattle.be_pages.specs.Pages.{is_readable, is_taken, is_held, after_give_up, SetsStateAt};
 ghost use Rattle.be_pages.specs.Refusal.{IsFullOf};
 
 use be_value::Refusal;
@@ -18,7 +18,7 @@ pub const PAGE_WORDS: usize = 512;
 
 /// The state of a page in a write.
 #[derive(Clone, Copy, Debug, PartialEq, Eq)]
-pub enum Standing {
+pub enum PageState {
     /// Neither readable nor taken.
     Free,
     /// Readable since before this write.
@@ -42,23 +42,23 @@ pub trait Look {
     ghost is_open: { Kept → Bool };
 
     /// The state of each page.
-    ghost standing: { Self → ℕ → Stands };
+    ghost page_state: { Self → ℕ → AnyPageState };
 
     /// The word of a page at a place.
     ghost words: { Self → ℕ → ℕ → ℕ };
 
     /// Reads a word of a page that was in use when the write began, or that the write has taken.
     fn word(&mut self, page: u64, i: usize) -> u64
-        requires readable { IsTrue (is_readable (standing self.old page)) }
+        requires readable { IsTrue (is_readable (page_state self.old page)) }
         requires in_page { i < 512 }
         ensures value { result ≡ words self.old page i }
         ensures kept { kept self.new ≡ kept self.old }
-        ensures standing { standing self.new ≡ standing self.old }
+        ensures page_state { page_state self.new ≡ page_state self.old }
         ensures words { words self.new ≡ words self.old };
 
     // A page that isn't free has a number below 2^32. So a root, which is its page plus one, fits,
     // also when the tree gets a new level.
-    ghost pages_small: { (reader : Self) (q : ℕ) → standing reader q ≢ Free → q < 2 ^ 32 };
+    ghost pages_small: { (reader : Self) (q : ℕ) → page_state reader q ≢ Free → q < 2 ^ 32 };
 }
 
 /// A page writer: a page reader that takes, fills and gives up pages, for one write.
@@ -69,17 +69,17 @@ pub trait Room: Look {
     /// Whether this write has taken a readable page: such a page may be filled again in place. It
     /// doesn't read the page's words.
     fn is_taken(&self, page: u64) -> bool
-        requires readable { IsTrue (is_readable (Self.standing self.now page)) }
-        ensures { result ≡ is_taken (Self.standing self.now page) };
+        requires readable { IsTrue (is_readable (Self.page_state self.now page)) }
+        ensures { result ≡ is_taken (Self.page_state self.now page) };
 
     /// Takes a free page. Its words mean nothing until they are filled.
     fn take(&mut self) -> Result<u64, Refusal>
         requires open { IsTrue (Self.is_open (Self.kept self.old)) }
         ensures page { IfOk result (λ page. (page < 2 ^ 32)
-            × (Self.standing self.old page ≡ Free)) }
-        ensures ok { IfOk result (λ page. StandsAt (Self.standing self.old) (Self.standing self.new)
-            page Taken) }
-        ensures err { OnErr result (Self.standing self.new ≡ Self.standing self.old) }
+            × (Self.page_state self.old page ≡ Free)) }
+        ensures ok { IfOk result (λ page. SetsStateAt (Self.page_state self.old)
+            (Self.page_state self.new) page Taken) }
+        ensures err { OnErr result (Self.page_state self.new ≡ Self.page_state self.old) }
         ensures full { IfErr result (IsFullOf (full self.new)) }
         ensures words { Self.words self.new ≡ Self.words self.old }
         ensures kept { Self.kept self.new ≡ Self.kept self.old };
@@ -89,10 +89,10 @@ pub trait Room: Look {
     fn take_like(&mut self, page: u64) -> Result<u64, Refusal>
         requires open { IsTrue (Self.is_open (Self.kept self.old)) }
         ensures page { IfOk result (λ page. (page < 2 ^ 32)
-            × (Self.standing self.old page ≡ Free)) }
-        ensures ok { IfOk result (λ page. StandsAt (Self.standing self.old) (Self.standing self.new)
-            page Taken) }
-        ensures err { OnErr result (Self.standing self.new ≡ Self.standing self.old) }
+            × (Self.page_state self.old page ≡ Free)) }
+        ensures ok { IfOk result (λ page. SetsStateAt (Self.page_state self.old)
+            (Self.page_state self.new) page Taken) }
+        ensures err { OnErr result (Self.page_state self.new ≡ Self.page_state self.old) }
         ensures full { IfErr result (IsFullOf (full self.new)) }
         ensures words { Self.words self.new ≡ Self.words self.old }
         ensures kept { Self.kept self.new ≡ Self.kept self.old };
@@ -100,9 +100,10 @@ pub trait Room: Look {
     /// Writes one word of a page that this write has taken.
     fn fill(&mut self, page: u64, i: usize, word: u64)
         requires open { IsTrue (Self.is_open (Self.kept self.old)) }
-        requires taken { IsTrue (is_taken (Self.standing self.old page)) }
+        requires taken { IsTrue (is_taken (Self.page_state self.old page)) }
         requires in_page { i < 512 }
-        ensures standing { StandsAt (Self.standing self.old) (Self.standing self.new) page Filled }
+        ensures page_state { SetsStateAt (Self.page_state self.old) (Self.page_state self.new) page
+            Filled }
         ensures place { (j : ℕ) → Self.words self.new page j
             ≡ (if j == i then word else Self.words self.old page j) }
         ensures others { (q : ℕ) → q ≢ page → Self.words self.new q ≡ Self.words self.old q }
@@ -112,9 +113,10 @@ pub trait Room: Look {
     /// does, and costs less, because it needn't look up where the page is.
     fn refill(&mut self, page: u64, i: usize, word: u64)
         requires open { IsTrue (Self.is_open (Self.kept self.old)) }
-        requires filled { Self.standing self.old page ≡ Filled }
+        requires filled { Self.page_state self.old page ≡ Filled }
         requires in_page { i < 512 }
-        ensures standing { StandsAt (Self.standing self.old) (Self.standing self.new) page Filled }
+        ensures page_state { SetsStateAt (Self.page_state self.old) (Self.page_state self.new) page
+            Filled }
         ensures place { (j : ℕ) → Self.words self.new page j
             ≡ (if j == i then word else Self.words self.old page j) }
         ensures others { (q : ℕ) → q ≢ page → Self.words self.new q ≡ Self.words self.old q }
@@ -124,9 +126,9 @@ pub trait Room: Look {
     /// until the write is kept.
     fn give_up(&mut self, page: u64)
         requires open { IsTrue (Self.is_open (Self.kept self.old)) }
-        requires held { IsTrue (is_held (Self.standing self.old page)) }
-        ensures standing { StandsAt (Self.standing self.old) (Self.standing self.new) page
-            (after_give_up (Self.standing self.old page)) }
+        requires held { IsTrue (is_held (Self.page_state self.old page)) }
+        ensures page_state { SetsStateAt (Self.page_state self.old) (Self.page_state self.new) page
+            (after_give_up (Self.page_state self.old page)) }
         ensures words { Self.words self.new ≡ Self.words self.old }
         ensures kept { Self.kept self.new ≡ Self.kept self.old };
 }

@@ -69,7 +69,7 @@ canonical = flat_map part_text
 
 -- `*`, if the flag is set
 abbrev pub run_if : Bool → List Part
-run_if stands = if stands then Run ∷ [] else []
+run_if is_there = if is_there then Run ∷ [] else []
 
 -- a literal text, with `*` before it and after it if the flags are set
 abbrev pub around : Bool → List ℕ → Bool → List Part

@@ -96,7 +96,7 @@ impl Pattern {
     /// Whether there is no wildcard, or only one `*` at the end. Then how a text begins decides
     /// whether it matches.
     pub fn is_prefix(&self) -> bool
-        ensures told { result ≡ is_prefix self.now }
+        ensures reported { result ≡ is_prefix self.now }
         // It matches its prefix, and with a `*` also the prefix followed by anything.
         ensures decides { result ≡ true → (beyond : List ℕ)
             → (is_plain self.now ≡ true → beyond ≡ []) →
@@ -157,10 +157,10 @@ fn pattern_of(alloc: Global, tokens: Vec<Token>) -> Result<Pattern, AllocError>
 }
 
 /// The tokens, with a `*` added if the flag is set.
-fn push_run(mut tokens: Vec<Token>, stands: bool) -> Result<Vec<Token>, AllocError>
-    ensures { IfOk result (λ v. parts_of v.items ≡ parts_of tokens.items ++ run_if stands) }
+fn push_run(mut tokens: Vec<Token>, is_there: bool) -> Result<Vec<Token>, AllocError>
+    ensures { IfOk result (λ v. parts_of v.items ≡ parts_of tokens.items ++ run_if is_there) }
 {
-    if !stands {
+    if !is_there {
         return Ok(tokens);
     }
     tokens.push(Token::AnyRun)?;

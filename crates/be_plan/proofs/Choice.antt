@@ -146,10 +146,10 @@ whole_part : (f : Formula) → IsPart f 0 f
 whole_part f i h = let e : 0 + i ≡ i = omega arith in ap (slice_get (leaves f)) e
 
 -- what follows from the returned choice
-pub choice_told : (indexed : List ℕ → Bool) (f : Formula) (result : Result Cover Refusal) → Answers (λ cover. cover) result (chosen indexed f) →
+pub choice_reported : (indexed : List ℕ → Bool) (f : Formula) (result : Result Cover Refusal) → Answers (λ cover. cover) result (chosen indexed f) →
     IfOk result (λ cover. (covers indexed cover.picks f ≡ true) × (rests indexed f ≡ true))
     × IfErr result (λ e. (e ≡ OutOfMemory) ⊎ ((e ≡ NotCovered) × (rests indexed f ≡ false)))
-choice_told indexed f result answers = by result (choice indexed 0 f) (is_choice indexed f 0 f (whole_part f)) answers
+choice_reported indexed f result answers = by result (choice indexed 0 f) (is_choice indexed f 0 f (whole_part f)) answers
   where
     by : (r : Result Cover Refusal) (c : Option Cover) → IsChoice indexed f 0 f c → Answers (λ cover. cover) r (or_not_covered c) →
         IfOk r (λ cover. (covers indexed cover.picks f ≡ true) × (rests indexed f ≡ true))

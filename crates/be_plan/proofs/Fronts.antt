@@ -70,6 +70,6 @@ front_decides parts text n utf8 bare clean low high decides =
     begun (limit (is_plain parts)) s (front_bytes parts) text bare clean
     (sym (ap (λ k. is_lt (name_cmp k (front_bytes parts))) key_is) ∙ low)
     (sym (ap (λ k. is_gt (name_cmp k (front_bytes parts ++ limit (is_plain parts) ∷ []))) key_is) ∙ high) in
-    let spelt : chars text ≡ literal_prefix parts ++ chars b.rest =
+    let encoded : chars text ≡ literal_prefix parts ++ chars b.rest =
     ap chars b.is ∙ chars-append (front_bytes parts) b.rest utf8 ∙ ap (λ cs. cs ++ chars b.rest) (sym (chars_from_encodes (literal_prefix parts) (front_bytes parts) utf8 refl)) in
-    ap (matches parts) spelt ∙ decides (chars b.rest) (λ plain. ap chars (b.whole (ap limit plain)))
+    ap (matches parts) encoded ∙ decides (chars b.rest) (λ plain. ap chars (b.whole (ap limit plain)))

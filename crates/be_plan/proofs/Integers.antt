@@ -12,7 +12,7 @@ use Rattle.be_value.specs.declared.values.Kind.{Kind}
 use Rattle.be_value.specs.declared.values.Kind.TheVariants as kinds
 use Rattle.be_value.specs.declared.values.Value.{Value}
 use Rattle.be_value.specs.declared.values.Value.TheVariants.{Cstr, Long, Llng, Mims, Rawt, Ulng, Ullg}
-use Rattle.be_plan.specs.Narrow.{HasEnds, StandsFor}
+use Rattle.be_plan.specs.Narrow.{HasEnds, Represents}
 
 -- the value of an integer kind with this number
 abbrev pub number_value : Kind → Option ℤ → Value
@@ -45,8 +45,8 @@ text_ends text = record {
 }
 
 -- a text that can be a value represents itself
-pub text_stands : (words : List ℕ) → length words ≤ 255 → has_nul words ≡ false → IsUtf8 words → StandsFor (Exact words) kinds.Cstr (Cstr words)
-text_stands words short clean utf8 = record {
+pub text_represents : (words : List ℕ) → length words ≤ 255 → has_nul words ≡ false → IsUtf8 words → Represents (Exact words) kinds.Cstr (Cstr words)
+text_represents words short clean utf8 = record {
   is_value = (grind (arith, nat_tests, short, clean), utf8);
   kind_is = refl;
   indexable = refl;

@@ -65,15 +65,15 @@ kind_indexable s sound name kind is = by (map.get s.indices name) refl is
     by (Some index) there e = let P : Kind → Type 0 = λ k. IsTrue (is_indexable k) in subst P (same_Some index.kind kind e) (sound.kinds name index there)
 
 -- what is true of the node's attribute is true of what is seen exactly if the index has the attribute's key
-module _ (s : State) (sound : IsSound s) (name : List ℕ) (node : ℕ) (fits : node < 2 ^ 64) (told : Value → Bool) (value : Value) (kind : Kind) (is : index_kind s name ≡ Some kind)
+module _ (s : State) (sound : IsSound s) (name : List ℕ) (node : ℕ) (fits : node < 2 ^ 64) (reported : Value → Bool) (value : Value) (kind : Kind) (is : index_kind s name ≡ Some kind)
     (there : attribute s node name ≡ Some value) where
-  pub seen_by_key : told value ≡ true → (has : Bool) → (has ≡ true → IsKey s name (key value node)) → (IsKey s name (key value node) → has ≡ true) → has ≡ option_map_or told (sees s node name) false
-  seen_by_key t true found finds = sym t ∙ ap (λ o. option_map_or told o false) (seen_key s sound name node fits value there (found refl))
-  seen_by_key t false found finds = ap (λ o. option_map_or told o false) (seen_none s sound name node fits value kind is there (λ e k. let yes = finds k in cc))
+  pub seen_by_key : reported value ≡ true → (has : Bool) → (has ≡ true → IsKey s name (key value node)) → (IsKey s name (key value node) → has ≡ true) → has ≡ option_map_or reported (sees s node name) false
+  seen_by_key t true found finds = sym t ∙ ap (λ o. option_map_or reported o false) (seen_key s sound name node fits value there (found refl))
+  seen_by_key t false found finds = ap (λ o. option_map_or reported o false) (seen_none s sound name node fits value kind is there (λ e k. let yes = finds k in cc))
 
   -- and it is true of nothing if no index may have such a value
-  pub not_indexable : is_indexable (kind_of value) ≡ false → false ≡ option_map_or told (sees s node name) false
-  not_indexable not = ap (λ o. option_map_or told o false) (seen_none s sound name node fits value kind is there
+  pub not_indexable : is_indexable (kind_of value) ≡ false → false ≡ option_map_or reported (sees s node name) false
+  not_indexable not = ap (λ o. option_map_or reported o false) (seen_none s sound name node fits value kind is there
       (λ e k.
       let Q : Kind → Type 0 = λ x. IsTrue (is_indexable x) in
       let yes : IsTrue (is_indexable (kind_of value)) = subst Q (sym e) (kind_indexable s sound name kind is) in

@@ -42,11 +42,11 @@ text_valid (Rawt bytes) node kind valid = absurd (cc kind)
 text_valid (Ulng n) node kind valid = absurd (cc kind)
 text_valid (Ullg n) node kind valid = absurd (cc kind)
 
-module _ (op : Cmp) (literal : Literal) (text : List ℕ) (node : ℕ) (answer : Bool) (told : IsUtf8 text → answer ≡ holds_of_text op text literal) where
+module _ (op : Cmp) (literal : Literal) (text : List ℕ) (node : ℕ) (answer : Bool) (reported : IsUtf8 text → answer ≡ holds_of_text op text literal) where
   of_value : (value : Value) → kind_of value ≡ kinds.Cstr → IsValue value → text ≡ text_in (key value node) → answer ≡ holds op value literal
   of_value (Cstr t) kind valid e =
       let same : text ≡ t = e ∙ text_of_key t node in
-      told (subst IsUtf8 (sym same) valid.1) ∙ ap (λ x. holds_of_text op x literal) same
+      reported (subst IsUtf8 (sym same) valid.1) ∙ ap (λ x. holds_of_text op x literal) same
   of_value (Long n) kind valid e = cc
   of_value (Llng n) kind valid e = cc
   of_value (Mims t) kind valid e = cc
@@ -58,9 +58,9 @@ module _ (op : Cmp) (literal : Literal) (text : List ℕ) (node : ℕ) (answer :
 pub passed : (s : State) → IsSound s → (name bytes : List ℕ) (k : IsKey s name bytes) → index_kind s name ≡ Some kinds.Cstr
     → (op : Cmp) (literal : Literal) (text : List ℕ) (answer : Bool) → text ≡ text_in bytes → (IsUtf8 text → answer ≡ holds_of_text op text literal)
     → answer ≡ sat s (Leaf name op literal) k.node
-passed s sound name bytes k is op literal text answer e told =
+passed s sound name bytes k is op literal text answer e reported =
     let paired : IsPaired s name k.index.kind k.node k.value = sound.pairs name k.index k.node k.value k.there k.paired in
     let texts : k.index.kind ≡ kinds.Cstr = same_Some _ _ (sym (ap (λ i. option_map (λ (i : Index). i.kind) i) k.there) ∙ is) in
     let seen : sees s k.node name ≡ Some k.value = ap (λ i. seen_in i (attribute s k.node name) k.node) k.there ∙ k.paired in
-    of_value op literal text k.node answer told k.value (paired.kind_is ∙ texts) paired.is_value (e ∙ ap text_in k.is)
+    of_value op literal text k.node answer reported k.value (paired.kind_is ∙ texts) paired.is_value (e ∙ ap text_in k.is)
     ∙ sym (ap (λ o. option_map_or (λ value. holds op value literal) o false) seen)

@@ -96,7 +96,7 @@ AllTrueOf kind comparison = AllTrue kind comparison.op (literal comparison.liter
 
 -- The value can replace the literal in an index of this kind. A comparison of an index value with
 -- the literal is true exactly if the operator is true of the two values.
-pub record StandsFor (literal : Literal) (kind : Kind) (bound : Value) : Type 0 where
+pub record Represents (literal : Literal) (kind : Kind) (bound : Value) : Type 0 where
   pub is_value : IsValue bound
   pub kind_is : kind_of bound ≡ kind
   pub indexable : IsTrue (is_indexable kind)

@@ -21,11 +21,11 @@ pub record IsUnderOr (whole : Formula) (from : ℕ) (part : Formula) : Type 0 wh
       ≡ slice_get (leaves part) i
   pub allows : (pick : ℕ) (name : List ℕ) (v : Value) → from ≤ pick → pick < from + comparisons part
       → Allows pick 0 whole name v → Allows pick from part name v
-  pub tells : (s : State) (node : ℕ) → sat s part node ≡ true → sat s whole node ≡ true
+  pub means : (s : State) (node : ℕ) → sat s part node ≡ true → sat s whole node ≡ true
   pub alone : is_or whole ≡ false → part ≡ whole
 
 -- the pick is a place in such a part
-pub record StandsIn (whole : Formula) (pick from : ℕ) (part : Formula) : Type 0 where
+pub record LiesIn (whole : Formula) (pick from : ℕ) (part : Formula) : Type 0 where
   pub under : IsUnderOr whole from part
   pub first : from ≤ pick
   pub last : pick < from + comparisons part
@@ -41,4 +41,4 @@ pub record IsFrontOf (whole part : Formula) (count : ℕ) : Type 0 where
 pub record IsPickOf (s : State) (whole : Formula) (pick from : ℕ) (part : Formula) : Type 0 where
   pub few : from + comparisons part ≤ 256
   pub rests : rests_on (has_index s) part (pick - from) ≡ true
-  pub stands : StandsIn whole pick from part
+  pub lies : LiesIn whole pick from part

@@ -32,7 +32,7 @@ ghost use Rattle.be_volume.specs.Query.{holds, holds_of_number, is_true_of, lite
 ghost use Rattle.be_volume.specs.Volume.{State};
 ghost use Rattle.be_plan.specs.Walk.{AreAllOn};
 ghost use Rattle.be_plan.specs.Bounding.{HasAtMost};
-ghost use Rattle.be_plan.specs.Narrow.{AllTrueOf, KeepsTrueOf, IsIn, IsBetween, IsPair, StandsFor};
+ghost use Rattle.be_plan.specs.Narrow.{AllTrueOf, KeepsTrueOf, IsIn, IsBetween, IsPair, Represents};
 ghost use Rattle.be_plan.specs.Narrow.{HasEnds, Allows, LeavesRest, high_of, limit, rest_true};
 
 use crate::ranges::Range;
@@ -76,7 +76,7 @@ fn narrow_by(
     after: &[u8],
 ) -> bool
     ghost bound: { AnyValue }
-    requires stands { StandsFor (literal comparison.now.literal) kind bound }
+    requires represents { Represents (literal comparison.now.literal) kind bound }
     requires ends { HasEnds bound front.now first.now after.now }
     ensures within { (k : List ℕ) → IsIn range.new k → IsIn range.old k }
     ensures keeps { KeepsTrueOf kind comparison.now range.old range.new }
@@ -95,7 +95,7 @@ fn narrow_by(
 /// Does what `narrow_by` does, for an integer whose bytes in a key these are.
 fn narrow_by_integer(range: &mut Range, comparison: &Comparison, kind: Kind, bytes: &[u8]) -> bool
     ghost bound: { AnyValue }
-    requires stands { StandsFor (literal comparison.now.literal) kind bound }
+    requires represents { Represents (literal comparison.now.literal) kind bound }
     requires bytes { bytes.now ≡ value_key bound }
     ensures within { (k : List ℕ) → IsIn range.new k → IsIn range.old k }
     ensures keeps { KeepsTrueOf kind comparison.now range.old range.new }

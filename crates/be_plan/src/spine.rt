@@ -8,7 +8,7 @@
 ghost use Rattle.std.specs.Prelude.{◌≡◌, ◌≤◌, ◌<◌, ◌+◌};
 ghost use Rattle.be_query.specs.Grammar.{Formula, comparisons};
 ghost use Rattle.be_query.specs.View.{formula};
-ghost use Rattle.be_plan.specs.Spine.{IsFrontOf, IsUnderOr, StandsIn};
+ghost use Rattle.be_plan.specs.Spine.{IsFrontOf, IsUnderOr, LiesIn};
 
 use crate::choosing::count;
 use be_query::Tree;
@@ -47,8 +47,8 @@ fn cut_after(tree: &Tree, end: usize, pick: usize) -> Front<'_>
         → IsUnderOr whole 0 (formula result.tree.now) }
     ensures end { result.end ≡ comparisons (formula result.tree.now) }
     ensures few { result.end ≤ 256 }
-    ensures stands { (whole : Formula) → IsUnderOr whole 0 (formula tree.now)
-        → StandsIn whole pick result.from (formula result.side.now) }
+    ensures lies { (whole : Formula) → IsUnderOr whole 0 (formula tree.now)
+        → LiesIn whole pick result.from (formula result.side.now) }
     ensures side { result.from + comparisons (formula result.side.now) ≡ result.end }
 {
     match tree {
@@ -80,7 +80,7 @@ pub(crate) fn front_for<'a>(whole: &'a Tree, before: &Front<'a>, pick: usize) ->
     requires whole { comparisons (formula whole.now) ≤ 256 }
     requires within { pick < comparisons (formula whole.now) }
     ensures front { IsFrontOf (formula whole.now) (formula result.tree.now) result.end }
-    ensures stands { StandsIn (formula whole.now) pick result.from (formula result.side.now) }
+    ensures lies { LiesIn (formula whole.now) pick result.from (formula result.side.now) }
     ensures side { result.from + comparisons (formula result.side.now) ≡ result.end }
 {
     if pick < before.end {

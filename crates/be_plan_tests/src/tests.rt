@@ -38,7 +38,7 @@ fn write(volume: &mut Volume, ops: &[Op]) -> Result<(), Refusal> {
     if ops.is_empty() || ops.len() > 64 || volume.next() > u64::MAX - 64 {
         return Err(Refusal::BadLimits);
     }
-    let _dones = volume.apply(ops)?;
+    let _outcomes = volume.apply(ops)?;
     Ok(())
 }
 

@@ -11,10 +11,10 @@ use Rattle.std.proofs.lemmas.List.{length-map, length-reverse, map-append, rever
 
 -- a value that is a bad pattern
 pub value_refused : (at n place : ℕ) (op : Cmp) (c : List ℕ × List ℕ × List Thing) → bad_pattern op c.1 ≡ Some place → compares at n op (Some c) ≡ Err (BadPattern at)
-value_refused at n place op c h = ap told h
+value_refused at n place op c h = ap reported h
   where
-    told : Option ℕ → Result (ℕ × List Thing) Refusal
-    told o = elim o [ Some _ ↦ Err (BadPattern at) | None ↦ counts n (Leaf c.0 op (given_literal op c.1)) c.2 ]
+    reported : Option ℕ → Result (ℕ × List Thing) Refusal
+    reported o = elim o [ Some _ ↦ Err (BadPattern at) | None ↦ counts n (Leaf c.0 op (given_literal op c.1)) c.2 ]
 
 -- more than one thing is left
 pub many_things : (at : ℕ) (things rest : List Thing) (t : Formula) → top_tree things ≡ Some (t, rest) → (length rest ≡ 0 → ⊥) → one_tree at things ≡ Err (BadRpn at)

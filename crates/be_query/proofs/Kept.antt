@@ -22,8 +22,8 @@ use Rattle.be_query.specs.Faults.{takes_pattern}
 use Rattle.be_query.specs.Lexing.{further, quoted_span, tokens}
 use Rattle.be_query.specs.Printing.{with_backslashes, literal_text, or_text, IsPrintable, IsWhole, IsQuotable, IsKept, IsKeptBy}
 use Rattle.be_query.proofs.Spans.{shifted, shifted_none}
-use Rattle.be_query.proofs.Spelt.{plain-escaped}
-use Rattle.be_query.proofs.Printed.{text_whole, text_spells, escaped_whole}
+use Rattle.be_query.proofs.Parsed.{plain-escaped}
+use Rattle.be_query.proofs.Printed.{text_whole, text_parses, escaped_whole}
 use Rattle.be_query.proofs.Trees.{one_tree}
 use Rattle.be_query.proofs.Names.{no_nul}
 
@@ -201,8 +201,8 @@ kept_quotable (And l r) h = (kept_quotable l h.0, kept_quotable r h.1)
 kept_quotable (Or l r) h = (kept_quotable l h.0, kept_quotable r h.1)
 
 -- the canonical text of a kept tree encodes it
-pub kept_spells : (t : Formula) → IsKept t → IsTextOf (or_text t) t
-kept_spells t h = (text_whole t (kept_quotable t h), text_spells t (kept_quotable t h) (kept_printable t h))
+pub kept_parses : (t : Formula) → IsKept t → IsTextOf (or_text t) t
+kept_parses t h = (text_whole t (kept_quotable t h), text_parses t (kept_quotable t h) (kept_printable t h))
 
 -- a text encodes at most one tree
 pub one_text : (text : List ℕ) (s t : Formula) → IsTextOf text s → IsTextOf text t → s ≡ t

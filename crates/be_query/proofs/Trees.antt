@@ -4,7 +4,7 @@ use Rattle.std.specs.Prelude.{not}
 use Rattle.std.proofs.lemmas.Bool.{false≢true}
 use Rattle.be_query.specs.declared.tree.Cmp.{Cmp}
 use Rattle.be_query.specs.Tokens.{Token, Open, Close, Bang, Both, Either, Compares, Text, plain, is_name}
-use Rattle.be_query.specs.Grammar.{OrPhrase, or_one, or_more, AndPhrase, and_one, and_more, NotPhrase, negation, group, comparison, or_tokens, and_tokens, not_tokens, or_tree, and_tree, not_tree, Formula, Leaf, And, Or, opposite, complement, Spells}
+use Rattle.be_query.specs.Grammar.{OrPhrase, or_one, or_more, AndPhrase, and_one, and_more, NotPhrase, negation, group, comparison, or_tokens, and_tokens, not_tokens, or_tree, and_tree, not_tree, Formula, Leaf, And, Or, opposite, complement, ParsesTo}
 use Rattle.be_query.specs.declared.tree.Cmp.TheVariants.{Eq, Ne, Lt, Le, Gt, Ge}
 use Rattle.be_query.specs.Reading.{Awaited, Operator, Joint, Mark, ended, next}
 use Rattle.be_query.specs.Building.{Level, fresh, Stage, Operands, Operators, Values, Joints, State, nothing_built, turned, conjunction, disjunction, joined, with_operand, with_side, close, build_at, build_from, tree_of, awaited_at, negations_on, outer_marks, marks_of, view_of, IsSettledAt}
@@ -97,7 +97,7 @@ tree_built o =
     ∙ ap Some (left_right false o)
 
 -- tokens have at most one tree
-pub one_tree : (ts : List Token) (s t : Formula) → Spells ts s → Spells ts t → s ≡ t
+pub one_tree : (ts : List Token) (s t : Formula) → ParsesTo ts s → ParsesTo ts t → s ≡ t
 one_tree ts s t (o, eo, es) (p, ep, et) =
     let same = sym (tree_built o) ∙ ap (λ l. tree_of (build_from (Some nothing_built) l)) (eo ∙ sym ep) ∙ tree_built p in
     sym es ∙ some_same same ∙ et

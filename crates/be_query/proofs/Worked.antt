@@ -82,11 +82,11 @@ only_all : (test : Part → Bool) (cs : List ℕ) (rest : List Part) → list_al
 only_all test [] rest h k = k
 only_all test (c ∷ cs) rest h k = let a = and_parts _ _ h in and_from _ _ a.0 (only_all test cs rest a.1 k)
 
-run_all : (test : Part → Bool) (stands : Bool) (rest : List Part) → test Run ≡ true → list_all test rest ≡ true → list_all test (run_if stands ++ rest) ≡ true
+run_all : (test : Part → Bool) (is_there : Bool) (rest : List Part) → test Run ≡ true → list_all test rest ≡ true → list_all test (run_if is_there ++ rest) ≡ true
 run_all test true rest h k = and_from _ _ h k
 run_all test false rest h k = k
 
-end_all : (test : Part → Bool) (stands : Bool) → test Run ≡ true → list_all test (run_if stands) ≡ true
+end_all : (test : Part → Bool) (is_there : Bool) → test Run ≡ true → list_all test (run_if is_there) ≡ true
 end_all test true h = and_from _ _ h refl
 end_all test false h = refl
 

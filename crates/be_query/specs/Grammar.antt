@@ -99,8 +99,8 @@ comparisons (And l r) = comparisons l + comparisons r
 comparisons (Or l r) = comparisons l + comparisons r
 
 -- the tokens are a sentence with this tree
-abbrev pub Spells : List Token → Formula → Type 0
-Spells ts tree = (o : OrPhrase) × (or_tokens o ≡ ts) × (or_tree o ≡ tree)
+abbrev pub ParsesTo : List Token → Formula → Type 0
+ParsesTo ts tree = (o : OrPhrase) × (or_tokens o ≡ ts) × (or_tree o ≡ tree)
 
 -- some more tokens after these complete a sentence
 abbrev pub Viable : List Token → Type 0
@@ -108,4 +108,4 @@ Viable ts = (more : List Token) × (o : OrPhrase) × (or_tokens o ≡ ts ++ more
 
 -- the text is cut into tokens, with nothing else in it, and the tokens encode the tree
 abbrev pub IsTextOf : List ℕ → Formula → Type 0
-IsTextOf text tree = (all_whole (lexemes 0 0 text) ≡ true) × Spells (tokens text) tree
+IsTextOf text tree = (all_whole (lexemes 0 0 text) ≡ true) × ParsesTo (tokens text) tree

@@ -1,7 +1,8 @@
 //! What follows from the definitions of the grammar and of canonical texts.
 ghost use Rattle.std.specs.Prelude.{ℕ, ◌≡◌, ◌≤◌, false, List, Some, None, []};
 ghost use Rattle.be_query.specs.Faults.{fault};
-ghost use Rattle.be_query.specs.Grammar.{Formula, OrPhrase, comparisons, Spells, IsTextOf, Viable};
+ghost use Rattle.be_query.specs.Grammar.{Formula, OrPhrase, comparisons, ParsesTo, IsTextOf};
+ghost use Rattle.be_query.specs.Grammar.{Viable};
 ghost use Rattle.be_query.specs.Grammar.{or_tokens};
 ghost use Rattle.be_query.specs.Reading.{Awaited, Joint, Mark, read};
 ghost use Rattle.be_query.specs.Tokens.{Token, plain};
@@ -19,9 +20,9 @@ pub fn reading()
         × (or_tokens o ≡ ts) }
     ensures whole { (o : OrPhrase) → read (or_tokens o) ≡ Some (Joint, []) }
     // A printed tree's tokens encode that tree, if its names and values can be read back.
-    ensures printed { (t : Formula) → IsPrintable t → Spells (or_printed t) t }
+    ensures printed { (t : Formula) → IsPrintable t → ParsesTo (or_printed t) t }
     ensures unescaped { (bs : List ℕ) → plain (with_backslashes bs) ≡ bs }
-    ensures one_tree { (ts : List Token) (s t : Formula) → Spells ts s → Spells ts t → s ≡ t }
+    ensures one_tree { (ts : List Token) (s t : Formula) → ParsesTo ts s → ParsesTo ts t → s ≡ t }
 {}
 
 /// A tree's canonical text encodes that tree and, by `reading`, no other.
@@ -30,7 +31,8 @@ pub fn printing()
     ensures tokens { (t : Formula) → IsQuotable t → tokens (or_text t) ≡ or_printed t }
     // So the canonical text encodes the tree, if printing keeps its names and values.
     ensures kept { (t : Formula) → IsKept t → IsTextOf (or_text t) t }
-    ensures spells { (t : Formula) → IsQuotable t → IsPrintable t → Spells (tokens (or_text t)) t }
+    ensures parses { (t : Formula) → IsQuotable t → IsPrintable t
+        → ParsesTo (tokens (or_text t)) t }
     // A name, or an order operator's value, is one token if it has no NUL.
     ensures whole { (bs : List ℕ) → has_nul bs ≡ false → IsWhole (with_backslashes bs) }
 {}

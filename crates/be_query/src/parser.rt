@@ -232,7 +232,7 @@ fn take_operand<'a>(
             Ok(Stage::Operand)
         }
         Token::Text(raw) => {
-            if spells_name(alloc, raw)? {
+            if encodes_name(alloc, raw)? {
                 Ok(Stage::Operator(raw))
             } else {
                 Err(Refusal::Syntax(at))
@@ -346,7 +346,7 @@ fn take_joint<'a>(
 #[tactic(auto, using(crate::proofs::Short::short_name))]
 /// Whether a text without a NUL encodes a name. Resolving backslashes only shortens a text, so a
 /// text of 1 to 63 bytes needn't be resolved.
-fn spells_name(alloc: Global, raw: &str) -> Result<bool, AllocError>
+fn encodes_name(alloc: Global, raw: &str) -> Result<bool, AllocError>
     requires { has_nul raw.now ≡ false }
     ensures { IfOk result (λ b. is_name raw.now ≡ b) }
 {

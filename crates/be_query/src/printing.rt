@@ -32,7 +32,7 @@ pub fn print(alloc: Global, query: &Query) -> Result<String, Refusal>
     // It is the tree's canonical text,
     ensures text { IfOk result (λ s. string_bytes s ≡ or_text query.now) }
     // which encodes the tree
-    ensures spells { IfOk result (λ s. IsTextOf (string_bytes s) query.now) }
+    ensures parses { IfOk result (λ s. IsTextOf (string_bytes s) query.now) }
     // and no other tree.
     ensures alone { IfOk result (λ s. (tree : Formula) → IsTextOf (string_bytes s) tree → tree
         ≡ query.now) }

@@ -9,7 +9,7 @@ use Rattle.std.proofs.lemmas.Str.{inside_one}
 use Rattle.be_query.specs.Lexing.{Takes, Whole, further, front, is_separator, is_quote, is_sign, is_word, quoted_span, word_span}
 use Rattle.be_query.specs.Tokens.{Text}
 use Rattle.be_query.proofs.Spans.{shifted}
-use Rattle.be_query.proofs.Fronts.{quoted_stands, word_ascii, word_stands}
+use Rattle.be_query.proofs.Fronts.{front_quoted, word_ascii, front_word}
 use Rattle.be_query_text.specs.Encoded.{EndsWord, IsOneToken}
 
 moved : (m n : ℕ) → m ≡ n → shifted m (word_span false []) ≡ shifted n (word_span false [])
@@ -125,7 +125,7 @@ quoted_token : (xs rest : List ℕ) (q : ℕ) → Passes xs → is_quote q ≡ t
 quoted_token xs rest q h e =
     let s = h.quoted q (q ∷ rest) 0 e (cond-true _ _ _ (eq-eqb q q refl)) in
     let n : length xs + 0 + 0 ≡ length xs = omega arith in
-    quoted_stands q (xs ++ q ∷ rest) (shifted (length xs + 0) (word_span false [])) (quote_no_separator q e) e (sym s)
+    front_quoted q (xs ++ q ∷ rest) (shifted (length xs + 0) (word_span false [])) (quote_no_separator q e) e (sym s)
     ∙ ap (λ k. Takes (Whole (Text (take k (xs ++ q ∷ rest)))) (k + 2) 1) n
     ∙ ap (λ l. Takes (Whole (Text l)) (length xs + 2) 1) (take_front xs (q ∷ rest))
 
@@ -135,7 +135,7 @@ word_token xs b bs rest h e k =
     let s = h.word rest 0 (ends_word rest k) in
     let whole : xs ++ rest ≡ b ∷ (bs ++ rest) = ap (λ l. l ++ rest) e in
     let n : length xs + 0 + 0 ≡ length xs = omega arith in
-    word_stands b (bs ++ rest) (shifted (length xs + 0) (word_span false [])) w.separator w.quote w.sign w.nul (sym s ∙ ap (word_span false) whole)
+    front_word b (bs ++ rest) (shifted (length xs + 0) (word_span false [])) w.separator w.quote w.sign w.nul (sym s ∙ ap (word_span false) whole)
     ∙ ap (λ i. Takes (Whole (Text (take i (b ∷ (bs ++ rest))))) i 0) n
     ∙ ap (λ l. Takes (Whole (Text (take (length xs) l))) (length xs) 0) (sym whole)
     ∙ ap (λ l. Takes (Whole (Text l)) (length xs) 0) (take_front xs rest)

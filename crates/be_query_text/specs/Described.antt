@@ -64,8 +64,8 @@ described (c ∷ cs) [] = []
 described (c ∷ cs) (place ∷ places) = description c place ∷ described cs places
 
 -- the same for the code's value
-abbrev pub told : code.Compared → Description
-told c = record {
+abbrev pub reported : code.Compared → Description
+reported c = record {
   name = c.name;
   op = c.op;
   form = c.form;

@@ -7,7 +7,7 @@ ghost use Rattle.be_query.specs.View.{IsMemory, formula, literal as literal_of};
 ghost use Rattle.be_value.specs.declared.refusals.Refusal.TheVariants.{OutOfMemory};
 ghost use Rattle.be_volume.specs.Query.{literal_number};
 ghost use Rattle.be_query_text.specs.Described.{Comparison as AnyComparison, described};
-ghost use Rattle.be_query_text.specs.Described.{description, form_of, leaves, told, words_of};
+ghost use Rattle.be_query_text.specs.Described.{description, form_of, leaves, reported, words_of};
 ghost use Rattle.be_query_text.specs.Places.{places};
 
 use crate::places::{Place, places};
@@ -47,7 +47,8 @@ pub struct Compared {
 pub fn comparisons(alloc: Global, text: &str) -> Result<Vec<Compared>, Refusal>
     // They are the comparisons of the tree that the text encodes, each with its place in the text.
     ensures ok { IfOk result (λ v. (fault text.now ≡ None) × (tree : Formula)
-        × IsTextOf text.now tree × (map told v.items ≡ described (leaves tree) (places text.now))) }
+        × IsTextOf text.now tree × (map reported v.items
+        ≡ described (leaves tree) (places text.now))) }
     // For a text that isn't a query, the error is that of `parse`.
     ensures err { IfErr result (λ e. IsMemory e (fault text.now ≡ Some e)) }
 {
@@ -67,9 +68,10 @@ fn push_each<'a>(
     compared: &mut Vec<Compared>,
 ) -> Result<&'a [Place], Refusal>
     requires { comparisons (formula tree.now) ≤ length places.now }
-    ensures told { IfOk result (λ rest. (more : List AnyComparison)
-        → map told compared.new.items ++ described more rest.now
-        ≡ map told compared.old.items ++ described (leaves (formula tree.now) ++ more) places.now) }
+    ensures reported { IfOk result (λ rest. (more : List AnyComparison)
+        → map reported compared.new.items ++ described more rest.now
+        ≡ map reported compared.old.items
+        ++ described (leaves (formula tree.now) ++ more) places.now) }
     ensures left { IfOk result (λ rest. comparisons (formula tree.now) + length rest.now
         ≡ length places.now) }
     ensures memory { IfErr result (λ e. e ≡ OutOfMemory) }
@@ -91,7 +93,7 @@ fn push_each<'a>(
 
 /// What is reported about a comparison at a place.
 fn describe(alloc: Global, comparison: &Comparison, place: Place) -> Result<Compared, Refusal>
-    ensures ok { IfOk result (λ c. told c ≡ description (record {
+    ensures ok { IfOk result (λ c. reported c ≡ description (record {
       name = comparison.now.name;
       op = comparison.now.op;
       literal = literal_of comparison.now.literal;

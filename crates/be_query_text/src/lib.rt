@@ -8,14 +8,14 @@
 
 mod cases;
 mod compared;
+mod encoding;
 mod escaping;
 mod places;
 mod ranges;
-mod spelling;
 
 pub use cases::any_case;
 pub use compared::{Compared, Form, comparisons};
+pub use encoding::{EncodedComparison, Encoding, encoded_comparisons};
 pub use escaping::escaped;
 pub use places::{Place, TextPlace};
 pub use ranges::is_never_true;
-pub use spelling::{SpelledComparison, Spelling, spelled};

@@ -2,7 +2,9 @@
 //! bytes from and to, name, operator, operator in the text, form and value. `escapes` and `cases`
 //! show what is put into a query. `never` shows whether a comparison is true of no value of a kind.
 use be_query::{Cmp, parse};
-use be_query_text::{Compared, Form, any_case, comparisons, escaped, is_never_true, spelled};
+use be_query_text::{
+    Compared, Form, any_case, comparisons, encoded_comparisons, escaped, is_never_true,
+};
 use be_test_tools::{Answers, check_lines};
 use be_value::{Kind, Refusal};
 use std::alloc::Global;
@@ -155,11 +157,11 @@ fn has_all(alloc: Global, count: usize) -> Result<bool, Refusal> {
         text.push_str("&&n<1")?;
     }
     let compared = comparisons(alloc, text.as_str())?;
-    let spelling = spelled(alloc, compared.as_slice())?;
+    let encoding = encoded_comparisons(alloc, compared.as_slice())?;
     Ok(
         compared.len() == count
-            && spelling.comparisons.len() == count
-            && spelling.bytes.len() == 2 * count,
+            && encoding.comparisons.len() == count
+            && encoding.bytes.len() == 2 * count,
     )
 }
 

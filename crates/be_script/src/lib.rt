@@ -7,10 +7,10 @@
 #![tactic(auto)]
 
 pub use be_command_line::{Task, task};
-pub use be_journal_text::{Finding, check, dump, dump_state, journal_told};
+pub use be_journal_text::{Finding, check, dump, dump_state, reported_journal};
 pub use be_script_runner::{
     Gate, Journal, Limits, OpenGate, RefusedLine, RunFault, ScriptReader, laws, put_result, race,
-    read_files, run, run_and_tell, run_strictly,
+    read_files, run, run_strictly, run_with_journal,
 };
 pub use be_shell::{
     Aside, Breaking, Ends, Line, Peer, Screen, Terminal, converse, shell, shell_and_close,

@@ -42,10 +42,10 @@ pub leads_read : (a b c : Knowledge) → LeadTo a b → HasRead b c → LeadTo a
 leads_read a b c h k = leads_more a b (Learn (entries c.seen)) c h (read_learns b c k)
 
 -- a write is a call, accepted or refused
-pub writes_call : {X : Type 0} (a c : Knowledge) (tries : ℕ) (dones_of : X → List Done) (ops : List Op) (r : Result (ℕ × X) Refusal) → IfOk r (λ x. Accepts a c ops x.0 (dones_of x.1)) →
+pub writes_call : {X : Type 0} (a c : Knowledge) (tries : ℕ) (outcomes_of : X → List Done) (ops : List Op) (r : Result (ℕ × X) Refusal) → IfOk r (λ x. Accepts a c ops x.0 (outcomes_of x.1)) →
     IfErr r (λ e. Learns a c × IsLastReason tries a c ops e) → LeadTo a c
-writes_call a c tries dones_of ops (Ok x) ok err = (Apply (entry_by a ops (dones_of x.1)) x.0 ∷ [], (c, (ops, dones_of x.1, refl, ok), refl))
-writes_call a c tries dones_of ops (Err e) ok err = (Learn (entries c.seen) ∷ [], (c, (err.0, refl), refl))
+writes_call a c tries outcomes_of ops (Ok x) ok err = (Apply (entry_by a ops (outcomes_of x.1)) x.0 ∷ [], (c, (ops, outcomes_of x.1, refl, ok), refl))
+writes_call a c tries outcomes_of ops (Err e) ok err = (Learn (entries c.seen) ∷ [], (c, (err.0, refl), refl))
 
 -- ## Lines
 

@@ -22,7 +22,7 @@ use Rattle.be_volume.specs.declared.ops.Done.{Done}
 use Rattle.be_volume.specs.declared.ops.Op.{Op}
 use Rattle.be_script_runner.specs.Output.{IsOutputTo, Outputs, Serves, Session, done_reply, opening}
 use Rattle.be_script_runner.specs.Store.{MayWrite, Store, entered, start, written, written_by}
-use Rattle.be_script_runner.specs.Telling.{dump_output, made, write_output}
+use Rattle.be_script_runner.specs.JournalRuns.{dump_output, made, write_output}
 use Rattle.be_script_runner.specs.View.{batched}
 use Rattle.be_script_runner.proofs.EndLemmas.{nothing_asked}
 use Rattle.be_script_runner.proofs.JoinLemmas.{at_once}
@@ -80,8 +80,8 @@ module _ (old new : Store) (last : Session) (dones : List Done) (more out : List
   abbrev number : ℕ
   number = length new.journal
 
-  abbrev same_dones : List Done → List Done
-  same_dones d = d
+  abbrev same_outcomes : List Done → List Done
+  same_outcomes d = d
 
   -- a write of one operation
   single : (ops : List Op) → 1 ≤ length ops → length ops ≤ 1 → All CanBeOp ops → written old ops ≡ Ok (new, dones) →
@@ -91,7 +91,7 @@ module _ (old new : Store) (last : Session) (dones : List Done) (more out : List
       let op_can = All-head CanBeOp op [] can in
       subst (λ (text : List ℕ). Outputs (opening old) (lines_of text) last (text_of (done_reply dones) ++ out)) (sym (op_first op [] more))
       (one_more (opening old) (opening new) last (op_text op) more out (write (Ok op)) (done_reply dones) (op_inside op op_can) (op_asked op op_can)
-      (write_accepted same_dones old new None op number dones (done_reply dones) refl (at_once old (λ s. MayWrite same_dones s (op ∷ []) (Ok (number, dones)) new) (w, refl))) next)
+      (write_accepted same_outcomes old new None op number dones (done_reply dones) refl (at_once old (λ s. MayWrite same_outcomes s (op ∷ []) (Ok (number, dones)) new) (w, refl))) next)
   single (op ∷ other ∷ ops) some few can w = absurd (omega (arith, few))
 
   abbrev batch_lines : List Op → List ℕ
@@ -109,7 +109,7 @@ module _ (old new : Store) (last : Session) (dones : List Done) (more out : List
       let end = text_of (committed number dones) in
       let ended : Outputs (batched old ops None) (lines_of (codes "commit" ++ 10 ∷ more)) last (end ++ out) =
       one_more (batched old ops None) (opening new) last (codes "commit") more out commit (committed number dones) refl commit_asked
-      (commit_accepted same_dones old new None ops number dones some (at_once old (λ s. MayWrite same_dones s ops (Ok (number, dones)) new) (w, refl))) next in
+      (commit_accepted same_outcomes old new None ops number dones some (at_once old (λ s. MayWrite same_outcomes s ops (Ok (number, dones)) new) (w, refl))) next in
       let filled : Outputs (batched old [] None) (lines_of (lines ++ (codes "commit" ++ 10 ∷ more))) last (replies ++ (end ++ out)) =
       all_queued old [] ops (codes "commit" ++ 10 ∷ more) (end ++ out) last can (omega (arith, few)) ended in
       let begun : Outputs (opening old) (lines_of (codes "begin" ++ 10 ∷ (lines ++ (codes "commit" ++ 10 ∷ more)))) last (text_of ok ++ (replies ++ (end ++ out))) =

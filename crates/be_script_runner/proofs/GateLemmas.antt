@@ -30,12 +30,12 @@ pub last_is_one : (rest : List ℕ) → lines_of rest ≡ rest ∷ [] → 1 ≤ 
 last_is_one rest is some = ap count_lines is ∙ one_counted rest some
 
 -- the gate was called for the lines below a number, and for the one with this number
-pub told_more : (begun ended : ℕ → Type 0) (number : ℕ) → ((line : ℕ) → 1 ≤ line → line < number → begun line × ended line) → begun number → ended number →
+pub reported_more : (begun ended : ℕ → Type 0) (number : ℕ) → ((line : ℕ) → 1 ≤ line → line < number → begun line × ended line) → begun number → ended number →
     (line : ℕ) → 1 ≤ line → line < number + 1 → begun line × ended line
-told_more begun ended number told b e line first below = by (nat_lt line number) refl
+reported_more begun ended number reported b e line first below = by (nat_lt line number) refl
   where
     by : (lower : Bool) → nat_lt line number ≡ lower → begun line × ended line
-    by true is = told line first (grind (arith, nat_tests))
+    by true is = reported line first (grind (arith, nat_tests))
     by false is =
         let same : number ≡ line = grind (arith, nat_tests) in
         (subst begun same b, subst ended same e)

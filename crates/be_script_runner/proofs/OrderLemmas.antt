@@ -12,7 +12,7 @@ use Rattle.be_store.specs.History.{Accepts, Pins}
 use Rattle.be_store.specs.Passes.{volume_pinned, volume_seen}
 use Rattle.be_store.proofs.Applied.{entries_append}
 use Rattle.be_store.proofs.Calls.{calls_seen, starts_trans}
-use Rattle.be_store.proofs.Told.{current_later}
+use Rattle.be_store.proofs.Learned.{current_later}
 use Rattle.be_table.specs.History.{StartsWith}
 use Rattle.be_table.specs.Rule.{entries}
 use Rattle.be_table.specs.Steps.{KeepsSeen, entry_by}

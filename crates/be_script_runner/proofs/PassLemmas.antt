@@ -18,7 +18,7 @@ use Rattle.be_table.specs.declared.pass.Knowledge.{Knowledge}
 use Rattle.be_table.specs.History.{AreOfPasses}
 use Rattle.be_table.specs.Rule.{announce_word, entries}
 use Rattle.be_table.specs.Seats.{pinned_number}
-use Rattle.be_table.specs.Steps.{IsPass, entry_by, least_found}
+use Rattle.be_table.specs.Steps.{IsPass, entry_by, lowest_found}
 use Rattle.be_table.specs.Works.{HasNoRoom}
 use Rattle.be_table.proofs.Histories.{by_pass-append, below-front}
 use Rattle.be_value.specs.declared.refusals.Refusal.{Refusal}
@@ -108,13 +108,13 @@ written_with_room : (s : Store) (ops : List Op) (volume : State) (dones : List D
 written_with_room s ops volume dones h = let t : nat_lt (length s.journal) s.limit ≡ true = grind (arith, nat_tests) in rw t refl
 
 -- the lowest version that a pass finds is at most the one that reads see; it is that one if the pass is the only one
-least_shown : (passes : ℕ) (seen : List Commit) (phase : Phase) (least : ℕ) → IsBetweenCalls passes phase → InTime (length seen) phase
-    → (least ≤ least_found (length seen) (announce_word phase)) × (passes ≡ 1 → least ≡ least_found (length seen) (announce_word phase))
+lowest_shown : (passes : ℕ) (seen : List Commit) (phase : Phase) (least : ℕ) → IsBetweenCalls passes phase → InTime (length seen) phase
+    → (least ≤ lowest_found (length seen) (announce_word phase)) × (passes ≡ 1 → least ≡ lowest_found (length seen) (announce_word phase))
     → let shown = option_map_or (λ (p : PinnedVolume). p.number) (pin_of (entries seen) phase) (length (entries seen)) in (least ≤ shown) × (passes ≡ 1 → least ≡ shown)
-least_shown passes seen Idle least settled time own = (omega (arith, seen_count seen, own.0), λ one. own.1 one ∙ sym (seen_count seen))
-least_shown passes seen (Looked x) least settled time own = absurd settled
-least_shown passes seen (Announced x) least settled time own = absurd settled
-least_shown passes seen (Pinned x n) least settled time own = (omega (arith, time.0, own.0), λ one. let same = settled one in let found = own.1 one in omega (arith, time.1, same, found))
+lowest_shown passes seen Idle least settled time own = (omega (arith, seen_count seen, own.0), λ one. own.1 one ∙ sym (seen_count seen))
+lowest_shown passes seen (Looked x) least settled time own = absurd settled
+lowest_shown passes seen (Announced x) least settled time own = absurd settled
+lowest_shown passes seen (Pinned x n) least settled time own = (omega (arith, time.0, own.0), λ one. let same = settled one in let found = own.1 one in omega (arith, time.1, same, found))
 
 -- a call of a pass
 module _ (a c : Knowledge) (before : IsPass a) (beyond : IsPass c) (limits : c.limits ≡ a.limits) where
@@ -179,10 +179,10 @@ module _ (a c : Knowledge) (before : IsPass a) (beyond : IsPass c) (limits : c.l
         );
       }
 
-  accepts_meanwhile : {X : Type 0} (dones_of : X → List Done) (ops : List Op) (n : ℕ) (x : X) → Accepts a c ops n (dones_of x) →
-      Meanwhile (known a) (λ s. MayWrite dones_of s ops (Ok (n, x)) (known c))
-  accepts_meanwhile dones_of ops n x h =
-      let dones : List Done = dones_of x in
+  accepts_meanwhile : {X : Type 0} (outcomes_of : X → List Done) (ops : List Op) (n : ℕ) (x : X) → Accepts a c ops n (outcomes_of x) →
+      Meanwhile (known a) (λ s. MayWrite outcomes_of s ops (Ok (n, x)) (known c))
+  accepts_meanwhile outcomes_of ops n x h =
+      let dones : List Done = outcomes_of x in
       let e : Entry = entry_by a ops dones in
       let log : List Entry = entries (a.seen ++ h.others) in
       let now : Store = seen_by a log in
@@ -223,18 +223,18 @@ module _ (a c : Knowledge) (before : IsPass a) (beyond : IsPass c) (limits : c.l
       unroomed (inl spent) = inl (refused_at_limit (known c) ops (steps (volume_seen c) ops) h.0 (seen_count c.seen ∙ spent.1) ∙ ap Err (sym spent.0))
       unroomed (inr want) = inr (inl (inl want.0, accepted_with_room (known c) ops (steps (volume_seen c) ops) h.0 (omega (arith, seen_count c.seen, want.1))))
   refused_as tries ops e settled number (inr (inr (inr h), locks)) =
-      inr (inl (inr (h.2.0, h.2.1, least_shown c.limits.passes c.seen c.phase h.2.0 settled beyond.pin h.2.2.spent.2), accepted_with_room (known c) ops (steps (volume_seen c) ops) h.0 (omega (arith, seen_count c.seen, h.1))))
+      inr (inl (inr (h.2.0, h.2.1, lowest_shown c.limits.passes c.seen c.phase h.2.0 settled beyond.pin h.2.2.spent.2), accepted_with_room (known c) ops (steps (volume_seen c) ops) h.0 (omega (arith, seen_count c.seen, h.1))))
 
-  pub writes_meanwhile : {X : Type 0} (tries : ℕ) (dones_of : X → List Done) (ops : List Op) (r : Result (ℕ × X) Refusal) → IsBetweenCalls c.limits.passes c.phase → IfOk r (λ x. Accepts a c ops x.0 (dones_of x.1)) →
-      IfErr r (λ e. Learns a c × IsLastReason tries a c ops e) → Meanwhile (known a) (λ s. MayWrite dones_of s ops r (known c))
-  writes_meanwhile tries dones_of ops (Ok x) settled ok err = accepts_meanwhile dones_of ops x.0 x.1 ok
-  writes_meanwhile tries dones_of ops (Err e) settled ok err = record { now = known c; joins = learns_joins err.0; is = (refl, refused_as tries ops e settled err.0.pass err.1) }
+  pub writes_meanwhile : {X : Type 0} (tries : ℕ) (outcomes_of : X → List Done) (ops : List Op) (r : Result (ℕ × X) Refusal) → IsBetweenCalls c.limits.passes c.phase → IfOk r (λ x. Accepts a c ops x.0 (outcomes_of x.1)) →
+      IfErr r (λ e. Learns a c × IsLastReason tries a c ops e) → Meanwhile (known a) (λ s. MayWrite outcomes_of s ops r (known c))
+  writes_meanwhile tries outcomes_of ops (Ok x) settled ok err = accepts_meanwhile outcomes_of ops x.0 x.1 ok
+  writes_meanwhile tries outcomes_of ops (Err e) settled ok err = record { now = known c; joins = learns_joins err.0; is = (refl, refused_as tries ops e settled err.0.pass err.1) }
 
 -- after a write the pass has the same number, and an error has a reason
-pub same_number : {X : Type 0} (a c : Knowledge) (tries : ℕ) (dones_of : X → List Done) (ops : List Op) (r : Result (ℕ × X) Refusal) → IfOk r (λ x. Accepts a c ops x.0 (dones_of x.1)) →
+pub same_number : {X : Type 0} (a c : Knowledge) (tries : ℕ) (outcomes_of : X → List Done) (ops : List Op) (r : Result (ℕ × X) Refusal) → IfOk r (λ x. Accepts a c ops x.0 (outcomes_of x.1)) →
     IfErr r (λ e. Learns a c × IsLastReason tries a c ops e) → c.number ≡ a.number
-same_number a c tries dones_of ops (Ok x) ok err = ok.pass
-same_number a c tries dones_of ops (Err e) ok err = err.0.pass
+same_number a c tries outcomes_of ops (Ok x) ok err = ok.pass
+same_number a c tries outcomes_of ops (Err e) ok err = err.0.pass
 
 pub last_reason : {X : Type 0} (a c : Knowledge) (tries : ℕ) (ops : List Op) (r : Result X Refusal) → IfErr r (λ e. Learns a c × IsLastReason tries a c ops e) → IfErr r (λ e. IsLastReason tries a c ops e)
 last_reason a c tries ops (Ok x) err = tt

@@ -85,18 +85,18 @@ replied_by limits journal k script text a number o seen own = record {
 }
 
 -- what holds for one more script
-told_each : (Told : ℕ → List ℕ → Type 0) (k : ℕ) (script : List ℕ) (scripts : List (List ℕ)) → Told k script →
-    ((i : ℕ) → i < length scripts → Told ((k + 1) + i) (slice_index_or scripts i [])) →
-    (i : ℕ) → i < length (script ∷ scripts) → Told (k + i) (slice_index_or (script ∷ scripts) i [])
-told_each Told k script scripts here beyond zero below = subst (λ n. Told n script) (sym (add-zero k)) here
-told_each Told k script scripts here beyond (suc i) below =
-    let e : (k + 1) + i ≡ k + suc i = omega arith in subst (λ n. Told n (slice_index_or scripts i [])) e (beyond i (omega (arith, below)))
+reported_each : (Reported : ℕ → List ℕ → Type 0) (k : ℕ) (script : List ℕ) (scripts : List (List ℕ)) → Reported k script →
+    ((i : ℕ) → i < length scripts → Reported ((k + 1) + i) (slice_index_or scripts i [])) →
+    (i : ℕ) → i < length (script ∷ scripts) → Reported (k + i) (slice_index_or (script ∷ scripts) i [])
+reported_each Reported k script scripts here beyond zero below = subst (λ n. Reported n script) (sym (add-zero k)) here
+reported_each Reported k script scripts here beyond (suc i) below =
+    let e : (k + 1) + i ≡ k + suc i = omega arith in subst (λ n. Reported n (slice_index_or scripts i [])) e (beyond i (omega (arith, below)))
 
-module _ {V E : Type 0} (store : Opened) (items : V → List ℕ) (Told : ℕ → List ℕ → Type 0) where
+module _ {V E : Type 0} (store : Opened) (items : V → List ℕ) (Reported : ℕ → List ℕ → Type 0) where
   -- what pass k's thread has promised
   abbrev pub EndsAs : ℕ → V → SeatFacts × Result V E → Type 0
   EndsAs k script o =
-      IsPassOf store o.0 × (o.0.knows.number ≡ k) × IfOk o.1 (λ text. IsOutcome store.limits k (items script) o.0.knows (items text)) × OnOk o.1 (Told k (items script))
+      IsPassOf store o.0 × (o.0.knows.number ≡ k) × IfOk o.1 (λ text. IsOutcome store.limits k (items script) o.0.knows (items text)) × OnOk o.1 (Reported k (items script))
 
   -- the outcomes from number k on, none of which is an error
   pub served_from : (k : ℕ) (scripts : List V) (outcomes : List (SeatFacts × Result V E)) (texts : List V) → length outcomes ≡ length scripts →
@@ -105,7 +105,7 @@ module _ {V E : Type 0} (store : Opened) (items : V → List ℕ) (Told : ℕ �
       HaveServed store k (map items scripts) (map (λ (o : SeatFacts × Result V E). o.0) outcomes)
       × AreRepliesOf store.limits k (map items scripts) (map (λ (o : SeatFacts × Result V E). o.0) outcomes) (map items texts)
       × AreServedBy store.limits k (map items scripts) (map knows_of (map (λ (o : SeatFacts × Result V E). o.0) outcomes)) (map items texts)
-      × ((i : ℕ) → i < length (map items scripts) → Told (k + i) (slice_index_or (map items scripts) i []))
+      × ((i : ℕ) → i < length (map items scripts) → Reported (k + i) (slice_index_or (map items scripts) i []))
   served_from k [] [] [] count each all = (tt, λ journal keeps. tt, tt, λ i below. absurd (omega (arith, below)))
   served_from k [] [] (t ∷ ts) count each all = cc
   served_from k [] (o ∷ os) texts count each all = absurd (omega (arith, count))
@@ -115,23 +115,23 @@ module _ {V E : Type 0} (store : Opened) (items : V → List ℕ) (Told : ℕ �
       let here = subst (λ n. EndsAs n s o) (add-zero k) (each 0 o s (omega arith)) in
       let first : Ok t ≡ o.1 = cc in
       let rest : map Ok ts ≡ map (λ (o : SeatFacts × Result V E). o.1) os = cc in
-      let told : IsOutcome store.limits k (items s) o.0.knows (items t) = IfOk-at_ok (λ text. IsOutcome store.limits k (items s) o.0.knows (items text)) (sym first) here.2 in
+      let reported : IsOutcome store.limits k (items s) o.0.knows (items t) = IfOk-at_ok (λ text. IsOutcome store.limits k (items s) o.0.knows (items text)) (sym first) here.2 in
       let beyond = served_from (k + 1) ss os ts (omega (arith, count)) (λ i d u below.
       let e : k + suc i ≡ (k + 1) + i = omega arith in subst (λ n. EndsAs n (get_or ss i u) (get_or os i d)) e (each (suc i) d u (omega arith))) rest in (
-        (record { pass = here.0; number = here.1; own = told.own }, beyond.0),
-        (λ journal keeps. (replied_by store.limits journal k (items s) (items t) o.0.knows here.1 told keeps.0 keeps.1, beyond.1 journal keeps.2)),
-        (told.served, beyond.2),
-        told_each Told k (items s) (map items ss) (on_at_ok (Told k (items s)) (sym first) here.3) beyond.3,
+        (record { pass = here.0; number = here.1; own = reported.own }, beyond.0),
+        (λ journal keeps. (replied_by store.limits journal k (items s) (items t) o.0.knows here.1 reported keeps.0 keeps.1, beyond.1 journal keeps.2)),
+        (reported.served, beyond.2),
+        reported_each Reported k (items s) (map items ss) (on_at_ok (Reported k (items s)) (sym first) here.3) beyond.3,
       )
 
 -- a thread's outcome satisfies an equal promise
-pub same_end : {V E X : Type 0} (items : V → List ℕ) (Told : X → ℕ → List ℕ → Type 0) (store store' : Opened) (k k' : ℕ) (script script' : V) (gate gate' : X)
+pub same_end : {V E X : Type 0} (items : V → List ℕ) (Reported : X → ℕ → List ℕ → Type 0) (store store' : Opened) (k k' : ℕ) (script script' : V) (gate gate' : X)
     (o : SeatFacts × Result V E) → store ≡ store' → k ≡ k' → script ≡ script' → gate ≡ gate' →
-    EndsAs store items (Told gate) k script o → EndsAs store' items (Told gate') k' script' o
-same_end items Told store store' k k' script script' gate gate' o of_store of_number of_script of_gate end =
-    subst (λ g. EndsAs store' items (Told g) k' script' o) of_gate
-    (subst (λ s. EndsAs s items (Told gate) k' script' o) of_store
-    (subst (λ n. EndsAs store items (Told gate) n script' o) of_number (subst (λ v. EndsAs store items (Told gate) k v o) of_script end)))
+    EndsAs store items (Reported gate) k script o → EndsAs store' items (Reported gate') k' script' o
+same_end items Reported store store' k k' script script' gate gate' o of_store of_number of_script of_gate end =
+    subst (λ g. EndsAs store' items (Reported g) k' script' o) of_gate
+    (subst (λ s. EndsAs s items (Reported gate) k' script' o) of_store
+    (subst (λ n. EndsAs store items (Reported gate) n script' o) of_number (subst (λ v. EndsAs store items (Reported gate) k v o) of_script end)))
 
 -- nothing of the text was written
 pub none_of_text : (bytes : List ℕ) (known : Option (List ℕ)) → Wrote known known (IsFrontOf bytes)

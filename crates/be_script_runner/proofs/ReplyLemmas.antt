@@ -62,8 +62,8 @@ held_up s ops e (inl h) = by h.0
     by (inr full) = inr (inl (full.0, ap refused full.1, full.2, h.1))
 held_up s ops e (inr h) = inr (inr (h.0, ap refused h.1, h.2))
 
-module _ {X : Type 0} (dones_of : X → List Done) (old new : Store) (live : Option LiveQuery) where
-  pub write_accepted : (op : Op) (n : ℕ) (x : X) (reply : Reply) → reply ≡ done_reply (dones_of x) → Meanwhile old (λ s. MayWrite dones_of s (op ∷ []) (Ok (n, x)) new) →
+module _ {X : Type 0} (outcomes_of : X → List Done) (old new : Store) (live : Option LiveQuery) where
+  pub write_accepted : (op : Op) (n : ℕ) (x : X) (reply : Reply) → reply ≡ done_reply (outcomes_of x) → Meanwhile old (λ s. MayWrite outcomes_of s (op ∷ []) (Ok (n, x)) new) →
       Serves (unbatched old live) (write (Ok op)) reply (unbatched new live)
   write_accepted op n x reply e m = record {
     now = m.now;
@@ -71,7 +71,7 @@ module _ {X : Type 0} (dones_of : X → List Done) (old new : Store) (live : Opt
     is = inl (ap (write_reply (unbatched m.now live)) m.is.0 ∙ (λ i. (sym e i, unbatched new live)));
   }
 
-  pub write_refused : (op : Op) (e : Refusal) → Meanwhile old (λ s. MayWrite dones_of s (op ∷ []) (Err e) new) → Serves (unbatched old live) (write (Ok op)) (refused e) (unbatched new live)
+  pub write_refused : (op : Op) (e : Refusal) → Meanwhile old (λ s. MayWrite outcomes_of s (op ∷ []) (Err e) new) → Serves (unbatched old live) (write (Ok op)) (refused e) (unbatched new live)
   write_refused op e m = record { now = m.now; joins = m.joins; is = by m.is.1 }
     where
       same : unbatched new live ≡ unbatched m.now live
@@ -82,16 +82,16 @@ module _ {X : Type 0} (dones_of : X → List Done) (old new : Store) (live : Opt
       by (inl h) = inl (ap (write_reply (unbatched m.now live)) h ∙ (λ i. (refused e, sym same i)))
       by (inr h) = inr (same, held_up m.now (op ∷ []) e h)
 
-  pub commit_accepted : (ops : List Op) (n : ℕ) (x : X) → 1 ≤ length ops → Meanwhile old (λ s. MayWrite dones_of s ops (Ok (n, x)) new) →
-      Serves (batched old ops live) commit (committed n (dones_of x)) (unbatched new live)
+  pub commit_accepted : (ops : List Op) (n : ℕ) (x : X) → 1 ≤ length ops → Meanwhile old (λ s. MayWrite outcomes_of s ops (Ok (n, x)) new) →
+      Serves (batched old ops live) commit (committed n (outcomes_of x)) (unbatched new live)
   commit_accepted [] n x some m = absurd (omega (arith, some))
   commit_accepted (op ∷ ops) n x some m = record {
     now = m.now;
     joins = m.joins;
-    is = inl (ap (commit_reply (batched m.now (op ∷ ops) live)) m.is.0 ∙ (λ i. (committed (sym m.is.1 i) (dones_of x), unbatched new live)));
+    is = inl (ap (commit_reply (batched m.now (op ∷ ops) live)) m.is.0 ∙ (λ i. (committed (sym m.is.1 i) (outcomes_of x), unbatched new live)));
   }
 
-  pub commit_refused : (ops : List Op) (e : Refusal) → 1 ≤ length ops → Meanwhile old (λ s. MayWrite dones_of s ops (Err e) new) →
+  pub commit_refused : (ops : List Op) (e : Refusal) → 1 ≤ length ops → Meanwhile old (λ s. MayWrite outcomes_of s ops (Err e) new) →
       Serves (batched old ops live) commit (refused e) (unbatched new live)
   commit_refused [] e some m = absurd (omega (arith, some))
   commit_refused (op ∷ ops) e some m = record { now = m.now; joins = m.joins; is = by m.is.1 }

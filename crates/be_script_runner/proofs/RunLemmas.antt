@@ -16,7 +16,7 @@ use Rattle.be_script_language.specs.Request.{Request, silent, malformed, write, 
 use Rattle.be_script_language.specs.Reply.{Reply, bad_line, none, refused, text_of}
 use Rattle.be_script_runner.specs.Output.{Session, Replies, Serves, Answered, Outputs, IsOutputTo, IsFrontOfOutput, aborting, beginning, committing, got, opening, pinning, refreshing, taken, unpinning}
 use Rattle.be_script_runner.proofs.ReplyLemmas.{serves_at_once}
-use Rattle.be_table.specs.Versions.{CanSpellEach}
+use Rattle.be_table.specs.Versions.{CanEncodeEach}
 use Rattle.be_table.specs.declared.limits.Limits.{Limits as StoreLimits}
 use Rattle.be_script_runner.specs.Run.{Wrote, IsRun, IsFrontOf, IsFrontOfAnswer, AreFirstReplies, HasReplied, RunLeaves, ReadFault, ReadsAll, IsLate, IsNotLimits, is_line_end}
 
@@ -295,7 +295,7 @@ pub whole_output : (store store' : Store) (input left old new : Option (List ℕ
 whole_output store store' input left old new bytes h w = all_read input left bytes (λ script. Wrote old new (IsOutputTo store script store')) h w
 
 -- an output that leaves a store whose volumes fit into the pages is that of a run
-pub run_output : (limits : StoreLimits) (input old new : Option (List ℕ)) (first last : Store) → first ≡ start limits.commits → CanSpellEach limits.pages last.journal →
+pub run_output : (limits : StoreLimits) (input old new : Option (List ℕ)) (first last : Store) → first ≡ start limits.commits → CanEncodeEach limits.pages last.journal →
     IfSome input (λ script. Wrote old new (IsOutputTo first script last)) → IfSome input (λ script. Wrote old new (IsRun limits script))
 run_output limits None old new first last is volumes w = tt
 run_output limits (Some script) old new first last is volumes w = record {

@@ -29,7 +29,7 @@ use Rattle.be_volume.specs.declared.ops.Op.{Op}
 use Rattle.be_volume.proofs.StepLemmas.{refused_stays}
 use Rattle.be_script_runner.specs.Output.{IsOutputTo}
 use Rattle.be_script_runner.specs.Store.{start}
-use Rattle.be_script_runner.specs.Telling.{MakesVolume, dump_output, made}
+use Rattle.be_script_runner.specs.JournalRuns.{MakesVolume, dump_output, made}
 use Rattle.be_script_runner.proofs.DumpLemmas.{HasWrite, writes_made}
 
 abbrev Outcome : Type 0

@@ -8,7 +8,7 @@ use Rattle.be_journal.specs.declared.entries.Entry.{Entry}
 use Rattle.be_script_language.specs.Reply.{Reply, none, text_of}
 use Rattle.be_script_language.specs.Request.{Request, silent, asked, lines_of}
 use Rattle.be_table.specs.Rule.{entries}
-use Rattle.be_table.specs.Versions.{CanSpellEach}
+use Rattle.be_table.specs.Versions.{CanEncodeEach}
 use Rattle.be_table.specs.declared.limits.Limits.{Limits as StoreLimits}
 use Rattle.be_table.specs.declared.pass.Knowledge.{Knowledge}
 use Rattle.be_script_runner.specs.Output.{Session, Serves, Answered, Outputs, IsFrontOfOutput, IsOutputTo, opening}
@@ -209,7 +209,7 @@ strict_front store new script old held w = output_front store new script old hel
 
 -- the store is closed after a strict run
 pub strict_run : (limits : StoreLimits) (script : List ℕ) (found : Option (ℕ × List ℕ)) (first after c : Knowledge) (log : List Entry) (old new : Option (List ℕ)) → known first ≡ start limits.commits →
-    c ≡ after → log ≡ entries c.seen → CanSpellEach limits.pages log → Wrote old new (IsStrictOutput (known first) script found (known after)) → Wrote old new (IsStrictRun limits script found log)
+    c ≡ after → log ≡ entries c.seen → CanEncodeEach limits.pages log → Wrote old new (IsStrictOutput (known first) script found (known after)) → Wrote old new (IsStrictRun limits script found log)
 strict_run limits script found first after c log old new begun ended all volumes w = record {
   out = w.out;
   appended = w.appended;

@@ -21,10 +21,10 @@ abbrev pub IsNext : (ℕ → Type 0) → ℕ → Type 0
 IsNext ended line = (line ≡ 1) ⊎ ((before : ℕ) × (line ≡ before + 1) × ended before)
 
 -- each line up to this number has begun and has ended
-abbrev pub AreTold : (ℕ → Type 0) → (ℕ → Type 0) → ℕ → Type 0
-AreTold begun ended count = (line : ℕ) → 1 ≤ line → line ≤ count → begun line × ended line
+abbrev pub AreReported : (ℕ → Type 0) → (ℕ → Type 0) → ℕ → Type 0
+AreReported begun ended count = (line : ℕ) → 1 ≤ line → line ≤ count → begun line × ended line
 
 -- the same for each script's lines, by its pass's calls
-abbrev pub AreAllTold : (ℕ → ℕ → Type 0) → (ℕ → ℕ → Type 0) → List (List ℕ) → Type 0
-AreAllTold begun ended scripts = (k : ℕ) → k < length scripts
-    → AreTold (begun k) (ended k) (line_count (slice_index_or scripts k []))
+abbrev pub AreAllReported : (ℕ → ℕ → Type 0) → (ℕ → ℕ → Type 0) → List (List ℕ) → Type 0
+AreAllReported begun ended scripts = (k : ℕ) → k < length scripts
+    → AreReported (begun k) (ended k) (line_count (slice_index_or scripts k []))

@@ -6,7 +6,7 @@ use Rattle.be_journal.specs.declared.entries.Entry.{Entry}
 use Rattle.be_store.specs.Calls.{AreInOneTrace, HasWrites}
 use Rattle.be_store.specs.History.{Accepts, Pins}
 use Rattle.be_store.specs.Passes.{volume_pinned}
-use Rattle.be_store.specs.Told.{EndedBefore}
+use Rattle.be_store.specs.Learned.{EndedBefore}
 use Rattle.be_table.specs.History.{StartsWith}
 use Rattle.be_table.specs.Rule.{entries, newcomer}
 use Rattle.be_table.specs.Steps.{KeepsSeen, entry_by}

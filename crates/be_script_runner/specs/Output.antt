@@ -7,7 +7,7 @@ use Rattle.std.specs.declared.result.Result.TheVariants.{Ok, Err}
 use Rattle.be_value.specs.declared.refusals.Refusal.{Refusal}
 use Rattle.be_value.specs.declared.refusals.Refusal.TheVariants.{Busy, OutOfMemory, Full}
 use Rattle.be_query.specs.Faults.{fault}
-use Rattle.be_query.specs.Grammar.{Formula, Spells}
+use Rattle.be_query.specs.Grammar.{Formula, ParsesTo}
 use Rattle.be_query.specs.Lexing.{tokens}
 use Rattle.be_plan.specs.Cover.{chosen}
 use Rattle.be_plan.specs.Explain.{explanation}
@@ -28,7 +28,8 @@ use Rattle.be_script_language.specs.Request.{explain, get, attrs, indices, pin, 
 use Rattle.be_script_language.specs.Request.{refresh, begin, commit, abort, asked, lines_of}
 use Rattle.be_script_language.specs.declared.pages.Paging.{Paging}
 use Rattle.be_script_runner.specs.Pages.{page_read}
-use Rattle.be_script_runner.specs.Store.{PinnedVolume, Store, Meanwhile, IsLeastOf, IsOther, viewed}
+use Rattle.be_script_runner.specs.Store.{PinnedVolume, Store, Meanwhile, IsLowestOf, IsOther}
+use Rattle.be_script_runner.specs.Store.{viewed}
 use Rattle.be_script_runner.specs.Store.{pinned, unpinned, written}
 
 -- a running script: its store, the operations of its batch if one is open, and its live query if it
@@ -142,7 +143,7 @@ got volume n (Err e) = refused e
 
 -- what a text is as a query: the query, or its error
 abbrev pub IsQuery : List ℕ → Result Formula Refusal → Type 0
-IsQuery text (Ok f) = (fault text ≡ None) × Spells (tokens text) f
+IsQuery text (Ok f) = (fault text ≡ None) × ParsesTo (tokens text) f
 IsQuery text (Err e) = fault text ≡ Some e
 
 -- the session after a line that ran out of memory or whose write was held up: only a commit ends
@@ -168,7 +169,7 @@ unwritten s abort = s
 -- No page was left for these operations, which the volume accepts, and the reply has the oldest
 -- version that is read. Or another pass was writing.
 abbrev pub IsHeldUp : Store → List Op → Reply → Type 0
-IsHeldUp store ops reply = ((least : ℕ) × (reply ≡ refused (Full least)) × IsLeastOf store least
+IsHeldUp store ops reply = ((least : ℕ) × (reply ≡ refused (Full least)) × IsLowestOf store least
     × IsOk (written store ops)) ⊎ ((pass : ℕ) × (reply ≡ refused (Busy pass)) × IsOther store pass)
 
 -- the same for the operations that a line writes to the store; no other line is held up

@@ -12,7 +12,7 @@ use Rattle.be_table.specs.History.{AreOfPasses, StartsWith}
 use Rattle.be_table.specs.Place.{Opened, SeatFacts}
 use Rattle.be_table.specs.Rule.{entries, newcomer}
 use Rattle.be_table.specs.Steps.{KeepsSeen}
-use Rattle.be_table.specs.Versions.{CanSpellEach}
+use Rattle.be_table.specs.Versions.{CanEncodeEach}
 use Rattle.be_table.specs.Works.{knows_of}
 use Rattle.be_table.specs.declared.limits.Limits.{Limits as StoreLimits}
 use Rattle.be_table.specs.declared.pass.Knowledge.{Knowledge}
@@ -126,7 +126,7 @@ pub record IsRace (limits : StoreLimits) (scripts : List (List ℕ)) (out : List
   pub by : AreOfPasses (length scripts) journal
   pub own : (k : ℕ) → k < length scripts
       → IsPartOf (operations (by_pass k journal)) (write_ops (slice_index_or scripts k []))
-  pub volumes : CanSpellEach limits.pages journal
+  pub volumes : CanEncodeEach limits.pages journal
   pub passes : List Knowledge
   pub served : AreServedBy limits 0 scripts passes replies
   pub order : AreInOneOrder limits journal passes

@@ -119,12 +119,12 @@ viewed_number s = option_map_or (λ (p : PinnedVolume). p.number) s.pin (length 
 
 -- The oldest version that a full store reports is no later than the version that reads see. If no
 -- other pass reads, it is that version.
-abbrev pub IsLeastOf : Store → ℕ → Type 0
-IsLeastOf s least = (least ≤ viewed_number s) × (s.passes ≡ 1 → least ≡ viewed_number s)
+abbrev pub IsLowestOf : Store → ℕ → Type 0
+IsLowestOf s least = (least ≤ viewed_number s) × (s.passes ≡ 1 → least ≡ viewed_number s)
 
 -- an error because memory ran out, or because pages ran out, with the oldest version that is read
 abbrev pub IsWant : Store → Refusal → Type 0
-IsWant s e = (e ≡ OutOfMemory) ⊎ ((least : ℕ) × (e ≡ Full least) × IsLeastOf s least)
+IsWant s e = (e ≡ OutOfMemory) ⊎ ((least : ℕ) × (e ≡ Full least) × IsLowestOf s least)
 
 -- another pass was writing
 abbrev pub IsBusy : Store → Refusal → Type 0
@@ -134,7 +134,7 @@ IsBusy s e = (pass : ℕ) × (e ≡ Busy pass) × IsOther s pass
 -- Full come only for a write that the volume accepts. A refused write changes nothing.
 abbrev pub MayWrite : {X : Type 0} → (X → List Done) → Store → List Op → Result (ℕ × X) Refusal
     → Store → Type 0
-MayWrite dones_of old ops (Ok answer) new = (written old ops ≡ Ok (new, dones_of answer.1))
+MayWrite outcomes_of old ops (Ok answer) new = (written old ops ≡ Ok (new, outcomes_of answer.1))
     × (answer.0 ≡ length new.journal)
-MayWrite dones_of old ops (Err e) new = (new ≡ old)
+MayWrite outcomes_of old ops (Err e) new = (new ≡ old)
     × ((written old ops ≡ Err e) ⊎ (IsWant old e × IsOk (written old ops)) ⊎ IsBusy old e)

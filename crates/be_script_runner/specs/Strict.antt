@@ -11,7 +11,7 @@ use Rattle.be_script_language.specs.Reply.{not_pinned, updates, no_live_query, q
 use Rattle.be_script_language.specs.Reply.{empty_batch, already_begun, not_begun, committed}
 use Rattle.be_script_language.specs.Reply.{refused, text_of}
 use Rattle.be_script_language.specs.Request.{asked, lines_of}
-use Rattle.be_table.specs.Versions.{CanSpellEach}
+use Rattle.be_table.specs.Versions.{CanEncodeEach}
 use Rattle.be_table.specs.declared.limits.Limits.{Limits as StoreLimits}
 use Rattle.be_script_runner.specs.Output.{Session, Serves, opening}
 use Rattle.be_script_runner.specs.Store.{Store, start}
@@ -96,7 +96,7 @@ pub record IsStrictRun (limits : StoreLimits) (script : List ℕ) (found : Optio
   pub last : Store
   pub output : IsStrictOutput (start limits.commits) script found last out
   pub journal_is : journal ≡ last.journal
-  pub volumes : CanSpellEach limits.pages journal
+  pub volumes : CanEncodeEach limits.pages journal
 
 -- The text has the replies to a script's lines up to those that are left, none of them refused. `s`
 -- is the session after them, and `number` is that of the next line.

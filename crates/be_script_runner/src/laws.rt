@@ -27,7 +27,7 @@ ghost use Rattle.be_script_language.specs.Reply.{Reply};
 ghost use Rattle.be_script_language.specs.Request.{Request, lines_of};
 ghost use Rattle.be_script_runner.specs.Store.{Store, Joins, start};
 ghost use Rattle.be_script_runner.specs.Strict.{IsStrictOutput};
-ghost use Rattle.be_script_runner.specs.Telling.{MakesVolume, dump_output, made};
+ghost use Rattle.be_script_runner.specs.JournalRuns.{MakesVolume, dump_output, made};
 ghost use Rattle.be_volume_state.specs.Rebuilding.{state_ops};
 
 /// In a store with one pass, nobody else writes: the store is always as its pass left it.

@@ -8,7 +8,8 @@
 //! own pass. It writes their replies and the store's journal. The journal is proved to be legal,
 //! and to have only writes that the scripts ask for.
 //!
-//! [`run_and_tell`] runs a script and writes its journal too. [`run_strictly`] ends a run at the
+//! [`run_with_journal`] runs a script and writes its journal too. [`run_strictly`] ends a run at
+//! the
 //! first refused line. [`read_files`] reads a race's scripts. [`answer`] answers one line, for
 //! callers that get lines from elsewhere. [`save_state`] writes the script of the current or pinned
 //! version.
@@ -19,6 +20,7 @@ mod client;
 mod faults;
 mod files;
 mod gates;
+mod journal_runs;
 pub mod laws;
 mod pages;
 mod passes;
@@ -29,7 +31,6 @@ mod script_readers;
 mod states;
 mod stores;
 mod strict_runs;
-mod tellings;
 
 pub use answers::answer;
 pub use be_journal::Journal;
@@ -38,10 +39,10 @@ pub use client::Client;
 pub use faults::RunFault;
 pub use files::read_files;
 pub use gates::{Gate, OpenGate};
+pub use journal_runs::{close_alone, run_with_journal};
 pub use races::{put_result, race};
 pub use runs::{put, run, serve};
 pub use saves::save_state;
 pub use script_readers::ScriptReader;
 pub use stores::{PassServer, Server, open_for_one};
 pub use strict_runs::{RefusedLine, run_strictly};
-pub use tellings::{close_alone, run_and_tell};

@@ -4,7 +4,7 @@
 //! calls of the store led there from what it knew before, and the reply is about the store that it
 //! then shows.
 ghost use Rattle.std.specs.Prelude.{◌≡◌, ◌≤◌, OnOk, Some, length};
-ghost use Rattle.be_script_runner.specs.Gates.{AreTold, line_count};
+ghost use Rattle.be_script_runner.specs.Gates.{AreReported, line_count};
 ghost use Rattle.be_script_runner.specs.Lines.{IsAnsweredBy, IsServedBy};
 ghost use Rattle.be_script_runner.specs.Run.{Wrote};
 ghost use Rattle.be_script_runner.specs.Served.{known};
@@ -57,7 +57,7 @@ pub(crate) fn serve_lines<G: Gate>(
     ensures number { result.0.knows.number ≡ pass.knows.number }
     ensures served { OnOk result.1 (Wrote (Some replies.old.items) (Some replies.new.items)
         (IsServedBy pass.knows script.now result.0.knows)) }
-    ensures told { OnOk result.1 (AreTold (G.begun gate.now pass.knows.number)
+    ensures reported { OnOk result.1 (AreReported (G.begun gate.now pass.knows.number)
         (G.ended gate.now pass.knows.number) (line_count script.now)) }
 {
     let place = pass.number();

@@ -16,7 +16,7 @@ ghost use Rattle.std.specs.Io.KnownBytes.{Appends};
 ghost use Rattle.std.specs.List.{list_any};
 ghost use Rattle.be_journal.specs.Journal.{IsLegal};
 ghost use Rattle.be_journal.specs.Text.{result_text};
-ghost use Rattle.be_script_runner.specs.Gates.{AreAllTold, AreTold, line_count};
+ghost use Rattle.be_script_runner.specs.Gates.{AreAllReported, AreReported, line_count};
 ghost use Rattle.be_script_runner.specs.Race.{IsOutcome, AreFirstTexts, AreServed, IsNew, IsRace};
 ghost use Rattle.be_script_runner.specs.Race.{RaceLeaves, pass_line, replies_text};
 ghost use Rattle.be_script_runner.specs.Run.{Wrote, IsFrontOf, IsLate};
@@ -58,7 +58,8 @@ impl<G: Gate> Promise<(Pass, Result<Vec<u8>, RunFault>)> for Served<G> {
         × (outcome.0.knows.number ≡ p.number)
         × IfOk outcome.1 (λ replies. IsOutcome p.store.value.limits p.number p.script.value.items
         outcome.0.knows replies.items)
-        × OnOk outcome.1 (AreTold (G.begun p.gate.value p.number) (G.ended p.gate.value p.number)
+        × OnOk outcome.1 (AreReported (G.begun p.gate.value p.number)
+        (G.ended p.gate.value p.number)
         (line_count p.script.value.items)) };
 }
 
@@ -69,7 +70,7 @@ fn serve_new<G: Gate>(alloc: Global, store: &Store, pass: Pass, gate: &G, script
     ensures number { result.0.knows.number ≡ pass.knows.number }
     ensures replies { IfOk result.1 (λ replies. IsOutcome store.now.limits pass.knows.number
         script.now result.0.knows replies.items) }
-    ensures told { OnOk result.1 (AreTold (G.begun gate.now pass.knows.number)
+    ensures reported { OnOk result.1 (AreReported (G.begun gate.now pass.knows.number)
         (G.ended gate.now pass.knows.number) (line_count script.now)) }
 {
     serve_pass(alloc, store, pass, gate, script)
@@ -113,7 +114,8 @@ fn start<'s, E, G: Gate + Sync>(
                 ensures replies { IfOk result.1 (λ replies.
                     IsOutcome store.entry.now.limits pass.knows.number script.entry.now.items
                     result.0.knows replies.items) }
-                ensures told { OnOk result.1 (AreTold (G.begun gate.entry.now pass.knows.number)
+                ensures reported { OnOk result.1
+                    (AreReported (G.begun gate.entry.now pass.knows.number)
                     (G.ended gate.entry.now pass.knows.number)
                     (line_count script.entry.now.items)) }
             { serve_new(alloc, store, pass, gate, script) },
@@ -160,7 +162,7 @@ fn serve_in<'s, E, R: Threads, G: Gate + Sync>(
     requires { AreNew store.now 0 passes.items × (length passes.items ≡ length scripts.now.items) }
     ensures served { IfOk result (λ r. AreServed store.now (map (λ s. s.items) scripts.now.items)
         r.0.items (map (λ s. s.items) r.1.items)) }
-    ensures told { OnOk result (AreAllTold (G.begun gate.now) (G.ended gate.now)
+    ensures reported { OnOk result (AreAllReported (G.begun gate.now) (G.ended gate.now)
         (map (λ s. s.items) scripts.now.items)) }
     ensures fault { IfErr result (λ e. e ≡ RunFault.Memory) }
 {
@@ -184,7 +186,7 @@ fn serve_at_once<R: Threads + Wait, G: Gate + Sync>(
     requires { AreNew store.now 0 passes.items × (length passes.items ≡ length scripts.now.items) }
     ensures served { IfOk result (λ r. AreServed store.now (map (λ s. s.items) scripts.now.items)
         r.0.items (map (λ s. s.items) r.1.items)) }
-    ensures told { OnOk result (AreAllTold (G.begun gate.now) (G.ended gate.now)
+    ensures reported { OnOk result (AreAllReported (G.begun gate.now) (G.ended gate.now)
         (map (λ s. s.items) scripts.now.items)) }
     ensures fault { IfErr result (λ e. e ≡ RunFault.Memory) }
 {
@@ -197,8 +199,8 @@ fn serve_at_once<R: Threads + Wait, G: Gate + Sync>(
             ensures served { IfOk result (λ r. AreServed store.entry.now
                 (map (λ s. s.items) scripts.entry.now.items) r.0.items
                 (map (λ s. s.items) r.1.items)) }
-            ensures told { OnOk result (AreAllTold (G.begun gate.entry.now) (G.ended gate.entry.now)
-                (map (λ s. s.items) scripts.entry.now.items)) }
+            ensures reported { OnOk result (AreAllReported (G.begun gate.entry.now)
+                (G.ended gate.entry.now) (map (λ s. s.items) scripts.entry.now.items)) }
             ensures fault { IfErr result (λ e. e ≡ RunFault.Memory) }
         { serve_in(scope, rt, alloc, store, passes, scripts, gate) },
     )
@@ -328,7 +330,7 @@ fn serve_on_new<R: Threads + Wait, G: Gate + Sync>(
         (replies_text 0 (map (λ t. t.items) r.0.items) ++ result_text r.1.entries))
         × (race.replies ≡ map (λ t. t.items) r.0.items)) }
     ensures legal { IfOk result (λ r. IsLegal r.1.entries) }
-    ensures told { OnOk result (AreAllTold (G.begun gate.now) (G.ended gate.now)
+    ensures reported { OnOk result (AreAllReported (G.begun gate.now) (G.ended gate.now)
         (map (λ s. s.items) scripts.items)) }
     ensures fault { IfErr result (λ e. e ≡ RunFault.Memory) }
 {
@@ -369,7 +371,7 @@ pub fn race<R: Threads + Wait, G: Gate + Sync, W: Write>(
     ensures ok { IfOk result (λ legal. (legal ≡ true)
         × Wrote (W.contents writer.old) (W.contents writer.new)
         (IsRace limits (map (λ s. s.items) scripts.items))) }
-    ensures told { OnOk result (AreAllTold (G.begun gate.now) (G.ended gate.now)
+    ensures reported { OnOk result (AreAllReported (G.begun gate.now) (G.ended gate.now)
         (map (λ s. s.items) scripts.items)) }
     ensures fault { IfErr result (λ e. RaceLeaves limits (map (λ s. s.items) scripts.items) e
         (W.contents writer.old) (W.contents writer.new)) }

@@ -8,7 +8,7 @@ ghost use Rattle.std.specs.Prelude.{◌≡◌, ◌<◌, ◌≤◌, ◌^◌, ◌�
 ghost use Rattle.std.specs.Prelude.{IfOk, OnOk, IfErr, IfSome, OnErr, IfNone, Err};
 ghost use Rattle.std.specs.Io.KnownBytes.{Appends};
 ghost use Rattle.be_journal.specs.Journal.{by_pass};
-ghost use Rattle.be_script_runner.specs.Gates.{AreTold, line_count};
+ghost use Rattle.be_script_runner.specs.Gates.{AreReported, line_count};
 ghost use Rattle.be_script_runner.specs.Lines.{IsServedBy};
 ghost use Rattle.be_script_runner.specs.Output as outputs;
 ghost use Rattle.be_script_runner.specs.Own.{IsPartOf, operations, write_ops};
@@ -122,7 +122,7 @@ pub(crate) fn run_lines<S: Server, G: Gate, W: Write>(
         spec.Wrote (W.contents writer.old) (W.contents writer.new)
         (spec.AreFirstReplies (S.shows server.old) script.now)) }
     ensures late { IfErr result spec.IsLate }
-    ensures told { OnOk result (AreTold (G.begun gate.now pass) (G.ended gate.now pass)
+    ensures reported { OnOk result (AreReported (G.begun gate.now pass) (G.ended gate.now pass)
         (line_count script.now)) }
     ensures stays { S.kept server.new ≡ S.kept server.old }
 {
@@ -166,7 +166,7 @@ pub fn serve_pass<G: Gate>(
     ensures own { OnOk result.1 (IsPartOf (operations result.0.knows.mine) (write_ops script.now)) }
     ensures replies { IfOk result.1 (λ replies. IsServedBy pass.knows script.now result.0.knows
         replies.items) }
-    ensures told { OnOk result.1 (AreTold (G.begun gate.now pass.knows.number)
+    ensures reported { OnOk result.1 (AreReported (G.begun gate.now pass.knows.number)
         (G.ended gate.now pass.knows.number) (line_count script.now)) }
     ensures fault { IfErr result.1 (λ e. e ≡ RunFault.Memory) }
 {

@@ -18,10 +18,10 @@ ghost use Rattle.be_table.specs.Rule.{AreBad, IsWithin};
 
 use crate::answers::answer;
 use crate::client::Client;
+use crate::journal_runs::close_alone;
 use crate::runs::{put, read_script, split_line};
 use crate::script_readers::ScriptReader;
 use crate::stores::{PassServer, Server, open_for_one};
-use crate::tellings::close_alone;
 use crate::{Limits, RunFault};
 use be_journal::Journal;
 use be_script_language::{Reply, read_line, reply_text};

@@ -33,5 +33,5 @@ answers_from (op ∷ ops) s t before dones h = by (step s op) h (λ a g. answers
     by (Err e) g rest = absurd (never_both e (t, dones) (fold advance (Err e) ops) (refused_stays e ops) g)
 
 -- accepted operations have an outcome each
-pub length-dones : (s t : State) (ops : List Op) (dones : List Done) → steps s ops ≡ Ok (t, dones) → length dones ≡ length ops
-length-dones s t ops dones h = omega (arith, answers_from ops s t [] dones h)
+pub length-outcomes : (s t : State) (ops : List Op) (dones : List Done) → steps s ops ≡ Ok (t, dones) → length dones ≡ length ops
+length-outcomes s t ops dones h = omega (arith, answers_from ops s t [] dones h)

@@ -10,12 +10,12 @@ ghost use Rattle.std.specs.Prelude.{◌<◌, ◌^◌};
 mod alike;
 mod examples;
 mod faults;
+mod journal_runs;
 mod limits;
 mod pages;
 mod plain;
 mod pools;
 mod readings;
-mod tellings;
 
 use be_script_runner::{Limits, RunFault, run, serve};
 use be_value::word_of;

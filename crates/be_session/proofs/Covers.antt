@@ -20,5 +20,5 @@ pub none_said : (indexed : List ℕ → Bool) (f : Formula) (e : Refusal) → (e
 none_said indexed f e known =
     elim known [
       | inl none ↦ inl none
-      | inr told ↦ inr (ap (result_map_both (explanation f) (λ e. e)) told)
+      | inr reported ↦ inr (ap (result_map_both (explanation f) (λ e. e)) reported)
     ]

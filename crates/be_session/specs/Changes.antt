@@ -26,7 +26,7 @@ use Rattle.be_volume.specs.declared.ops.Done.TheVariants.{Node}
 use Rattle.be_volume.specs.declared.ops.Op.{Op}
 use Rattle.be_volume.specs.declared.ops.Op.TheVariants.{New, Drop, Set, Unset, MkIndex, RmIndex}
 use Rattle.be_session.specs.Fault.{fault_carried, fault_of, fault_of_collecting}
-use Rattle.be_session.specs.Operations.{ArePartsWithin, IsBadCount, IsMeantBy, IsMisspeltAt}
+use Rattle.be_session.specs.Operations.{ArePartsWithin, IsBadCount, IsMeantBy, IsInvalidAt}
 use Rattle.be_session.specs.declared.faults.Fault.{Fault}
 use Rattle.be_session.specs.declared.faults.Fault.TheVariants.{BadCount, Conflict, NotPinned}
 use Rattle.be_session.specs.declared.faults.Fault.TheVariants.{Refused, WrongKind}
@@ -78,7 +78,7 @@ CollectsMeant was now o bytes node = (op : Op) × ArePartsWithin o (length bytes
 
 -- why it wasn't: either the encoding is invalid, or the change doesn't take the operation
 abbrev pub IsNotCollected : Changing → Operation → List ℕ → Fault → Type 0
-IsNotCollected c o bytes e = IsMisspeltAt o bytes e
+IsNotCollected c o bytes e = IsInvalidAt o bytes e
     ⊎ ((op : Op) × IsMeantBy o bytes op
     × (why : CollectError) × (e ≡ fault_of_collecting why) × IsUncollected c op why)
 

@@ -4,7 +4,7 @@ use Rattle.be_journal.specs.Journal.{IsLegal, Log}
 use Rattle.be_store.specs.Calls.{AreInOneTrace, HasWrites, ReadsFronts}
 use Rattle.be_table.specs.History.{AreOfPasses}
 use Rattle.be_table.specs.Steps.{Has, KeepsSeen}
-use Rattle.be_table.specs.Versions.{CanSpellEach}
+use Rattle.be_table.specs.Versions.{CanEncodeEach}
 use Rattle.be_table.specs.declared.limits.Limits.{Limits}
 use Rattle.be_table.specs.declared.pass.Knowledge.{Knowledge}
 use Rattle.be_value.specs.declared.refusals.Refusal.TheVariants.{OutOfMemory}
@@ -26,7 +26,7 @@ pub record IsClosedWith (limits : Limits) (passes : List Knowledge) (log : Log) 
   pub seen : KeepsSeen log.entries passes
   pub writes : All (HasWrites log.entries) passes
   pub reads : All (ReadsFronts log.entries) passes
-  pub volumes : CanSpellEach limits.pages log.entries
+  pub volumes : CanEncodeEach limits.pages log.entries
   pub limit : log.limit ≡ limits.commits
   pub moves : AreInOneTrace limits passes
 

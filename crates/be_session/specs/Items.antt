@@ -57,21 +57,21 @@ AreItemsMeant (s ∷ ss) bytes (item ∷ items) = IsItemMeant s.kind s.number (p
 
 -- why this one isn't a valid item: either its part isn't within the bytes, or its number or content
 -- is invalid
-abbrev pub IsItemMisspelt : PredicateItem → List ℕ → Fault → Type 0
-IsItemMisspelt s bytes e = ((e ≡ BadPart) × (length bytes < s.at + s.length))
+abbrev pub IsItemInvalid : PredicateItem → List ℕ → Fault → Type 0
+IsItemInvalid s bytes e = ((e ≡ BadPart) × (length bytes < s.at + s.length))
     ⊎ IsNoItem s.kind (part bytes s.at s.length) e
 
 -- the place that is reported with an item's error: its index, or 0 if memory ran out
-abbrev pub item_told : Fault → ℕ → ℕ
-item_told e n = if fault_code e == 10 then 0 else n
+abbrev pub item_reported : Fault → ℕ → ℕ
+item_reported e n = if fault_code e == 10 then 0 else n
 
 -- Why these aren't valid items, and the place that is reported: the first n items are valid, and
 -- the next one isn't. If memory ran out, the place is 0.
-abbrev pub AreItemsMisspelt : List PredicateItem → List ℕ → Fault → ℕ → Type 0
-AreItemsMisspelt ss bytes e place =
-    ((n : ℕ) × (place ≡ item_told e n) × (s : PredicateItem) × (items : List Item)
+abbrev pub AreItemsInvalid : List PredicateItem → List ℕ → Fault → ℕ → Type 0
+AreItemsInvalid ss bytes e place =
+    ((n : ℕ) × (place ≡ item_reported e n) × (s : PredicateItem) × (items : List Item)
     × (take (n + 1) ss ≡ take n ss ++ s ∷ [])
-    × AreItemsMeant (take n ss) bytes items × IsItemMisspelt s bytes e)
+    × AreItemsMeant (take n ss) bytes items × IsItemInvalid s bytes e)
     ⊎ ((e ≡ Refused OutOfMemory) × (place ≡ 0))
 
 -- the query that the items encoded here build
@@ -83,7 +83,7 @@ IsBuilt ss bytes query = (items : List Item) × AreItemsMeant ss bytes items × 
 -- out.
 abbrev pub IsUnbuilt : List PredicateItem → List ℕ → Fault → ℕ → Type 0
 IsUnbuilt ss bytes e place =
-    AreItemsMisspelt ss bytes e place
+    AreItemsInvalid ss bytes e place
     ⊎ ((items : List Item) × AreItemsMeant ss bytes items × (why : Refusal) × (e ≡ Refused why)
     × (place ≡ fault_carried (Refused why))
     × IsMemory why (rpn items ≡ Err why))

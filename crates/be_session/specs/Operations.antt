@@ -46,18 +46,18 @@ all_parts (o ∷ os) bytes = both_parts o bytes ++ all_parts os bytes
 
 -- These encode the operations. They mean them, and the bytes are their parts, end to end, and
 -- nothing else.
-abbrev pub AreSpelled : List Operation → List ℕ → List Op → Type 0
-AreSpelled os bytes ops = AreMeant os bytes ops × (all_parts os bytes ≡ bytes)
+abbrev pub AreEncoded : List Operation → List ℕ → List Op → Type 0
+AreEncoded os bytes ops = AreMeant os bytes ops × (all_parts os bytes ≡ bytes)
 
 -- what an entry's operation has in addition: for `New` the node that it made
-abbrev pub TellsNode : Operation → Op → Done → Type 0
-TellsNode o New (Node n) = o.node ≡ n
-TellsNode o op done = Unit {0}
+abbrev pub ReportsNode : Operation → Op → Done → Type 0
+ReportsNode o New (Node n) = o.node ≡ n
+ReportsNode o op done = Unit {0}
 
 -- the same for each of them
-abbrev pub TellNodes : List Operation → List Op → List Done → Type 0
-TellNodes os ops dones = (i : ℕ) (o : Operation) (op : Op) (done : Done) → slice_get os i ≡ Some o
-    → slice_get ops i ≡ Some op → slice_get dones i ≡ Some done → TellsNode o op done
+abbrev pub ReportNodes : List Operation → List Op → List Done → Type 0
+ReportNodes os ops dones = (i : ℕ) (o : Operation) (op : Op) (done : Done) → slice_get os i ≡ Some o
+    → slice_get ops i ≡ Some op → slice_get dones i ≡ Some done → ReportsNode o op done
 
 -- the operation that sets this attribute of the node
 abbrev pub sets : ℕ → (List ℕ × Value) → Op
@@ -69,8 +69,8 @@ makes i = MkIndex i.0 i.1
 
 -- why this isn't a valid operation: either a part isn't within the bytes, or its number or content
 -- is invalid
-abbrev pub IsMisspeltAt : Operation → List ℕ → Fault → Type 0
-IsMisspeltAt o bytes e =
+abbrev pub IsInvalidAt : Operation → List ℕ → Fault → Type 0
+IsInvalidAt o bytes e =
     ((e ≡ BadPart) × ((length bytes < o.name_at + o.name_length)
     ⊎ (length bytes < o.value_at + o.value_length)))
     ⊎ IsNoOperation o.kind (part bytes o.name_at o.name_length) o.code o.number
@@ -86,15 +86,15 @@ IsBadCount n = (n ≡ 0) ⊎ (64 < n)
 
 -- The first invalid operation is at this place, counted from 0, and has this error. If memory ran
 -- out, the place is 0.
-abbrev pub IsFirstMisspelt : List Operation → List ℕ → Fault → ℕ → Type 0
-IsFirstMisspelt os bytes e place =
+abbrev pub IsFirstInvalid : List Operation → List ℕ → Fault → ℕ → Type 0
+IsFirstInvalid os bytes e place =
     ((o : Operation) × (ops : List Op) × (take (place + 1) os ≡ take place os ++ o ∷ [])
-    × AreMeant (take place os) bytes ops × IsMisspeltAt o bytes e)
+    × AreMeant (take place os) bytes ops × IsInvalidAt o bytes e)
     ⊎ ((e ≡ Refused OutOfMemory) × (place ≡ 0))
 
 -- Why these aren't a valid write, and the place that is reported. The number of operations is
 -- checked first, and then the place is 0. Otherwise it is the place of the first invalid operation.
-abbrev pub IsMisspelt : List Operation → List ℕ → Fault → ℕ → Type 0
-IsMisspelt os bytes e place =
+abbrev pub IsInvalid : List Operation → List ℕ → Fault → ℕ → Type 0
+IsInvalid os bytes e place =
     (IsBadCount (length os) × (e ≡ BadCount) × (place ≡ 0))
-    ⊎ (IsWriteCount (length os) × IsFirstMisspelt os bytes e place)
+    ⊎ (IsWriteCount (length os) × IsFirstInvalid os bytes e place)

@@ -93,8 +93,9 @@ HasMet store a c n =
 -- A pass and a witness have then seen what either had seen: the longer of two prefixes of one
 -- journal, whose length is n.
 abbrev pub Joins : Knowledge → List Commit → Knowledge → List Commit → ℕ → Type 0
-Joins a told c now n =
-    StartsWith now a.seen × StartsWith now told × (now ≡ longer a.seen told) × (c ≡ met a now)
+Joins a reported c now n =
+    StartsWith now a.seen × StartsWith now reported × (now ≡ longer a.seen reported)
+    × (c ≡ met a now)
     × (n ≡ length now)
 
 -- Why a write did nothing, and what its pass then knows: either the count isn't 1 to 64, or the
@@ -122,8 +123,8 @@ ReadAnswers view (Err e) meant = IsUnanswered meant e
 
 -- NotPinned exactly if there is no pin; otherwise this
 abbrev pub AtPin : {X : Type 0} → Option ℕ → Result X Fault → Type 0 → Type 0
-AtPin None answer told = answer ≡ Err NotPinned
-AtPin (Some n) answer told = told
+AtPin None answer reported = answer ≡ Err NotPinned
+AtPin (Some n) answer reported = reported
 
 -- why a live query wasn't asked or refreshed: there is no pin, the query has an error at the pin,
 -- or memory runs out

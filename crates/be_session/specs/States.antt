@@ -15,8 +15,8 @@ abbrev pub unread : State → StatePlace → List Op
 unread volume p = left volume p.place
 
 -- the operations of a volume that are still to be returned
-abbrev pub untold : State → StatePlace → List Op
-untold volume p = waiting p ++ unread volume p
+abbrev pub unreported : State → StatePlace → List Op
+unreported volume p = waiting p ++ unread volume p
 
 -- these fit into this many operations and bytes
 abbrev pub HaveRoom : ℕ → ℕ → List Operation → List ℕ → Type 0

@@ -54,15 +54,15 @@ fn collect(change: &mut Change, op: Op) -> Result<u64, CollectError>
 /// OutOfMemory.
 pub fn collect_operation(
     change: &mut Change,
-    spelled: &Operation,
+    encoded: &Operation,
     bytes: &[u8],
 ) -> Result<u64, Fault>
-    ensures ok { IfOk result (λ node. CollectsMeant change.old change.new spelled.now bytes.now
+    ensures ok { IfOk result (λ node. CollectsMeant change.old change.new encoded.now bytes.now
         node) }
     ensures err { IfErr result (λ e. (change.new ≡ change.old)
-        × IsNotCollected change.old spelled.now bytes.now e) }
+        × IsNotCollected change.old encoded.now bytes.now e) }
 {
-    let op = match one(spelled, bytes) {
+    let op = match one(encoded, bytes) {
         Ok(op) => op,
         Err(fault) => return Err(fault),
     };

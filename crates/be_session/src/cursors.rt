@@ -9,7 +9,7 @@ use arrayvec::ArrayVec;
 use be_store::Kind;
 
 /// The minimum length of a key: the bytes of its node.
-const LEAST: u32 = 8;
+const MINIMUM: u32 = 8;
 
 /// The maximum length of a key: a text of 255 bytes, a zero byte, and the node.
 const MOST: u32 = 264;
@@ -47,7 +47,7 @@ impl Cursor {
         if self.kind == 0 && self.length == 0 {
             return Ok(None);
         }
-        if self.kind != kind.code() || self.length < LEAST || self.length > MOST {
+        if self.kind != kind.code() || self.length < MINIMUM || self.length > MOST {
             return Err(Fault::BadCursor);
         }
         let mut key = ArrayVec::new();

@@ -9,6 +9,7 @@
 
 mod changing;
 mod cursors;
+mod encodings;
 mod explaining;
 mod faults;
 mod finishing;
@@ -21,21 +22,20 @@ mod passes;
 mod preparing;
 mod session;
 mod shared;
-mod spellings;
 mod states;
 
 pub use changing::collect_operation;
 pub use cursors::Cursor;
+pub use encodings::{
+    Encoding, encoded_attributes, encoded_entry, encoded_indices, encoded_operations,
+};
 pub use faults::{Fault, ListFault};
 pub use finishing::Unfinished;
 pub use held::held_name;
 pub use items::{PredicateItem, query_of_items};
 pub use lists::{Operation, operations};
-pub use meanings::{name, spelled};
+pub use meanings::{encoded, name};
 pub use ordering::HeldOrder;
 pub use preparing::{Prepared, prepare, prepare_items};
 pub use session::{Session, may_move, query_of, sent};
-pub use spellings::{
-    Spelling, attributes_spelled, entry_spelled, indices_spelled, operations_spelled,
-};
 pub use states::StatePlace;

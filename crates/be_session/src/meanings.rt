@@ -101,7 +101,7 @@ pub(crate) fn value(code: u32, number: u64, bytes: &[u8]) -> Result<Value, Fault
 
 /// The type code, the number and the bytes that encode this value. The number is 0 for a text or
 /// raw bytes, and there are no bytes for a number.
-pub fn spelled(value: &Value) -> (u32, u64, &[u8])
+pub fn encoded(value: &Value) -> (u32, u64, &[u8])
     ensures meant { IsValueMeant result.0 result.1 result.2.now value.now }
     ensures no_more { HasNoMore result.1 result.2.now value.now }
 {
@@ -145,13 +145,13 @@ pub(crate) fn operation(
 /// The number, the node and the name that encode this operation, and the type code, the number and
 /// the bytes of its value. These are the parts that `operation` takes; a part that the operation
 /// doesn't use is 0 or empty.
-pub(crate) fn operation_spelled(op: &Op) -> (u32, u64, &[u8], (u32, u64, &[u8]))
+pub(crate) fn encoded_operation(op: &Op) -> (u32, u64, &[u8], (u32, u64, &[u8]))
     ensures { IsMeant result.0 result.1 result.2.now result.3.0 result.3.1 result.3.2.now op.now }
 {
     match op {
         Op::New => (0, 0, b"", (0, 0, b"")),
         Op::Drop(node) => (1, *node, b"", (0, 0, b"")),
-        Op::Set(node, name, value) => (2, *node, name.as_str().as_bytes(), spelled(value)),
+        Op::Set(node, name, value) => (2, *node, name.as_str().as_bytes(), encoded(value)),
         Op::Unset(node, name) => (3, *node, name.as_str().as_bytes(), (0, 0, b"")),
         Op::MkIndex(name, kind) => (4, 0, name.as_str().as_bytes(), (kind.code(), 0, b"")),
         Op::RmIndex(name) => (5, 0, name.as_str().as_bytes(), (0, 0, b"")),

@@ -250,13 +250,13 @@ pub fn prepare(alloc: Global, text: &[u8]) -> Result<Box<Prepared, Global>, Faul
 /// `query_of_items`.
 pub fn prepare_items(
     alloc: Global,
-    spelled: &[PredicateItem],
+    encoded: &[PredicateItem],
     bytes: &[u8],
 ) -> Result<Box<Prepared, Global>, ListFault>
-    ensures ok { IfOk result (λ p. (query : Formula) × IsBuilt spelled.now bytes.now query
+    ensures ok { IfOk result (λ p. (query : Formula) × IsBuilt encoded.now bytes.now query
         × IsUnasked query p.value) }
-    ensures err { IfErr result (λ e. IsUnbuilt spelled.now bytes.now e.fault e.place) }
+    ensures err { IfErr result (λ e. IsUnbuilt encoded.now bytes.now e.fault e.place) }
 {
-    let query = query_of_items(alloc, spelled, bytes)?;
+    let query = query_of_items(alloc, encoded, bytes)?;
     Ok(in_box(alloc, query)?)
 }

@@ -8,25 +8,26 @@ ghost use Rattle.be_query.specs.Grammar.{IsTextOf};
 ghost use Rattle.be_volume.specs.Query.{scan};
 ghost use Rattle.be_volume.specs.Reading.{attribute, attributes_at, index_kinds};
 ghost use Rattle.be_journal.specs.Journal.{IsLegal};
-ghost use Rattle.be_paged_reading.specs.Cells.{IsReadInto, TellsColumns, name_in};
+ghost use Rattle.be_paged_reading.specs.Cells.{IsReadInto, ReportsColumns, name_in};
 ghost use Rattle.be_paged_reading.specs.Nodes.{nodes_from};
 ghost use Rattle.be_table.specs.Rule.{IsWithin, entries, newcomer, one_step_on};
 ghost use Rattle.be_table.specs.Seats.{pinned_number};
 ghost use Rattle.be_table.specs.Steps.{IsPass};
 ghost use Rattle.be_table.specs.Works.{AreNew, FoundHeld, IsOpenRefused, IsWitnessOf};
 ghost use Rattle.be_store.specs.Conditional.{AcceptsAt};
-ghost use Rattle.be_store.specs.History.{Accepts, IsUntold, Learns, LocksAndUnlocks, Pins, Unpins};
+ghost use Rattle.be_store.specs.History.{Accepts, IsUnreported, Learns, LocksAndUnlocks, Pins};
+ghost use Rattle.be_store.specs.History.{Unpins};
 ghost use Rattle.be_store.specs.History.{entries_from, text_seen};
 ghost use Rattle.be_store.specs.Live.{Refreshes};
 ghost use Rattle.be_store.specs.Passes.{HasRead, IsPassOf, IsPinnedTo, volume_pinned};
-ghost use Rattle.be_store.specs.Statuses.{TellsStatus};
+ghost use Rattle.be_store.specs.Statuses.{ReportsStatus};
 ghost use Rattle.be_session.specs.Explained.{explanation_in};
 ghost use Rattle.be_session.specs.Finishing.{IsFinished, IsNotLast, IsUnfinished};
 ghost use Rattle.be_session.specs.Sitting.{AtPin, HasMet, IsHandedOut, IsPinned, IsTakenFrom};
 ghost use Rattle.be_session.specs.Sitting.{IsUnwritten};
 ghost use Rattle.be_session.specs.Sitting.{IsUnwrittenIf, IsNoQuery, IsOpened, IsUnpinnedAt};
 ghost use Rattle.be_session.specs.Sitting.{IsUnrefreshed, Joins, ReadAnswers};
-ghost use Rattle.be_session.specs.States.{untold, waiting};
+ghost use Rattle.be_session.specs.States.{unreported, waiting};
 ghost use Rattle.be_session.specs.declared.faults.Fault.TheVariants.{AlreadyPinned, BadCount};
 ghost use Rattle.be_session.specs.declared.faults.Fault.TheVariants.{NoPass, NotPinned, Refused};
 
@@ -472,7 +473,7 @@ impl Session {
         ensures list { IfOk result (λ list. list.items
             ≡ entries_from (entries self.new.knows.seen) from most) }
         ensures err { IfErr result (λ e. (why : AnyRefusal) × (e ≡ Refused why)
-            × IsUntold self.old.knows self.new.knows why) }
+            × IsUnreported self.old.knows self.new.knows why) }
         ensures moves { OnOk result (LocksAndUnlocks self.old.knows self.new.knows) }
     {
         let store = self.shared.store();
@@ -500,7 +501,7 @@ impl Session {
         ensures legal { IsLegal (entries self.new.knows.seen) }
         ensures text { IfOk result (λ text. string_bytes text ≡ text_seen self.new.knows) }
         ensures err { IfErr result (λ e. (why : AnyRefusal) × (e ≡ Refused why)
-            × IsUntold self.old.knows self.new.knows why) }
+            × IsUnreported self.old.knows self.new.knows why) }
         ensures moves { OnOk result (LocksAndUnlocks self.old.knows self.new.knows) }
     {
         let answer = self.shared.store().journal_text(&mut self.pass);
@@ -513,12 +514,12 @@ impl Session {
     pub fn status(&mut self) -> Result<Status, Fault>
         ensures store { (self.new.store ≡ self.old.store) × (self.new.spare ≡ self.old.spare) }
         ensures learns { Learns self.old.knows self.new.knows }
-        ensures told { IfOk result (λ s. TellsStatus self.old.knows self.new.knows s) }
+        ensures reported { IfOk result (λ s. ReportsStatus self.old.knows self.new.knows s) }
         ensures err { IfErr result (λ e. (why : AnyRefusal) × (e ≡ Refused why)
             × FoundHeld why self.old.knows self.new.knows) }
     {
-        let told = self.shared.store().status(&mut self.pass);
-        Ok(told?)
+        let reported = self.shared.store().status(&mut self.pass);
+        Ok(reported?)
     }
 
     /// The nodes that match the query in the pinned version, in ascending order.
@@ -661,8 +662,8 @@ impl Session {
     ) -> Result<u64, Fault>
         ensures store { (self.new.store ≡ self.old.store) × (self.new.spare ≡ self.old.spare) }
         ensures read { HasRead self.old.knows self.new.knows }
-        ensures told { AtPin (pinned_number self.old.knows.phase) result
-            (IfOk result (λ needed. TellsColumns (volume_pinned self.old.knows) nodes.now
+        ensures reported { AtPin (pinned_number self.old.knows.phase) result
+            (IfOk result (λ needed. ReportsColumns (volume_pinned self.old.knows) nodes.now
             (each name_in names.now) cells.old cells.new bytes.old bytes.new needed)
             × IfErr result (λ e. (e ≡ BadCount) × (2 ^ 32 < length nodes.now * length names.now))) }
         ensures kept { OnErr result ((cells.new ≡ cells.old) × (bytes.new ≡ bytes.old)) }
@@ -713,11 +714,11 @@ impl Session {
     pub fn state(&mut self, alloc: Global, place: &mut StatePlace) -> Result<(), Fault>
         ensures store { (self.new.store ≡ self.old.store) × (self.new.spare ≡ self.old.spare) }
         ensures read { HasRead self.old.knows self.new.knows }
-        ensures same { untold (volume_pinned self.old.knows) place.new
-            ≡ untold (volume_pinned self.old.knows) place.old }
+        ensures same { unreported (volume_pinned self.old.knows) place.new
+            ≡ unreported (volume_pinned self.old.knows) place.old }
         ensures few { length (waiting place.new) ≤ 64 }
         ensures ends { OnOk result (waiting place.new ≡ []
-            → untold (volume_pinned self.old.knows) place.old ≡ []) }
+            → unreported (volume_pinned self.old.knows) place.old ≡ []) }
         ensures err { AtPin (pinned_number self.old.knows.phase) result
             (IfErr result (λ e. e ≡ Refused OutOfMemory)) }
     {

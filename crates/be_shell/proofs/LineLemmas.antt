@@ -100,12 +100,12 @@ line_left old mid new kept event h g last empty short long = by (nat_lt 65536 (l
         subst (λ (e : Event). Hears old new e) (sym (empty none)) (subst (λ (z : List ℕ). Consumes old new z) nothing all, last)
 
 -- hearing leaves the writer unchanged
-pub hears_moves : (left left' told : Option (List ℕ)) (event : Event) → Hears left left' event → ChangesBytes left left' told told event
-hears_moves left left' told (hears line) h = (h, refl)
-hears_moves left left' told ends h = (h, refl)
-hears_moves left left' told (says bytes) h = absurd h
-hears_moves left left' told flushes h = absurd h
-hears_moves left left' told fails h = absurd h
+pub hears_moves : (left left' reported : Option (List ℕ)) (event : Event) → Hears left left' event → ChangesBytes left left' reported reported event
+hears_moves left left' reported (hears line) h = (h, refl)
+hears_moves left left' reported ends h = (h, refl)
+hears_moves left left' reported (says bytes) h = absurd h
+hears_moves left left' reported flushes h = absurd h
+hears_moves left left' reported fails h = absurd h
 
 pub if_ok : {T E : Type 0} (r : Result T E) (P Q : T → Type 0) → ((x : T) → P x → Q x) → IfOk r P → IfOk r Q
 if_ok (Ok x) P Q f p = f x p

@@ -54,11 +54,14 @@ Hears old new fails = ⊥
 -- how an event changes what is left to hear and what has been said
 abbrev pub ChangesBytes : Option (List ℕ) → Option (List ℕ) → Option (List ℕ) → Option (List ℕ)
     → Event → Type 0
-ChangesBytes left left' told told' (hears line) = TakesLine left left' line × (told' ≡ told)
-ChangesBytes left left' told told' ends = (Consumes left left' [] × IsAtEnd left') × (told' ≡ told)
-ChangesBytes left left' told told' (says bytes) = (left' ≡ left) × Appends told told' bytes
-ChangesBytes left left' told told' flushes = (left' ≡ left) × Keeps told told'
-ChangesBytes left left' told told' fails = Keeps told told'
+ChangesBytes left left' reported reported' (hears line) = TakesLine left left' line
+    × (reported' ≡ reported)
+ChangesBytes left left' reported reported' ends = (Consumes left left' [] × IsAtEnd left')
+    × (reported' ≡ reported)
+ChangesBytes left left' reported reported' (says bytes) = (left' ≡ left)
+    × Appends reported reported' bytes
+ChangesBytes left left' reported reported' flushes = (left' ≡ left) × Keeps reported reported'
+ChangesBytes left left' reported reported' fails = Keeps reported reported'
 
 -- the same for a reader and a writer
 abbrev pub ends_do : {R W : Type 0} → (R → Option (List ℕ)) → (W → Option (List ℕ)) → Ends R W
@@ -69,21 +72,22 @@ ends_do remaining contents old event new = ChangesBytes (remaining old.reader)
 -- a peer that consists of the bytes left to hear and the bytes said
 pub record Known : Type 0 where
   pub left : Option (List ℕ)
-  pub told : Option (List ℕ)
+  pub reported : Option (List ℕ)
 
 abbrev pub knows : List ℕ → List ℕ → Known
-knows left told = record { left = Some left; told = Some told }
+knows left reported = record { left = Some left; reported = Some reported }
 
 abbrev pub known_do : Known → Event → Known → Type 0
-known_do old event new = ChangesBytes old.left new.left old.told new.told event
+known_do old event new = ChangesBytes old.left new.left old.reported new.reported event
 
 -- no line is long
 abbrev pub AreShort : List (List ℕ) → Type 0
 AreShort lines = All (λ line. length line ≤ 65536) lines
 
 -- The whole script was heard, and what was said is an output of it.
-pub record IsWhole (store : Store) (script told : List ℕ) (last : Session) (end : Known) : Type 0
+pub record IsWhole (store : Store) (script reported : List ℕ) (last : Session) (end : Known) : Type
+    0
   where
     pub out : List ℕ
-    pub said : end.told ≡ Some (told ++ out)
+    pub said : end.reported ≡ Some (reported ++ out)
     pub output : IsOutputTo store script last.store out

@@ -51,8 +51,8 @@ fn reply_to<S: Server>(
 }
 
 /// Says a reply and flushes it.
-fn tell<P: Peer>(peer: &mut P, reply: &[u8]) -> Result<(), RunFault>
-    ensures told { OnOk result (spec.Happens P.does peer.old
+fn send<P: Peer>(peer: &mut P, reply: &[u8]) -> Result<(), RunFault>
+    ensures reported { OnOk result (spec.Happens P.does peer.old
         (spec.says reply.now ∷ spec.flushes ∷ []) peer.new) }
     ensures cut { IfErr result (λ e. (e ≡ RunFault.Write)
         × (cut : List spec.Event) × spec.IsCut reply.now cut
@@ -83,7 +83,7 @@ fn serve_line<S: Server, P: Peer>(
     ensures few { length (queued_ops client.new) ≤ 64 }
 {
     let reply = reply_to(alloc, server, client, line)?;
-    tell(peer, reply.as_bytes())?;
+    send(peer, reply.as_bytes())?;
     Ok(())
 }
 

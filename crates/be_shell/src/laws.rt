@@ -27,8 +27,8 @@ pub fn talk_of_script_is_output()
 /// If the bytes are a script without long lines, a conversation over all of them says an output of
 /// that script. `run` writes an output of the same script.
 pub fn talk_of_bytes_is_output()
-    ensures { (store : Store) (script told : List ℕ) (last : Session) (end : Known)
+    ensures { (store : Store) (script reported : List ℕ) (last : Session) (end : Known)
         → AreShort (lines_of script) →
-        TalkedTo known_do (opening store) (knows script told) last end
-        → IsWhole store script told last end }
+        TalkedTo known_do (opening store) (knows script reported) last end
+        → IsWhole store script reported last end }
 {}

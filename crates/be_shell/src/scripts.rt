@@ -36,7 +36,7 @@ impl Script {
     }
 
     /// Writes the file and number of the last line taken to standard error.
-    pub(crate) fn tell_place<R: Eprint>(&self, rt: &R) {
+    pub(crate) fn write_place<R: Eprint>(&self, rt: &R) {
         let (name, number) = (self.name.as_str(), self.number);
         let _ = eprint!(rt; "{name}:{number}: ");
     }

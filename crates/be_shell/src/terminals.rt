@@ -180,7 +180,7 @@ fn print_place<R: Eprint>(rt: &R, script: &Script, reply: &[u8]) {
     if !wants_hint(reply) {
         return;
     }
-    script.tell_place(rt);
+    script.write_place(rt);
     if fault_at(reply).is_some() {
         let _ = eprintln!(rt; "this query isn't valid here:");
     }
@@ -220,7 +220,7 @@ impl<'a, R: Files + Eprint, P: Peer> Terminal<'a, R, P> {
 
     /// Writes to standard error what the reply to the last line leaves out. If the line came from a
     /// file, the line's place comes first.
-    fn tell_hint(&self, reply: &[u8]) {
+    fn print_hint(&self, reply: &[u8]) {
         let Some(heard) = &self.heard else {
             return;
         };
@@ -272,7 +272,7 @@ impl<'a, R: Files + Eprint, P: Peer> Peer for Terminal<'a, R, P> {
 
     fn say(&mut self, reply: &[u8]) -> Result<(), RunFault> {
         self.peer.say(reply)?;
-        self.tell_hint(reply);
+        self.print_hint(reply);
         Ok(())
     }
 

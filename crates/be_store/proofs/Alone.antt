@@ -78,7 +78,7 @@ settled_pin passes n b p c pass limits limits_then number announced h =
 
 -- The same steps pin it to what it has then seen.
 pub pins_seen : (n m : ℕ) (a b p c : Knowledge) → SeesMore a b → p ≡ announces (with_history b p.history) m → Moves b (Announce b.number ∷ []) p → PinsCurrent p c → n ≡ length c.seen → Pins a c n
-pins_seen n m a b p c looked announced told h number =
+pins_seen n m a b p c looked announced reported h number =
     let number_b : b.number ≡ a.number = ap (λ (k : Knowledge). k.number) looked.same in
     let number_p : p.number ≡ a.number = ap (λ (k : Knowledge). k.number) announced ∙ number_b in
     let seen : p.seen ≡ b.seen = ap (λ (k : Knowledge). k.seen) announced in
@@ -87,7 +87,7 @@ pins_seen n m a b p c looked announced told h number =
     let phase : c.phase ≡ Pinned x (length c.seen) = ap (λ (k : Knowledge). k.phase) h.same.2 in
     let steps : a.steps + 1 + 1 + 1 ≡ a.steps + 3 = omega arith in
     let first : Makes a.number a.history (Look a.number ∷ []) b.history = looked.moves.made in
-    let second : Makes a.number b.history (Announce a.number ∷ []) p.history = subst (λ k. Makes k b.history (Announce k ∷ []) p.history) number_b told.made in
+    let second : Makes a.number b.history (Announce a.number ∷ []) p.history = subst (λ k. Makes k b.history (Announce k ∷ []) p.history) number_b reported.made in
     let third : Makes a.number p.history (LookAgain a.number ∷ []) c.history = subst (λ k. Makes k p.history (LookAgain k ∷ []) c.history) number_p h.moves.made in record {
       more = (looked.more.0 ++ more.0, more.1 ∙ ap (λ l. l ++ more.0) looked.more.1 ∙ append_assoc a.seen looked.more.0 more.0);
       number = number;

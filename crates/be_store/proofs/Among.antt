@@ -182,9 +182,9 @@ pub kept_insert : (xs : List ℕ) (i y n : ℕ) → is_among xs n ≡ true → i
 kept_insert xs i y n h = among_insert xs i y n ∙ or_first (is_among xs n) (y == n) h
 
 -- whether a search finds the number
-pub search_tells : (xs : List ℕ) (x : ℕ) (r : Result ℕ ℕ) → IsBinarySearchResult (λ y. nat_cmp y x) xs r → IsStrictlyIncreasing xs → is_ok r ≡ is_among xs x
-search_tells xs x (Ok i) position up = let at = found_here xs x i (Ok i) position up refl in sym (held_at xs x i at.0 at.1)
-search_tells xs x (Err i) position up = sym (gap_lacks xs x i (lacking_here xs x i (Err i) position up refl))
+pub search_reports : (xs : List ℕ) (x : ℕ) (r : Result ℕ ℕ) → IsBinarySearchResult (λ y. nat_cmp y x) xs r → IsStrictlyIncreasing xs → is_ok r ≡ is_among xs x
+search_reports xs x (Ok i) position up = let at = found_here xs x i (Ok i) position up refl in sym (held_at xs x i at.0 at.1)
+search_reports xs x (Err i) position up = sym (gap_lacks xs x i (lacking_here xs x i (Err i) position up refl))
 
 pub both_gone : (a b c : Bool) → ((a && not b) && not c) ≡ (a && not (b || c))
 both_gone true true c = refl

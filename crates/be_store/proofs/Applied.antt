@@ -176,5 +176,5 @@ text_or d (Ok x) = x
 text_or d (Err e) = d
 
 -- the text that was made under the lock is the text of what the pass has seen after it
-pub told : (w c : Knowledge) (text : List ℕ) (made : Result (List ℕ) Refusal) → c ≡ without_lock (with_history w c.history) → made ≡ Ok (text_seen w) → made ≡ Ok text → text ≡ text_seen c
-told w c text made is all one = ap (text_or text) (sym one ∙ all) ∙ ap text_seen (sym is)
+pub reported : (w c : Knowledge) (text : List ℕ) (made : Result (List ℕ) Refusal) → c ≡ without_lock (with_history w c.history) → made ≡ Ok (text_seen w) → made ≡ Ok text → text ≡ text_seen c
+reported w c text made is all one = ap (text_or text) (sym one ∙ all) ∙ ap text_seen (sym is)

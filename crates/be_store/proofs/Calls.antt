@@ -74,8 +74,8 @@ entries_start log seen h = (entries h.0, ap entries h.1 ∙ entries_append seen 
 reaches : (log : List Entry) (a : Knowledge) (steps : List (Step volume)) (z : Knowledge) → StartsWith log (entries z.seen) → Calls a steps z → StartsWith log (entries a.seen)
 reaches log a steps z more h = starts_trans (entries a.seen) (entries z.seen) log more (entries_start z.seen a.seen (calls_seen a steps z h))
 
-pub stands_at_seam : {A : Type 0} (log xs : List A) (y : A) (rest : List A) → log ≡ xs ++ y ∷ rest → slice_get log (length xs) ≡ Some y
-stands_at_seam log xs y rest is =
+pub lies_at_seam : {A : Type 0} (log xs : List A) (y : A) (rest : List A) → log ≡ xs ++ y ∷ rest → slice_get log (length xs) ≡ Some y
+lies_at_seam log xs y rest is =
     let l = length-append xs (y ∷ rest) in
     ap (λ k. slice_get k (length xs)) is
     ∙ (slice_get-get_or (xs ++ y ∷ rest) (length xs) y (omega (arith, l)) ∙ ap Some (get_or-append_seam xs y rest y))
@@ -92,7 +92,7 @@ has_writes log z more a c cs ops n dones h calls =
     let parts = length-append (a.seen ++ h.others) (h.commit ∷ []) in
     let counted = length-map (a.seen ++ h.others) (λ (x : Commit). x.entry) in
     let at : n - 1 ≡ length front = omega (arith, h.number, long, parts, counted) in
-    ap (slice_get log) at ∙ stands_at_seam log front (entry_by a ops dones) begun.0 is
+    ap (slice_get log) at ∙ lies_at_seam log front (entry_by a ops dones) begun.0 is
 
 reads_fronts : (log : List Entry) (z : Knowledge) → StartsWith log (entries z.seen) → ReadsFronts log z
 reads_fronts log z more a cs n pass pin calls =

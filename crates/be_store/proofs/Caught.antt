@@ -360,6 +360,6 @@ own_after (Err e) store old mid new Q ok err same own = subst (IsLiveOf store) (
 -- an entry's operations and outcomes, as slices
 pub named_entry : (new : List ℕ) (ops : List Op) (dones : List Done) (entry : Entry) (log : List Entry) (i : ℕ) → ops ≡ entry.ops → dones ≡ entry.dones → entry ≡ get_or log i entry → i < length log →
     AreNamedAmong new ops dones → (d : Entry) → NamesAmong new (get_or log i d)
-named_entry new ops dones entry log i ops_is dones_is its inside named d =
+named_entry new ops dones entry log i ops_is outcomes_is its inside named d =
     subst (NamesAmong new) (its ∙ get_or_default log i entry d inside)
-    (subst (λ l. AreNamedAmong new l entry.dones) ops_is (subst (λ l. AreNamedAmong new ops l) dones_is named))
+    (subst (λ l. AreNamedAmong new l entry.dones) ops_is (subst (λ l. AreNamedAmong new ops l) outcomes_is named))

@@ -13,7 +13,7 @@ use Rattle.std.specs.Result.{result_map_both}
 use Rattle.std.specs.declared.option.Option.{Option}
 use Rattle.be_journal.specs.Journal.{Agrees, IsLegal, replay}
 use Rattle.be_journal.specs.declared.entries.Entry.{Entry}
-use Rattle.be_paged_reading.proofs.CatalogPairs.Items.{get_other, get_here, gone_other, keys_tell}
+use Rattle.be_paged_reading.proofs.CatalogPairs.Items.{get_other, get_here, gone_other, keys_decided}
 use Rattle.be_query.specs.Grammar.{Formula, Leaf, And, Or}
 use Rattle.be_value.specs.declared.refusals.Refusal.{Refusal}
 use Rattle.be_value.specs.declared.values.Value.{Value}
@@ -100,14 +100,14 @@ paired_other index k value n ne =
 -- an index of one name is changed, but not at this node
 module _ (indices : Indices) (at : List ℕ) (old new : Index) (n : ℕ) (was : fin.get indices at ≡ Some old) (same : fin.get new.pairs n ≡ fin.get old.pairs n) where
   changed_has : (name : List ℕ) → fin.contains_key (fin.insert indices at new) name ≡ fin.contains_key indices name
-  changed_has name = elim (keys_tell name at) [
+  changed_has name = elim (keys_decided name at) [
     | inl s ↦ subst (λ m. fin.contains_key (fin.insert indices at new) m ≡ fin.contains_key indices m) (sym s)
         (ap is_some (get_here names_total exact_names indices at new) ∙ sym (ap is_some was))
     | inr ne ↦ ap is_some (get_other names_total exact_names indices at new name ne)
   ]
 
   changed_seen : (name : List ℕ) (v : Option Value) → seen_in (fin.get (fin.insert indices at new) name) v n ≡ seen_in (fin.get indices name) v n
-  changed_seen name v = elim (keys_tell name at) [
+  changed_seen name v = elim (keys_decided name at) [
     | inl s ↦ subst (λ m. seen_in (fin.get (fin.insert indices at new) m) v n ≡ seen_in (fin.get indices m) v n) (sym s)
         (ap (λ o. seen_in o v n) (get_here names_total exact_names indices at new) ∙ (same ∙ sym (ap (λ o. seen_in o v n) was)))
     | inr ne ↦ ap (λ o. seen_in o v n) (get_other names_total exact_names indices at new name ne)
@@ -118,7 +118,7 @@ paired_has indices at name k value = by (fin.get indices at) refl
   where
     by : (found : Option Index) → fin.get indices at ≡ found → fin.contains_key (paired_at indices at found k value) name ≡ fin.contains_key indices name
     by None e = refl
-    by (Some index) e = elim (keys_tell name at) [
+    by (Some index) e = elim (keys_decided name at) [
       | inl s ↦ subst (λ m. fin.contains_key (fin.insert indices at (paired index k value)) m ≡ fin.contains_key indices m) (sym s)
           (ap is_some (get_here names_total exact_names indices at (paired index k value)) ∙ sym (ap is_some e))
       | inr ne ↦ ap is_some (get_other names_total exact_names indices at (paired index k value) name ne)
@@ -136,7 +136,7 @@ lost_has indices at name k = by (fin.get indices at) refl
   where
     by : (found : Option Index) → fin.get indices at ≡ found → fin.contains_key (unpaired_at indices at found k) name ≡ fin.contains_key indices name
     by None e = refl
-    by (Some index) e = elim (keys_tell name at) [
+    by (Some index) e = elim (keys_decided name at) [
       | inl s ↦ subst (λ m. fin.contains_key (fin.insert indices at (unpaired index k)) m ≡ fin.contains_key indices m) (sym s)
           (ap is_some (get_here names_total exact_names indices at (unpaired index k)) ∙ sym (ap is_some e))
       | inr ne ↦ ap is_some (get_other names_total exact_names indices at (unpaired index k) name ne)
@@ -213,11 +213,11 @@ step_same nodes s t op done e named =
 
 -- operations append their outcomes to those before
 answered_after : (ops : List Op) (u t : State) (es fs : List Done) → fold advance (Ok (u, es)) ops ≡ Ok (t, fs) → (rest : List Done) × (fs ≡ es ++ rest)
-answered_after [] u t es fs h = ([], sym (ap (dones_in es) h) ∙ sym (append-nil es))
+answered_after [] u t es fs h = ([], sym (ap (outcomes_in es) h) ∙ sym (append-nil es))
   where
-    dones_in : List Done → Result (State × List Done) Refusal → List Done
-    dones_in d (Ok x) = x.1
-    dones_in d (Err r) = d
+    outcomes_in : List Done → Result (State × List Done) Refusal → List Done
+    outcomes_in d (Ok x) = x.1
+    outcomes_in d (Err r) = d
 answered_after (op ∷ ops) u t es fs h = by (λ v ds g. answered_after ops v t ds fs g) (step u op) h
   where
     by : ((v : State) (ds : List Done) → fold advance (Ok (v, ds)) ops ≡ Ok (t, fs) → (rest : List Done) × (fs ≡ ds ++ rest)) → (x : Result (State × Done) Refusal) →

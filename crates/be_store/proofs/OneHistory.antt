@@ -7,7 +7,7 @@ use Rattle.be_table.specs.History.{StartsWith}
 use Rattle.be_store.specs.SmallMachine.{Object, PassView, Step, Apply, Learn, Pin, Unpin, Read, Leads, AreSteps, Closes, HasNumber, first_view, state_of, entries_by}
 use Rattle.be_store.specs.OneHistory.{PassRun, IsKept, AreKept, ReadsPrefix, HasRun, IsOneHistory, written, written_by}
 use Rattle.be_store.proofs.Legality.{journal_legal, run_number}
-use Rattle.be_store.proofs.Calls.{starts_refl, starts_trans, stands_at_seam}
+use Rattle.be_store.proofs.Calls.{starts_refl, starts_trans, lies_at_seam}
 
 abbrev number_or : ℕ → Option ℕ → ℕ
 number_or d None = d
@@ -60,7 +60,7 @@ module _ (o : Object) where
       let long : length c.seen ≡ length (front ++ e ∷ []) = ap (λ (v : PassView o). length v.seen) l.3 in
       let parts = length-append front (e ∷ []) in
       let at : n ≡ suc (length front) = omega (arith, l.4, long, parts) in
-      (length front, at, stands_at_seam journal front e more.0 is)
+      (length front, at, lies_at_seam journal front e more.0 is)
   step_kept journal a (Learn log) c l more h =
       (subst (StartsWith journal) (sym l.2) more, subst (λ (k : List o.Entry). StartsWith k a.seen) (sym l.2) (step_seen a (Learn log) c l))
   step_kept journal a (Pin n) c l more h =

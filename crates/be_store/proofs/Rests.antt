@@ -3,7 +3,7 @@ use Rattle.std.proofs.Common.{◌≡◌, ◌≢◌, ◌⊎◌, ℕ, suc, Bool, t
 use Rattle.std.proofs.lemmas.Bool.Decides.{eqb_tells}
 use Rattle.std.proofs.lemmas.List.{append_cancel_left, append-nil}
 use Rattle.std.specs.Prelude.{Option, Some, None, ◌<◌, ◌==◌, if◌then◌else◌}
-use Rattle.be_core.specs.Machine.{Holder, World, phase_after_announce, phase_after_look, phase_after_look_again, scanned_by, scanned_on, scanned_out, to}
+use Rattle.be_core.specs.Machine.{Writer, World, phase_after_announce, phase_after_look, phase_after_look_again, scanned_by, scanned_on, scanned_out, to}
 use Rattle.be_core.proofs.Places.{update-same}
 use Rattle.be_core.specs.declared.event.Phase.{Phase}
 use Rattle.be_core.specs.declared.event.Phase.TheVariants.{Idle}
@@ -94,7 +94,7 @@ IsIdleAt k w = w.phases k ≡ Idle
 idle_to : (k j : ℕ) (w : World) (p : Phase) → (j ≡ k → p ≡ Idle) → IsIdleAt k w → IsIdleAt k (to w j p)
 idle_to k j w p mine idle = elim (eqb_tells k j) [ inl y ↦ rw y.0 (mine (sym y.1)) | inr n ↦ rw n.0 idle ]
 
-idle_scan : (k j : ℕ) (w : World) (h : Option Holder) → IsIdleAt k w → IsIdleAt k (scanned_by w h j)
+idle_scan : (k j : ℕ) (w : World) (h : Option Writer) → IsIdleAt k w → IsIdleAt k (scanned_by w h j)
 idle_scan k j w None idle = idle
 idle_scan k j w (Some h) idle = by (suc j == w.passes)
   where
@@ -110,7 +110,7 @@ idle_after k w (LookAgain j) quiet idle =
     idle_to k j w (phase_after_look_again (w.phases j) w.current) (λ same. ap (λ (p : Phase). phase_after_look_again p w.current) (ap w.phases same ∙ idle)) idle
 idle_after k w (Unpin j) quiet idle = idle_to k j w Idle (λ same. refl) idle
 idle_after k w (Lock j) quiet idle = idle
-idle_after k w (Scan j i) quiet idle = idle_scan k i w w.holder idle
+idle_after k w (Scan j i) quiet idle = idle_scan k i w w.writer idle
 idle_after k w (Fill j p i word) quiet idle = idle
 idle_after k w (Publish j page given) quiet idle = idle
 idle_after k w (Unlock j) quiet idle = idle
@@ -266,10 +266,10 @@ locked_front w c l =
 -- at a point of a run within the moves that an unpinned pass has seen, that pass has announced nothing
 no_word : (limits : Limits) (k n : ℕ) (b : Knowledge) (rest upto : List Move) (words : ℕ → ℕ → ℕ) (world : World) → IsOut limits b → b.number ≡ k → upto ≡ b.history ++ rest → AreQuiet k rest
     → RunsTo limits words upto world → announce_word (world.phases k) ≡ suc n → ⊥
-no_word limits k n b rest upto words world out is same quiet runs told =
+no_word limits k n b rest upto words world out is same quiet runs reported =
     let idle : world.phases b.number ≡ Idle =
     idle_later limits b rest words world out (subst (λ (m : ℕ). AreQuiet m rest) (sym is) quiet) (subst (λ (l : List Move). RunsTo limits words l world) same runs) in
-    let none : 0 ≡ suc n = sym (ap announce_word idle) ∙ (ap (λ (m : ℕ). announce_word (world.phases m)) is ∙ told) in
+    let none : 0 ≡ suc n = sym (ap announce_word idle) ∙ (ap (λ (m : ℕ). announce_word (world.phases m)) is ∙ reported) in
     absurd (omega (arith, none))
 
 -- the writer itself is unpinned
@@ -288,7 +288,7 @@ module _ (limits : Limits) (w c : Knowledge) (l : LocksOnly w c) (number : c.num
       let whole : w.history ++ quiet.0 ≡ w.history ++ (from.0 ++ h.front.0) =
       sym quiet.2 ∙ (h.front.1 ∙ (ap (λ (x : List Move). x ++ h.front.0) from.1 ∙ append_assoc w.history from.0 h.front.0)) in
       let rest : quiet.0 ≡ from.0 ++ h.front.0 = append_cancel_left w.history quiet.0 (from.0 ++ h.front.0) whole in
-      no_word limits k n w from.0 h.upto h.words h.world out refl from.1 (quiet_front k from.0 h.front.0 (subst (AreQuiet k) rest quiet.1)) (runs_here k n h) h.told
+      no_word limits k n w from.0 h.upto h.words h.world out refl from.1 (quiet_front k from.0 h.front.0 (subst (AreQuiet k) rest quiet.1)) (runs_here k n h) h.reported
 
   -- the other pass's history ends before the lock
   rests_before : (b : Knowledge) → RestsThrough limits w c b → StartsWith l.locked b.history
@@ -320,7 +320,7 @@ module _ (limits : Limits) (w c : Knowledge) (l : LocksOnly w c) (number : c.num
       let rest : r.after.rests.1.0.0 ≡ from.0 ++ tail = append_cancel_left b.history r.after.rests.1.0.0 (from.0 ++ tail) whole in
       let quiet : AreQuiet j from.0 =
       quiet_front j from.0 tail (subst (AreQuiet j) rest (subst (λ (k : ℕ). AreQuiet k r.after.rests.1.0.0) is (none_are_quiet b.number r.after.rests.1.0.0 r.after.rests.1.0.1))) in
-      no_word limits j n b from.0 h.upto h.words h.world r.out is from.1 quiet (runs_here j n h) h.told
+      no_word limits j n b from.0 h.upto h.words h.world r.out is from.1 quiet (runs_here j n h) h.reported
 
   none_earlier : IsOut limits w → OthersRest limits w c → NoneIsEarlier c
   none_earlier out rest j n lt h = elim (eqb_tells j w.number) [

@@ -107,7 +107,7 @@ was_busy (Err e) = is_busy e
 
 -- the pass after failed tries that found these passes holding the lock, the last one first
 abbrev pub tried : Knowledge → List ℕ → Knowledge
-tried a holders = record a { holders = holders ++ a.holders; steps = a.steps + length holders }
+tried a writers = record a { writers = writers ++ a.writers; steps = a.steps + length writers }
 
 -- Each of `tries` tries found that another pass holds the lock, and saw nothing more; the refusal
 -- names the last of these passes.
@@ -152,5 +152,6 @@ entries_from log from most = take most (drop from log)
 
 -- Why the journal isn't returned. Either the one try found that another pass holds the lock, and
 -- the pass saw nothing more; or the call ran out of memory between a lock and its unlock.
-abbrev pub IsUntold : (a c : Knowledge) → Refusal → Type 0
-IsUntold a c e = (FoundHeld e a c × (c.seen ≡ a.seen)) ⊎ ((e ≡ OutOfMemory) × LocksAndUnlocks a c)
+abbrev pub IsUnreported : (a c : Knowledge) → Refusal → Type 0
+IsUnreported a c e = (FoundHeld e a c × (c.seen ≡ a.seen))
+    ⊎ ((e ≡ OutOfMemory) × LocksAndUnlocks a c)

@@ -10,11 +10,11 @@ use Rattle.be_table.specs.declared.pass.Commit.{Commit}
 use Rattle.be_table.specs.declared.pass.Move.{Move}
 use Rattle.be_table.specs.declared.pass.Move.TheVariants.{Publish}
 use Rattle.be_table.specs.Place.{Work}
-use Rattle.be_table.specs.Reading.{standing_among, word_of_page}
+use Rattle.be_table.specs.Reading.{page_state_among, word_of_page}
 use Rattle.be_table.specs.Rule.{page_at, reach_at}
 use Rattle.be_table.specs.Steps.{entry_by}
 use Rattle.be_table.specs.Trace.{Makes, upto_lock}
-use Rattle.be_table.specs.Versions.{at_start, SpellsVolume}
+use Rattle.be_table.specs.Versions.{at_start, EncodesVolume}
 use Rattle.be_table.specs.Working.{WorksOn}
 use Rattle.be_table.specs.Works.{due_after, MakesScan}
 use Rattle.be_value.specs.declared.refusals.Refusal.{Refusal}
@@ -29,9 +29,9 @@ use Rattle.be_store.specs.Passes.{volume_seen}
 pub record Begins (k : Knowledge) : Type 0 where
   pub small : k.limits.pages ≤ 16384
   pub unpublished : k.published ≡ false
-  pub begun : (q : ℕ) → standing_among k.places q
+  pub begun : (q : ℕ) → page_state_among k.places q
       ≡ at_start (has (reach_at k.seen (length k.seen)) q)
-  pub spelt : SpellsVolume (reach_at k.seen (length k.seen)) (word_of_page k.words)
+  pub encoded : EncodesVolume (reach_at k.seen (length k.seen)) (word_of_page k.words)
       (page_at k.seen (length k.seen)) (volume_seen k)
 
 -- An early scan: a whole scan if enough pages have been retired since the last scan to make one

@@ -24,7 +24,7 @@ pub(crate) fn ask<L: Look>(
     query: &Query,
 ) -> (L, Result<Vec<u64>, Refusal>)
     ghost volume: { State }
-    requires version { IsVersion (L.standing look) (L.words look) version_page volume }
+    requires version { IsVersion (L.page_state look) (L.words look) version_page volume }
     ensures answer { Answers (λ nodes. nodes.items) result.1 (scan volume query.now) }
     ensures rising { IfOk result.1 (λ nodes. IsStrictlyIncreasing nodes.items) }
     ensures kept { L.kept result.0 ≡ L.kept look }
@@ -45,7 +45,7 @@ pub(crate) fn ask_into<L: Look>(
     found: &mut Vec<u64>,
 ) -> (L, Result<(), Refusal>)
     ghost volume: { State }
-    requires version { IsVersion (L.standing look) (L.words look) version_page volume }
+    requires version { IsVersion (L.page_state look) (L.words look) version_page volume }
     ensures answer { Answers (λ _. found.new.items) result.1 (scan volume query.now) }
     ensures rising { OnOk result.1 (IsStrictlyIncreasing found.new.items) }
     ensures kept { L.kept result.0 ≡ L.kept look }
@@ -65,7 +65,7 @@ pub(crate) fn ask_prepared<L: Look>(
     found: &mut Vec<u64>,
 ) -> (L, Result<(), Refusal>)
     ghost volume: { State }
-    requires version { IsVersion (L.standing look) (L.words look) version_page volume }
+    requires version { IsVersion (L.page_state look) (L.words look) version_page volume }
     ensures answer { Answers (λ _. found.new.items) result.1 (scan volume prepared.old) }
     ensures rising { OnOk result.1 (IsStrictlyIncreasing found.new.items) }
     ensures same { prepared.new ≡ prepared.old }
@@ -88,7 +88,7 @@ pub(crate) fn choose_at<L: Look>(
     query: &Query,
 ) -> (L, Result<Cover, Refusal>)
     ghost volume: { State }
-    requires version { IsVersion (L.standing look) (L.words look) version_page volume }
+    requires version { IsVersion (L.page_state look) (L.words look) version_page volume }
     ensures cover { Answers (λ cover. cover) result.1 (chosen (has_index volume) query.now) }
     ensures covers { IfOk result.1 (λ cover. covers (has_index volume) cover.picks query.now
         ≡ true) }

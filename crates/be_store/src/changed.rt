@@ -90,7 +90,7 @@ pub(crate) fn ask_each<L: Look>(
     updates: &mut Updates,
 ) -> (L, Result<(), Refusal>)
     ghost volume: { State }
-    requires version { IsVersion (L.standing look) (L.words look) version_page volume }
+    requires version { IsVersion (L.page_state look) (L.words look) version_page volume }
     requires rising { IsStrictlyIncreasing list.now }
     requires empty { (updates.old.created.items ≡ []) × (updates.old.removed.items ≡ []) }
     ensures created { OnOk result.1 (updates.new.created.items

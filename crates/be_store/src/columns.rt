@@ -1,7 +1,7 @@
 //! Reading many attributes in one call, into the caller's buffers.
 ghost use Rattle.std.specs.Prelude.{◌≡◌, ◌*◌, ◌^◌, ◌≤◌, ℕ, length, map as each};
 ghost use Rattle.be_volume.specs.Reading.{attribute};
-ghost use Rattle.be_paged_reading.specs.Cells.{IsReadInto, TellsColumns, name_in};
+ghost use Rattle.be_paged_reading.specs.Cells.{IsReadInto, ReportsColumns, name_in};
 ghost use Rattle.be_store.specs.Passes.{HasRead, IsPassOf, IsPinnedTo, volume_pinned};
 
 use crate::{Pass, Store};
@@ -30,7 +30,7 @@ impl Store {
         requires pinned { (n : ℕ) × IsPinnedTo pass.old.knows n }
         requires few { length nodes.now * length names.now ≤ 2 ^ 32 }
         ensures pass { IsPassOf self.now pass.new × HasRead pass.old.knows pass.new.knows }
-        ensures told { TellsColumns (volume_pinned pass.old.knows) nodes.now
+        ensures reported { ReportsColumns (volume_pinned pass.old.knows) nodes.now
             (each name_in names.now) cells.old cells.new bytes.old bytes.new result }
     {
         let (mut look, page) = self.reader(pass);

@@ -10,7 +10,7 @@ ghost use Rattle.be_store.specs.Passes.{IsPassOf};
 ghost use Rattle.be_store.specs.declared.conditional.ApplyIfError.TheVariants.{Refused};
 ghost use Rattle.be_value.specs.declared.refusals.Refusal.TheVariants.{OutOfMemory};
 
-use crate::tries::{is_busy, longer, stand_back};
+use crate::tries::{back_off, is_busy, longer};
 use crate::writing::write_if;
 use crate::{Pass, Store};
 use arrayvec::ArrayVec;
@@ -129,7 +129,7 @@ impl Store {
             if !was_held(&answer) {
                 return answer;
             }
-            stand_back(turns);
+            back_off(turns);
             turns = longer(turns);
         }
         self.apply_if(pass, number, ops)

@@ -16,7 +16,7 @@ ghost use Rattle.be_volume_state.specs.Rebuilding.{state_ops};
 ghost use Rattle.be_table.specs.History.{AreOfPasses, StartsWith};
 ghost use Rattle.be_table.specs.Rule.{entries, newcomer};
 ghost use Rattle.be_table.specs.Steps.{IsPass};
-ghost use Rattle.be_table.specs.Versions.{CanSpellEach};
+ghost use Rattle.be_table.specs.Versions.{CanEncodeEach};
 ghost use Rattle.be_table.specs.declared.limits.Limits.{Limits};
 ghost use Rattle.be_table.specs.declared.pass.Commit.{Commit};
 ghost use Rattle.be_table.specs.declared.pass.Knowledge.{Knowledge};
@@ -29,7 +29,7 @@ ghost use Rattle.be_store.specs.History.{IsLastReason, Unpins};
 ghost use Rattle.be_store.specs.Passes.{IsPassOf, IsPinnedTo, volume_pinned, volume_seen};
 ghost use Rattle.be_store.specs.Shown.{shown_by, shown_in};
 ghost use Rattle.be_store.specs.SmallMachine.{Step};
-ghost use Rattle.be_store.specs.Told.{ComesAfter, EndedBefore};
+ghost use Rattle.be_store.specs.Learned.{ComesAfter, EndedBefore};
 ghost use Rattle.be_store.specs.Views.{volume};
 
 use crate::{Pass, Store};
@@ -46,7 +46,7 @@ pub fn seen_is_legal(store: &Store, pass: &Pass)
         ≡ pass.now.knows.mine }
     ensures number { pass.now.knows.number < store.now.limits.passes }
     ensures room { length pass.now.knows.seen ≤ store.now.limits.commits }
-    ensures volumes { CanSpellEach store.now.limits.pages (entries pass.now.knows.seen) }
+    ensures volumes { CanEncodeEach store.now.limits.pages (entries pass.now.knows.seen) }
 {
     pass.is_pass();
 }
@@ -59,9 +59,9 @@ pub fn pin_reads_all_seen()
 /// A pass that has joined a witness pins what the witness had seen, or more, and its accepted
 /// writes come after it. The same holds for an accepted write of another pass: a witness which that
 /// pass made after the write has seen it.
-pub fn told_order()
-    ensures told { (told : List Commit) (d : Knowledge) → StartsWith d.seen told
-        → ComesAfter told d }
+pub fn learned_order()
+    ensures reported { (reported : List Commit) (d : Knowledge) → StartsWith d.seen reported
+        → ComesAfter reported d }
     ensures write { (a c d : Knowledge) (ops : List Op) (n : ℕ) (dones : List Done)
         → Accepts a c ops n dones → StartsWith d.seen c.seen
         → ComesAfter c.seen d × (n ≡ length c.seen) }

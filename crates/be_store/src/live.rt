@@ -29,7 +29,7 @@ use std::marker::Model;
 
 /// If the answer has fewer nodes than this, the whole query costs less than reading which nodes
 /// were written.
-const LEAST: usize = 96;
+const MINIMUM: usize = 96;
 
 /// A live query: it is refreshed again and again, and keeps the answer of its last refresh.
 ///
@@ -209,7 +209,7 @@ impl Live {
             (volume_pinned pass.old.knows) self.old.query self.old.last }
     {
         pass.is_pass();
-        if self.last.len() < LEAST {
+        if self.last.len() < MINIMUM {
             return false;
         }
         let Some(mut mark) = self.mark.take() else {

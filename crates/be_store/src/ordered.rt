@@ -24,7 +24,7 @@ use std::alloc::Global;
 /// The kind of the index of that name, if there is one, and the reader back.
 fn kind_at<L: Look>(look: L, version_page: u64, name: &Name) -> (L, Option<Kind>)
     ghost volume: { State }
-    requires version { IsVersion (L.standing look) (L.words look) version_page volume }
+    requires version { IsVersion (L.page_state look) (L.words look) version_page volume }
     ensures kind { result.1 ≡ index_kind volume name.now }
     ensures kept { L.kept result.0 ≡ L.kept look }
 {
@@ -44,7 +44,7 @@ fn ask_page<L: Look>(
     found: &mut Vec<u64>,
 ) -> (L, Result<bool, Refusal>)
     ghost volume: { State }
-    requires version { IsVersion (L.standing look) (L.words look) version_page volume }
+    requires version { IsVersion (L.page_state look) (L.words look) version_page volume }
     ensures answer { Answers (page_with found.new.items (cursor_bytes cursor.new)) result.1
         (page volume prepared.old order.entry.by.now order.entry.descending
         (cursor_bytes cursor.old) order.entry.most) }
@@ -69,7 +69,7 @@ fn ask_first<L: Look>(
     found: &mut Vec<u64>,
 ) -> (L, Result<(), Refusal>)
     ghost volume: { State }
-    requires version { IsVersion (L.standing look) (L.words look) version_page volume }
+    requires version { IsVersion (L.page_state look) (L.words look) version_page volume }
     ensures answer { Answers (λ _. found.new.items) result.1
         (from_number volume prepared.old first most) }
     ensures same { prepared.new ≡ prepared.old }
@@ -90,7 +90,7 @@ fn ask_any<L: Look>(
     found: &mut Vec<u64>,
 ) -> (L, Result<(), Refusal>)
     ghost volume: { State }
-    requires version { IsVersion (L.standing look) (L.words look) version_page volume }
+    requires version { IsVersion (L.page_state look) (L.words look) version_page volume }
     ensures any { OnOk result.1 (IsAnyOf (scan volume prepared.old) most found.new.items) }
     ensures refused { IfErr result.1 (λ e. (e ≡ OutOfMemory) ⊎ (scan volume prepared.old ≡ Err e)) }
     ensures same { prepared.new ≡ prepared.old }

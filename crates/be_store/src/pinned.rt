@@ -15,7 +15,7 @@ ghost use Rattle.be_order.specs.Ordered.{cursor_bytes, page, page_with};
 ghost use Rattle.be_volume_state.specs.Places.{given, left};
 ghost use Rattle.be_plan.specs.Cover.{chosen, covers};
 ghost use Rattle.be_plan.specs.Explain.{are_places};
-ghost use Rattle.be_paged_reading.specs.Cells.{IsReadInto, TellsColumns, name_in};
+ghost use Rattle.be_paged_reading.specs.Cells.{IsReadInto, ReportsColumns, name_in};
 ghost use Rattle.be_paged_reading.specs.Nodes.{nodes_from};
 ghost use Rattle.be_table.specs.Seats.{pinned_number};
 ghost use Rattle.be_table.specs.Works.{IsSeatOf};
@@ -255,7 +255,7 @@ impl Pinned<'_> {
         ensures store { (self.new.store.now ≡ self.old.store.now)
             × (self.new.number ≡ self.old.number) }
         ensures read { HasRead self.old.pass.now.knows self.new.pass.now.knows }
-        ensures told { TellsColumns (volume_pinned self.old.pass.now.knows) nodes.now
+        ensures reported { ReportsColumns (volume_pinned self.old.pass.now.knows) nodes.now
             (each name_in names.now) cells.old cells.new bytes.old bytes.new result }
     {
         self.store.columns(self.pass, nodes, names, cells, bytes)

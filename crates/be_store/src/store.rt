@@ -2,7 +2,7 @@
 ghost use Rattle.std.specs.Prelude.{◌≡◌, ◌⊎◌, ◌≤◌, ◌<◌, ◌++◌, ℕ, true, false, [], ◌∷◌, None, Some};
 ghost use Rattle.std.specs.Prelude.{Ok, MatchResult, IsOk, IfOk, IfErr, IfNone, IfSome, OnErr};
 ghost use Rattle.std.specs.Prelude.{OnOk, length, map, string_bytes};
-ghost use Rattle.be_store.specs.History.{Accepts, Learns, IsReason, IsLastReason, IsUntold};
+ghost use Rattle.be_store.specs.History.{Accepts, Learns, IsReason, IsLastReason, IsUnreported};
 ghost use Rattle.be_store.specs.History.{LocksAndUnlocks, Pins, entries_from, text_seen};
 ghost use Rattle.be_store.specs.Passes.{IsPassOf, IsPinnedTo, HasRead, volume_pinned};
 
@@ -10,7 +10,7 @@ use crate::answers::Answer;
 use crate::asking::{ask, ask_into, ask_prepared, choose_at};
 use crate::entries::entries_from;
 use crate::states::read_on;
-use crate::tries::{longer, stand_back, was_busy};
+use crate::tries::{back_off, longer, was_busy};
 use crate::writing::write;
 use crate::{Limits, Pass};
 use arrayvec::ArrayVec;
@@ -53,17 +53,17 @@ impl Store {
     ghost use Rattle.be_paged_reading.specs.Nodes.{nodes_from};
     ghost use Rattle.be_paged_reading.specs.Version.{IsVersion};
     ghost use Rattle.be_table.specs.History.{StartsWith, AreOfPasses};
-    ghost use Rattle.be_table.specs.Reading.{pinned_standing, word_of_page};
+    ghost use Rattle.be_table.specs.Reading.{pinned_page_state, word_of_page};
     ghost use Rattle.be_table.specs.Rule.{IsWithin, entries, one_step_on};
     ghost use Rattle.be_table.specs.Seats.{pinned_number};
     ghost use Rattle.be_table.specs.Steps.{Has, KeepsSeen, longer, met, unpins, with_history};
     ghost use Rattle.be_table.specs.Trace.{HasTrace};
-    ghost use Rattle.be_table.specs.Versions.{CanSpellEach};
+    ghost use Rattle.be_table.specs.Versions.{CanEncodeEach};
     ghost use Rattle.be_table.specs.Works.{AllAt, AreNew, FoundHeld, IsOpenRefused, IsWitnessOf};
     ghost use Rattle.be_table.specs.Works.{Moves, TakesLock, knows_of};
     ghost use Rattle.be_table.specs.declared.pass.Move.TheVariants as moves;
     ghost use Rattle.be_store.specs.Calls.{AreInOneTrace, HasWrites, ReadsFronts};
-    ghost use Rattle.be_store.specs.Statuses.{TellsStatus};
+    ghost use Rattle.be_store.specs.Statuses.{ReportsStatus};
 
     /// Opens an empty store. Returns it with its passes, in the order of their numbers from 0; they
     /// have seen nothing.
@@ -192,7 +192,7 @@ impl Store {
             if !was_busy(&answer) {
                 return answer;
             }
-            stand_back(turns);
+            back_off(turns);
             turns = longer(turns);
         }
         self.apply(pass, ops)
@@ -231,7 +231,7 @@ impl Store {
         requires pass { IsPassOf self.now pass.old }
         requires pinned { (n : ℕ) × IsPinnedTo pass.old.knows n }
         ensures look { (result.0.table ≡ self.now) × (result.0.knows ≡ pass.old.knows) }
-        ensures version { IsVersion (pinned_standing result.0.knows)
+        ensures version { IsVersion (pinned_page_state result.0.knows)
             (word_of_page result.0.knows.image) result.1 (volume_pinned pass.old.knows) }
     {
         let page = pass.version_page();
@@ -484,7 +484,7 @@ impl Store {
         ensures pass { IsPassOf self.now pass.new }
         ensures learns { Learns pass.old.knows pass.new.knows }
         ensures text { IfOk result (λ text. string_bytes text ≡ text_seen pass.new.knows) }
-        ensures err { IfErr result (λ e. IsUntold pass.old.knows pass.new.knows e) }
+        ensures err { IfErr result (λ e. IsUnreported pass.old.knows pass.new.knows e) }
         ensures moves { OnOk result (LocksAndUnlocks pass.old.knows pass.new.knows) }
     {
         let held = self.lock(pass)?;
@@ -515,7 +515,7 @@ impl Store {
         ensures learns { Learns pass.old.knows pass.new.knows }
         ensures list { IfOk result (λ list. list.items
             ≡ entries_from (entries pass.new.knows.seen) from most) }
-        ensures err { IfErr result (λ e. IsUntold pass.old.knows pass.new.knows e) }
+        ensures err { IfErr result (λ e. IsUnreported pass.old.knows pass.new.knows e) }
         ensures moves { OnOk result (LocksAndUnlocks pass.old.knows pass.new.knows) }
     {
         let held = self.lock(pass)?;
@@ -538,7 +538,8 @@ impl Store {
         requires pass { IsPassOf self.now pass.old }
         ensures pass { IsPassOf self.now pass.new }
         ensures learns { Learns pass.old.knows pass.new.knows }
-        ensures told { IfOk result (λ status. TellsStatus pass.old.knows pass.new.knows status) }
+        ensures reported { IfOk result (λ status. ReportsStatus pass.old.knows pass.new.knows
+            status) }
         ensures busy { IfErr result (λ e. FoundHeld e pass.old.knows pass.new.knows) }
     {
         let mut held = self.lock(pass)?;
@@ -584,7 +585,7 @@ impl Store {
     /// Afterwards the pass and the witness have seen what either had seen: the longer of two
     /// prefixes of one journal. Returns its length. A pin stays, and the witness can be sent on.
     /// Whatever the pass does from then on comes after what the witness had seen
-    /// (`laws::told_order`). Three steps and no move; no memory is allocated.
+    /// (`laws::learned_order`). Three steps and no move; no memory is allocated.
     pub fn join(&self, pass: &mut Pass, witness: &mut Witness) -> u64
         requires pass { IsPassOf self.now pass.old }
         requires witness { IsWitnessOf self.now witness.old }
@@ -615,7 +616,7 @@ impl Store {
         ensures passes { KeepsSeen result.entries (map knows_of passes.items) }
         ensures writes { All (HasWrites result.entries) (map knows_of passes.items) }
         ensures reads { All (ReadsFronts result.entries) (map knows_of passes.items) }
-        ensures volumes { CanSpellEach self.limits.pages result.entries }
+        ensures volumes { CanEncodeEach self.limits.pages result.entries }
         ensures limit { result.limit ≡ self.limits.commits }
         ensures moves { AreInOneTrace self.limits (map knows_of passes.items) }
     {

@@ -22,7 +22,7 @@ pub(crate) fn longer(turns: u64) -> u64
 }
 
 /// Lets other threads run, this many times.
-pub(crate) fn stand_back(turns: u64) {
+pub(crate) fn back_off(turns: u64) {
     for _ in 0..turns {
         thread::yield_now();
     }

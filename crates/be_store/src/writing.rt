@@ -6,7 +6,8 @@ ghost use Rattle.be_paged.specs.Changes.{Applies, IsRefusedList};
 ghost use Rattle.be_paged.specs.Stops.{TakesFew};
 ghost use Rattle.be_paged_reading.specs.Version.{IsVersion};
 ghost use Rattle.be_table.specs.Place.{Work};
-ghost use Rattle.be_table.specs.Reading.{open_of, standing_among, standing_in_work, word_of_page};
+ghost use Rattle.be_table.specs.Reading.{open_of, page_state_among, page_state_in_work};
+ghost use Rattle.be_table.specs.Reading.{word_of_page};
 ghost use Rattle.be_table.specs.Reading.{words_of};
 ghost use Rattle.be_table.specs.Trace.{upto_lock};
 ghost use Rattle.be_table.specs.Works.{IsFull, TakesLock};
@@ -30,18 +31,18 @@ fn apply_to(
     dones: &mut ArrayVec<Done, 64>,
 ) -> Result<u64, Refusal>
     ghost volume: { State }
-    requires version { IsVersion (standing_among writing.old.knows.places)
+    requires version { IsVersion (page_state_among writing.old.knows.places)
         (word_of_page writing.old.knows.words) version_page volume }
     requires count { (1 ≤ length ops.now) × (length ops.now ≤ 64) }
     requires fits { volume.next + 64 < 2 ^ 64 }
     requires open { writing.old.knows.published ≡ false }
     requires empty { dones.old.items ≡ [] }
-    ensures ok { IfOk result (λ page. Applies open_of standing_in_work words_of version_page page
+    ensures ok { IfOk result (λ page. Applies open_of page_state_in_work words_of version_page page
         volume ops.now dones.new.items writing.old writing.new) }
-    ensures err { IfErr result (λ e. IsRefusedList open_of standing_in_work words_of IsFull
+    ensures err { IfErr result (λ e. IsRefusedList open_of page_state_in_work words_of IsFull
         volume ops.now e writing.old writing.new) }
-    ensures few { OnErr result (TakesFew volume ops.now (standing_in_work writing.old)
-        (standing_in_work writing.new)) }
+    ensures few { OnErr result (TakesFew volume ops.now (page_state_in_work writing.old)
+        (page_state_in_work writing.new)) }
 {
     let mut space = writing.take_space();
     let answer = apply_in(writing, &mut space, version_page, ops, dones);
@@ -58,18 +59,18 @@ fn apply_in(
     dones: &mut ArrayVec<Done, 64>,
 ) -> Result<u64, Refusal>
     ghost volume: { State }
-    requires version { IsVersion (standing_among writing.old.knows.places)
+    requires version { IsVersion (page_state_among writing.old.knows.places)
         (word_of_page writing.old.knows.words) version_page volume }
     requires count { (1 ≤ length ops.now) × (length ops.now ≤ 64) }
     requires fits { volume.next + 64 < 2 ^ 64 }
     requires open { writing.old.knows.published ≡ false }
     requires empty { dones.old.items ≡ [] }
-    ensures ok { IfOk result (λ page. Applies open_of standing_in_work words_of version_page page
+    ensures ok { IfOk result (λ page. Applies open_of page_state_in_work words_of version_page page
         volume ops.now dones.new.items writing.old writing.new) }
-    ensures err { IfErr result (λ e. IsRefusedList open_of standing_in_work words_of IsFull
+    ensures err { IfErr result (λ e. IsRefusedList open_of page_state_in_work words_of IsFull
         volume ops.now e writing.old writing.new) }
-    ensures few { OnErr result (TakesFew volume ops.now (standing_in_work writing.old)
-        (standing_in_work writing.new)) }
+    ensures few { OnErr result (TakesFew volume ops.now (page_state_in_work writing.old)
+        (page_state_in_work writing.new)) }
 {
     match space {
         Some(version) => apply_into(writing, version, version_page, ops, dones),
@@ -87,18 +88,18 @@ fn apply_apart(
     dones: &mut ArrayVec<Done, 64>,
 ) -> Result<u64, Refusal>
     ghost volume: { State }
-    requires version { IsVersion (standing_among writing.old.knows.places)
+    requires version { IsVersion (page_state_among writing.old.knows.places)
         (word_of_page writing.old.knows.words) version_page volume }
     requires count { (1 ≤ length ops.now) × (length ops.now ≤ 64) }
     requires fits { volume.next + 64 < 2 ^ 64 }
     requires open { writing.old.knows.published ≡ false }
     requires empty { dones.old.items ≡ [] }
-    ensures ok { IfOk result (λ page. Applies open_of standing_in_work words_of version_page page
+    ensures ok { IfOk result (λ page. Applies open_of page_state_in_work words_of version_page page
         volume ops.now dones.new.items writing.old writing.new) }
-    ensures err { IfErr result (λ e. IsRefusedList open_of standing_in_work words_of IsFull
+    ensures err { IfErr result (λ e. IsRefusedList open_of page_state_in_work words_of IsFull
         volume ops.now e writing.old writing.new) }
-    ensures few { OnErr result (TakesFew volume ops.now (standing_in_work writing.old)
-        (standing_in_work writing.new)) }
+    ensures few { OnErr result (TakesFew volume ops.now (page_state_in_work writing.old)
+        (page_state_in_work writing.new)) }
 {
     let mut version = Version::new();
     apply_into(writing, &mut version, version_page, ops, dones)

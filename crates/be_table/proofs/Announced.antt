@@ -19,7 +19,7 @@ use Rattle.be_table.specs.Steps.{FoundAt, scans_of, with_history, without_lock}
 use Rattle.be_table.specs.Trace.{Makes, RunsTo, is_lock_of, upto_lock}
 use Rattle.be_table.specs.Works.{HadAnnounced, HoldsStill, IsSpent, MakesScan, WasAnnounced}
 use Rattle.be_table.proofs.Frames.{starts_before}
-use Rattle.be_table.proofs.Ledgers.{place-map}
+use Rattle.be_table.proofs.WriterStates.{place-map}
 use Rattle.be_table.proofs.Listed.{listed, tested, untested}
 use Rattle.be_table.proofs.Scans.{makes_starts}
 use Rattle.be_table.proofs.Worked.{scan_kept, upto_one}
@@ -68,7 +68,7 @@ found_since old new least j word h f e =
       words = f.words;
       world = f.world;
       runs = subst (λ (l : Limits). RunsTo l f.words f.upto f.world) (sym limits) f.runs;
-      told = sym f.found ∙ e;
+      reported = sym f.found ∙ e;
     }
 
 -- the lowest number of a whole scan is the current number, or was announced
@@ -99,7 +99,7 @@ spent_unlocked v c least is moves s =
           words = x.2.words;
           world = x.2.world;
           runs = x.2.runs;
-          told = x.2.told;
+          reported = x.2.reported;
         },
       )) s.3,
     )

@@ -14,7 +14,7 @@ use Rattle.be_core.specs.Machine.{World, first_state, has}
 use Rattle.be_table.specs.Trace.{RunsTo, AllRest}
 use Rattle.be_table.proofs.Traces.{rest_counted, rest_append}
 use Rattle.be_core.proofs.Schedules.{first-sound}
-use Rattle.be_table.specs.declared.ledger.Ledger.{Ledger}
+use Rattle.be_table.specs.declared.writer_state.WriterState.{WriterState}
 use Rattle.be_pages.specs.declared.page_pool.Place.{Place as PagePlace}
 use Rattle.be_pages.specs.declared.page_pool.Place.TheVariants.{Free, Current}
 use Rattle.be_table.specs.declared.limits.Limits.{Limits}
@@ -23,17 +23,17 @@ use Rattle.be_table.specs.declared.pass.Knowledge.{Knowledge}
 use Rattle.be_table.specs.declared.pass.Move.{Move}
 use Rattle.be_pages.specs.Place.{undone_place, place_of}
 use Rattle.be_table.specs.Laws.{SplitIsNoEvent, AttestIsNoEvent, JoinIsNoEvent}
-use Rattle.be_table.specs.Ledger.{ShowsPlaces, shows_free, shows_taken, retired_with}
+use Rattle.be_table.specs.WriterState.{ShowsPlaces, shows_free, shows_taken, retired_with}
 use Rattle.be_journal.specs.Journal.{replay}
 use Rattle.be_volume.specs.Volume.{empty}
-use Rattle.be_table.specs.Versions.{in_pages, CanSpellEach, SpellsVolume}
+use Rattle.be_table.specs.Versions.{in_pages, CanEncodeEach, EncodesVolume}
 use Rattle.be_table.specs.Place.{SeatFacts}
-use Rattle.be_table.specs.Rule.{alone, ViewFits, AreFronts, empty_view, witnessing, kept_seat, front_seat, undealt, ledger_places, Board, IsWithin, IsSoundBoard, AreInside, reach_at, page_at, word_place, Fits, IsAbsent, AllFit, IsTrace, Shows, newcomer, newcomers, everyone, one_step_on, first_seat, other_seats, seats_together}
-use Rattle.be_table.specs.Seats.{IsTold}
+use Rattle.be_table.specs.Rule.{alone, ViewFits, AreFronts, empty_view, witnessing, kept_seat, front_seat, undealt, writer_state_places, Board, IsWithin, IsSoundBoard, AreInside, reach_at, page_at, word_place, Fits, IsAbsent, AllFit, IsTrace, Shows, newcomer, newcomers, everyone, one_step_on, first_seat, other_seats, seats_together}
+use Rattle.be_table.specs.Seats.{IsReported}
 use Rattle.be_table.specs.Works.{AreNewAt}
 use Rattle.be_table.proofs.Histories.{starts_itself, by_pass-nil, legal-nil, below-nil}
 use Rattle.std.proofs.lemmas.List.{get_or_past}
-use Rattle.be_table.proofs.Ledgers.{mapped}
+use Rattle.be_table.proofs.WriterStates.{mapped}
 use Rattle.be_table.proofs.Frames.{all_fit, apart, views_change, views_step, fits_counted}
 
 -- a list with one more member has its old members, and the new one
@@ -59,10 +59,10 @@ choose_else m k n o e = ap (λ b. if b then n else o) (ne_eqb m k e)
 
 -- the board stays the same, except for where the passes sit
 reseat : (limits : Limits) (b : Board) (f : ℕ → ℕ) (i j : ℕ) (a : Knowledge) → f a.number ≡ j → Fits limits b i a → Fits limits (record b { seat_of = f }) j a
-reseat limits b f i j a e h = record { number = h.number; limits_are = h.limits_are; seat_is = e; seen = h.seen; mine = h.mine; own = h.own; writes = h.writes; whole = λ t. let x = h.whole t in record { log = x.log; holder = x.holder; turn = x.turn; count = x.count; shown = x.shown; size = x.size; words = x.words }; phase = h.phase; pin = h.pin; image = h.image }
+reseat limits b f i j a e h = record { number = h.number; limits_are = h.limits_are; seat_is = e; seen = h.seen; mine = h.mine; own = h.own; writes = h.writes; whole = λ t. let x = h.whole t in record { log = x.log; writer = x.writer; turn = x.turn; count = x.count; shown = x.shown; size = x.size; words = x.words }; phase = h.phase; pin = h.pin; image = h.image }
 
 sound_seats : (limits : Limits) (b : Board) (f : ℕ → ℕ) → IsSoundBoard limits b → IsSoundBoard limits (record b { seat_of = f })
-sound_seats limits b f s = record { within = s.within; legal = s.legal; by_passes = s.by_passes; room = s.room; page = s.page; inside = s.inside; own_pages = s.own_pages; pages = s.pages; passes = s.passes; commits = s.commits; holder = s.holder; reaches = s.reaches; machine = s.machine; spelt = s.spelt }
+sound_seats limits b f s = record { within = s.within; legal = s.legal; by_passes = s.by_passes; room = s.room; page = s.page; inside = s.inside; own_pages = s.own_pages; pages = s.pages; passes = s.passes; commits = s.commits; writer = s.writer; reaches = s.reaches; machine = s.machine; encoded = s.encoded }
 
 absent_counted : (k : ℕ) (v : List Knowledge) → IsAbsent k v → IsAbsent k (map one_step_on v)
 absent_counted k [] h = tt
@@ -250,9 +250,9 @@ first_own : (n : ℕ) → n ≤ 0 → IsTrue (has (reach_at [] n) (page_at [] n)
 first_own zero le = refl
 first_own (suc n) le = absurd (omega arith)
 
-none_spelt : (pages : ℕ) → CanSpellEach pages []
-unfolding CanSpellEach
-none_spelt pages = λ n lt. absurd (omega (arith, lt))
+none_encoded : (pages : ℕ) → CanEncodeEach pages []
+unfolding CanEncodeEach
+none_encoded pages = λ n lt. absurd (omega (arith, lt))
 
 abbrev first_board : Limits → List ℕ → Board
 first_board limits words = record { log = []; world = first_state limits.pages limits.passes limits.commits (λ p i. slice_index words (word_place p i)); seat_of = λ _. 0 }
@@ -275,16 +275,16 @@ zero_first : (p : ℕ) → (p == 0) ≡ has (0 ∷ []) p
 zero_first zero = refl
 zero_first (suc p) = rw (ne_eqb 0 (suc p) (λ z. absurd (omega arith)), ne_eqb (suc p) 0 (λ z. absurd (omega arith))) refl
 
-pub begins : (limits : Limits) (words : List ℕ) (ledger : Ledger) → IsWithin limits → length words ≡ 528 + 512 * limits.pages → ((k : ℕ) → k < 528 → slice_index words k ≡ 0)
-    → ledger.journal.entries ≡ [] → ledger.journal.limit ≡ limits.commits → ledger.page ≡ 0 → length (ledger_places ledger) ≡ limits.pages → ShowsPlaces (ledger_places ledger) (first_board limits words).world → map undone_place (ledger_places ledger) ≡ (ledger_places ledger) → ledger.left ≡ 0
-    → SpellsVolume (0 ∷ []) (in_pages (λ p i. slice_index words (word_place p i))) 0 empty
-    → Shows limits (opening words (Some ledger ∷ []) (everyone limits))
-begins limits words ledger within size blank none limit page count shown idle left first = (
+pub begins : (limits : Limits) (words : List ℕ) (writer_state : WriterState) → IsWithin limits → length words ≡ 528 + 512 * limits.pages → ((k : ℕ) → k < 528 → slice_index words k ≡ 0)
+    → writer_state.journal.entries ≡ [] → writer_state.journal.limit ≡ limits.commits → writer_state.page ≡ 0 → length (writer_state_places writer_state) ≡ limits.pages → ShowsPlaces (writer_state_places writer_state) (first_board limits words).world → map undone_place (writer_state_places writer_state) ≡ (writer_state_places writer_state) → writer_state.left ≡ 0
+    → EncodesVolume (0 ∷ []) (in_pages (λ p i. slice_index words (word_place p i))) 0 empty
+    → Shows limits (opening words (Some writer_state ∷ []) (everyone limits))
+begins limits words writer_state within size blank none limit page count shown idle left first = (
   first_board limits words,
   record {
     table = record {
       words = record { size = size; lock = blank 0 (omega arith); current = blank 8 (omega arith); announced = λ k lt. blank (16 + 8 * k) (let f = within.few in omega arith); pages = λ p i a b. refl; unused = λ k u. blank k u.0 };
-      home = (ledger, refl, record { journal = none; limit = limit; page = page; count = count; shown = shown; idle = idle; left = omega (arith, left) });
+      home = (writer_state, refl, record { journal = none; limit = limit; page = page; count = count; shown = shown; idle = idle; left = omega (arith, left) });
       version = refl;
     };
     sound = record {
@@ -298,10 +298,10 @@ begins limits words ledger within size blank none limit page count shown idle le
       pages = refl;
       passes = refl;
       commits = refl;
-      holder = λ h e. absurd (cc);
+      writer = λ h e. absurd (cc);
       reaches = λ n p le. reached n p le;
       machine = first-sound limits.pages limits.passes limits.commits (λ p i. slice_index words (word_place p i)) (some_page limits within);
-      spelt = λ n le. spelt n le;
+      encoded = λ n le. encoded n le;
     };
     views = one;
   },
@@ -312,9 +312,9 @@ begins limits words ledger within size blank none limit page count shown idle le
     rested zero u e = subst (λ (x : View). AllRest [] x.passes) (some-injective (everyone limits) u e) (newcomers_rest limits 0 limits.passes)
     rested (suc j) u e = absurd (some-ne-none u (sym e))
 
-    spelt : (n : ℕ) → n ≤ 0 → SpellsVolume (reach_at [] n) (in_pages ((first_board limits words).world.image n)) (page_at [] n) (replay (take n []))
-    spelt zero le = first
-    spelt (suc n) le = absurd (omega arith)
+    encoded : (n : ℕ) → n ≤ 0 → EncodesVolume (reach_at [] n) (in_pages ((first_board limits words).world.image n)) (page_at [] n) (replay (take n []))
+    encoded zero le = first
+    encoded (suc n) le = absurd (omega arith)
 
     reached : (n p : ℕ) → n ≤ 0 → (first_board limits words).world.reach n p ≡ has (reach_at [] n) p
     reached zero p le = zero_first p
@@ -343,10 +343,10 @@ unfolding newcomers
 newcomers-deal limits of i t k n v e = subst (λ u. Splits (Shows limits) i u (other_seats u) (first_seat u)) (sym e) (deals limits i (newcomer of t k) (newcomers of t (suc k) n) [])
 
 abbrev pub Me2 : Type 0
-Me2 = Me (Option Ledger) View
+Me2 = Me (Option WriterState) View
 
-pub newcomer_told : (limits : Limits) (t k : ℕ) → IsWithin limits → k < limits.passes → IsTold (newcomer limits t k) k 0
-newcomer_told limits t k within lt = record { number_is = refl; seen_is = refl; writes = refl; pass = record { within = within; legal = legal-nil; number_below = lt; by_passes = below-nil limits.passes; room = omega arith; inside = first_inside limits.pages (some_page limits within); own_pages = first_own; volumes = none_spelt limits.pages; pin = tt; mine = by_pass-nil k; spelt = λ x n e. absurd (cc) } }
+pub newcomer_reported : (limits : Limits) (t k : ℕ) → IsWithin limits → k < limits.passes → IsReported (newcomer limits t k) k 0
+newcomer_reported limits t k within lt = record { number_is = refl; seen_is = refl; writes = refl; pass = record { within = within; legal = legal-nil; number_below = lt; by_passes = below-nil limits.passes; room = omega arith; inside = first_inside limits.pages (some_page limits within); own_pages = first_own; volumes = none_encoded limits.pages; pin = tt; mine = by_pass-nil k; encoded = λ x n e. absurd (cc) } }
 
 pub AreNewAt-push : (id : TableId) (limits : Limits) (k : ℕ) (ss : List SeatFacts) (s : SeatFacts) → AreNewAt id limits k ss → (s.blank ≡ false) × (s.table ≡ id) × (s.knows ≡ newcomer limits (k + length ss + 1) (k + length ss)) → AreNewAt id limits k (ss ++ s ∷ [])
 AreNewAt-push id limits k [] s h new = (subst (λ n. (s.blank ≡ false) × (s.table ≡ id) × (s.knows ≡ newcomer limits (n + 1) n)) (let e : k + length {A = SeatFacts} [] ≡ k = omega arith in e) new, tt)
@@ -374,11 +374,11 @@ first_places limits words places within count used unused = (record { free = λ 
       | inr le ↦ rw (get_or_past places (suc p) Current (omega (arith, le, count)), le-ltb (suc p) limits.pages le) (refl, refl, refl, refl)
     ]
 
-pub begins_as : (limits : Limits) (words : List ℕ) (slots : List (Option Ledger)) (ledger : Ledger) → slots ≡ Some ledger ∷ [] → IsWithin limits → length words ≡ 528 + 512 * limits.pages → ((k : ℕ) → k < 528 → slice_index words k ≡ 0)
-    → ledger.journal.entries ≡ [] → ledger.journal.limit ≡ limits.commits → ledger.page ≡ 0 → length (ledger_places ledger) ≡ limits.pages → ((q : ℕ) → q < 1 → place_of (ledger_places ledger) q ≡ Current) → ((q : ℕ) → 1 ≤ q → q < limits.pages → place_of (ledger_places ledger) q ≡ Free) → ledger.left ≡ 0 → SpellsVolume (0 ∷ []) (in_pages (λ p i. slice_index words (word_place p i))) 0 empty → Shows limits (opening words slots (everyone limits))
-begins_as limits words slots ledger e within size blank none limit page count used unused left first =
-    let x = first_places limits words (ledger_places ledger) within count used unused in
-    subst (λ (xs : List (Option Ledger)). Shows limits (opening words xs (everyone limits))) (sym e) (begins limits words ledger within size blank none limit page count x.0 x.1 left first)
+pub begins_as : (limits : Limits) (words : List ℕ) (slots : List (Option WriterState)) (writer_state : WriterState) → slots ≡ Some writer_state ∷ [] → IsWithin limits → length words ≡ 528 + 512 * limits.pages → ((k : ℕ) → k < 528 → slice_index words k ≡ 0)
+    → writer_state.journal.entries ≡ [] → writer_state.journal.limit ≡ limits.commits → writer_state.page ≡ 0 → length (writer_state_places writer_state) ≡ limits.pages → ((q : ℕ) → q < 1 → place_of (writer_state_places writer_state) q ≡ Current) → ((q : ℕ) → 1 ≤ q → q < limits.pages → place_of (writer_state_places writer_state) q ≡ Free) → writer_state.left ≡ 0 → EncodesVolume (0 ∷ []) (in_pages (λ p i. slice_index words (word_place p i))) 0 empty → Shows limits (opening words slots (everyone limits))
+begins_as limits words slots writer_state e within size blank none limit page count used unused left first =
+    let x = first_places limits words (writer_state_places writer_state) within count used unused in
+    subst (λ (xs : List (Option WriterState)). Shows limits (opening words xs (everyone limits))) (sym e) (begins limits words writer_state within size blank none limit page count x.0 x.1 left first)
 
-pub only_one : (r l : List (Option Ledger)) (x : Option Ledger) → r ≡ l ++ x ∷ [] → l ≡ [] → r ≡ x ∷ []
+pub only_one : (r l : List (Option WriterState)) (x : Option WriterState) → r ≡ l ++ x ∷ [] → l ≡ [] → r ≡ x ∷ []
 only_one r l x e f = e ∙ ap (λ xs. xs ++ x ∷ []) f

@@ -5,7 +5,7 @@ use Rattle.be_pages.specs.declared.page_pool.Place.{Place}
 use Rattle.be_pages.specs.declared.page_pool.Place.TheVariants.{Filled, Current}
 use Rattle.be_table.specs.declared.pass.Knowledge.{Knowledge}
 use Rattle.be_table.specs.Rule.{alone, pass_of, word_place}
-use Rattle.be_table.specs.Ledger.{shows_free, shows_taken}
+use Rattle.be_table.specs.WriterState.{shows_free, shows_taken}
 use Rattle.be_table.specs.Steps.{MayBeFilled, fills, fill_steps, fills_word, fill_moves, with_history}
 use Rattle.be_table.specs.declared.pass.Move.{Move}
 use Rattle.be_table.specs.declared.pass.Move.TheVariants.{Fill}

@@ -10,7 +10,7 @@ use Rattle.be_table.specs.declared.pass.Move.{Move}
 use Rattle.be_table.specs.declared.pass.Move.TheVariants.{Scan, Publish}
 use Rattle.be_table.specs.Rule.{alone, Reaches, announce_word, pass_of}
 use Rattle.be_table.specs.Steps.{IsPass, publishes, given_of, NoneRetiredLater, scans, ScanMoves, PublishMoves, with_history}
-use Rattle.be_table.specs.Ledger.{shows_free}
+use Rattle.be_table.specs.WriterState.{shows_free}
 use Rattle.be_table.specs.Trace.{Makes}
 use Rattle.be_table.specs.Working.{HasNoneFree, HasReason, MakesForReason}
 use Rattle.be_table.specs.Works.{Moves}

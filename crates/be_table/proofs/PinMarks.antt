@@ -5,7 +5,7 @@ use Rattle.atomic_table.specs.Table.{Step, step}
 use Rattle.be_core.specs.declared.event.Phase.{Phase}
 use Rattle.be_core.specs.declared.event.Phase.TheVariants.{Idle, Looked, Announced, Pinned}
 use Rattle.be_core.specs.Machine.{InTime, phase_after_look}
-use Rattle.be_table.specs.declared.ledger.Ledger.{Ledger}
+use Rattle.be_table.specs.declared.writer_state.WriterState.{WriterState}
 use Rattle.be_table.specs.declared.marks.PinnedVersion.{PinnedVersion}
 use Rattle.be_table.specs.declared.pass.Commit.{Commit}
 use Rattle.be_table.specs.declared.pass.Knowledge.{Knowledge}
@@ -17,7 +17,7 @@ use Rattle.be_table.specs.declared.pass.Move.TheVariants.{Lock}
 use Rattle.be_table.proofs.Frames.{Me1, page-front}
 
 -- what a step says depends on nothing of the step except its word
-abbrev pub any : Step (Option Ledger)
+abbrev pub any : Step (Option WriterState)
 any = step 0 0 0 0 none
 
 abbrev pub pinned : ℕ → ℕ → Option PinnedVersion
@@ -41,11 +41,11 @@ pin_in m = pin_of (pass_of m.0).phase (pass_of m.0).seen
 
 module _ (me r : Me1) (a : Knowledge) (pin : Option PinnedVersion) (e : me ≡ (alone a, [])) (pass : IsPass a) (is : pin ≡ pin_of a.phase a.seen) where
   pub looked_pin : (n : ℕ) → LookMoves any me n r → pin ≡ pin_in r
-  looked_pin n told =
-      let t : LookMoves any (alone a, []) n r = subst (λ (m : Me1). LookMoves any m n r) e told in
+  looked_pin n reported =
+      let t : LookMoves any (alone a, []) n r = subst (λ (m : Me1). LookMoves any m n r) e reported in
       is ∙ sym (pin_looks a.phase a.seen t.3.0 (length t.3.0) pass.pin t.3.1.1) ∙ ap pin_in (sym t.3.1.0)
 
   pub locked_pin : (k : ℕ) → Moving (Lock k) (λ w. Unit {0}) Gets me r → pin ≡ pin_in r
-  locked_pin k told =
-      let t : Moving (Lock k) (λ w. Unit {0}) Gets (alone a, []) r = subst (λ (m : Me1). Moving (Lock k) (λ w. Unit {0}) Gets m r) e told in
+  locked_pin k reported =
+      let t : Moving (Lock k) (λ w. Unit {0}) Gets (alone a, []) r = subst (λ (m : Me1). Moving (Lock k) (λ w. Unit {0}) Gets m r) e reported in
       is ∙ sym (pin_stays a.phase a.seen t.3.1 pass.pin t.3.3.1) ∙ ap pin_in (sym t.3.3.0)

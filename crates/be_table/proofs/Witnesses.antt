@@ -2,24 +2,24 @@
 use Rattle.std.proofs.Common.{◌≡◌, ℕ, List, [], length, false, Option, refl, sym, ap, ◌∙◌, subst}
 use mathlib.Core.Option.{none}
 use Rattle.atomic_table.specs.Table.{keeps, step, Allows, Splits}
-use Rattle.be_table.specs.declared.ledger.Ledger.{Ledger}
+use Rattle.be_table.specs.declared.writer_state.WriterState.{WriterState}
 use Rattle.be_table.specs.declared.limits.Limits.{Limits}
 use Rattle.be_table.specs.declared.pass.Commit.{Commit}
 use Rattle.be_table.specs.declared.pass.Knowledge.{Knowledge}
 use Rattle.be_table.specs.declared.pass.View.{View}
 use Rattle.be_table.specs.Laws.{LearnIsNoEvent, NoEvent}
 use Rattle.be_table.specs.Rule.{Shows, page_at, alone, witnessing, informed, kept_seat, front_seat, pass_of, seats_together, one_step_on}
-use Rattle.be_table.specs.Seats.{IsTold}
+use Rattle.be_table.specs.Seats.{IsReported}
 use Rattle.be_table.specs.Steps.{Learned, having_seen, longer}
 use Rattle.be_table.specs.Trace.{AllRest}
 use Rattle.be_table.proofs.Histories.{starts_itself}
 use Rattle.be_table.proofs.Deals.{attests}
 use Rattle.be_table.proofs.Frames.{Me1, views_change, is_pass, words_load}
 use Rattle.be_table.proofs.Meetings.{longer_starts, sees_fits}
-use Rattle.be_table.proofs.Told.{stepped_pass, told_as}
+use Rattle.be_table.proofs.Reported.{stepped_pass, reported_as}
 use Rattle.be_table.proofs.Traces.{resting}
 
-module _ (limits : Limits) (slots i : ℕ) (a : Knowledge) (front : List Commit) (carried : List (ℕ × Option Ledger)) where
+module _ (limits : Limits) (slots i : ℕ) (a : Knowledge) (front : List Commit) (carried : List (ℕ × Option WriterState)) where
   pub learn_by : LearnIsNoEvent limits slots i a front carried
   learn_by idle s b t sized at fits =
       let f = t.views i (informed a front) at in
@@ -59,13 +59,13 @@ module _ (a : Knowledge) (front : List Commit) (m n j l : Me1) (number seen : �
   pub learnt : Learned (step 0 0 0 0 none) (informed (one_step_on a) front, []) 0 l
   learnt = subst (λ (x : Me1). Learned (step 0 0 0 0 none) x 0 l) (joined_front a front m n j left right pair) learned
 
-  pub told_joined : (r : Me1) (both : ℕ) → r ≡ (kept_seat l.0, l.1) → length (longer a.seen front) ≡ both → IsTold a number seen → IsTold (pass_of r.0) number both
-  told_joined r both e long t =
-      told_as (one_step_on (having_seen (one_step_on a) (longer a.seen front))) r number both (ap (λ (x : Me1). pass_of x.0) e ∙ ap (λ (x : Me1). pass_of (kept_seat x.0)) learnt.0)
+  pub reported_joined : (r : Me1) (both : ℕ) → r ≡ (kept_seat l.0, l.1) → length (longer a.seen front) ≡ both → IsReported a number seen → IsReported (pass_of r.0) number both
+  reported_joined r both e long t =
+      reported_as (one_step_on (having_seen (one_step_on a) (longer a.seen front))) r number both (ap (λ (x : Me1). pass_of x.0) e ∙ ap (λ (x : Me1). pass_of (kept_seat x.0)) learnt.0)
       (record { number_is = t.number_is; seen_is = long; writes = t.writes; pass = stepped_pass (having_seen (one_step_on a) (longer a.seen front)) _ learnt.3 })
 
 -- what a seat says from which a witness was made
-pub told_attested : (a : Knowledge) (m r : Me1) (number seen : ℕ) → m ≡ (alone a, []) → r ≡ (kept_seat m.0, m.1) → IsTold a number seen → IsTold (pass_of r.0) number seen
-told_attested a m r number seen is e t =
-    told_as (one_step_on a) r number seen (ap (λ (x : Me1). pass_of x.0) e ∙ ap (λ (x : Me1). pass_of (kept_seat x.0)) is)
+pub reported_attested : (a : Knowledge) (m r : Me1) (number seen : ℕ) → m ≡ (alone a, []) → r ≡ (kept_seat m.0, m.1) → IsReported a number seen → IsReported (pass_of r.0) number seen
+reported_attested a m r number seen is e t =
+    reported_as (one_step_on a) r number seen (ap (λ (x : Me1). pass_of x.0) e ∙ ap (λ (x : Me1). pass_of (kept_seat x.0)) is)
     (record { number_is = t.number_is; seen_is = t.seen_is; writes = t.writes; pass = stepped_pass a _ t.pass })

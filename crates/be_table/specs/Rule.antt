@@ -7,10 +7,10 @@ use lib.ListN.{get_elem?}
 use Rattle.atomic_table.specs.Table.{State}
 use Rattle.be_core.specs.declared.event.Phase.{Phase}
 use Rattle.be_core.specs.declared.event.Phase.TheVariants.{Idle, Looked, Announced, Pinned}
-use Rattle.be_core.specs.Machine.{World, Holder, Sound, InTime, has, AreLimits}
+use Rattle.be_core.specs.Machine.{World, Writer, Sound, InTime, has, AreLimits}
 use Rattle.be_journal.specs.declared.entries.Entry.{Entry}
 use Rattle.be_pages.specs.PagePool.{places}
-use Rattle.be_table.specs.declared.ledger.Ledger.{Ledger}
+use Rattle.be_table.specs.declared.writer_state.WriterState.{WriterState}
 use Rattle.be_pages.specs.declared.page_pool.Place.{Place}
 use Rattle.be_table.specs.declared.limits.Limits.{Limits}
 use Rattle.be_table.specs.declared.pass.Commit.{Commit}
@@ -18,11 +18,11 @@ use Rattle.be_table.specs.declared.pass.Knowledge.{Knowledge}
 use Rattle.be_table.specs.declared.pass.Move.{Move}
 use Rattle.be_table.specs.declared.pass.View.{View}
 use Rattle.be_pages.specs.Place.{is_retired, undone_place}
-use Rattle.be_table.specs.Ledger.{ShowsPlaces}
+use Rattle.be_table.specs.WriterState.{ShowsPlaces}
 use Rattle.be_journal.specs.Journal.{by_pass, replay}
 use Rattle.be_table.specs.History.{StartsWith, AreOfPasses, IsHistory}
 use Rattle.be_table.specs.Trace.{RunsTo, NoneBy, AllRest}
-use Rattle.be_table.specs.Versions.{in_pages, SpellsVolume}
+use Rattle.be_table.specs.Versions.{in_pages, EncodesVolume}
 
 -- what the table shows: the journal with its versions, the machine, and which seat each pass has
 pub record Board : Type 0 where
@@ -46,7 +46,7 @@ abbrev pub page_at : List Commit → ℕ → ℕ
 page_at log zero = 0
 page_at log (suc n) = (slice_index_or log n nothing).page
 
-abbrev pub lock_word : Option Holder → ℕ
+abbrev pub lock_word : Option Writer → ℕ
 lock_word None = 0
 lock_word (Some h) = h.pass + 1
 
@@ -73,31 +73,33 @@ PagesAgree pages words ws = (p i : ℕ) → p < pages → i < 512 → slice_inde
     ≡ words p i
 
 -- where each page is
-abbrev pub ledger_places : Ledger → List Place
-ledger_places ledger = places ledger.pool
+abbrev pub writer_state_places : WriterState → List Place
+writer_state_places writer_state = places writer_state.pool
 
 -- at least as many pages as the last whole scan left retired are still retired
-abbrev pub LeftAreRetired : Ledger → Type 0
-LeftAreRetired ledger = ledger.left ≤ count_by is_retired (ledger_places ledger)
+abbrev pub LeftAreRetired : WriterState → Type 0
+LeftAreRetired writer_state = writer_state.left
+    ≤ count_by is_retired (writer_state_places writer_state)
 
-abbrev pub is_holder : Option Holder → ℕ → Bool
-is_holder None k = false
-is_holder (Some h) k = h.pass == k
+abbrev pub is_writer : Option Writer → ℕ → Bool
+is_writer None k = false
+is_writer (Some h) k = h.pass == k
 
 -- a writer state that agrees with the table: the journal, the version page, and where each page is
-pub record AtHome (w : World) (log : List Commit) (ledger : Ledger) : Type 0 where
-  pub journal : ledger.journal.entries ≡ entries log
-  pub limit : ledger.journal.limit ≡ w.commits
-  pub page : ledger.page ≡ page_at log (length log)
-  pub count : length (ledger_places ledger) ≡ w.pages
-  pub shown : ShowsPlaces (ledger_places ledger) w
-  pub idle : map undone_place (ledger_places ledger) ≡ (ledger_places ledger)
-  pub left : LeftAreRetired ledger
+pub record AtHome (w : World) (log : List Commit) (writer_state : WriterState) : Type 0 where
+  pub journal : writer_state.journal.entries ≡ entries log
+  pub limit : writer_state.journal.limit ≡ w.commits
+  pub page : writer_state.page ≡ page_at log (length log)
+  pub count : length (writer_state_places writer_state) ≡ w.pages
+  pub shown : ShowsPlaces (writer_state_places writer_state) w
+  pub idle : map undone_place (writer_state_places writer_state)
+      ≡ (writer_state_places writer_state)
+  pub left : LeftAreRetired writer_state
 
 -- while nobody holds the lock, the writer state lies in its slot and agrees with the table
-abbrev pub IsHome : Option Holder → World → List Commit → List (Maybe (Option Ledger)) → Type 0
-IsHome None w log homes = (ledger : Ledger) × (homes ≡ some (Some ledger) ∷ [])
-    × AtHome w log ledger
+abbrev pub IsHome : Option Writer → World → List Commit → List (Maybe (Option WriterState)) → Type 0
+IsHome None w log homes = (writer_state : WriterState) × (homes ≡ some (Some writer_state) ∷ [])
+    × AtHome w log writer_state
 IsHome (Some h) w log homes = homes ≡ none ∷ []
 
 -- ## The first part: the table shows the state
@@ -109,7 +111,7 @@ IsUnused passes k = (k < 528) × (k ≢ 0) × (k ≢ 8) × ((j : ℕ) → j < pa
 
 pub record WordsAgree (w : World) (page : ℕ) (words : List ℕ) : Type 0 where
   pub size : length words ≡ 528 + 512 * w.pages
-  pub lock : slice_index words 0 ≡ lock_word w.holder
+  pub lock : slice_index words 0 ≡ lock_word w.writer
   pub current : slice_index words 8 ≡ current_word w.current page
   pub announced : (k : ℕ) → k < w.passes → slice_index words (16 + 8 * k)
       ≡ announce_word (w.phases k)
@@ -117,9 +119,9 @@ pub record WordsAgree (w : World) (page : ℕ) (words : List ℕ) : Type 0 where
   pub unused : (k : ℕ) → IsUnused w.passes k → slice_index words k ≡ 0
 
 -- the words, the slot and the journal's length are those of the machine
-pub record ShowsBoard (b : Board) (s : State (Option Ledger) View) : Type 0 where
+pub record ShowsBoard (b : Board) (s : State (Option WriterState) View) : Type 0 where
   pub words : WordsAgree b.world (page_at b.log (length b.log)) s.words
-  pub home : IsHome b.world.holder b.world b.log s.homes
+  pub home : IsHome b.world.writer b.world b.log s.homes
   pub version : b.world.current ≡ length b.log
 
 -- ## The second part: the invariants of the journal and the machine, and what each version encodes
@@ -155,18 +157,18 @@ pub record IsSoundBoard (limits : Limits) (b : Board) : Type 0 where
   pub pages : b.world.pages ≡ limits.pages
   pub passes : b.world.passes ≡ limits.passes
   pub commits : b.world.commits ≡ limits.commits
-  pub holder : (h : Holder) → b.world.holder ≡ Some h → h.pass < limits.passes
+  pub writer : (h : Writer) → b.world.writer ≡ Some h → h.pass < limits.passes
   pub reaches : ReachesAgree b.world b.log
   pub machine : Sound b.world
-  pub spelt : (n : ℕ) → n ≤ length b.log
-      → SpellsVolume (reach_at b.log n) (in_pages (b.world.image n)) (page_at b.log n)
+  pub encoded : (n : ℕ) → n ≤ length b.log
+      → EncodesVolume (reach_at b.log n) (in_pages (b.world.image n)) (page_at b.log n)
       (replay (take n (entries b.log)))
 
 -- ## The third part: what each pass knows is true
 
 -- the machine's writer, as the pass that holds the lock knows it
-abbrev pub known_holder : Knowledge → Holder
-known_holder a = record {
+abbrev pub known_writer : Knowledge → Writer
+known_writer a = record {
   pass = a.number;
   scanned = a.scanned;
   least = a.least;
@@ -176,7 +178,7 @@ known_holder a = record {
 -- what the writer knows
 pub record Holds (b : Board) (a : Knowledge) : Type 0 where
   pub log : a.seen ≡ b.log
-  pub holder : b.world.holder ≡ Some (known_holder a)
+  pub writer : b.world.writer ≡ Some (known_writer a)
   pub turn : a.scanned < b.world.passes
   pub count : length a.places ≡ b.world.pages
   pub shown : ShowsPlaces a.places b.world
@@ -195,7 +197,7 @@ pub record Fits (limits : Limits) (b : Board) (seat : ℕ) (a : Knowledge) : Typ
   pub seen : StartsWith b.log a.seen
   pub mine : by_pass a.number (entries b.log) ≡ a.mine
   pub own : by_pass a.number (entries a.seen) ≡ a.mine
-  pub writes : a.writes ≡ is_holder b.world.holder a.number
+  pub writes : a.writes ≡ is_writer b.world.writer a.number
   pub whole : a.writes ≡ true → Holds b a
   pub phase : b.world.phases a.number ≡ a.phase
   pub pin : InTime (length a.seen) a.phase
@@ -233,13 +235,14 @@ pub record IsTrace (limits : Limits) (w : World) (views : List View) (trace : Li
     pub runs : RunsTo limits words trace w
     pub rests : (seat : ℕ) (v : View) → get_elem? views seat ≡ some v → AllRest trace v.passes
 
-pub record Stands (limits : Limits) (s : State (Option Ledger) View) (b : Board) : Type 0 where
-  pub table : ShowsBoard b s
-  pub sound : IsSoundBoard limits b
-  pub views : ViewsFit limits b s.views
+pub record FitsBoard (limits : Limits) (s : State (Option WriterState) View) (b : Board) : Type 0
+  where
+    pub table : ShowsBoard b s
+    pub sound : IsSoundBoard limits b
+    pub views : ViewsFit limits b s.views
 
-abbrev pub Shows : Limits → State (Option Ledger) View → Type 0
-Shows limits s = (b : Board) × Stands limits s b
+abbrev pub Shows : Limits → State (Option WriterState) View → Type 0
+Shows limits s = (b : Board) × FitsBoard limits s b
     × ((trace : List Move) × IsTrace limits b.world s.views trace)
 
 -- ## What a history says
@@ -247,8 +250,8 @@ Shows limits s = (b : Board) × Stands limits s b
 -- the machine is as the pass knows it
 pub record IsAt (a : Knowledge) (w : World) : Type 0 where
   pub phase : w.phases a.number ≡ a.phase
-  pub writes : a.writes ≡ is_holder w.holder a.number
-  pub holds : a.writes ≡ true → w.holder ≡ Some (known_holder a)
+  pub writes : a.writes ≡ is_writer w.writer a.number
+  pub holds : a.writes ≡ true → w.writer ≡ Some (known_writer a)
   pub seen : length a.seen ≤ w.current
   pub shown : a.writes ≡ true → ShowsPlaces a.places w
   pub image : ImageIs w a.phase a.image
@@ -262,7 +265,7 @@ pub record Reaches (a : Knowledge) (P : World → Type 0) : Type 0 where
   pub so : P world
 
 -- just before the last move of this history, the machine was as the pass knew it
-pub record StoodBefore (a : Knowledge) (move : Move) (history : List Move) : Type 0 where
+pub record IsKnownBefore (a : Knowledge) (move : Move) (history : List Move) : Type 0 where
   pub others : List Move
   pub none : NoneBy a.number others
   pub ends : history ≡ (a.history ++ others) ++ move ∷ []
@@ -287,7 +290,7 @@ newcomer limits steps k = record {
   places = [];
   words = [];
   held = [];
-  holders = [];
+  writers = [];
   steps = steps;
   history = [];
 }

@@ -9,7 +9,7 @@ use Rattle.be_table.specs.declared.pass.Knowledge.{Knowledge}
 use Rattle.be_table.specs.declared.pass.Move.{Move}
 use Rattle.be_table.specs.declared.status.Announcement.{Announcement}
 use Rattle.be_table.specs.declared.status.Status.{Status}
-use Rattle.be_table.specs.Ledger.{ShowsPlaces}
+use Rattle.be_table.specs.WriterState.{ShowsPlaces}
 use Rattle.be_table.specs.Steps.{AreFound}
 use Rattle.be_table.specs.Trace.{RunsTo}
 
@@ -25,11 +25,11 @@ IsOldest words (Some o) =
 -- the oldest of the numbers that a whole scan by the pass k found in the reader slots, one after
 -- the other
 pub record FindsOldest (limits : Limits) (k : ℕ) (before after : List Move)
-    (told : Option Announcement) : Type 0 where
+    (reported : Option Announcement) : Type 0 where
   pub found : List ℕ
   pub each : length found ≡ limits.passes
   pub by_scans : AreFound limits k before after found
-  pub oldest : IsOldest found told
+  pub oldest : IsOldest found reported
 
 -- after these moves the machine's pages are at these places
 pub record LieAt (limits : Limits) (moves : List Move) (places : List Place) : Type 0 where
@@ -40,7 +40,7 @@ pub record LieAt (limits : Limits) (moves : List Move) (places : List Place) : T
 
 -- the status has the numbers of the limits, of the pages as the pass knows them, and of the journal
 -- that it has seen
-pub record Tells (a : Knowledge) (s : Status) : Type 0 where
+pub record Reports (a : Knowledge) (s : Status) : Type 0 where
   pub pages : s.pages ≡ a.limits.pages
   pub free : s.free ≡ count_by is_free a.places
   pub retired : s.retired ≡ count_by is_retired a.places

@@ -2,7 +2,7 @@
 use Rattle.std.specs.Prelude.{◌≡◌, ◌≢◌, ◌==◌, if◌then◌else◌, ℕ, Bool, false, List, [], ◌∷◌, ◌++◌}
 use Rattle.std.specs.Prelude.{Some, IsTrue}
 use Rattle.std.specs.List.{list_any}
-use Rattle.be_core.specs.Machine.{World, Holder, first_state, MayLook, MayAnnounce, MayLookAgain}
+use Rattle.be_core.specs.Machine.{World, Writer, first_state, MayLook, MayAnnounce, MayLookAgain}
 use Rattle.be_core.specs.Machine.{MayUnpin, MayLock, MayScan, MayFill, MayPublish, MayUnlock}
 use Rattle.be_core.specs.Machine.{after_look, after_announce, after_look_again, after_unpin}
 use Rattle.be_core.specs.Machine.{after_lock, after_scan, after_fill, after_publish, after_unlock}
@@ -28,7 +28,7 @@ mover (Return k p) = k
 
 -- the pass holds the lock, and has taken the page
 abbrev pub MayReturn : World → ℕ → ℕ → Type 0
-MayReturn w k p = ((h : Holder) × (w.holder ≡ Some h) × (h.pass ≡ k)) × IsTrue (w.taken p)
+MayReturn w k p = ((h : Writer) × (w.writer ≡ Some h) × (h.pass ≡ k)) × IsTrue (w.taken p)
 
 abbrev pub MayMove : World → Move → Type 0
 MayMove w (Look k) = MayLook w k

@@ -16,15 +16,15 @@ use Rattle.be_table.specs.History.{StartsWith}
 use Rattle.be_pages.specs.declared.page_pool.Place.TheVariants.{Free}
 use Rattle.be_pages.specs.Place.{undone_place, swept_place, place_of, is_in_hand, is_retired}
 use Rattle.be_table.specs.Place.{SeatFacts, WitnessFacts, Opened, Work}
-use Rattle.be_table.specs.Reading.{standing_among, word_of_page}
-use Rattle.be_table.specs.Versions.{at_start, SpellsVolume}
+use Rattle.be_table.specs.Reading.{page_state_among, word_of_page}
+use Rattle.be_table.specs.Versions.{at_start, EncodesVolume}
 use Rattle.be_journal.specs.Journal.{replay}
 use Rattle.be_table.specs.Trace.{AllRest, Makes, RunsTo, upto_lock}
 use Rattle.be_table.specs.Rule.{Reaches, AreBad, IsWithin, entries, page_at, reach_at, newcomer}
 use Rattle.be_table.specs.Rule.{announce_word}
 use Rattle.be_table.specs.Steps.{Has, AllIdle, KeepsSeen, IsPass, looks, finds_held, takes_lock}
-use Rattle.be_table.specs.Steps.{pins, takes_page, take_moves, scans_all, IsLeastAnnounced}
-use Rattle.be_table.specs.Steps.{IsOwnLeast, pages_from, UnreachedAreFree, NoCommitReaches}
+use Rattle.be_table.specs.Steps.{pins, takes_page, take_moves, scans_all, IsLowestAnnounced}
+use Rattle.be_table.specs.Steps.{IsOwnLowest, pages_from, UnreachedAreFree, NoCommitReaches}
 use Rattle.be_table.specs.Steps.{AreFound, scans_of, with_history}
 
 -- a seat of this table
@@ -77,9 +77,9 @@ pub record TakesLock (a c : Knowledge) : Type 0 where
   pub moves : Moves a (Lock a.number ∷ []) c
   pub same : c ≡ takes_lock (with_history a c.history) c.seen c.places c.words
   pub idle : map undone_place c.places ≡ c.places
-  pub begun : (q : ℕ) → standing_among c.places q
+  pub begun : (q : ℕ) → page_state_among c.places q
       ≡ at_start (has (reach_at c.seen (length c.seen)) q)
-  pub spelt : SpellsVolume (reach_at c.seen (length c.seen)) (word_of_page c.words)
+  pub encoded : EncodesVolume (reach_at c.seen (length c.seen)) (word_of_page c.words)
       (page_at c.seen (length c.seen)) (replay (entries c.seen))
   pub pass : IsPass c
 
@@ -106,12 +106,12 @@ HasNoRoom r a = ((r ≡ CommitsSpent) × (length a.seen ≡ a.limits.commits))
 pub record MakesScan (old new : Work) (least : ℕ) : Type 0 where
   pub by : (found : List ℕ) × (length found ≡ old.knows.limits.passes)
       × (new.knows ≡ with_history (scans_all old.knows found) new.knows.history)
-      × IsLeastAnnounced (length old.knows.seen) found least
+      × IsLowestAnnounced (length old.knows.seen) found least
       × AreFound old.knows.limits old.knows.number old.knows.history new.knows.history found
   pub moves : Makes old.knows.number old.knows.history
       (scans_of old.knows.number old.knows.limits.passes) new.knows.history
-  pub least_is : new.knows.least ≡ least
-  pub own : IsOwnLeast old.knows least
+  pub lowest_is : new.knows.least ≡ least
+  pub own : IsOwnLowest old.knows least
   pub places : new.knows.places ≡ map (swept_place least) old.knows.places
   pub held : new.knows.held ≡ pages_from is_in_hand 0 old.knows.places
   pub leaves : UnreachedAreFree new.knows
@@ -170,7 +170,7 @@ pub record HadAnnounced (a : Knowledge) (j number : ℕ) : Type 0 where
   pub words : ℕ → ℕ → ℕ
   pub world : World
   pub runs : RunsTo a.limits words upto world
-  pub told : announce_word (world.phases j) ≡ suc number
+  pub reported : announce_word (world.phases j) ≡ suc number
 
 -- this is the current number, or some pass had announced it since the lock
 abbrev pub WasAnnounced : Knowledge → ℕ → Type 0
@@ -182,7 +182,7 @@ WasAnnounced a least = (least ≡ length a.seen)
 -- a table's only pass it is the lower of the two. If it isn't the current number, some pass had
 -- announced it.
 abbrev pub IsSpent : Knowledge → ℕ → Type 0
-IsSpent a least = (least ≡ a.least) × HoldsUnreached a least × IsOwnLeast a least
+IsSpent a least = (least ≡ a.least) × HoldsUnreached a least × IsOwnLowest a least
     × WasAnnounced a least
 
 -- the write still holds the pages that it held at its last whole scan

@@ -3,9 +3,9 @@ ghost use Rattle.std.specs.FinMap as map;
 ghost use Rattle.std.specs.Prelude.{ℕ, ◌+◌, ◌*◌, ◌≤◌, List, length};
 ghost use Rattle.be_core.specs.Machine.{has};
 ghost use Rattle.be_table.specs.Counts.{count_below, reached};
-ghost use Rattle.be_table.specs.Reading.{standing_among};
+ghost use Rattle.be_table.specs.Reading.{page_state_among};
 ghost use Rattle.be_table.specs.Rule.{reach_at};
-ghost use Rattle.be_table.specs.Versions.{SpellsVolume};
+ghost use Rattle.be_table.specs.Versions.{EncodesVolume};
 ghost use Rattle.be_table.specs.Works.{HoldsStill, IsSpent};
 ghost use Rattle.be_table.specs.declared.pass.Knowledge.{Knowledge};
 ghost use Rattle.be_tree.specs.Counting.{in_hand};
@@ -27,9 +27,9 @@ pub fn full_counts()
 
 /// A version that encodes a volume has at most one page for each five of its items, one for each
 /// index, and one more.
-pub fn spelt_counts()
+pub fn encoded_counts()
     ensures { (pages : List ℕ) (words : ℕ → ℕ → ℕ) (page n : ℕ) (volume : State)
-        → SpellsVolume pages words page volume
+        → EncodesVolume pages words page volume
         → 5 * count_below (has pages) n ≤ items volume + 4 * map.len volume.indices + 9 }
 {
     version_pages();
@@ -38,5 +38,5 @@ pub fn spelt_counts()
 /// Right after that, the pages that the write held at the scan are among those that it holds.
 pub fn held_counts()
     ensures { (a : Knowledge) (n : ℕ) → HoldsStill a → n ≤ 16384
-        → count_below (has a.held) n ≤ in_hand n (standing_among a.places) }
+        → count_below (has a.held) n ≤ in_hand n (page_state_among a.places) }
 {}

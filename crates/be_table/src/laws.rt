@@ -18,7 +18,7 @@ ghost use Rattle.be_table.specs.Laws.{FillIsItsEvent, FoundFillIsItsEvent, OwnRe
 ghost use Rattle.be_table.specs.Laws.{TakeIsItsEvent};
 ghost use Rattle.be_table.specs.Laws.{LookIsItsEvent, AnnounceIsItsEvent, LookAgainIsItsEvent};
 ghost use Rattle.be_table.specs.Laws.{UnpinIsItsEvent, PinnedReadIsItsEvent};
-ghost use Rattle.be_table.specs.declared.ledger.Ledger.{Ledger};
+ghost use Rattle.be_table.specs.declared.writer_state.WriterState.{WriterState};
 ghost use Rattle.be_table.specs.declared.limits.Limits.{Limits};
 ghost use Rattle.be_table.specs.declared.pass.Commit.{Commit};
 ghost use Rattle.be_table.specs.declared.pass.Knowledge.{Knowledge};
@@ -26,94 +26,107 @@ ghost use Rattle.be_table.specs.declared.pass.View.{View};
 
 /// A load of the current number is Look.
 pub fn look()
-    ensures { (limits : Limits) (slots id : ℕ) (a : Knowledge) (carried : List (ℕ × Option Ledger))
+    ensures { (limits : Limits) (slots id : ℕ) (a : Knowledge)
+        (carried : List (ℕ × Option WriterState))
         → LookIsItsEvent limits slots id a carried }
 {}
 
 /// The store to a reader slot is Announce.
 pub fn announce()
-    ensures { (limits : Limits) (slots id : ℕ) (a : Knowledge) (carried : List (ℕ × Option Ledger))
+    ensures { (limits : Limits) (slots id : ℕ) (a : Knowledge)
+        (carried : List (ℕ × Option WriterState))
         → AnnounceIsItsEvent limits slots id a carried }
 {}
 
 /// The second load of the current number is LookAgain.
 pub fn look_again()
-    ensures { (limits : Limits) (slots id : ℕ) (a : Knowledge) (carried : List (ℕ × Option Ledger))
+    ensures { (limits : Limits) (slots id : ℕ) (a : Knowledge)
+        (carried : List (ℕ × Option WriterState))
         → LookAgainIsItsEvent limits slots id a carried }
 {}
 
 /// The store that clears a reader slot is Unpin.
 pub fn unpin()
-    ensures { (limits : Limits) (slots id : ℕ) (a : Knowledge) (carried : List (ℕ × Option Ledger))
+    ensures { (limits : Limits) (slots id : ℕ) (a : Knowledge)
+        (carried : List (ℕ × Option WriterState))
         → UnpinIsItsEvent limits slots id a carried }
 {}
 
 /// A load of a word of a pinned version is Read, and finds the word that the page had when the
 /// version was published.
 pub fn pinned_read()
-    ensures { (limits : Limits) (slots id : ℕ) (a : Knowledge) (carried : List (ℕ × Option Ledger))
+    ensures { (limits : Limits) (slots id : ℕ) (a : Knowledge)
+        (carried : List (ℕ × Option WriterState))
         → PinnedReadIsItsEvent limits slots id a carried }
 {}
 
 /// A compare-exchange of the lock that finds it free is Lock; one that finds it held is no event.
 pub fn lock()
-    ensures { (limits : Limits) (slots id : ℕ) (a : Knowledge) (carried : List (ℕ × Option Ledger))
+    ensures { (limits : Limits) (slots id : ℕ) (a : Knowledge)
+        (carried : List (ℕ × Option WriterState))
         → LockIsItsEvent limits slots id a carried }
 {}
 
 /// The writer's load of a reader slot is Scan.
 pub fn scan()
-    ensures { (limits : Limits) (slots id : ℕ) (a : Knowledge) (carried : List (ℕ × Option Ledger))
+    ensures { (limits : Limits) (slots id : ℕ) (a : Knowledge)
+        (carried : List (ℕ × Option WriterState))
         → ScanIsItsEvent limits slots id a carried }
 {}
 
 /// The store of a page's word is Fill.
 pub fn fill()
-    ensures { (limits : Limits) (slots id : ℕ) (a : Knowledge) (carried : List (ℕ × Option Ledger))
+    ensures { (limits : Limits) (slots id : ℕ) (a : Knowledge)
+        (carried : List (ℕ × Option WriterState))
         → FillIsItsEvent limits slots id a carried }
 {}
 
 /// A load of a word of a page that the writer holds is Fill, with the word that is there.
 pub fn found_fill()
-    ensures { (limits : Limits) (slots id : ℕ) (a : Knowledge) (carried : List (ℕ × Option Ledger))
+    ensures { (limits : Limits) (slots id : ℕ) (a : Knowledge)
+        (carried : List (ℕ × Option WriterState))
         → FoundFillIsItsEvent limits slots id a carried }
 {}
 
 /// The writer's load of a page's word is no event.
 pub fn own_read()
-    ensures { (limits : Limits) (slots id : ℕ) (a : Knowledge) (carried : List (ℕ × Option Ledger))
+    ensures { (limits : Limits) (slots id : ℕ) (a : Knowledge)
+        (carried : List (ℕ × Option WriterState))
         → OwnReadIsNoEvent limits slots id a carried }
 {}
 
 /// The load that takes a page is Fill, with the word that is there.
 pub fn take()
-    ensures { (limits : Limits) (slots id : ℕ) (a : Knowledge) (carried : List (ℕ × Option Ledger))
+    ensures { (limits : Limits) (slots id : ℕ) (a : Knowledge)
+        (carried : List (ℕ × Option WriterState))
         → TakeIsItsEvent limits slots id a carried }
 {}
 
 /// The load that gives up a page is no event. A page that the write had taken goes back to the free
 /// ones, which is the writer's bookkeeping.
 pub fn give_up()
-    ensures { (limits : Limits) (slots id : ℕ) (a : Knowledge) (carried : List (ℕ × Option Ledger))
+    ensures { (limits : Limits) (slots id : ℕ) (a : Knowledge)
+        (carried : List (ℕ × Option WriterState))
         → GiveUpIsNoEvent limits slots id a carried }
 {}
 
 /// The store of the current number is Publish, with the pages that the write has given up.
 pub fn publish()
-    ensures { (limits : Limits) (slots id : ℕ) (a : Knowledge) (carried : List (ℕ × Option Ledger))
+    ensures { (limits : Limits) (slots id : ℕ) (a : Knowledge)
+        (carried : List (ℕ × Option WriterState))
         → PublishIsItsEvent limits slots id a carried }
 {}
 
 /// The store that frees the lock is Unlock.
 pub fn unlock()
-    ensures { (limits : Limits) (slots id : ℕ) (a : Knowledge) (ledger : Ledger)
-        → UnlockIsItsEvent limits slots id a ledger }
+    ensures { (limits : Limits) (slots id : ℕ) (a : Knowledge) (writer_state : WriterState)
+        → UnlockIsItsEvent limits slots id a writer_state }
 {}
 
 /// The load by which two passes of one seat compare what they have seen is no event.
 pub fn compare()
     ensures { (limits : Limits) (slots id : ℕ) (a c : Knowledge)
-        (carried : List (ℕ × Option Ledger)) → CompareIsNoEvent limits slots id a c carried }
+        (carried : List (ℕ × Option WriterState)) → CompareIsNoEvent limits slots id a c carried }
 {}
 
 /// The load that makes a witness is no event: what a pass has seen gets a seat without a pass.
@@ -124,7 +137,7 @@ pub fn attest()
 /// The load by which a pass takes in what a witness has seen is no event.
 pub fn learn()
     ensures { (limits : Limits) (slots id : ℕ) (a : Knowledge) (front : List Commit)
-        (carried : List (ℕ × Option Ledger)) → LearnIsNoEvent limits slots id a front carried }
+        (carried : List (ℕ × Option WriterState)) → LearnIsNoEvent limits slots id a front carried }
 {}
 
 /// The load that splits a seat is no event: its first pass gets a new seat.

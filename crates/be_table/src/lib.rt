@@ -40,7 +40,6 @@
 mod counting;
 mod deal;
 pub mod laws;
-mod ledger;
 mod limits;
 mod marks;
 mod pass;
@@ -51,9 +50,10 @@ mod seat;
 mod status;
 mod table;
 mod witness;
+mod writer_state;
 mod writing;
 
-pub use counting::{full_counts, held_counts, spelt_counts};
+pub use counting::{encoded_counts, full_counts, held_counts};
 pub use limits::Limits;
 pub use pinned::PinnedLook;
 pub use seat::Seat;

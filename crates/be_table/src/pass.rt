@@ -65,7 +65,7 @@ pub struct Knowledge {
     /// The pages that its write had taken and not given back when its last whole scan ended.
     pub held: LinkedList<u64>,
     /// The passes that its failed tries found holding the lock, the last one first.
-    pub holders: LinkedList<u64>,
+    pub writers: LinkedList<u64>,
     /// The number of its steps on words.
     pub steps: u64,
     /// The machine's moves, of all passes, up to its own last one.

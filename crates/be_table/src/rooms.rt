@@ -11,7 +11,7 @@ use be_value::Refusal;
 
 impl<'a> Look for Writing<'a> {
     ghost use Rattle.std.specs.Prelude.{not};
-    ghost use Rattle.be_table.specs.Reading.{StaysOpen, open_of, standing_in_work, words_of};
+    ghost use Rattle.be_table.specs.Reading.{StaysOpen, open_of, page_state_in_work, words_of};
     ghost use Rattle.be_table.specs.Reading.{small_open};
 
     ghost Kept = { StaysOpen };
@@ -20,7 +20,7 @@ impl<'a> Look for Writing<'a> {
 
     ghost is_open = { λ k. not k.published };
 
-    ghost standing = { standing_in_work };
+    ghost page_state = { page_state_in_work };
 
     ghost words = { words_of };
 
@@ -36,7 +36,7 @@ impl<'a> Room for Writing<'a> {
 
     ghost full = { IsFull };
 
-    #[tactic(auto, using(crate::proofs::Standings::taken))]
+    #[tactic(auto, using(crate::proofs::PageStates::taken))]
     fn is_taken(&self, page: u64) -> bool {
         Writing::is_taken(self, page)
     }

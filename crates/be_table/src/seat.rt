@@ -8,14 +8,14 @@ ghost use Rattle.be_core.specs.Machine.{has};
 ghost use Rattle.be_core.specs.declared.event.Phase.TheVariants.{Pinned};
 ghost use Rattle.be_table.specs.Rule.{alone, pass_of, page_at, reach_at};
 
-use crate::ledger::Ledger;
 use crate::marks::Marks;
 use crate::pass::View;
+use crate::writer_state::WriterState;
 use atomic_table::Badge;
 use std::marker::Model;
 use std::mem;
 
-pub(crate) type Base = atomic_table::Seat<Option<Ledger>, View>;
+pub(crate) type Base = atomic_table::Seat<Option<WriterState>, View>;
 
 /// What a pass steps with. A seat that was moved out is blank, and can't step.
 #[derive(Drop)]
@@ -41,14 +41,14 @@ impl Seat {
     ghost use Rattle.be_journal.specs.Journal.{replay};
     ghost use Rattle.be_table.specs.Reading.{word_of_page};
     ghost use Rattle.be_table.specs.Rule.{entries};
-    ghost use Rattle.be_table.specs.Seats.{IsTold, pin_of, pinned_number};
+    ghost use Rattle.be_table.specs.Seats.{IsReported, pin_of, pinned_number};
     ghost use Rattle.be_table.specs.Steps.{IsPass};
-    ghost use Rattle.be_table.specs.Versions.{SpellsVolume};
+    ghost use Rattle.be_table.specs.Versions.{EncodesVolume};
 
     pub(crate) fn of(base: Base, marks: Marks) -> Seat
         requires number { marks.number < 64 }
         requires pass { base.me ≡ (alone (pass_of base.me.0), []) }
-        requires told { IsTold (pass_of base.me.0) marks.number marks.seen }
+        requires reported { IsReported (pass_of base.me.0) marks.number marks.seen }
         requires pin { marks.pin ≡ pin_of (pass_of base.me.0).phase (pass_of base.me.0).seen }
         ensures { (result.blank ≡ false) × (result.table ≡ base.table_id)
             × (result.knows ≡ pass_of base.me.0) }
@@ -63,7 +63,8 @@ impl Seat {
     pub(crate) fn into_base(self) -> (Base, Marks)
         requires { self.blank ≡ false }
         ensures pass { (result.0.table_id ≡ self.table) × (result.0.me ≡ (alone self.knows, [])) }
-        ensures told { (result.1.number < 64) × IsTold self.knows result.1.number result.1.seen }
+        ensures reported { (result.1.number < 64)
+            × IsReported self.knows result.1.number result.1.seen }
         ensures pin { result.1.pin ≡ pin_of self.knows.phase self.knows.seen }
     {
         let Seat { badge, marks } = self;
@@ -107,8 +108,8 @@ impl Seat {
             ≡ page_at self.now.knows.seen n }
         ensures readable { (x n : ℕ) → self.now.knows.phase ≡ Pinned x n
             → IsTrue (has (reach_at self.now.knows.seen n) result) }
-        ensures spelt { (x n : ℕ) → self.now.knows.phase ≡ Pinned x n
-            → SpellsVolume (reach_at self.now.knows.seen n) (word_of_page self.now.knows.image)
+        ensures encoded { (x n : ℕ) → self.now.knows.phase ≡ Pinned x n
+            → EncodesVolume (reach_at self.now.knows.seen n) (word_of_page self.now.knows.image)
             (page_at self.now.knows.seen n)
             (replay (take n (entries self.now.knows.seen))) }
     {

@@ -9,7 +9,6 @@ ghost use Rattle.be_core.specs.Machine.{has};
 ghost use Rattle.be_table.specs.Rule.{one_step_on, reach_at, word_place, page_at};
 
 use crate::deal::{deal, gather, lay_first};
-use crate::ledger::{Ledger, first_space};
 use crate::limits::Limits;
 use crate::marks::PinnedVersion;
 use crate::pass::View;
@@ -19,6 +18,7 @@ use crate::rule::{
 };
 use crate::seat::Seat;
 use crate::witness::Witness;
+use crate::writer_state::{WriterState, first_space};
 use crate::writing::Writing;
 use atomic_table::Table;
 use be_core::Phase;
@@ -40,7 +40,7 @@ pub(crate) const ANNOUNCE: usize = 16;
 /// Then come the pages, with `PAGE_WORDS` words each.
 pub(crate) const PAGES: usize = 528;
 
-pub(crate) type Inner = Table<Option<Ledger>, View, Limits, Law, Global>;
+pub(crate) type Inner = Table<Option<WriterState>, View, Limits, Law, Global>;
 
 /// The words, the slot and the limits. Passes share it by a `&`.
 #[derive(Drop)]
@@ -70,12 +70,12 @@ impl VersionTable {
     ghost use Rattle.be_journal.specs.Journal.{IsLegal, replay};
     ghost use Rattle.be_paged_reading.specs.Version.{IsVersion};
     ghost use Rattle.be_table.specs.History.{StartsWith, AreOfPasses};
-    ghost use Rattle.be_table.specs.Reading.{pinned_standing, word_of_page};
+    ghost use Rattle.be_table.specs.Reading.{pinned_page_state, word_of_page};
     ghost use Rattle.be_table.specs.Rule.{IsWithin, entries};
     ghost use Rattle.be_table.specs.Steps.{announces, unpins, met, longer, Has, KeepsSeen};
     ghost use Rattle.be_table.specs.Steps.{with_history};
     ghost use Rattle.be_table.specs.Trace.{HasTrace};
-    ghost use Rattle.be_table.specs.Versions.{at_start, CanSpellEach};
+    ghost use Rattle.be_table.specs.Versions.{at_start, CanEncodeEach};
     ghost use Rattle.be_table.specs.Works.{IsSeatOf, IsWitnessOf, SeesMore, TakesLock, FoundHeld};
     ghost use Rattle.be_table.specs.Works.{PinsCurrent, Moves, AreNew, IsOpenRefused, AllAt};
     ghost use Rattle.be_table.specs.Works.{knows_of};
@@ -114,7 +114,7 @@ impl VersionTable {
         let Ok(space) = first_space(alloc) else {
             return Err(Refusal::OutOfMemory);
         };
-        slots.push_reserved(Some(Ledger {
+        slots.push_reserved(Some(WriterState {
             journal: Journal::new(alloc, limits.commits),
             page: 0,
             pool,
@@ -226,8 +226,8 @@ impl VersionTable {
         let shared = &self.table.shared;
         let found = shared.compare_exchange::<Lock>(&mut base, LOCK, 0, marks.number + 1);
         if found == 0 {
-            let ledger = shared.exchange(&mut base, 0, None).unwrap();
-            Ok(Writing::of(self, base, marks, ledger))
+            let writer_state = shared.exchange(&mut base, 0, None).unwrap();
+            Ok(Writing::of(self, base, marks, writer_state))
         } else {
             Err((Seat::of(base, marks), Refusal::Busy(found - 1)))
         }
@@ -257,7 +257,7 @@ impl VersionTable {
         requires pinned { (x : ℕ) × (n : ℕ) × (seat.knows.phase ≡ Phase.Pinned x n) }
         ensures look { (result.table ≡ self.now) × (result.knows ≡ seat.knows) }
         ensures version { (x n : ℕ) → seat.knows.phase ≡ Pinned x n
-            → IsVersion (pinned_standing result.knows) (word_of_page result.knows.image)
+            → IsVersion (pinned_page_state result.knows) (word_of_page result.knows.image)
             (page_at result.knows.seen n)
             (replay (take n (entries result.knows.seen))) }
     {
@@ -339,7 +339,7 @@ impl VersionTable {
         ensures legal { IsLegal result.entries }
         ensures by { AreOfPasses self.limits.passes result.entries }
         ensures seats { KeepsSeen result.entries (map knows_of seats.items) }
-        ensures volumes { CanSpellEach self.limits.pages result.entries }
+        ensures volumes { CanEncodeEach self.limits.pages result.entries }
         ensures limit { result.limit ≡ self.limits.commits }
         ensures trace { HasTrace self.limits (map knows_of seats.items) }
     {
@@ -350,7 +350,9 @@ impl VersionTable {
         let mut closed = table.close_with(rest);
         let slot = closed.take(0);
         closed.free();
-        let Some(ledger) = slot else { unreachable!() };
-        ledger.into_journal()
+        let Some(writer_state) = slot else {
+            unreachable!()
+        };
+        writer_state.into_journal()
     }
 }

@@ -8,30 +8,31 @@ ghost use Rattle.std.specs.Prelude.{IfNone, ◌≢◌, Ok, string_bytes, ◌≡�
 ghost use Rattle.std.specs.Prelude.{◌^◌, ◌<◌, true, false, [], ◌∷◌, length, count_by, None};
 ghost use Rattle.std.specs.Prelude.{MatchResult, ℕ};
 ghost use Rattle.be_pages.specs.Place.{is_in_hand, is_held_page, is_retired, place_of, given_place};
-ghost use Rattle.be_pages.specs.declared.room.Standing.TheVariants.{Taken, Filled as Full};
+ghost use Rattle.be_pages.specs.declared.room.PageState.TheVariants.{Taken, Filled as Full};
 ghost use Rattle.be_volume.specs.Sound.{IsOperation};
-ghost use Rattle.be_table.specs.Reading.{standing_among};
+ghost use Rattle.be_table.specs.Reading.{page_state_among};
 ghost use Rattle.be_table.specs.Rule.{Reaches, alone, announce_word, pass_of, one_step_on};
 ghost use Rattle.be_table.specs.Rule.{word_place, current_word};
-ghost use Rattle.be_table.specs.Statuses.{FindsOldest, LieAt, Tells};
+ghost use Rattle.be_table.specs.Statuses.{FindsOldest, LieAt, Reports};
 ghost use Rattle.be_table.specs.Steps.{AreFound, take_moves, fill_moves, given_moves, given_of};
 ghost use Rattle.be_table.specs.Steps.{scans_of, NoneRetiredLater, IsPass, IsFound, MayPublish};
 ghost use Rattle.be_table.specs.Steps.{publishes, MayBeFilled, MayReadAnnouncement, IsPart};
 ghost use Rattle.be_table.specs.Steps.{fills_word, with_history};
 ghost use Rattle.be_table.specs.Steps.{takes_page, gives_up, scans, scans_out, scans_all};
-ghost use Rattle.be_table.specs.Steps.{least_found, IsLeastAnnounced, IsOwnLeast, UnreachedAreFree};
+ghost use Rattle.be_table.specs.Steps.{lowest_found, IsLowestAnnounced, IsOwnLowest};
+ghost use Rattle.be_table.specs.Steps.{UnreachedAreFree};
 ghost use Rattle.be_table.specs.Trace.{Makes, upto_lock};
 ghost use Rattle.be_table.specs.Working.{HasWorked, MakesForReason};
 ghost use Rattle.be_table.specs.Works.{due_after, HasReasonToScan, Moves};
 ghost use Rattle.be_table.specs.declared.pass.Move.TheVariants as moves;
 
-use crate::ledger::Ledger;
 use crate::limits::Limits;
 use crate::marks::Marks;
 use crate::rule::{Fill, FoundFill, GiveUp, NextVersion, OwnWord, Publish, Scan, TakePage, Unlock};
 use crate::seat::{Base, Seat};
 use crate::status::{Announcement, Found, Status, older};
 use crate::table::{ANNOUNCE, CURRENT, LOCK, PAGES, VersionTable};
+use crate::writer_state::WriterState;
 use be_journal::{Entry, replay_push};
 use be_paged::Version;
 use be_pages::{PAGE_WORDS, Place};
@@ -60,7 +61,7 @@ pub struct Writing<'a> {
     table: &'a VersionTable,
     base: Base,
     marks: Marks,
-    pub(crate) ledger: Ledger,
+    pub(crate) writer_state: WriterState,
     reserved: usize,
 }
 
@@ -97,7 +98,7 @@ impl<'a> Writing<'a> {
         table: &'a VersionTable,
         base: Base,
         marks: Marks,
-        ledger: Ledger,
+        writer_state: WriterState,
     ) -> Writing<'a>
         requires seat { (base.table_id ≡ table.now.id)
             × (base.me ≡ (alone (pass_of base.me.0), (0, None) ∷ [])) }
@@ -105,7 +106,7 @@ impl<'a> Writing<'a> {
             × ((pass_of base.me.0).limits ≡ table.now.limits)
             × (marks.number < 64) × ((pass_of base.me.0).writes ≡ true)
             × IsPass (pass_of base.me.0) }
-        requires ledger { IsFound ledger (pass_of base.me.0) }
+        requires writer_state { IsFound writer_state (pass_of base.me.0) }
         requires turn { (pass_of base.me.0).scanned ≡ 0 }
         requires pin { marks.pin ≡ pin_of (pass_of base.me.0).phase (pass_of base.me.0).seen }
         requires begun { upto_lock (pass_of base.me.0).number (pass_of base.me.0).history
@@ -117,7 +118,7 @@ impl<'a> Writing<'a> {
             table,
             base,
             marks,
-            ledger,
+            writer_state,
             reserved: 0,
         }
     }
@@ -129,28 +130,28 @@ impl<'a> Writing<'a> {
             × (result.1 ≡ page_at self.now.knows.seen (length self.now.knows.seen)) }
         ensures next { (replay (entries self.now.knows.seen)).next + 64 < 2 ^ 64 }
     {
-        (self.ledger.journal.len(), self.ledger.page)
+        (self.writer_state.journal.len(), self.writer_state.page)
     }
 
     /// Takes out the buffer for a version's contents. The next write finds it if it is put back.
     pub fn take_space(&mut self) -> Option<Box<Version>>
         ensures { self.new ≡ self.old }
     {
-        self.ledger.space.take()
+        self.writer_state.space.take()
     }
 
     /// Puts back what `take_space` took out.
     pub fn put_space(&mut self, space: Option<Box<Version>>)
         ensures { self.new ≡ self.old }
     {
-        self.ledger.space = space;
+        self.writer_state.space = space;
     }
 
     /// The journal's text. OutOfMemory. No step.
     pub fn journal_text(&self) -> Result<String, Refusal>
         ensures { Answers string_bytes result (Ok (lines_from 1 (entries self.now.knows.seen))) }
     {
-        self.ledger.journal.text()
+        self.writer_state.journal.text()
     }
 
     /// The journal's entry with this index, from 0, as a copy. OutOfMemory. No step.
@@ -159,7 +160,7 @@ impl<'a> Writing<'a> {
         ensures ok { IfOk result (λ entry. entry ≡ get_or (entries self.now.knows.seen) i entry) }
         ensures err { IfErr result (λ e. e ≡ OutOfMemory) }
     {
-        Ok(self.ledger.journal.get(i).to_entry()?)
+        Ok(self.writer_state.journal.get(i).to_entry()?)
     }
 
     /// Word i of a page, as the current version has it or as this write filled it. One load.
@@ -178,7 +179,7 @@ impl<'a> Writing<'a> {
         requires page { page < length self.now.knows.places }
         ensures { result ≡ is_in_hand (place_of self.now.knows.places page) }
     {
-        self.ledger.pool.is_in_hand(page)
+        self.writer_state.pool.is_in_hand(page)
     }
 
     /// Writes word i of a page that this write took. One load, and one store if the word isn't
@@ -198,7 +199,7 @@ impl<'a> Writing<'a> {
         ensures inside { word_place page i < length self.old.knows.words }
     {
         fill_word(self.table, &mut self.base, page, i, word);
-        self.ledger.pool.fill(page);
+        self.writer_state.pool.fill(page);
     }
 
     /// Writes word i of a page in which this write has filled a word, as `fill` does. The page's
@@ -236,7 +237,7 @@ impl<'a> Writing<'a> {
             .table
             .shared
             .load::<GiveUp>(&mut self.base, PAGES + PAGE_WORDS * page as usize);
-        self.ledger.pool.give_up(page);
+        self.writer_state.pool.give_up(page);
     }
 
     /// Takes the page that was freed last, if one is free. It takes a page that is spared for a
@@ -258,8 +259,8 @@ impl<'a> Writing<'a> {
         ensures count { IfNone result (length self.old.knows.places ≡ self.old.knows.limits.pages) }
         ensures same { IfNone result (self.new ≡ self.old) }
     {
-        let page = self.ledger.pool.take()?;
-        tell_taken(self.table, &mut self.base, page);
+        let page = self.writer_state.pool.take()?;
+        report_taken(self.table, &mut self.base, page);
         Some(page)
     }
 
@@ -280,11 +281,11 @@ impl<'a> Writing<'a> {
             (take_moves self.old.knows page) self.new.knows.history) }
         ensures same { IfNone result (self.new ≡ self.old) }
     {
-        if self.ledger.left > 0 {
+        if self.writer_state.left > 0 {
             return self.take_free();
         }
-        let copy = self.ledger.pool.take_like(page)?;
-        tell_taken(self.table, &mut self.base, copy);
+        let copy = self.writer_state.pool.take_like(page)?;
+        report_taken(self.table, &mut self.base, copy);
         Some(copy)
     }
 
@@ -332,8 +333,8 @@ impl<'a> Writing<'a> {
             < self.now.left + due_after self.now.left }
         ensures left { self.now.left ≤ count_by is_retired self.now.knows.places }
     {
-        let left = self.ledger.left;
-        self.ledger.pool.retired().saturating_sub(left) >= due_after(left)
+        let left = self.writer_state.left;
+        self.writer_state.pool.retired().saturating_sub(left) >= due_after(left)
     }
 
     /// Reads every reader slot once. Returns the lowest of the numbers there and the current
@@ -357,23 +358,23 @@ impl<'a> Writing<'a> {
             self.old.knows.history self.new.knows.history result.oldest }
         ensures places { LieAt self.old.knows.limits self.new.knows.history self.new.knows.places }
     {
-        let current = self.ledger.journal.len();
+        let current = self.writer_state.journal.len();
         let found = read_all(self.table, &mut self.base, current);
-        self.ledger.sweep(found.least);
+        self.writer_state.sweep(found.least);
         found
     }
 
     /// The table's numbers as they are now, with this announcement. No step.
     fn count(&self, oldest: Option<Announcement>) -> Status
-        ensures tells { Tells self.now.knows result }
+        ensures reports { Reports self.now.knows result }
         ensures oldest { result.oldest ≡ oldest }
     {
         let Limits { pages, commits, .. } = self.table.limits();
         Status {
             pages,
-            free: self.ledger.pool.free() as u64,
-            retired: self.ledger.pool.retired() as u64,
-            entries: self.ledger.journal.len(),
+            free: self.writer_state.pool.free() as u64,
+            retired: self.writer_state.pool.retired() as u64,
+            entries: self.writer_state.journal.len(),
             commits,
             oldest,
         }
@@ -388,7 +389,7 @@ impl<'a> Writing<'a> {
         ensures oldest { FindsOldest self.old.knows.limits self.old.knows.number
             self.old.knows.history self.new.knows.history result.oldest }
         ensures places { LieAt self.old.knows.limits self.new.knows.history self.new.knows.places }
-        ensures tells { Tells self.new.knows result }
+        ensures reports { Reports self.new.knows result }
     {
         let found = self.survey();
         self.count(found.oldest)
@@ -405,14 +406,14 @@ impl<'a> Writing<'a> {
             × (length self.old.knows.seen < self.old.knows.limits.commits))
             (λ r. (self.new ≡ self.old) × HasNoRoom r self.old.knows) }
     {
-        self.ledger.reserve(count)?;
+        self.writer_state.reserve(count)?;
         self.reserved = count;
         Ok(())
     }
 
     /// A page whose state is filled is a page of the table. It does nothing.
     fn is_filled(&self, page: u64)
-        requires { standing_among self.now.knows.places page ≡ Full }
+        requires { page_state_among self.now.knows.places page ≡ Full }
         ensures { (page < length self.now.knows.places)
             × (place_of self.now.knows.places page ≡ Place.Filled) }
     {}
@@ -427,13 +428,13 @@ impl<'a> Writing<'a> {
         requires reserved { length ops.now ≡ self.old.reserved }
         requires entry { Agrees (replay (entries self.old.knows.seen))
             (entry_by self.old.knows ops.now dones.now) }
-        requires page { standing_among self.old.knows.places page ≡ Full }
-        requires filled { (q : ℕ) → standing_among self.old.knows.places q ≢ Taken }
-        requires volume { IsVersion (standing_among self.old.knows.places)
+        requires page { page_state_among self.old.knows.places page ≡ Full }
+        requires filled { (q : ℕ) → page_state_among self.old.knows.places q ≢ Taken }
+        requires volume { IsVersion (page_state_among self.old.knows.places)
             (word_of_page self.old.knows.words)
             page (state_after (replay (entries self.old.knows.seen)) ops.now) }
         requires exact { (q : ℕ) → times q (reach (word_of_page self.old.knows.words) page)
-            ≡ bit (is_kept (standing_among self.old.knows.places q)) }
+            ≡ bit (is_kept (page_state_among self.old.knows.places q)) }
         ensures write { self.new ≡ record self.old {
           knows = publishes (with_history self.old.knows self.new.knows.history)
               (entry_by self.old.knows ops.now dones.now) page;
@@ -450,10 +451,10 @@ impl<'a> Writing<'a> {
         replay_push();
         self.is_filled(page);
         let number = self.marks.number;
-        let version = self.ledger.journal.len() + 1;
+        let version = self.writer_state.journal.len() + 1;
         let word = (version << 32) + page;
         store_version::<Brand>(self.table, &mut self.base, number, ops, dones, page, word);
-        self.ledger.append(number, ops, dones, page);
+        self.writer_state.append(number, ops, dones, page);
         self.reserved = 0;
         version
     }
@@ -472,13 +473,13 @@ impl<'a> Writing<'a> {
             table,
             mut base,
             mut marks,
-            mut ledger,
+            mut writer_state,
             reserved: _,
         } = self;
-        marks.seen = ledger.journal.len();
-        ledger.rest();
+        marks.seen = writer_state.journal.len();
+        writer_state.rest();
         let shared = &table.table.shared;
-        let _ = shared.exchange(&mut base, 0, Some(ledger));
+        let _ = shared.exchange(&mut base, 0, Some(writer_state));
         shared.store::<Unlock>(&mut base, LOCK, 0);
         Seat::of(base, marks)
     }
@@ -503,7 +504,7 @@ fn store_version<E: NextVersion>(
     page: u64,
     word: u64,
 )
-    requires told { (E.entry ≡ record { by = by; ops = ops.now; dones = dones.now })
+    requires reported { (E.entry ≡ record { by = by; ops = ops.now; dones = dones.now })
         × (page ≡ E.page) }
     requires seat { base.old.table_id ≡ table.now.id }
     requires pass { (base.old.me.0 ≡ alone (pass_of base.old.me.0))
@@ -525,7 +526,7 @@ fn store_version<E: NextVersion>(
 }
 
 /// The load that takes a page.
-fn tell_taken(table: &VersionTable, base: &mut Base, page: u64)
+fn report_taken(table: &VersionTable, base: &mut Base, page: u64)
     requires seat { base.old.table_id ≡ table.now.id }
     requires pass { (base.old.me.0 ≡ alone (pass_of base.old.me.0))
         × ((pass_of base.old.me.0).writes ≡ true) × ((pass_of base.old.me.0).published ≡ false) }
@@ -604,7 +605,7 @@ fn read_announcement(table: &VersionTable, base: &mut Base, pass: u64) -> u64
 }
 
 fn lower(least: u64, found: u64) -> u64
-    ensures { result ≡ least_found least found }
+    ensures { result ≡ lowest_found least found }
 {
     if found == 0 {
         least
@@ -626,7 +627,7 @@ fn read_all(table: &VersionTable, base: &mut Base, current: u64) -> Found
               (pass_of base.new.me.0).history),
           base.old.me.1,
         ))
-        × IsLeastAnnounced current found result.least
+        × IsLowestAnnounced current found result.least
         × AreFound (pass_of base.old.me.0).limits (pass_of base.old.me.0).number
         (pass_of base.old.me.0).history (pass_of base.new.me.0).history found }
     ensures moves { Makes (pass_of base.old.me.0).number (pass_of base.old.me.0).history
@@ -639,7 +640,7 @@ fn read_all(table: &VersionTable, base: &mut Base, current: u64) -> Found
         (pass_of base.new.me.0).history }
     ensures part { IsPart table.now.limits.passes (pass_of base.old.me.0) (pass_of base.new.me.0)
         table.now.limits.passes result.least }
-    ensures own { IsOwnLeast (pass_of base.old.me.0) result.least }
+    ensures own { IsOwnLowest (pass_of base.old.me.0) result.least }
     ensures oldest { FindsOldest (pass_of base.old.me.0).limits (pass_of base.old.me.0).number
         (pass_of base.old.me.0).history (pass_of base.new.me.0).history result.oldest }
     ensures places { LieAt (pass_of base.old.me.0).limits (pass_of base.new.me.0).history

@@ -36,7 +36,7 @@ impl<L: Look> Look for Counted<L> {
 
     ghost is_open = { L.is_open };
 
-    ghost standing = { λ c. L.standing c.pages };
+    ghost page_state = { λ c. L.page_state c.pages };
 
     ghost words = { λ c. L.words c.pages };
 
@@ -65,7 +65,7 @@ impl<R: Room> Room for Counted<R> {
         self.pages.take_like(page)
     }
 
-    #[tactic(auto, using(crate::proofs::Standings::taken_readable))]
+    #[tactic(auto, using(crate::proofs::PageStates::taken_readable))]
     fn fill(&mut self, page: u64, i: usize, word: u64) {
         if self.pages.word(page, i) != word {
             self.stores = self.stores.wrapping_add(1);
@@ -73,7 +73,7 @@ impl<R: Room> Room for Counted<R> {
         self.pages.fill(page, i, word);
     }
 
-    #[tactic(auto, using(crate::proofs::Standings::filled_readable))]
+    #[tactic(auto, using(crate::proofs::PageStates::filled_readable))]
     fn refill(&mut self, page: u64, i: usize, word: u64) {
         if self.pages.word(page, i) != word {
             self.stores = self.stores.wrapping_add(1);

@@ -27,7 +27,7 @@ pub fn list_of(alloc: Global, list: &str) -> Result<Vec<Op>, Refusal> {
     }
 }
 
-fn text_of_dones(alloc: Global, dones: &[Done]) -> Result<String, AllocError> {
+fn text_of_outcomes(alloc: Global, dones: &[Done]) -> Result<String, AllocError> {
     let mut text = String::new(alloc);
     for done in dones {
         text.push_str(done_text(alloc, done)?.as_str())?;
@@ -38,8 +38,8 @@ fn text_of_dones(alloc: Global, dones: &[Done]) -> Result<String, AllocError> {
 
 /// The outcomes of a list, one per line.
 pub fn done_lines(alloc: Global, dones: &[Done]) -> Result<String, AllocError> {
-    match text_of_dones(alloc, dones) {
-        Err(_) => text_of_dones(alloc, dones),
+    match text_of_outcomes(alloc, dones) {
+        Err(_) => text_of_outcomes(alloc, dones),
         text => text,
     }
 }

@@ -24,18 +24,18 @@ use be_value::Refusal;
 /// tree's pages that the new one doesn't have are given up; those that this write had taken before
 /// may be overwritten. After an error, undoing the write brings the tree back.
 pub fn insert<R: Room>(room: &mut R, root: u64, key: &[u8], payload: &[u8]) -> Result<u64, Refusal>
-    requires tree { IsTree (R.standing room.old) (R.words room.old) root }
+    requires tree { IsTree (R.page_state room.old) (R.words room.old) root }
     requires key_fits { length key.now ≤ 264 }
     requires fits { length key.now + length payload.now ≤ 328 }
     requires open { IsTrue (R.is_open (R.kept room.old)) }
-    ensures ok { IfOk result (λ new. BecomesTree R.kept R.standing R.words
+    ensures ok { IfOk result (λ new. BecomesTree R.kept R.page_state R.words
         (pages (R.words room.old) root)
         (put (record { key = key.now; payload = payload.now }) (pairs (R.words room.old) root)) new
         room.old room.new) }
-    ensures err { OnErr result (KeepsStart R.kept R.standing R.words room.old room.new) }
+    ensures err { OnErr result (KeepsStart R.kept R.page_state R.words room.old room.new) }
     ensures full { IfErr result (IsFullOf (R.full room.new)) }
     ensures takes { Takes (most_taken (level_of_root (R.words room.old) root)) result
-        (R.standing room.old) (R.standing room.new) }
+        (R.page_state room.old) (R.page_state room.new) }
 {
     let pair = Item::new(key, payload);
     if root == 0 {

@@ -60,14 +60,14 @@ pub(crate) type NewRoot = Result<u64, Refusal>;
 /// The place of a key among a page's items: the number of the item that has it, or how many have
 /// lower keys.
 fn search_number<L: Look>(look: &mut L, page: u64, key: &[u8], first: u64) -> Result<usize, usize>
-    requires readable { IsTrue (is_readable (L.standing look.old page)) }
+    requires readable { IsTrue (is_readable (L.page_state look.old page)) }
     requires page { IsPage (L.words look.old page) }
     requires first { IsFirst key.now first }
     ensures in_range { IfOk result (λ at. at < L.words look.old page 1) }
     ensures same { IfOk result (λ at. key_cmp (item_at (L.words look.old page) (item_place at)).key
         key.now ≡ Equal) }
     ensures absent { IfErr result (IsGap key.now (items_of (L.words look.old page))) }
-    ensures unchanged { IsUnchanged L.kept L.standing L.words look.old look.new }
+    ensures unchanged { IsUnchanged L.kept L.page_state L.words look.old look.new }
 {
     match search(look, page, key, first) {
         Ok(place) => Ok(item_number(place)),
@@ -78,11 +78,11 @@ fn search_number<L: Look>(look: &mut L, page: u64, key: &[u8], first: u64) -> Re
 /// Goes down to a key in a tree that isn't empty, and keeps the path in `path`, which has to be
 /// empty. It costs one descent.
 pub(crate) fn find_path<L: Look>(look: &mut L, root: u64, key: &[u8], path: &mut Path)
-    requires tree { IsTree (L.standing look.old) (L.words look.old) root }
+    requires tree { IsTree (L.page_state look.old) (L.words look.old) root }
     requires some { 0 < root }
     requires empty { path.old.above.items ≡ [] }
-    ensures path { IsPathTo (L.standing look.old) (L.words look.old) root key.now path.new }
-    ensures unchanged { IsUnchanged L.kept L.standing L.words look.old look.new }
+    ensures path { IsPathTo (L.page_state look.old) (L.words look.old) root key.now path.new }
+    ensures unchanged { IsUnchanged L.kept L.page_state L.words look.old look.new }
 {
     let first = first_word(key);
     let mut page = root - 1;

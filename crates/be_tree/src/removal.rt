@@ -23,18 +23,18 @@ use be_value::Refusal;
 /// Takes a key out of a tree, and returns the new root. An absent key gives the same root and takes
 /// no page. After an error, undoing the write brings the tree back.
 pub fn remove<R: Room>(room: &mut R, root: u64, key: &[u8]) -> Result<u64, Refusal>
-    requires tree { IsTree (R.standing room.old) (R.words room.old) root }
+    requires tree { IsTree (R.page_state room.old) (R.words room.old) root }
     requires open { IsTrue (R.is_open (R.kept room.old)) }
-    ensures ok { IfOk result (λ new. BecomesTree R.kept R.standing R.words
+    ensures ok { IfOk result (λ new. BecomesTree R.kept R.page_state R.words
         (pages (R.words room.old) root)
         (without key.now (pairs (R.words room.old) root)) new room.old room.new) }
     ensures absent { payload_at (pairs (R.words room.old) root) key.now ≡ None → result ≡ Ok root }
     ensures still { payload_at (pairs (R.words room.old) root) key.now ≡ None
-        → IsUnchanged R.kept R.standing R.words room.old room.new }
-    ensures err { OnErr result (KeepsStart R.kept R.standing R.words room.old room.new) }
+        → IsUnchanged R.kept R.page_state R.words room.old room.new }
+    ensures err { OnErr result (KeepsStart R.kept R.page_state R.words room.old room.new) }
     ensures full { IfErr result (IsFullOf (R.full room.new)) }
     ensures takes { Takes (most_taken (level_of_root (R.words room.old) root)) result
-        (R.standing room.old) (R.standing room.new) }
+        (R.page_state room.old) (R.page_state room.new) }
 {
     if root == 0 {
         return Ok(root);

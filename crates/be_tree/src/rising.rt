@@ -26,15 +26,15 @@ pub(crate) struct Changed {
     /// The page that now has the items: the same one, or its copy.
     pub(crate) page: u64,
     /// Whether the lowest key below it is known to be unchanged.
-    pub(crate) same_least: bool,
+    pub(crate) same_minimum: bool,
 }
 
 /// Whether the lowest key below a page is known to be unchanged, after the child of branch `at` was
 /// changed.
-fn keeps_least(child: Changed, at: usize) -> bool
-    ensures { result ≡ true → (0 < at) ⊎ (child.same_least ≡ true) }
+fn keeps_minimum(child: Changed, at: usize) -> bool
+    ensures { result ≡ true → (0 < at) ⊎ (child.same_minimum ≡ true) }
 {
-    child.same_least || at > 0
+    child.same_minimum || at > 0
 }
 
 /// Writes the branches to a changed page and to those above it that change with it, the lowest
@@ -46,22 +46,22 @@ pub(crate) fn rise<R: Room>(
     above: &[Step],
     changed: Changed,
 ) -> Result<u64, Refusal>
-    requires changed { (start : R) × IsChanged R.kept R.standing R.words root above.now changed
+    requires changed { (start : R) × IsChanged R.kept R.page_state R.words root above.now changed
         (level_of (R.words start changed.was)) start room.old }
     requires open { IsTrue (R.is_open (R.kept room.old)) }
     ensures ok { IfOk result (λ new. (start : R)
-        → IsChanged R.kept R.standing R.words root above.now changed
+        → IsChanged R.kept R.page_state R.words root above.now changed
         (level_of (R.words start changed.was)) start room.old
-        → BecomesTree R.kept R.standing R.words (pages (R.words start) root)
+        → BecomesTree R.kept R.page_state R.words (pages (R.words start) root)
         (whole (R.words start) above.now (pairs_at (level_of (R.words start changed.was))
         (R.words room.old) changed.page)) new start room.new) }
-    ensures refused { Refuses R.kept R.standing R.words R.full (length above.now) result
+    ensures refused { Refuses R.kept R.page_state R.words R.full (length above.now) result
         room.old room.new }
 {
     let none = Item::new(&[], &[]);
     let mut below = changed;
     for i in 0..above.len() {
-        if below.page == below.was && below.same_least {
+        if below.page == below.was && below.same_minimum {
             return Ok(root);
         }
         let step = above[above.len() - 1 - i];
@@ -79,7 +79,7 @@ pub(crate) fn rise<R: Room>(
         below = Changed {
             was: step.page,
             page,
-            same_least: keeps_least(below, step.at),
+            same_minimum: keeps_minimum(below, step.at),
         };
     }
     Ok(below.page + 1)
@@ -90,7 +90,7 @@ pub(crate) fn rise<R: Room>(
 #[derive(Clone, Copy)]
 pub(crate) struct Edit {
     pub(crate) cut: Cut,
-    pub(crate) same_least: bool,
+    pub(crate) same_minimum: bool,
 }
 
 /// Replaces a cut of the leaf at the end of a path by slots, and returns the new root.
@@ -102,26 +102,26 @@ pub(crate) fn change_leaf<R: Room>(
     slots: &[Slot],
     pair: &Item,
 ) -> Result<u64, Refusal>
-    requires way { IsWayIn (R.standing room.old) (R.words room.old) root path.now.above.items
+    requires way { IsWayIn (R.page_state room.old) (R.words room.old) root path.now.above.items
         path.now.leaf }
-    requires cut { CanBeSpliced (R.standing room.old) (R.words room.old) path.now.leaf edit.cut
+    requires cut { CanBeSpliced (R.page_state room.old) (R.words room.old) path.now.leaf edit.cut
         pair.now slots.now }
     requires edit { IsEdit (R.words room.old) path.now.above.items path.now.leaf edit pair.now
         slots.now }
     requires open { IsTrue (R.is_open (R.kept room.old)) }
-    ensures ok { IfOk result (λ new. BecomesTree R.kept R.standing R.words
+    ensures ok { IfOk result (λ new. BecomesTree R.kept R.page_state R.words
         (pages (R.words room.old) root)
         (whole (R.words room.old) path.now.above.items
         (spliced edit.cut (items_of (R.words room.old path.now.leaf))
         (pairs_of (R.words room.old) pair.now slots.now))) new room.old room.new) }
-    ensures refused { Refuses R.kept R.standing R.words R.full
+    ensures refused { Refuses R.kept R.page_state R.words R.full
         (length path.now.above.items + 1) result room.old room.new }
 {
     let page = splice(room, path.leaf, edit.cut, slots, pair)?;
     let changed = Changed {
         was: path.leaf,
         page,
-        same_least: edit.same_least,
+        same_minimum: edit.same_minimum,
     };
     rise(room, root, &path.above, changed)
 }

@@ -28,7 +28,7 @@ use crate::storing::fill_slots;
 use crate::writing::{pack, pack_two, write_rest};
 use arrayvec::ArrayVec;
 use be_pages::{Look, Room};
-use be_tree_reading::{HEADER_WORDS, ITEM_WORDS, LEAST_ITEMS, MOST_ITEMS, child_at};
+use be_tree_reading::{HEADER_WORDS, ITEM_WORDS, MINIMUM_ITEMS, MOST_ITEMS, child_at};
 use be_value::Refusal;
 
 /// The branches to the pages that were written, which replace some of a node's branches.
@@ -43,13 +43,13 @@ type Settling = Result<Settled, Refusal>;
 
 /// Writes an unwritten node that is too large to two pages. Its page is the child at a step.
 fn settle_split<R: Room>(room: &mut R, step: Step, was: u64, node: Node<'_>) -> Settling
-    requires child { (start : R) × IsChildInHand R.kept R.standing R.words step was node.level
+    requires child { (start : R) × IsChildInHand R.kept R.page_state R.words step was node.level
         node.pair.now node.slots.now start room.old }
     requires crowded { 12 < length node.slots.now }
     requires open { IsTrue (R.is_open (R.kept room.old)) }
-    ensures ok { Settles R.kept R.standing R.words step was node.entry.level node.entry.pair.now
+    ensures ok { Settles R.kept R.page_state R.words step was node.entry.level node.entry.pair.now
         node.entry.slots.now result room.old room.new }
-    ensures refused { Refuses R.kept R.standing R.words R.full 2 result room.old room.new }
+    ensures refused { Refuses R.kept R.page_state R.words R.full 2 result room.old room.new }
 {
     let at = step.at;
     let branches = pack(room, was, node)?;
@@ -59,16 +59,16 @@ fn settle_split<R: Room>(room: &mut R, step: Step, was: u64, node: Node<'_>) -> 
 
 /// Writes the node together with the items of the child before it.
 fn settle_left<R: Room>(room: &mut R, step: Step, was: u64, node: Node<'_>) -> Settling
-    requires child { (start : R) × IsChildInHand R.kept R.standing R.words step was node.level
+    requires child { (start : R) × IsChildInHand R.kept R.page_state R.words step was node.level
         node.pair.now node.slots.now start room.old }
     requires beyond { 0 < step.at }
     requires room { R.words room.old (child
         (item_at (R.words room.old step.page) (item_place (step.at - 1)))) 1 + length node.slots.now
         ≤ 24 }
     requires open { IsTrue (R.is_open (R.kept room.old)) }
-    ensures ok { Settles R.kept R.standing R.words step was node.entry.level node.entry.pair.now
+    ensures ok { Settles R.kept R.page_state R.words step was node.entry.level node.entry.pair.now
         node.entry.slots.now result room.old room.new }
-    ensures refused { Refuses R.kept R.standing R.words R.full 2 result room.old room.new }
+    ensures refused { Refuses R.kept R.page_state R.words R.full 2 result room.old room.new }
 {
     let at = step.at - 1;
     let left = child_at(room, step.page, HEADER_WORDS + ITEM_WORDS * at);
@@ -87,14 +87,14 @@ fn settle_left<R: Room>(room: &mut R, step: Step, was: u64, node: Node<'_>) -> S
 
 /// Writes the node together with the items of the child after it.
 fn settle_right<R: Room>(room: &mut R, step: Step, was: u64, node: Node<'_>) -> Settling
-    requires child { (start : R) × IsChildInHand R.kept R.standing R.words step was node.level
+    requires child { (start : R) × IsChildInHand R.kept R.page_state R.words step was node.level
         node.pair.now node.slots.now start room.old }
     requires before { step.at + 1 < R.words room.old step.page 1 }
     requires few { length node.slots.now ≤ 12 }
     requires open { IsTrue (R.is_open (R.kept room.old)) }
-    ensures ok { Settles R.kept R.standing R.words step was node.entry.level node.entry.pair.now
+    ensures ok { Settles R.kept R.page_state R.words step was node.entry.level node.entry.pair.now
         node.entry.slots.now result room.old room.new }
-    ensures refused { Refuses R.kept R.standing R.words R.full 2 result room.old room.new }
+    ensures refused { Refuses R.kept R.page_state R.words R.full 2 result room.old room.new }
 {
     let right = child_at(room, step.page, HEADER_WORDS + ITEM_WORDS * (step.at + 1));
     let mut others = ArrayVec::new();
@@ -115,12 +115,12 @@ fn settle_right<R: Room>(room: &mut R, step: Step, was: u64, node: Node<'_>) -> 
 
 /// Whether there is a child before the step's that has room for an item.
 fn left_has_room<R: Room>(room: &mut R, step: Step, was: u64, node: Node<'_>) -> bool
-    requires child { (start : R) × IsChildInHand R.kept R.standing R.words step was node.level
+    requires child { (start : R) × IsChildInHand R.kept R.page_state R.words step was node.level
         node.pair.now node.slots.now start room.old }
     ensures beyond { result ≡ true → 0 < step.at }
     ensures room { result ≡ true → R.words room.old
         (child (item_at (R.words room.old step.page) (item_place (step.at - 1)))) 1 < 12 }
-    ensures unchanged { IsUnchanged R.kept R.standing R.words room.old room.new }
+    ensures unchanged { IsUnchanged R.kept R.page_state R.words room.old room.new }
 {
     if step.at == 0 {
         return false;
@@ -131,12 +131,12 @@ fn left_has_room<R: Room>(room: &mut R, step: Step, was: u64, node: Node<'_>) ->
 
 /// Settles an unwritten node, whose page is the child at a step.
 fn settle_child<R: Room>(room: &mut R, step: Step, was: u64, node: Node<'_>) -> Settling
-    requires child { (start : R) × IsChildInHand R.kept R.standing R.words step was node.level
+    requires child { (start : R) × IsChildInHand R.kept R.page_state R.words step was node.level
         node.pair.now node.slots.now start room.old }
     requires open { IsTrue (R.is_open (R.kept room.old)) }
-    ensures ok { Settles R.kept R.standing R.words step was node.entry.level node.entry.pair.now
+    ensures ok { Settles R.kept R.page_state R.words step was node.entry.level node.entry.pair.now
         node.entry.slots.now result room.old room.new }
-    ensures refused { Refuses R.kept R.standing R.words R.full 2 result room.old room.new }
+    ensures refused { Refuses R.kept R.page_state R.words R.full 2 result room.old room.new }
 {
     if node.slots.len() > MOST_ITEMS {
         if left_has_room(room, step, was, node) {
@@ -164,14 +164,14 @@ fn leave_one(slots: &mut ArrayVec<Slot, 24>, cut: Cut)
 
 /// The slots of a page's items, with others replacing a cut.
 fn slots_with<L: Look>(look: &mut L, page: u64, settled: Settled) -> ArrayVec<Slot, 24>
-    requires readable { IsTrue (is_readable (L.standing look.old page)) }
+    requires readable { IsTrue (is_readable (L.page_state look.old page)) }
     requires page { IsPage (L.words look.old page) }
     requires in_range { settled.cut.at + settled.cut.gone ≤ L.words look.old page 1 }
     requires gone { (0 < settled.cut.gone) × (settled.cut.gone ≤ 2) }
     requires some { (0 < length settled.branches.items) × (length settled.branches.items ≤ 2) }
     ensures slots { result.items ≡ spliced settled.cut (loaded page (L.words look.old page 1))
         settled.branches.items }
-    ensures unchanged { IsUnchanged L.kept L.standing L.words look.old look.new }
+    ensures unchanged { IsUnchanged L.kept L.page_state L.words look.old look.new }
 {
     let mut slots = ArrayVec::new();
     fill_slots(look, page, &mut slots);
@@ -214,12 +214,12 @@ fn replace_at(slots: &mut ArrayVec<Slot, 24>, at: usize, mut more: ArrayVec<Slot
 fn fits(count: usize, is_root: bool) -> bool
     ensures most { result ≡ true → count ≤ 12 }
     ensures least { result ≡ true → 2 ≤ count }
-    ensures least_below { result ≡ true → (is_root ≡ true) ⊎ (6 ≤ count) }
+    ensures minimum_below { result ≡ true → (is_root ≡ true) ⊎ (6 ≤ count) }
 {
     if count > MOST_ITEMS || count < 2 {
         return false;
     }
-    is_root || count >= LEAST_ITEMS
+    is_root || count >= MINIMUM_ITEMS
 }
 
 /// What happened to an unwritten node when it was settled.
@@ -240,20 +240,20 @@ fn settle_once<R: Room>(
     slots: &[Slot],
     pair: &Item,
 ) -> Result<Turn, Refusal>
-    requires in_hand { (start : R) × IsInHand R.kept R.standing R.words root above.now was pair.now
-        slots.now (level_of (R.words start was)) start room.old }
+    requires in_hand { (start : R) × IsInHand R.kept R.page_state R.words root above.now was
+        pair.now slots.now (level_of (R.words start was)) start room.old }
     requires below { 0 < length above.now }
     requires size { (5 ≤ length slots.now) × (length slots.now ≤ 13) }
     requires open { IsTrue (R.is_open (R.kept room.old)) }
     ensures ok { IfOk result (λ turn. (start : R)
-        → IsInHand R.kept R.standing R.words root above.now was pair.now slots.now
+        → IsInHand R.kept R.page_state R.words root above.now was pair.now slots.now
         (level_of (R.words start was)) start room.old
-        → IsTurned R.kept R.standing R.words root above.now pair.now (whole (R.words start)
+        → IsTurned R.kept R.page_state R.words root above.now pair.now (whole (R.words start)
         above.now (pairs_below (level_of (R.words start was)) (R.words room.old)
         (pairs_of (R.words room.old) pair.now slots.now))) turn start room.new) }
     ensures takes { IfOk result (λ turn. TakesAtMost (taken_for turn (length above.now))
-        (R.standing room.old) (R.standing room.new)) }
-    ensures refused { Refuses R.kept R.standing R.words R.full (length above.now + 2) result
+        (R.page_state room.old) (R.page_state room.new)) }
+    ensures refused { Refuses R.kept R.page_state R.words R.full (length above.now + 2) result
         room.old room.new }
 {
     let level = room.word(was, 0);
@@ -267,7 +267,7 @@ fn settle_once<R: Room>(
         let changed = Changed {
             was: step.page,
             page,
-            same_least: settled.cut.at > 0,
+            same_minimum: settled.cut.at > 0,
         };
         let whole = rise(room, root, &above[..last], changed)?;
         return Ok(Turn::Whole(whole));
@@ -287,19 +287,19 @@ pub(crate) fn settle<R: Room>(
     in_hand: ArrayVec<Slot, 24>,
     pair: &Item,
 ) -> Result<u64, Refusal>
-    requires in_hand { (start : R) × IsInHand R.kept R.standing R.words root above.now was pair.now
-        in_hand.items (level_of (R.words start was)) start room.old }
+    requires in_hand { (start : R) × IsInHand R.kept R.page_state R.words root above.now was
+        pair.now in_hand.items (level_of (R.words start was)) start room.old }
     requires few { length in_hand.items ≤ 13 }
     requires some { 0 < length above.now → 5 ≤ length in_hand.items }
     requires open { IsTrue (R.is_open (R.kept room.old)) }
     ensures ok { IfOk result (λ new. (start : R)
-        → IsInHand R.kept R.standing R.words root above.now was pair.now in_hand.items
+        → IsInHand R.kept R.page_state R.words root above.now was pair.now in_hand.items
         (level_of (R.words start was)) start room.old
-        → BecomesTree R.kept R.standing R.words (pages (R.words start) root)
+        → BecomesTree R.kept R.page_state R.words (pages (R.words start) root)
         (whole (R.words start) above.now (pairs_below (level_of (R.words start was))
         (R.words room.old) (pairs_of (R.words room.old) pair.now in_hand.items))) new start
         room.new) }
-    ensures refused { Refuses R.kept R.standing R.words R.full
+    ensures refused { Refuses R.kept R.page_state R.words R.full
         (most_taken (length above.now)) result room.old room.new }
 {
     let mut slots = in_hand;

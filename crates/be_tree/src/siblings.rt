@@ -9,10 +9,10 @@ use be_pages::Look;
 
 /// A page's number of items.
 pub(crate) fn count_of<L: Look>(look: &mut L, page: u64) -> usize
-    requires readable { IsTrue (is_readable (L.standing look.old page)) }
+    requires readable { IsTrue (is_readable (L.page_state look.old page)) }
     requires page { IsPage (L.words look.old page) }
     ensures count { result ≡ L.words look.old page 1 }
-    ensures unchanged { IsUnchanged L.kept L.standing L.words look.old look.new }
+    ensures unchanged { IsUnchanged L.kept L.page_state L.words look.old look.new }
 {
     look.word(page, 1) as usize
 }

@@ -5,7 +5,7 @@ use Rattle.std.specs.declared.cmp.Ordering.TheVariants.{Less, Equal, Greater}
 use Rattle.std.specs.Ordering.{is_eq, is_gt}
 use Rattle.std.proofs.lemmas.Bool.{false≢true}
 use Rattle.std.proofs.lemmas.List.{get_or_default}
-use Rattle.be_pages.specs.declared.room.Standing.{Standing}
+use Rattle.be_pages.specs.declared.room.PageState.{PageState}
 use Rattle.be_tree_reading.specs.Pair.{Pair}
 use Rattle.be_tree_reading.specs.Key.{key_cmp, AllAbove, IsBranchFor, IsGap, IsRank, IsRising, payload_at}
 use Rattle.be_tree_reading.specs.Page.{item_at, item_place, items_of}
@@ -79,31 +79,31 @@ branch_of k (x ∷ xs) (suc (suc r)) at place some in_range below above = record
 }
 
 -- what a search in a leaf says about a look-up
-pub found_equal : (level least : ℕ) (standing : ℕ → Standing) (words : ℕ → ℕ → ℕ) (page : ℕ) (k : List ℕ) (at : ℕ) → level ≡ 0 → IsTreeAt level least standing words page → 0 < least → at < words page 1
+pub found_equal : (level least : ℕ) (page_state : ℕ → PageState) (words : ℕ → ℕ → ℕ) (page : ℕ) (k : List ℕ) (at : ℕ) → level ≡ 0 → IsTreeAt level least page_state words page → 0 < least → at < words page 1
     → key_cmp (item_at (words page) (item_place at)).key k ≡ Equal → payload_at (pairs_at level words page) k ≡ Some (item_at (words page) (item_place at)).payload
-found_equal zero least standing words page k at leaf tree some lt same =
+found_equal zero least page_state words page k at leaf tree some lt same =
     let item = item_at (words page) (item_place at) in
     let here = item_get (words page) at item lt in
     let rank = rank_of_equal (items_of (words page)) tree.below.rising k at item (omega (arith, lt, items_count (words page))) (ap (λ (x : Pair). key_cmp x.key k) here ∙ same) in
-    found_in_leaf 0 least standing words page k (items_of (words page)) (suc at) at item refl tree some refl rank (omega arith) (sym here)
+    found_in_leaf 0 least page_state words page k (items_of (words page)) (suc at) at item refl tree some refl rank (omega arith) (sym here)
     ∙ ap (λ o. if is_eq o then Some item.payload else None) same
-found_equal (suc level) least standing words page k at leaf tree some lt same = absurd (omega (arith, leaf))
+found_equal (suc level) least page_state words page k at leaf tree some lt same = absurd (omega (arith, leaf))
 
-pub found_gap : (level least : ℕ) (standing : ℕ → Standing) (words : ℕ → ℕ → ℕ) (page : ℕ) (k : List ℕ) (r : ℕ) → level ≡ 0 → IsTreeAt level least standing words page → 0 < least
+pub found_gap : (level least : ℕ) (page_state : ℕ → PageState) (words : ℕ → ℕ → ℕ) (page : ℕ) (k : List ℕ) (r : ℕ) → level ≡ 0 → IsTreeAt level least page_state words page → 0 < least
     → IsGap k (items_of (words page)) r → payload_at (pairs_at level words page) k ≡ None
-found_gap zero least standing words page k zero leaf tree some gap =
+found_gap zero least page_state words page k zero leaf tree some gap =
     let item = item_at (words page) (item_place 0) in
     let lt : 0 < words page 1 = omega (arith, some, tree.node.enough, items_count (words page)) in
     let here = item_get (words page) 0 item lt in
-    found_in_leaf 0 least standing words page k (items_of (words page)) 0 0 item refl tree some refl (rank_of_gap k (items_of (words page)) 0 gap) refl (sym here)
+    found_in_leaf 0 least page_state words page k (items_of (words page)) 0 0 item refl tree some refl (rank_of_gap k (items_of (words page)) 0 gap) refl (sym here)
     ∙ ap (λ o. if is_eq o then Some item.payload else None) (ap (λ (x : Pair). key_cmp x.key k) (sym here) ∙ gap.above item (omega (arith, lt, items_count (words page))))
-found_gap zero least standing words page k (suc m) leaf tree some gap =
+found_gap zero least page_state words page k (suc m) leaf tree some gap =
     let item = item_at (words page) (item_place m) in
     let lt : m < words page 1 = omega (arith, gap.in_range, items_count (words page)) in
     let here = item_get (words page) m item lt in
-    found_in_leaf 0 least standing words page k (items_of (words page)) (suc m) m item refl tree some refl (rank_of_gap k (items_of (words page)) (suc m) gap) (omega arith) (sym here)
+    found_in_leaf 0 least page_state words page k (items_of (words page)) (suc m) m item refl tree some refl (rank_of_gap k (items_of (words page)) (suc m) gap) (omega arith) (sym here)
     ∙ ap (λ o. if is_eq o then Some item.payload else None) (ap (λ (x : Pair). key_cmp x.key k) (sym here) ∙ gap.below m item refl)
-found_gap (suc level) least standing words page k r leaf tree some gap = absurd (omega (arith, leaf))
+found_gap (suc level) least page_state words page k r leaf tree some gap = absurd (omega (arith, leaf))
 
 -- what it says about the pairs from the key on
 module _ (items : List Pair) (rising : IsRising items) (k : List ℕ) (after : Bool) where

@@ -6,7 +6,7 @@ use Rattle.std.specs.Ordering.{is_eq}
 use Rattle.std.proofs.lemmas.Bool.{cases_lt}
 use Rattle.std.proofs.lemmas.List.{take-append-drop, map-id, length-take}
 use Rattle.std.proofs.lemmas.List.Concat.{flat_map-append, flat_map_single}
-use Rattle.be_pages.specs.declared.room.Standing.{Standing}
+use Rattle.be_pages.specs.declared.room.PageState.{PageState}
 use Rattle.be_pages.specs.Pages.{times}
 use Rattle.be_tree_reading.specs.Pair.{Pair}
 use Rattle.be_tree_reading.specs.Key.{key_cmp, AllBelow, AllAbove, IsRising, payload_at, put, StartsAt, IsRank}
@@ -120,9 +120,9 @@ page_keys words page = All-map (λ item. length item.key ≤ 264) (λ (j : ℕ).
     let at : get_or (range_with_len 0 (words 1)) j d ≡ j = get_or-range_with_len 0 (words 1) j d (omega (arith, lt, length-range_with_len 0 (words 1))) ∙ zero-add j in
     subst (λ n. length (item_at words (item_place n)).key ≤ 264) (sym at) (key_fits words (item_place j) (page.each j (omega (arith, lt, length-range_with_len 0 (words 1))))))
 
-module _ (level : ℕ) (standing : ℕ → Standing) (words : ℕ → ℕ → ℕ) (items : List Pair) (below : IsBelow (suc level) standing words items) where
+module _ (level : ℕ) (page_state : ℕ → PageState) (words : ℕ → ℕ → ℕ) (items : List Pair) (below : IsBelow (suc level) page_state words items) where
   -- a branch's child is a tree of the level below
-  pub branch_tree : (at : ℕ) (d : Pair) → at < length items → IsTreeAt level 6 standing words (child (get_or items at d))
+  pub branch_tree : (at : ℕ) (d : Pair) → at < length items → IsTreeAt level 6 page_state words (child (get_or items at d))
   branch_tree at d lt =
       let f = λ (b : Pair). pairs_at level words (child b) in
       let g = λ (b : Pair). pages_at level words (child b) in
@@ -160,34 +160,34 @@ leaf_split items rising k r rank some =
     rank_split (λ x. x ∷ []) k items (subst IsRising (sym (as_branches items)) rising) (λ j d lt. refl) r rank some
 
 -- a step down from an inner node, at the branch that was read
-pub record StepsDown (level below : ℕ) (standing : ℕ → Standing) (words : ℕ → ℕ → ℕ) (page : ℕ) (k : List ℕ) (branch : Pair) : Type 0 where
+pub record StepsDown (level below : ℕ) (page_state : ℕ → PageState) (words : ℕ → ℕ → ℕ) (page : ℕ) (k : List ℕ) (branch : Pair) : Type 0 where
   pub names_page : length branch.payload ≡ 8
-  pub tree : IsTreeAt below 6 standing words (child branch)
+  pub tree : IsTreeAt below 6 page_state words (child branch)
   pub same : payload_at (pairs_at level words page) k ≡ payload_at (pairs_at below words (child branch)) k
 
-pub steps_down : (level below least : ℕ) (standing : ℕ → Standing) (words : ℕ → ℕ → ℕ) (page : ℕ) (k : List ℕ) (items : List Pair) (r at : ℕ) (branch : Pair)
-    → level ≡ suc below → IsTreeAt level least standing words page → 0 < least → items ≡ items_of (words page) → IsRank k items r → at ≡ r - 1 → branch ≡ get_or items at branch
-    → StepsDown level below standing words page k branch
-steps_down level below least standing words page k items r at branch e tree0 least_some read rank place is =
-    let tree = subst (λ n. IsTreeAt n least standing words page) e tree0 in
-    let split = inner_split below standing words (items_of (words page)) tree.below k r (subst (λ xs. IsRank k xs r) read rank) (omega (arith, tree.node.enough)) in
+pub steps_down : (level below least : ℕ) (page_state : ℕ → PageState) (words : ℕ → ℕ → ℕ) (page : ℕ) (k : List ℕ) (items : List Pair) (r at : ℕ) (branch : Pair)
+    → level ≡ suc below → IsTreeAt level least page_state words page → 0 < least → items ≡ items_of (words page) → IsRank k items r → at ≡ r - 1 → branch ≡ get_or items at branch
+    → StepsDown level below page_state words page k branch
+steps_down level below least page_state words page k items r at branch e tree0 minimum_some read rank place is =
+    let tree = subst (λ n. IsTreeAt n least page_state words page) e tree0 in
+    let split = inner_split below page_state words (items_of (words page)) tree.below k r (subst (λ xs. IsRank k xs r) read rank) (omega (arith, tree.node.enough)) in
     let b : get_or (items_of (words page)) (r - 1) branch ≡ branch = sym (is ∙ ap (λ xs. get_or xs at branch) read ∙ ap (λ i. get_or (items_of (words page)) i branch) place) in
     record {
       names_page = subst (λ x. length x.payload ≡ 8) b (tree.below.shaped (r - 1) branch split.in_range).1.names_page;
-      tree = subst (λ x. IsTreeAt below 6 standing words (child x)) b (branch_tree below standing words (items_of (words page)) tree.below (r - 1) branch split.in_range);
+      tree = subst (λ x. IsTreeAt below 6 page_state words (child x)) b (branch_tree below page_state words (items_of (words page)) tree.below (r - 1) branch split.in_range);
       same = ap (λ n. payload_at (pairs_at n words page) k) e
           ∙ payload_split (λ x. pairs_at below words (child x)) k (items_of (words page)) (r - 1) split branch
           ∙ ap (λ x. payload_at (pairs_at below words (child x)) k) b;
     }
 
 -- a look-up in a leaf, at the item that was read
-pub found_in_leaf : (level least : ℕ) (standing : ℕ → Standing) (words : ℕ → ℕ → ℕ) (page : ℕ) (k : List ℕ) (items : List Pair) (r at : ℕ) (item : Pair)
-    → level ≡ 0 → IsTreeAt level least standing words page → 0 < least → items ≡ items_of (words page) → IsRank k items r → at ≡ r - 1 → item ≡ get_or items at item
+pub found_in_leaf : (level least : ℕ) (page_state : ℕ → PageState) (words : ℕ → ℕ → ℕ) (page : ℕ) (k : List ℕ) (items : List Pair) (r at : ℕ) (item : Pair)
+    → level ≡ 0 → IsTreeAt level least page_state words page → 0 < least → items ≡ items_of (words page) → IsRank k items r → at ≡ r - 1 → item ≡ get_or items at item
     → payload_at (pairs_at level words page) k ≡ (if is_eq (key_cmp item.key k) then Some item.payload else None)
-found_in_leaf zero least standing words page k items r at item leaf tree least_some read rank place is =
+found_in_leaf zero least page_state words page k items r at item leaf tree minimum_some read rank place is =
     let split = leaf_split (items_of (words page)) tree.below.rising k r (subst (λ xs. IsRank k xs r) read rank) (omega (arith, tree.node.enough)) in
     let b : get_or (items_of (words page)) (r - 1) item ≡ item = sym (is ∙ ap (λ xs. get_or xs at item) read ∙ ap (λ i. get_or (items_of (words page)) i item) place) in
     ap (λ xs. payload_at xs k) (sym (as_branches (items_of (words page))))
     ∙ payload_split (λ x. x ∷ []) k (items_of (words page)) (r - 1) split item
     ∙ ap (λ x. payload_at (x ∷ []) k) b
-found_in_leaf (suc level) least standing words page k items r at item leaf tree least_some read rank place is = absurd (omega (arith, leaf))
+found_in_leaf (suc level) least page_state words page k items r at item leaf tree minimum_some read rank place is = absurd (omega (arith, leaf))

@@ -10,7 +10,7 @@ use Rattle.std.proofs.Math.Seq.{take-append-add}
 use Rattle.std.proofs.lemmas.Bool.{cases_lt, false≢true}
 use Rattle.std.proofs.lemmas.List.{append-nil, drop-append-le, drop_all, drop_more, get_or-drop, get_or-reverse, get_or-take, get_or_append_left, length-append, length-drop, length-reverse, length-take-le, map-append, nil_from_length, take-append-le, take_all, take_more}
 use Rattle.std.proofs.lemmas.List.Elements.{All-filter, All-from_recursion, filter-append, recursion_from_All}
-use Rattle.be_pages.specs.declared.room.Standing.{Standing}
+use Rattle.be_pages.specs.declared.room.PageState.{PageState}
 use Rattle.be_tree_reading.specs.Pair.{Pair}
 use Rattle.be_tree_reading.specs.Key.{AllAbove, IsRising, key_cmp}
 use Rattle.be_tree_reading.specs.Page.{IsReadableAt, item_at, item_place, items_of}
@@ -224,17 +224,17 @@ item_ahead words true at i le lt =
           ∙ item_get words (at - 1 - i) d in_items;
     }
 
-pub ahead_is : (standing : ℕ → Standing) (words : ℕ → ℕ → ℕ) (leaf : Leaf) (i : ℕ) → IsLeaf standing words leaf → i < length (items_ahead words leaf) → IsAhead leaf i
-ahead_is standing words leaf i is lt =
+pub ahead_is : (page_state : ℕ → PageState) (words : ℕ → ℕ → ℕ) (leaf : Leaf) (i : ℕ) → IsLeaf page_state words leaf → i < length (items_ahead words leaf) → IsAhead leaf i
+ahead_is page_state words leaf i is lt =
     let item = item_ahead (words leaf.page) leaf.back leaf.at i is.1 lt in
     record { in_page = omega (arith, item.in_items, is.0.node.is_page.few); left = item.left }
 
 -- the same at its place, after pages were only read
-pub record IsPlaceAhead (standing : ℕ → Standing) (words before : ℕ → ℕ → ℕ) (leaf : Leaf) (i at : ℕ) : Type 0 where
-  pub readable : IsReadableAt standing words leaf.page at
+pub record IsPlaceAhead (page_state : ℕ → PageState) (words before : ℕ → ℕ → ℕ) (leaf : Leaf) (i at : ℕ) : Type 0 where
+  pub readable : IsReadableAt page_state words leaf.page at
   pub same : (d : Pair) → item_at (words leaf.page) at ≡ get_or (items_ahead before leaf) i d
 
-pub place_ahead : (s t : ℕ → Standing) (v w : ℕ → ℕ → ℕ) (leaf : Leaf) (i at : ℕ) → t ≡ s → w ≡ v → at ≡ item_place (number_ahead leaf i) → IsLeaf s v leaf → i < length (items_ahead v leaf)
+pub place_ahead : (s t : ℕ → PageState) (v w : ℕ → ℕ → ℕ) (leaf : Leaf) (i at : ℕ) → t ≡ s → w ≡ v → at ≡ item_place (number_ahead leaf i) → IsLeaf s v leaf → i < length (items_ahead v leaf)
     → IsPlaceAhead t w v leaf i at
 place_ahead s t v w leaf i at es ew e is lt =
     let item = item_ahead (v leaf.page) leaf.back leaf.at i is.1 lt in
@@ -246,12 +246,12 @@ place_ahead s t v w leaf i at es ew e is lt =
     subst (λ p. IsPlaceAhead t w v leaf i p) (sym e) (subst (λ u. IsPlaceAhead t u v leaf i here) (sym ew) (subst (λ r. IsPlaceAhead r v v leaf i here) (sym es) first))
 
 -- a leaf and a walk after pages were only read
-pub leaf_read : (s t : ℕ → Standing) (v w : ℕ → ℕ → ℕ) (leaf : Leaf) → t ≡ s → w ≡ v → IsLeaf s v leaf → IsLeaf t w leaf
+pub leaf_read : (s t : ℕ → PageState) (v w : ℕ → ℕ → ℕ) (leaf : Leaf) → t ≡ s → w ≡ v → IsLeaf s v leaf → IsLeaf t w leaf
 leaf_read s t v w leaf es ew is = (leaf_same s t v w leaf.page es ew is.0, subst (λ (u : ℕ → ℕ → ℕ). leaf.at ≤ u leaf.page 1) (sym ew) is.1)
 
-pub walk_read : (s t : ℕ → Standing) (v w : ℕ → ℕ → ℕ) (going : Walk) → t ≡ s → w ≡ v → IsWalk s v going → IsWalk t w going
+pub walk_read : (s t : ℕ → PageState) (v w : ℕ → ℕ → ℕ) (going : Walk) → t ≡ s → w ≡ v → IsWalk s v going → IsWalk t w going
 walk_read s t v w going es ew is =
-    subst (λ (u : ℕ → ℕ → ℕ). IsWalk t u going) (sym ew) (subst (λ (r : ℕ → Standing). IsWalk r v going) (sym es) is)
+    subst (λ (u : ℕ → ℕ → ℕ). IsWalk t u going) (sym ew) (subst (λ (r : ℕ → PageState). IsWalk r v going) (sym es) is)
 
 -- a walk's direction
 pub turned_up : (back : Bool) (rising falling : List Pair) → back ≡ false → turned back rising falling ≡ rising
@@ -302,9 +302,9 @@ first_of_run before numbers mid now xs run rest has e first =
     }
 
 -- the place of a run's last item is that of the last of all items passed
-pub last_of_run : (standing : ℕ → Standing) (words : ℕ → ℕ → ℕ) (page at count : ℕ) (passed zs : List Pair) → IsReadableAt standing words page at → 0 < count → count ≤ length zs
-    → ((d : Pair) → get_or zs (count - 1) d ≡ item_at (words page) at) → IsLastOf standing words (Some (page, at)) (passed ++ take count zs)
-last_of_run standing words page at count passed zs readable some le is =
+pub last_of_run : (page_state : ℕ → PageState) (words : ℕ → ℕ → ℕ) (page at count : ℕ) (passed zs : List Pair) → IsReadableAt page_state words page at → 0 < count → count ≤ length zs
+    → ((d : Pair) → get_or zs (count - 1) d ≡ item_at (words page) at) → IsLastOf page_state words (Some (page, at)) (passed ++ take count zs)
+last_of_run page_state words page at count passed zs readable some le is =
     let item = item_at (words page) at in
     let e : count ≡ count - 1 + 1 = omega (arith, some) in (
       readable,

@@ -1,6 +1,6 @@
 -- The pairs before a cursor that goes backwards.
 use Rattle.std.specs.Prelude.{ℕ, List, [], ◌∷◌, ◌++◌, take}
-use Rattle.be_pages.specs.declared.room.Standing.{Standing}
+use Rattle.be_pages.specs.declared.room.PageState.{PageState}
 use Rattle.be_tree_reading.specs.Pair.{Pair}
 use Rattle.be_tree_reading.specs.Page.{items_of}
 use Rattle.be_tree_reading.specs.Tree.{pairs_below}
@@ -23,5 +23,5 @@ abbrev pub coming : (words : ℕ → ℕ → ℕ) → BackCursor → List Pair
 coming words cursor = pairs_up_to words cursor.path.items
 
 -- a cursor that can continue
-abbrev pub IsBackCursor : (standing : ℕ → Standing) (words : ℕ → ℕ → ℕ) → BackCursor → Type 0
-IsBackCursor standing words cursor = IsPath standing words cursor.path.items
+abbrev pub IsBackCursor : (page_state : ℕ → PageState) (words : ℕ → ℕ → ℕ) → BackCursor → Type 0
+IsBackCursor page_state words cursor = IsPath page_state words cursor.path.items

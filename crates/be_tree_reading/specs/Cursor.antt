@@ -1,7 +1,7 @@
 -- The pairs after a cursor.
 use Rattle.std.specs.Prelude.{◌≡◌, ℕ, ◌+◌, ◌<◌, ◌≤◌, List, [], ◌∷◌, ◌++◌, length, drop}
 use Rattle.std.specs.Prelude.{All, slice_index_or}
-use Rattle.be_pages.specs.declared.room.Standing.{Standing}
+use Rattle.be_pages.specs.declared.room.PageState.{PageState}
 use Rattle.be_tree_reading.specs.Pair.{Pair}
 use Rattle.be_tree_reading.specs.Page.{items_of}
 use Rattle.be_tree_reading.specs.Tree.{pairs_below, IsTreeAt}
@@ -28,20 +28,21 @@ IsSplit words before place after = remaining words before
     ≡ pairs_past words place ++ remaining words after
 
 -- a place on a page of a well-formed tree
-pub record IsPlace (standing : ℕ → Standing) (words : ℕ → ℕ → ℕ) (place : Place) : Type 0 where
-  pub tree : IsTreeAt place.level 1 standing words place.page
+pub record IsPlace (page_state : ℕ → PageState) (words : ℕ → ℕ → ℕ) (place : Place) : Type 0 where
+  pub tree : IsTreeAt place.level 1 page_state words place.page
   pub in_range : place.next ≤ length (items_of (words place.page))
 
 -- the place has an item left, and the cursor's path has room for this place and those below it
-abbrev pub IsNextPlace : (standing : ℕ → Standing) (words : ℕ → ℕ → ℕ) → Place → Cursor → Type 0
-IsNextPlace standing words place cursor = IsPlace standing words place
+abbrev pub IsNextPlace : (page_state : ℕ → PageState) (words : ℕ → ℕ → ℕ) → Place → Cursor → Type 0
+IsNextPlace page_state words place cursor = IsPlace page_state words place
     × ((place.next < words place.page 1) × (place.level + length cursor.path.items ≤ 13))
 
 -- a cursor's path: places in trees, not more of them than a tree has levels
-pub record IsPath (standing : ℕ → Standing) (words : ℕ → ℕ → ℕ) (path : List Place) : Type 0 where
-  pub places : All (IsPlace standing words) path
-  pub short : (i : ℕ) (d : Place) → i < length path → (slice_index_or path i d).level + i ≤ 13
+pub record IsPath (page_state : ℕ → PageState) (words : ℕ → ℕ → ℕ) (path : List Place) : Type 0
+  where
+    pub places : All (IsPlace page_state words) path
+    pub short : (i : ℕ) (d : Place) → i < length path → (slice_index_or path i d).level + i ≤ 13
 
 -- a cursor that can continue
-abbrev pub IsCursor : (standing : ℕ → Standing) (words : ℕ → ℕ → ℕ) → Cursor → Type 0
-IsCursor standing words cursor = IsPath standing words cursor.path.items
+abbrev pub IsCursor : (page_state : ℕ → PageState) (words : ℕ → ℕ → ℕ) → Cursor → Type 0
+IsCursor page_state words cursor = IsPath page_state words cursor.path.items

@@ -3,7 +3,7 @@ use Rattle.std.specs.Prelude.{◌≡◌, ℕ, ◌+◌, ◌*◌, ◌/◌, ◌%◌
 use Rattle.std.specs.Prelude.{IsTrue}
 use Rattle.std.specs.List.{flat_map, range_with_len}
 use Rattle.std.specs.Int.{to_be_bytes, w64}
-use Rattle.be_pages.specs.declared.room.Standing.{Standing}
+use Rattle.be_pages.specs.declared.room.PageState.{PageState}
 use Rattle.be_pages.specs.Pages.{is_readable}
 use Rattle.be_tree_reading.specs.Pair.{Pair}
 
@@ -64,8 +64,8 @@ abbrev pub IsPairAt : (words : ℕ → ℕ) (at : ℕ) → Pair → Type 0
 IsPairAt words at pair = (item_at words at ≡ pair) × IsItem words at
 
 -- there is an item at this place of a page, and the page can be read
-abbrev pub IsReadableAt : (standing : ℕ → Standing) (words : ℕ → ℕ → ℕ) (page at : ℕ) → Type 0
-IsReadableAt standing words page at = IsTrue (is_readable (standing page))
+abbrev pub IsReadableAt : (page_state : ℕ → PageState) (words : ℕ → ℕ → ℕ) (page at : ℕ) → Type 0
+IsReadableAt page_state words page at = IsTrue (is_readable (page_state page))
     × ((at + 42 ≤ 512) × IsItem (words page) at)
 
 -- the words encode a page with up to 12 items, each of which fits its place

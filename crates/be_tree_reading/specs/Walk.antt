@@ -2,7 +2,7 @@
 use Rattle.std.specs.Prelude.{◌≡◌, ◌+◌, ◌-◌, ◌<◌, ◌≤◌, ℕ, List, [], ◌∷◌, Option, Some, Bool, true}
 use Rattle.std.specs.Prelude.{false, drop, reverse, take, option_copied}
 use Rattle.std.specs.List.{filter}
-use Rattle.be_pages.specs.declared.room.Standing.{Standing}
+use Rattle.be_pages.specs.declared.room.PageState.{PageState}
 use Rattle.be_tree_reading.specs.Back.{IsBackCursor, coming}
 use Rattle.be_tree_reading.specs.Cursor.{IsCursor, remaining}
 use Rattle.be_tree_reading.specs.Page.{items_of}
@@ -53,9 +53,9 @@ abbrev pub ahead : (words : ℕ → ℕ → ℕ) → Walk → List Pair
 ahead words walk = turned walk.back (remaining words walk.rising) (coming words walk.falling)
 
 -- a walk that can continue
-abbrev pub IsWalk : (standing : ℕ → Standing) (words : ℕ → ℕ → ℕ) → Walk → Type 0
-IsWalk standing words walk = IsCursor standing words walk.rising
-    × IsBackCursor standing words walk.falling
+abbrev pub IsWalk : (page_state : ℕ → PageState) (words : ℕ → ℕ → ℕ) → Walk → Type 0
+IsWalk page_state words walk = IsCursor page_state words walk.rising
+    × IsBackCursor page_state words walk.falling
 
 -- the items of a leaf that a walk has ahead, in the walk's order
 abbrev pub items_ahead : (words : ℕ → ℕ → ℕ) → Leaf → List Pair
@@ -76,8 +76,9 @@ pub record IsAhead (leaf : Leaf) (i : ℕ) : Type 0 where
   pub left : leaf.back ≡ true → i < leaf.at
 
 -- a leaf of a tree, and a place in it
-abbrev pub IsLeaf : (standing : ℕ → Standing) (words : ℕ → ℕ → ℕ) → Leaf → Type 0
-IsLeaf standing words leaf = IsTreeAt 0 1 standing words leaf.page × (leaf.at ≤ words leaf.page 1)
+abbrev pub IsLeaf : (page_state : ℕ → PageState) (words : ℕ → ℕ → ℕ) → Leaf → Type 0
+IsLeaf page_state words leaf = IsTreeAt 0 1 page_state words leaf.page
+    × (leaf.at ≤ words leaf.page 1)
 
 -- if a pair fails a test, all later ones fail it
 abbrev pub StaysFalse : (test : List ℕ → Bool) → List Pair → Type 0

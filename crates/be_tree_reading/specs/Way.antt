@@ -3,7 +3,7 @@ use Rattle.std.specs.Prelude.{◌≡◌, ℕ, List, [], ◌∷◌, ◌++◌, Opt
 use Rattle.std.specs.Prelude.{false, map, reverse, option_copied}
 use Rattle.std.specs.List.{filter}
 use Rattle.std.specs.Ordering.{is_le, is_lt}
-use Rattle.be_pages.specs.declared.room.Standing.{Standing}
+use Rattle.be_pages.specs.declared.room.PageState.{PageState}
 use Rattle.be_tree_reading.specs.Pair.{Pair}
 use Rattle.be_tree_reading.specs.Key.{key_cmp}
 use Rattle.be_tree_reading.specs.Page.{IsReadableAt, item_at}
@@ -36,8 +36,8 @@ abbrev pub numbers_in : List Pair → List ℕ
 numbers_in pairs = map (λ x. number_of x.key) pairs
 
 -- the place of the last of these pairs, if there is one
-abbrev pub IsLastOf : (standing : ℕ → Standing) (words : ℕ → ℕ → ℕ) → Option (ℕ × ℕ) → List Pair
+abbrev pub IsLastOf : (page_state : ℕ → PageState) (words : ℕ → ℕ → ℕ) → Option (ℕ × ℕ) → List Pair
     → Type 0
-IsLastOf standing words None pairs = pairs ≡ []
-IsLastOf standing words (Some at) pairs = IsReadableAt standing words at.0 at.1
+IsLastOf page_state words None pairs = pairs ≡ []
+IsLastOf page_state words (Some at) pairs = IsReadableAt page_state words at.0 at.1
     × ((before : List Pair) × (pairs ≡ before ++ item_at (words at.0) at.1 ∷ []))

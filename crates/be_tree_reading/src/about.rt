@@ -24,8 +24,8 @@ struct End {
 /// costs two descents, and is exact for a range within one leaf. No contract says how close the
 /// estimate is.
 pub fn about_within<L: Look>(look: &mut L, root: u64, low: &[u8], high: Option<&[u8]>) -> u64
-    requires tree { IsTree (L.standing look.old) (L.words look.old) root }
-    ensures unchanged { IsUnchanged L.kept L.standing L.words look.old look.new }
+    requires tree { IsTree (L.page_state look.old) (L.words look.old) root }
+    ensures unchanged { IsUnchanged L.kept L.page_state L.words look.old look.new }
 {
     if root == 0 {
         return 0;
@@ -62,11 +62,11 @@ fn apart_by(apart: u64, from: End, to: End) -> u64 {
 /// branch.
 fn step_down<L: Look>(look: &mut L, page: u64, key: Option<&[u8]>) -> (u64, End)
     requires inner { (level : ℕ) × ((least : ℕ) × ((0 < level) × ((0 < least)
-        × IsTreeAt level least (L.standing look.old) (L.words look.old) page))) }
+        × IsTreeAt level least (L.page_state look.old) (L.words look.old) page))) }
     ensures below { (level least : ℕ) → 0 < level → 0 < least
-        → IsTreeAt level least (L.standing look.old) (L.words look.old) page
-        → IsTreeAt (level - 1) 1 (L.standing look.old) (L.words look.old) result.0 }
-    ensures unchanged { IsUnchanged L.kept L.standing L.words look.old look.new }
+        → IsTreeAt level least (L.page_state look.old) (L.words look.old) page
+        → IsTreeAt (level - 1) 1 (L.page_state look.old) (L.words look.old) result.0 }
+    ensures unchanged { IsUnchanged L.kept L.page_state L.words look.old look.new }
 {
     let count = look.word(page, 1);
     let number = branch_to(look, page, key);
@@ -80,11 +80,11 @@ fn step_down<L: Look>(look: &mut L, page: u64, key: Option<&[u8]>) -> (u64, End)
 
 /// The number of the branch on the way to a key; without a key, that of the last branch.
 fn branch_to<L: Look>(look: &mut L, page: u64, key: Option<&[u8]>) -> usize
-    requires readable { IsTrue (is_readable (L.standing look.old page)) }
+    requires readable { IsTrue (is_readable (L.page_state look.old page)) }
     requires page { IsPage (L.words look.old page) }
     requires some { 0 < L.words look.old page 1 }
     ensures in_range { result < L.words look.old page 1 }
-    ensures unchanged { IsUnchanged L.kept L.standing L.words look.old look.new }
+    ensures unchanged { IsUnchanged L.kept L.page_state L.words look.old look.new }
 {
     let Some(key) = key else {
         return look.word(page, 1) as usize - 1;
@@ -96,8 +96,8 @@ fn branch_to<L: Look>(look: &mut L, page: u64, key: Option<&[u8]>) -> usize
 /// The place in a leaf before the keys at or after a key; with `after` set, before those strictly
 /// after it. Without a key, the leaf's end.
 fn end_in<L: Look>(look: &mut L, page: u64, key: Option<&[u8]>, after: bool) -> End
-    requires leaf { IsTreeAt 0 1 (L.standing look.old) (L.words look.old) page }
-    ensures unchanged { IsUnchanged L.kept L.standing L.words look.old look.new }
+    requires leaf { IsTreeAt 0 1 (L.page_state look.old) (L.words look.old) page }
+    ensures unchanged { IsUnchanged L.kept L.page_state L.words look.old look.new }
 {
     let count = look.word(page, 1);
     let Some(key) = key else {

@@ -6,7 +6,7 @@
 ghost use Rattle.std.specs.Prelude.{◌≡◌, ℕ, [], ◌+◌, ◌<◌, ◌≤◌, ◌++◌, length, take, Some, None};
 ghost use Rattle.std.specs.Prelude.{IfNone, IfSome, IsTrue};
 ghost use Rattle.std.specs.Option.{option_copied};
-ghost use Rattle.be_pages.specs.declared.room.Standing.{Standing as Stands};
+ghost use Rattle.be_pages.specs.declared.room.PageState.{PageState as AnyPageState};
 ghost use Rattle.be_pages.specs.Pages.{IsUnchanged};
 ghost use Rattle.be_tree_reading.specs.Back.{IsBackCursor, coming, pairs_before};
 ghost use Rattle.be_tree_reading.specs.Cursor.{IsPlace};
@@ -30,8 +30,8 @@ pub struct BackCursor {
 impl BackCursor {
     /// A cursor before all pairs.
     pub fn new() -> BackCursor
-        ensures cursor { (standing : ℕ → Stands) (words : ℕ → ℕ → ℕ)
-            → IsBackCursor standing words result }
+        ensures cursor { (page_state : ℕ → AnyPageState) (words : ℕ → ℕ → ℕ)
+            → IsBackCursor page_state words result }
         ensures coming { (words : ℕ → ℕ → ℕ) → coming words result ≡ [] }
     {
         BackCursor {
@@ -43,11 +43,11 @@ impl BackCursor {
     /// with `before` set, strictly before it. Without a key it moves after all pairs. It costs one
     /// descent; without a key, only a read of the root's page.
     pub fn seek<L: Look>(&mut self, look: &mut L, root: u64, to: Option<&[u8]>, before: bool)
-        requires tree { IsTree (L.standing look.old) (L.words look.old) root }
-        ensures cursor { IsBackCursor (L.standing look.old) (L.words look.old) self.new }
+        requires tree { IsTree (L.page_state look.old) (L.words look.old) root }
+        ensures cursor { IsBackCursor (L.page_state look.old) (L.words look.old) self.new }
         ensures coming { coming (L.words look.old) self.new
             ≡ pairs_until (pairs (L.words look.old) root) (option_copied to.entry) before }
-        ensures unchanged { IsUnchanged L.kept L.standing L.words look.old look.new }
+        ensures unchanged { IsUnchanged L.kept L.page_state L.words look.old look.new }
     {
         self.path.clear();
         if root == 0 {
@@ -61,12 +61,12 @@ impl BackCursor {
 
     /// Moves an empty cursor after all pairs of a tree.
     fn begin_at_end<L: Look>(&mut self, look: &mut L, root: u64)
-        requires tree { IsTree (L.standing look.old) (L.words look.old) root }
+        requires tree { IsTree (L.page_state look.old) (L.words look.old) root }
         requires some { 0 < root }
         requires empty { self.old.path.items ≡ [] }
-        ensures cursor { IsBackCursor (L.standing look.old) (L.words look.old) self.new }
+        ensures cursor { IsBackCursor (L.page_state look.old) (L.words look.old) self.new }
         ensures coming { coming (L.words look.old) self.new ≡ pairs (L.words look.old) root }
-        ensures unchanged { IsUnchanged L.kept L.standing L.words look.old look.new }
+        ensures unchanged { IsUnchanged L.kept L.page_state L.words look.old look.new }
     {
         let level = look.word(root - 1, 0);
         let place = after_items(look, root - 1, level);
@@ -75,13 +75,13 @@ impl BackCursor {
 
     /// Goes down with an empty cursor to the leaf with the last pair that `seek` moves past.
     fn descend<L: Look>(&mut self, look: &mut L, root: u64, to: &[u8], before: bool)
-        requires tree { IsTree (L.standing look.old) (L.words look.old) root }
+        requires tree { IsTree (L.page_state look.old) (L.words look.old) root }
         requires some { 0 < root }
         requires empty { self.old.path.items ≡ [] }
-        ensures cursor { IsBackCursor (L.standing look.old) (L.words look.old) self.new }
+        ensures cursor { IsBackCursor (L.page_state look.old) (L.words look.old) self.new }
         ensures coming { coming (L.words look.old) self.new
             ≡ pairs_until (pairs (L.words look.old) root) (Some to.now) before }
-        ensures unchanged { IsUnchanged L.kept L.standing L.words look.old look.new }
+        ensures unchanged { IsUnchanged L.kept L.page_state L.words look.old look.new }
     {
         let first = first_word(to);
         let mut page = root - 1;
@@ -112,15 +112,15 @@ impl BackCursor {
         ensures none { IfNone result ((words : ℕ → ℕ → ℕ) → coming words self.old ≡ []) }
         ensures empty { IfNone result ((words : ℕ → ℕ → ℕ) → coming words self.new ≡ []) }
         ensures left { IfSome result (λ place. 0 < place.next) }
-        ensures place { IfSome result (λ place. (standing : ℕ → Stands) (words : ℕ → ℕ → ℕ)
-            → IsBackCursor standing words self.old → IsPlace standing words place) }
-        ensures short { IfSome result (λ place. (standing : ℕ → Stands) (words : ℕ → ℕ → ℕ)
-            → IsBackCursor standing words self.old
+        ensures place { IfSome result (λ place. (page_state : ℕ → AnyPageState) (words : ℕ → ℕ → ℕ)
+            → IsBackCursor page_state words self.old → IsPlace page_state words place) }
+        ensures short { IfSome result (λ place. (page_state : ℕ → AnyPageState) (words : ℕ → ℕ → ℕ)
+            → IsBackCursor page_state words self.old
             → place.level + length self.new.path.items ≤ 13) }
         ensures parts { IfSome result (λ place. (words : ℕ → ℕ → ℕ) → coming words self.old
             ≡ coming words self.new ++ pairs_before words place) }
-        ensures cursor { (standing : ℕ → Stands) (words : ℕ → ℕ → ℕ)
-            → IsBackCursor standing words self.old → IsBackCursor standing words self.new }
+        ensures cursor { (page_state : ℕ → AnyPageState) (words : ℕ → ℕ → ℕ)
+            → IsBackCursor page_state words self.old → IsBackCursor page_state words self.new }
     {
         while let Some(place) = self.path.pop() {
             if place.next > 0 {
@@ -133,17 +133,17 @@ impl BackCursor {
     /// The leaf of the next pair, and how many of the leaf's items are still ahead, the last of
     /// them first. The cursor moves past all of these.
     pub fn step_leaf<L: Look>(&mut self, look: &mut L) -> Option<(u64, usize)>
-        requires cursor { IsBackCursor (L.standing look.old) (L.words look.old) self.old }
+        requires cursor { IsBackCursor (L.page_state look.old) (L.words look.old) self.old }
         ensures none { IfNone result (coming (L.words look.old) self.old ≡ []) }
-        ensures leaf { IfSome result (λ at. IsTreeAt 0 1 (L.standing look.old) (L.words look.old)
+        ensures leaf { IfSome result (λ at. IsTreeAt 0 1 (L.page_state look.old) (L.words look.old)
             at.0) }
         ensures some { IfSome result (λ at. 0 < at.1) }
         ensures in_range { IfSome result (λ at. at.1 ≤ L.words look.old at.0 1) }
         ensures parts { IfSome result (λ at. coming (L.words look.old) self.old
             ≡ coming (L.words look.old) self.new
             ++ take at.1 (items_of (L.words look.old at.0))) }
-        ensures cursor { IsBackCursor (L.standing look.old) (L.words look.old) self.new }
-        ensures unchanged { IsUnchanged L.kept L.standing L.words look.old look.new }
+        ensures cursor { IsBackCursor (L.page_state look.old) (L.words look.old) self.new }
+        ensures unchanged { IsUnchanged L.kept L.page_state L.words look.old look.new }
     {
         let mut place = self.pop_spent()?;
         while place.level > 0 {
@@ -160,13 +160,13 @@ impl BackCursor {
 /// The place after all of a page's items.
 fn after_items<L: Look>(look: &mut L, page: u64, level: u64) -> Place
     requires tree { (least : ℕ) × (0 < least)
-        × IsTreeAt level least (L.standing look.old) (L.words look.old) page }
+        × IsTreeAt level least (L.page_state look.old) (L.words look.old) page }
     ensures page { result.page ≡ page }
     ensures level { result.level ≡ level }
     ensures next { result.next ≡ L.words look.old page 1 }
-    ensures place { IsPlace (L.standing look.old) (L.words look.old) result }
+    ensures place { IsPlace (L.page_state look.old) (L.words look.old) result }
     ensures all { pairs_before (L.words look.old) result ≡ pairs_at level (L.words look.old) page }
-    ensures unchanged { IsUnchanged L.kept L.standing L.words look.old look.new }
+    ensures unchanged { IsUnchanged L.kept L.page_state L.words look.old look.new }
 {
     let count = look.word(page, 1);
     Place {

@@ -11,7 +11,7 @@
 //! than 2^32 pages has no level above 13, and a path has at most 14 places.
 ghost use Rattle.std.specs.Prelude.{◌≡◌, ℕ, [], ◌+◌, ◌<◌, ◌≤◌, ◌++◌, length};
 ghost use Rattle.std.specs.Prelude.{option_map, drop, IfNone, IfSome, Some, slice_get};
-ghost use Rattle.be_pages.specs.declared.room.Standing.{Standing as Stands};
+ghost use Rattle.be_pages.specs.declared.room.PageState.{PageState as AnyPageState};
 ghost use Rattle.be_pages.specs.Pages.{IsUnchanged};
 ghost use Rattle.be_tree_reading.specs.Cursor.{IsCursor, IsNextPlace, IsSplit, remaining};
 ghost use Rattle.be_tree_reading.specs.Page.{IsReadableAt, item_at, items_of};
@@ -55,8 +55,8 @@ pub struct Cursor {
 impl Cursor {
     /// A cursor past all pairs.
     pub fn new() -> Cursor
-        ensures cursor { (standing : ℕ → Stands) (words : ℕ → ℕ → ℕ)
-            → IsCursor standing words result }
+        ensures cursor { (page_state : ℕ → AnyPageState) (words : ℕ → ℕ → ℕ)
+            → IsCursor page_state words result }
         ensures remaining { (words : ℕ → ℕ → ℕ) → remaining words result ≡ [] }
     {
         Cursor {
@@ -67,11 +67,11 @@ impl Cursor {
     /// Moves the cursor to just before the lowest pair of a tree whose key is at or after `from`;
     /// with `after` set, strictly after it. It costs one descent.
     pub fn seek<L: Look>(&mut self, look: &mut L, root: u64, from: &[u8], after: bool)
-        requires tree { IsTree (L.standing look.old) (L.words look.old) root }
-        ensures cursor { IsCursor (L.standing look.old) (L.words look.old) self.new }
+        requires tree { IsTree (L.page_state look.old) (L.words look.old) root }
+        ensures cursor { IsCursor (L.page_state look.old) (L.words look.old) self.new }
         ensures remaining { remaining (L.words look.old) self.new
             ≡ pairs_from (pairs (L.words look.old) root) from.now after }
-        ensures unchanged { IsUnchanged L.kept L.standing L.words look.old look.new }
+        ensures unchanged { IsUnchanged L.kept L.page_state L.words look.old look.new }
     {
         if root == 0 {
             self.path.clear();
@@ -94,16 +94,16 @@ impl Cursor {
         from: &[u8],
         after: bool,
     ) -> (u64, usize)
-        requires tree { IsTree (L.standing look.old) (L.words look.old) root }
+        requires tree { IsTree (L.page_state look.old) (L.words look.old) root }
         requires some { 0 < root }
-        ensures leaf { IsTreeAt 0 1 (L.standing look.old) (L.words look.old) result.0 }
+        ensures leaf { IsTreeAt 0 1 (L.page_state look.old) (L.words look.old) result.0 }
         ensures in_range { result.1 ≤ L.words look.old result.0 1 }
         ensures parts { pairs_from (pairs (L.words look.old) root) from.now after
             ≡ drop result.1 (items_of (L.words look.old result.0))
             ++ remaining (L.words look.old) self.new }
         ensures short { length self.new.path.items ≤ 13 }
-        ensures cursor { IsCursor (L.standing look.old) (L.words look.old) self.new }
-        ensures unchanged { IsUnchanged L.kept L.standing L.words look.old look.new }
+        ensures cursor { IsCursor (L.page_state look.old) (L.words look.old) self.new }
+        ensures unchanged { IsUnchanged L.kept L.page_state L.words look.old look.new }
     {
         self.path.clear();
         let first = first_word(from);
@@ -128,13 +128,13 @@ impl Cursor {
     /// The next pair; the cursor steps past it. None after the last. It is the pair that `range`
     /// returns for the last pair's key and `after`, without the descent.
     pub fn next<L: Look>(&mut self, look: &mut L) -> Option<TreeItem>
-        requires cursor { IsCursor (L.standing look.old) (L.words look.old) self.old }
+        requires cursor { IsCursor (L.page_state look.old) (L.words look.old) self.old }
         ensures item { option_map pair_in result
             ≡ slice_get (remaining (L.words look.old) self.old) 0 }
-        ensures cursor { IsCursor (L.standing look.old) (L.words look.old) self.new }
+        ensures cursor { IsCursor (L.page_state look.old) (L.words look.old) self.new }
         ensures remaining { remaining (L.words look.old) self.new
             ≡ drop 1 (remaining (L.words look.old) self.old) }
-        ensures unchanged { IsUnchanged L.kept L.standing L.words look.old look.new }
+        ensures unchanged { IsUnchanged L.kept L.page_state L.words look.old look.new }
     {
         let (page, at) = self.step(look)?;
         let mut item = TreeItem {
@@ -148,13 +148,13 @@ impl Cursor {
 
     /// The next pair's key; the cursor steps past the pair. Reads no payload.
     pub fn next_key<L: Look>(&mut self, look: &mut L) -> Option<ArrayVec<u8, 264>>
-        requires cursor { IsCursor (L.standing look.old) (L.words look.old) self.old }
+        requires cursor { IsCursor (L.page_state look.old) (L.words look.old) self.old }
         ensures key { option_map (λ key. key.items) result
             ≡ option_map (λ x. x.key) (slice_get (remaining (L.words look.old) self.old) 0) }
-        ensures cursor { IsCursor (L.standing look.old) (L.words look.old) self.new }
+        ensures cursor { IsCursor (L.page_state look.old) (L.words look.old) self.new }
         ensures remaining { remaining (L.words look.old) self.new
             ≡ drop 1 (remaining (L.words look.old) self.old) }
-        ensures unchanged { IsUnchanged L.kept L.standing L.words look.old look.new }
+        ensures unchanged { IsUnchanged L.kept L.page_state L.words look.old look.new }
     {
         let (page, at) = self.step(look)?;
         Some(key_at(look, page, at))
@@ -163,14 +163,14 @@ impl Cursor {
     /// Removes places from the end of the path up to the deepest one that has an item left, and
     /// returns that one.
     fn pop_spent<L: Look>(&mut self, look: &mut L) -> Option<Place>
-        requires cursor { IsCursor (L.standing look.old) (L.words look.old) self.old }
+        requires cursor { IsCursor (L.page_state look.old) (L.words look.old) self.old }
         ensures none { IfNone result (remaining (L.words look.old) self.old ≡ []) }
         ensures empty { IfNone result (remaining (L.words look.old) self.new ≡ []) }
-        ensures place { IfSome result (λ place. IsNextPlace (L.standing look.old) (L.words look.old)
-            place self.new) }
+        ensures place { IfSome result (λ place. IsNextPlace (L.page_state look.old)
+            (L.words look.old) place self.new) }
         ensures parts { IfSome result (λ at. IsSplit (L.words look.old) self.old at self.new) }
-        ensures cursor { IsCursor (L.standing look.old) (L.words look.old) self.new }
-        ensures unchanged { IsUnchanged L.kept L.standing L.words look.old look.new }
+        ensures cursor { IsCursor (L.page_state look.old) (L.words look.old) self.new }
+        ensures unchanged { IsUnchanged L.kept L.page_state L.words look.old look.new }
     {
         while let Some(place) = self.path.pop() {
             if (place.next as u64) < look.word(place.page as u64, 1) {
@@ -183,15 +183,15 @@ impl Cursor {
     /// Removes the next pair's place from the path and returns it: a place in a leaf that has an
     /// item left.
     fn take_place<L: Look>(&mut self, look: &mut L) -> Option<Place>
-        requires cursor { IsCursor (L.standing look.old) (L.words look.old) self.old }
+        requires cursor { IsCursor (L.page_state look.old) (L.words look.old) self.old }
         ensures none { IfNone result (remaining (L.words look.old) self.old ≡ []) }
         ensures empty { IfNone result (remaining (L.words look.old) self.new ≡ []) }
-        ensures place { IfSome result (λ place. IsNextPlace (L.standing look.old) (L.words look.old)
-            place self.new) }
+        ensures place { IfSome result (λ place. IsNextPlace (L.page_state look.old)
+            (L.words look.old) place self.new) }
         ensures leaf { IfSome result (λ place. place.level ≡ 0) }
         ensures parts { IfSome result (λ at. IsSplit (L.words look.old) self.old at self.new) }
-        ensures cursor { IsCursor (L.standing look.old) (L.words look.old) self.new }
-        ensures unchanged { IsUnchanged L.kept L.standing L.words look.old look.new }
+        ensures cursor { IsCursor (L.page_state look.old) (L.words look.old) self.new }
+        ensures unchanged { IsUnchanged L.kept L.page_state L.words look.old look.new }
     {
         let mut place = self.pop_spent(look)?;
         while place.level > 0 {
@@ -215,16 +215,16 @@ impl Cursor {
 
     /// The next item's page and place; the cursor steps past it. Reads nothing of the item.
     pub fn step<L: Look>(&mut self, look: &mut L) -> Option<(u64, usize)>
-        requires cursor { IsCursor (L.standing look.old) (L.words look.old) self.old }
+        requires cursor { IsCursor (L.page_state look.old) (L.words look.old) self.old }
         ensures none { IfNone result (remaining (L.words look.old) self.old ≡ []) }
         ensures item { IfSome result (λ at. slice_get (remaining (L.words look.old) self.old) 0
             ≡ Some (item_at (L.words look.old at.0) at.1)) }
-        ensures here { IfSome result (λ at. IsReadableAt (L.standing look.old) (L.words look.old)
+        ensures here { IfSome result (λ at. IsReadableAt (L.page_state look.old) (L.words look.old)
             at.0 at.1) }
-        ensures cursor { IsCursor (L.standing look.old) (L.words look.old) self.new }
+        ensures cursor { IsCursor (L.page_state look.old) (L.words look.old) self.new }
         ensures remaining { remaining (L.words look.old) self.new
             ≡ drop 1 (remaining (L.words look.old) self.old) }
-        ensures unchanged { IsUnchanged L.kept L.standing L.words look.old look.new }
+        ensures unchanged { IsUnchanged L.kept L.page_state L.words look.old look.new }
     {
         let place = self.take_place(look)?;
         self.path.push(Place {
@@ -240,16 +240,16 @@ impl Cursor {
     /// The leaf of the next pair, and the number of the pair's item in it. The cursor steps past
     /// all of the leaf's pairs.
     pub fn step_leaf<L: Look>(&mut self, look: &mut L) -> Option<(u64, usize)>
-        requires cursor { IsCursor (L.standing look.old) (L.words look.old) self.old }
+        requires cursor { IsCursor (L.page_state look.old) (L.words look.old) self.old }
         ensures none { IfNone result (remaining (L.words look.old) self.old ≡ []) }
-        ensures leaf { IfSome result (λ at. IsTreeAt 0 1 (L.standing look.old) (L.words look.old)
+        ensures leaf { IfSome result (λ at. IsTreeAt 0 1 (L.page_state look.old) (L.words look.old)
             at.0) }
         ensures left { IfSome result (λ at. at.1 < L.words look.old at.0 1) }
         ensures parts { IfSome result (λ at. remaining (L.words look.old) self.old
             ≡ drop at.1 (items_of (L.words look.old at.0))
             ++ remaining (L.words look.old) self.new) }
-        ensures cursor { IsCursor (L.standing look.old) (L.words look.old) self.new }
-        ensures unchanged { IsUnchanged L.kept L.standing L.words look.old look.new }
+        ensures cursor { IsCursor (L.page_state look.old) (L.words look.old) self.new }
+        ensures unchanged { IsUnchanged L.kept L.page_state L.words look.old look.new }
     {
         let place = self.take_place(look)?;
         Some((place.page as u64, place.next as usize))
@@ -265,12 +265,12 @@ pub(crate) fn leaf_from<L: Look>(
     first: u64,
     after: bool,
 ) -> usize
-    requires tree { IsTreeAt 0 1 (L.standing look.old) (L.words look.old) page }
+    requires tree { IsTreeAt 0 1 (L.page_state look.old) (L.words look.old) page }
     requires first { IsFirst from.now first }
     ensures in_range { result ≤ length (items_of (L.words look.old page)) }
     ensures rest { drop result (items_of (L.words look.old page))
         ≡ pairs_from (items_of (L.words look.old page)) from.now after }
-    ensures unchanged { IsUnchanged L.kept L.standing L.words look.old look.new }
+    ensures unchanged { IsUnchanged L.kept L.page_state L.words look.old look.new }
 {
     match search(look, page, from, first) {
         Ok(at) => {

@@ -31,7 +31,7 @@ pub use lookup::{branch_in, find, find_into, find_place, has_key, is_key_at, ite
 pub use numbers::{first_of, is_past_at, number_at, numbers_within};
 pub use ordered::{first_of_end, is_within, numbers_in_order};
 pub use page::{
-    HEADER_WORDS, ITEM_WORDS, LEAST_ITEMS, LENGTH_BITS, MOST_ITEMS, child_at, extend, fill_bytes,
+    HEADER_WORDS, ITEM_WORDS, LENGTH_BITS, MINIMUM_ITEMS, MOST_ITEMS, child_at, extend, fill_bytes,
     first_word, number_beyond, straddled, word_from,
 };
 pub use payload::{

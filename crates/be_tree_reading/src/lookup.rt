@@ -35,13 +35,13 @@ pub fn find_into<L: Look>(
     key: &[u8],
     payload: &mut ArrayVec<u8, 328>,
 ) -> bool
-    requires tree { IsTree (L.standing look.old) (L.words look.old) root }
+    requires tree { IsTree (L.page_state look.old) (L.words look.old) root }
     requires empty { payload.old.items ≡ [] }
     ensures found { result ≡ true → payload_at (pairs (L.words look.old) root) key.now
         ≡ Some payload.new.items }
     ensures absent { result ≡ false → payload_at (pairs (L.words look.old) root) key.now ≡ None }
     ensures empty { result ≡ false → payload.new.items ≡ [] }
-    ensures unchanged { IsUnchanged L.kept L.standing L.words look.old look.new }
+    ensures unchanged { IsUnchanged L.kept L.page_state L.words look.old look.new }
 {
     let Some((page, at)) = find_place(look, root, key) else {
         return false;
@@ -52,10 +52,10 @@ pub fn find_into<L: Look>(
 
 /// The same, but returns the payload.
 pub fn find<L: Look>(look: &mut L, root: u64, key: &[u8]) -> Option<ArrayVec<u8, 328>>
-    requires tree { IsTree (L.standing look.old) (L.words look.old) root }
+    requires tree { IsTree (L.page_state look.old) (L.words look.old) root }
     ensures payload { option_map (λ payload. payload.items) result
         ≡ payload_at (pairs (L.words look.old) root) key.now }
-    ensures unchanged { IsUnchanged L.kept L.standing L.words look.old look.new }
+    ensures unchanged { IsUnchanged L.kept L.page_state L.words look.old look.new }
 {
     let mut payload = ArrayVec::new();
     if !find_into(look, root, key, &mut payload) {
@@ -66,9 +66,9 @@ pub fn find<L: Look>(look: &mut L, root: u64, key: &[u8]) -> Option<ArrayVec<u8,
 
 /// Whether the tree has a key. It costs one descent, and reads no payload.
 pub fn has_key<L: Look>(look: &mut L, root: u64, key: &[u8]) -> bool
-    requires tree { IsTree (L.standing look.old) (L.words look.old) root }
+    requires tree { IsTree (L.page_state look.old) (L.words look.old) root }
     ensures found { result ≡ is_some (payload_at (pairs (L.words look.old) root) key.now) }
-    ensures unchanged { IsUnchanged L.kept L.standing L.words look.old look.new }
+    ensures unchanged { IsUnchanged L.kept L.page_state L.words look.old look.new }
 {
     find_place(look, root, key).is_some()
 }
@@ -76,14 +76,14 @@ pub fn has_key<L: Look>(look: &mut L, root: u64, key: &[u8]) -> bool
 /// The page and place of the item with this key, for callers that read its payload in place (with
 /// `payload_number_at` and the like). It costs one descent.
 pub fn find_place<L: Look>(look: &mut L, root: u64, key: &[u8]) -> Option<(u64, usize)>
-    requires tree { IsTree (L.standing look.old) (L.words look.old) root }
+    requires tree { IsTree (L.page_state look.old) (L.words look.old) root }
     ensures none { IfNone result (payload_at (pairs (L.words look.old) root) key.now ≡ None) }
     ensures some { IfSome result (λ at. payload_at (pairs (L.words look.old) root) key.now
         ≡ Some (item_at (L.words look.old at.0) at.1).payload) }
-    ensures readable { IfSome result (λ at. IsTrue (is_readable (L.standing look.old at.0))) }
+    ensures readable { IfSome result (λ at. IsTrue (is_readable (L.page_state look.old at.0))) }
     ensures in_page { IfSome result (λ at. at.1 + 42 ≤ 512) }
     ensures fits { IfSome result (λ at. IsItem (L.words look.old at.0) at.1) }
-    ensures unchanged { IsUnchanged L.kept L.standing L.words look.old look.new }
+    ensures unchanged { IsUnchanged L.kept L.page_state L.words look.old look.new }
 {
     if root == 0 {
         return None;
@@ -105,11 +105,11 @@ pub fn find_place<L: Look>(look: &mut L, root: u64, key: &[u8]) -> Option<(u64, 
 /// Whether the item at this place of a page, which `Cursor::step` returned, has this key. Compares
 /// them in place.
 pub fn is_key_at<L: Look>(look: &mut L, page: u64, at: usize, key: &[u8]) -> bool
-    requires readable { IsTrue (is_readable (L.standing look.old page)) }
+    requires readable { IsTrue (is_readable (L.page_state look.old page)) }
     requires in_page { at + 42 ≤ 512 }
     requires item { IsItem (L.words look.old page) at }
     ensures same { result ≡ is_eq (key_cmp (item_at (L.words look.old page) at).key key.now) }
-    ensures unchanged { IsUnchanged L.kept L.standing L.words look.old look.new }
+    ensures unchanged { IsUnchanged L.kept L.page_state L.words look.old look.new }
 {
     cmp_at(look, page, at, key).is_eq()
 }
@@ -117,10 +117,10 @@ pub fn is_key_at<L: Look>(look: &mut L, page: u64, at: usize, key: &[u8]) -> boo
 /// How many of a page's items have keys that aren't higher than a key. For most items it reads one
 /// word.
 pub(crate) fn rank<L: Look>(look: &mut L, page: u64, key: &[u8]) -> usize
-    requires readable { IsTrue (is_readable (L.standing look.old page)) }
+    requires readable { IsTrue (is_readable (L.page_state look.old page)) }
     requires page { IsPage (L.words look.old page) }
     ensures rank { IsRank key.now (items_of (L.words look.old page)) result }
-    ensures unchanged { IsUnchanged L.kept L.standing L.words look.old look.new }
+    ensures unchanged { IsUnchanged L.kept L.page_state L.words look.old look.new }
 {
     let first = first_word(key);
     let count = look.word(page, 1) as usize;
@@ -135,10 +135,10 @@ pub(crate) fn rank<L: Look>(look: &mut L, page: u64, key: &[u8]) -> usize
 /// The place where a page's items end.
 #[inline(always)]
 pub(crate) fn end_of<L: Look>(look: &mut L, page: u64) -> usize
-    requires readable { IsTrue (is_readable (L.standing look.old page)) }
+    requires readable { IsTrue (is_readable (L.page_state look.old page)) }
     requires page { IsPage (L.words look.old page) }
     ensures end { result ≡ item_place (L.words look.old page 1) }
-    ensures unchanged { IsUnchanged L.kept L.standing L.words look.old look.new }
+    ensures unchanged { IsUnchanged L.kept L.page_state L.words look.old look.new }
 {
     HEADER_WORDS + ITEM_WORDS * look.word(page, 1) as usize
 }
@@ -154,12 +154,12 @@ pub fn item_number(at: usize) -> usize
 /// The place of the branch that a key belongs below, as `branch_for` finds it.
 #[inline(always)]
 pub fn branch_in<L: Look>(look: &mut L, page: u64, key: &[u8], first: u64) -> usize
-    requires readable { IsTrue (is_readable (L.standing look.old page)) }
+    requires readable { IsTrue (is_readable (L.page_state look.old page)) }
     requires page { IsPage (L.words look.old page) }
     requires some { 0 < L.words look.old page 1 }
     requires first { IsFirst key.now first }
     ensures branch { IsBranchAt key.now (items_of (L.words look.old page)) result }
-    ensures unchanged { IsUnchanged L.kept L.standing L.words look.old look.new }
+    ensures unchanged { IsUnchanged L.kept L.page_state L.words look.old look.new }
 {
     let end = end_of(look, page);
     branch_for(look, page, end, key, first)
@@ -175,13 +175,13 @@ pub(crate) fn branch_for<L: Look>(
     key: &[u8],
     first: u64,
 ) -> usize
-    requires readable { IsTrue (is_readable (L.standing look.old page)) }
+    requires readable { IsTrue (is_readable (L.page_state look.old page)) }
     requires page { IsPage (L.words look.old page) }
     requires some { 0 < L.words look.old page 1 }
     requires end { end ≡ item_place (L.words look.old page 1) }
     requires first { IsFirst key.now first }
     ensures branch { IsBranchAt key.now (items_of (L.words look.old page)) result }
-    ensures unchanged { IsUnchanged L.kept L.standing L.words look.old look.new }
+    ensures unchanged { IsUnchanged L.kept L.page_state L.words look.old look.new }
 {
     let mut at = HEADER_WORDS + ITEM_WORDS;
     while at < end {
@@ -197,12 +197,12 @@ pub(crate) fn branch_for<L: Look>(
 /// those with lower keys.
 #[inline(always)]
 pub fn search<L: Look>(look: &mut L, page: u64, key: &[u8], first: u64) -> Result<usize, usize>
-    requires readable { IsTrue (is_readable (L.standing look.old page)) }
+    requires readable { IsTrue (is_readable (L.page_state look.old page)) }
     requires page { IsPage (L.words look.old page) }
     requires first { IsFirst key.now first }
     ensures found { IfOk result (IsFoundAt key.now (L.words look.old page)) }
     ensures absent { IfErr result (IsGapAt key.now (L.words look.old page)) }
-    ensures unchanged { IsUnchanged L.kept L.standing L.words look.old look.new }
+    ensures unchanged { IsUnchanged L.kept L.page_state L.words look.old look.new }
 {
     let end = end_of(look, page);
     let mut at = HEADER_WORDS;
@@ -222,12 +222,12 @@ pub fn search<L: Look>(look: &mut L, page: u64, key: &[u8], first: u64) -> Resul
 /// Whether the key of the item at this place is higher than a key whose first word is `first`.
 #[inline(always)]
 pub(crate) fn is_above<L: Look>(look: &mut L, page: u64, at: usize, key: &[u8], first: u64) -> bool
-    requires readable { IsTrue (is_readable (L.standing look.old page)) }
+    requires readable { IsTrue (is_readable (L.page_state look.old page)) }
     requires in_page { at + 42 ≤ 512 }
     requires item { IsItem (L.words look.old page) at }
     requires first { IsFirst key.now first }
     ensures above { result ≡ is_gt (key_cmp (item_at (L.words look.old page) at).key key.now) }
-    ensures unchanged { IsUnchanged L.kept L.standing L.words look.old look.new }
+    ensures unchanged { IsUnchanged L.kept L.page_state L.words look.old look.new }
 {
     order_at(look, page, at, key, first).is_gt()
 }
@@ -235,12 +235,12 @@ pub(crate) fn is_above<L: Look>(look: &mut L, page: u64, at: usize, key: &[u8], 
 /// Whether the key of the item at this place is lower than a key whose first word is `first`.
 #[inline(always)]
 pub(crate) fn is_below<L: Look>(look: &mut L, page: u64, at: usize, key: &[u8], first: u64) -> bool
-    requires readable { IsTrue (is_readable (L.standing look.old page)) }
+    requires readable { IsTrue (is_readable (L.page_state look.old page)) }
     requires in_page { at + 42 ≤ 512 }
     requires item { IsItem (L.words look.old page) at }
     requires first { IsFirst key.now first }
     ensures below { result ≡ is_lt (key_cmp (item_at (L.words look.old page) at).key key.now) }
-    ensures unchanged { IsUnchanged L.kept L.standing L.words look.old look.new }
+    ensures unchanged { IsUnchanged L.kept L.page_state L.words look.old look.new }
 {
     order_at(look, page, at, key, first).is_lt()
 }
@@ -250,12 +250,12 @@ pub(crate) fn is_below<L: Look>(look: &mut L, page: u64, at: usize, key: &[u8], 
 /// that are shorter than a word.
 #[inline(always)]
 fn order_at<L: Look>(look: &mut L, page: u64, at: usize, key: &[u8], first: u64) -> Ordering
-    requires readable { IsTrue (is_readable (L.standing look.old page)) }
+    requires readable { IsTrue (is_readable (L.page_state look.old page)) }
     requires in_page { at + 42 ≤ 512 }
     requires item { IsItem (L.words look.old page) at }
     requires first { IsFirst key.now first }
     ensures order { result ≡ key_cmp (item_at (L.words look.old page) at).key key.now }
-    ensures unchanged { IsUnchanged L.kept L.standing L.words look.old look.new }
+    ensures unchanged { IsUnchanged L.kept L.page_state L.words look.old look.new }
 {
     let mine = look.word(page, at + 1);
     if mine < first {

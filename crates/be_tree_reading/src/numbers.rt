@@ -52,7 +52,7 @@ pub fn numbers_within<L: Look>(
     high: Option<&[u8]>,
     found: &mut Vec<u64>,
 ) -> Result<(), AllocError>
-    requires tree { IsTree (L.standing look.old) (L.words look.old) root }
+    requires tree { IsTree (L.page_state look.old) (L.words look.old) root }
     requires long { AreLong (pairs (L.words look.old) root) }
     ensures first { HasFirst found.old.items
         (numbers_to (pairs_from (pairs (L.words look.old) root) low.now false)
@@ -60,7 +60,7 @@ pub fn numbers_within<L: Look>(
     ensures found { OnOk result (found.new.items
         ≡ found.old.items ++ numbers_to (pairs_from (pairs (L.words look.old) root) low.now false)
         (option_copied high.entry)) }
-    ensures unchanged { IsUnchanged L.kept L.standing L.words look.old look.new }
+    ensures unchanged { IsUnchanged L.kept L.page_state L.words look.old look.new }
 {
     if root == 0 {
         return Ok(());
@@ -80,14 +80,15 @@ pub fn numbers_within<L: Look>(
 /// The leaf in which the keys from `low` on begin.
 #[inline(always)]
 fn first_leaf<L: Look>(look: &mut L, root: u64, low: &[u8]) -> FirstLeaf
-    requires tree { IsTree (L.standing look.old) (L.words look.old) root }
+    requires tree { IsTree (L.page_state look.old) (L.words look.old) root }
     requires some { 0 < root }
-    ensures leaf { IsTreeAt 0 1 (L.standing look.old) (L.words look.old) result.page }
+    ensures leaf { IsTreeAt 0 1 (L.page_state look.old) (L.words look.old) result.page }
     ensures from { (rest : List Pair) ×
         (AreFrom (L.words look.old) result.page result.at
         (pairs_from (pairs (L.words look.old) root) low.now false) rest
-        × IsNext (L.standing look.old) (L.words look.old) result.next.page result.next.place rest) }
-    ensures unchanged { IsUnchanged L.kept L.standing L.words look.old look.new }
+        × IsNext (L.page_state look.old) (L.words look.old) result.next.page result.next.place
+        rest) }
+    ensures unchanged { IsUnchanged L.kept L.page_state L.words look.old look.new }
 {
     let first = first_word(low);
     let mut page = root - 1;
@@ -120,11 +121,11 @@ fn next_of(page: u64, place: usize, end: usize, above: NextBranch) -> NextBranch
 /// The place of the first of a leaf's keys that isn't lower than a key, or the end of its items.
 #[inline(always)]
 fn first_from<L: Look>(look: &mut L, page: u64, low: &[u8], first: u64) -> usize
-    requires leaf { IsTreeAt 0 1 (L.standing look.old) (L.words look.old) page }
+    requires leaf { IsTreeAt 0 1 (L.page_state look.old) (L.words look.old) page }
     requires first { IsFirst low.now first }
     ensures from { AreFrom (L.words look.old) page result
         (pairs_from (items_of (L.words look.old page)) low.now false) [] }
-    ensures unchanged { IsUnchanged L.kept L.standing L.words look.old look.new }
+    ensures unchanged { IsUnchanged L.kept L.page_state L.words look.old look.new }
 {
     match search(look, page, low, first) {
         Ok(at) => at,
@@ -136,11 +137,11 @@ fn first_from<L: Look>(look: &mut L, page: u64, low: &[u8], first: u64) -> usize
 #[inline(always)]
 fn ends_before<L: Look>(look: &mut L, next: NextBranch, high: Option<&[u8]>) -> bool
     requires next { (rest : List Pair)
-        × IsNext (L.standing look.old) (L.words look.old) next.page next.place rest }
+        × IsNext (L.page_state look.old) (L.words look.old) next.page next.place rest }
     ensures none { result ≡ true → (rest : List Pair)
-        → IsNext (L.standing look.old) (L.words look.old) next.page next.place rest →
+        → IsNext (L.page_state look.old) (L.words look.old) next.page next.place rest →
         numbers_to rest (option_copied high.entry) ≡ [] }
-    ensures unchanged { IsUnchanged L.kept L.standing L.words look.old look.new }
+    ensures unchanged { IsUnchanged L.kept L.page_state L.words look.old look.new }
 {
     if next.place == 0 {
         return true;
@@ -158,9 +159,9 @@ fn push_past<L: Look>(
     high: Option<&[u8]>,
     found: &mut Vec<u64>,
 ) -> Result<(), AllocError>
-    requires tree { IsTree (L.standing look.old) (L.words look.old) root }
+    requires tree { IsTree (L.page_state look.old) (L.words look.old) root }
     requires long { AreLong (pairs (L.words look.old) root) }
-    requires leaf { IsTreeAt 0 1 (L.standing look.old) (L.words look.old) leaf.page }
+    requires leaf { IsTreeAt 0 1 (L.page_state look.old) (L.words look.old) leaf.page }
     requires from { (rest : List Pair)
         × AreFrom (L.words look.old) leaf.page leaf.at
         (pairs_from (pairs (L.words look.old) root) low.now false) rest }
@@ -172,7 +173,7 @@ fn push_past<L: Look>(
         → AreFrom (L.words look.old) leaf.page leaf.at
         (pairs_from (pairs (L.words look.old) root) low.now false) rest →
         found.new.items ≡ found.old.items ++ numbers_to rest (option_copied high.entry)) }
-    ensures unchanged { IsUnchanged L.kept L.standing L.words look.old look.new }
+    ensures unchanged { IsUnchanged L.kept L.page_state L.words look.old look.new }
 {
     let mut cursor = Cursor::new();
     seek_past(look, root, leaf, low, &mut cursor);
@@ -182,17 +183,17 @@ fn push_past<L: Look>(
 /// Moves a cursor past the first leaf: after its last key, or, if the leaf has none of the keys,
 /// before the first of them.
 fn seek_past<L: Look>(look: &mut L, root: u64, leaf: FirstLeaf, low: &[u8], cursor: &mut Cursor)
-    requires tree { IsTree (L.standing look.old) (L.words look.old) root }
-    requires leaf { IsTreeAt 0 1 (L.standing look.old) (L.words look.old) leaf.page }
+    requires tree { IsTree (L.page_state look.old) (L.words look.old) root }
+    requires leaf { IsTreeAt 0 1 (L.page_state look.old) (L.words look.old) leaf.page }
     requires from { (rest : List Pair)
         × AreFrom (L.words look.old) leaf.page leaf.at
         (pairs_from (pairs (L.words look.old) root) low.now false) rest }
-    ensures cursor { IsCursor (L.standing look.old) (L.words look.old) cursor.new }
+    ensures cursor { IsCursor (L.page_state look.old) (L.words look.old) cursor.new }
     ensures remaining { (rest : List Pair)
         → AreFrom (L.words look.old) leaf.page leaf.at
         (pairs_from (pairs (L.words look.old) root) low.now false) rest →
         remaining (L.words look.old) cursor.new ≡ rest }
-    ensures unchanged { IsUnchanged L.kept L.standing L.words look.old look.new }
+    ensures unchanged { IsUnchanged L.kept L.page_state L.words look.old look.new }
 {
     let end = end_of(look, leaf.page);
     if leaf.at < end {
@@ -210,7 +211,7 @@ fn push_rest<L: Look>(
     high: Option<&[u8]>,
     found: &mut Vec<u64>,
 ) -> Result<(), AllocError>
-    requires cursor { IsCursor (L.standing look.old) (L.words look.old) cursor.old }
+    requires cursor { IsCursor (L.page_state look.old) (L.words look.old) cursor.old }
     requires long { AreLong (remaining (L.words look.old) cursor.old) }
     ensures first { HasFirst found.old.items
         (numbers_to (remaining (L.words look.old) cursor.old) (option_copied high.entry))
@@ -218,7 +219,7 @@ fn push_rest<L: Look>(
     ensures found { OnOk result (found.new.items
         ≡ found.old.items ++ numbers_to (remaining (L.words look.old) cursor.old)
         (option_copied high.entry)) }
-    ensures unchanged { IsUnchanged L.kept L.standing L.words look.old look.new }
+    ensures unchanged { IsUnchanged L.kept L.page_state L.words look.old look.new }
 {
     'leaves: while let Some((page, from)) = cursor.step_leaf(look) {
         let is_last = push_leaf(look, page, from, high, found)?;
@@ -238,7 +239,7 @@ fn push_leaf<L: Look>(
     high: Option<&[u8]>,
     found: &mut Vec<u64>,
 ) -> Result<bool, AllocError>
-    requires leaf { IsTreeAt 0 1 (L.standing look.old) (L.words look.old) page }
+    requires leaf { IsTreeAt 0 1 (L.page_state look.old) (L.words look.old) page }
     requires left { from < L.words look.old page 1 }
     requires long { AreLong (drop from (items_of (L.words look.old page))) }
     ensures first { HasFirst found.old.items
@@ -250,7 +251,7 @@ fn push_leaf<L: Look>(
     ensures past { IfOk result (λ past. past
         ≡ list_any (λ x. is_past (option_copied high.entry) x.key)
         (drop from (items_of (L.words look.old page)))) }
-    ensures unchanged { IsUnchanged L.kept L.standing L.words look.old look.new }
+    ensures unchanged { IsUnchanged L.kept L.page_state L.words look.old look.new }
 {
     let count = look.word(page, 1) as usize;
     let last = HEADER_WORDS + ITEM_WORDS * (count - 1);
@@ -272,7 +273,7 @@ fn push_to<L: Look>(
     high: Option<&[u8]>,
     found: &mut Vec<u64>,
 ) -> Result<bool, AllocError>
-    requires leaf { IsTreeAt 0 1 (L.standing look.old) (L.words look.old) page }
+    requires leaf { IsTreeAt 0 1 (L.page_state look.old) (L.words look.old) page }
     requires place { from ≡ item_place (number_at_place from) }
     requires in_range { number_at_place from ≤ L.words look.old page 1 }
     requires long { AreLong (drop (number_at_place from) (items_of (L.words look.old page))) }
@@ -285,7 +286,7 @@ fn push_to<L: Look>(
     ensures past { IfOk result (λ past. past
         ≡ list_any (λ x. is_past (option_copied high.entry) x.key)
         (drop (number_at_place from) (items_of (L.words look.old page)))) }
-    ensures unchanged { IsUnchanged L.kept L.standing L.words look.old look.new }
+    ensures unchanged { IsUnchanged L.kept L.page_state L.words look.old look.new }
 {
     let first = first_of(high);
     let end = end_of(look, page);
@@ -320,13 +321,13 @@ pub fn is_past_at<L: Look>(
     high: Option<&[u8]>,
     first: u64,
 ) -> bool
-    requires readable { IsTrue (is_readable (L.standing look.old page)) }
+    requires readable { IsTrue (is_readable (L.page_state look.old page)) }
     requires in_page { at + 42 ≤ 512 }
     requires item { IsItem (L.words look.old page) at }
     requires first { IsFirstOf (option_copied high) first }
     ensures past { result ≡ is_past (option_copied high.entry)
         (item_at (L.words look.old page) at).key }
-    ensures unchanged { IsUnchanged L.kept L.standing L.words look.old look.new }
+    ensures unchanged { IsUnchanged L.kept L.page_state L.words look.old look.new }
 {
     match high {
         Some(high) => is_above(look, page, at, high, first),
@@ -337,12 +338,12 @@ pub fn is_past_at<L: Look>(
 /// The number in the last eight bytes of the key of the item at this place.
 #[inline(always)]
 pub fn number_at<L: Look>(look: &mut L, page: u64, at: usize) -> u64
-    requires readable { IsTrue (is_readable (L.standing look.old page)) }
+    requires readable { IsTrue (is_readable (L.page_state look.old page)) }
     requires in_page { at + 42 ≤ 512 }
     requires item { IsItem (L.words look.old page) at }
     requires long { 8 ≤ length (item_at (L.words look.old page) at).key }
     ensures number { result ≡ number_of (item_at (L.words look.old page) at).key }
-    ensures unchanged { IsUnchanged L.kept L.standing L.words look.old look.new }
+    ensures unchanged { IsUnchanged L.kept L.page_state L.words look.old look.new }
 {
     let key_len = (look.word(page, at) >> LENGTH_BITS) as usize;
     number_beyond(look, page, at + key_len / 8, key_len % 8)

@@ -17,7 +17,7 @@ ghost use Rattle.be_tree_reading.specs.Words.{IsFirstOf};
 
 use crate::lookup::is_below;
 use crate::numbers::{first_of, is_past_at, number_at};
-use crate::page::{first_word, least_of};
+use crate::page::{first_word, smaller_of};
 use crate::way::{Leaf, Walk, Way};
 use be_pages::Look;
 use std::alloc::AllocError;
@@ -40,16 +40,16 @@ pub fn numbers_in_order<L: Look>(
     most: usize,
     found: &mut Vec<u64>,
 ) -> Result<Option<(u64, usize)>, AllocError>
-    requires tree { IsTree (L.standing look.old) (L.words look.old) root }
+    requires tree { IsTree (L.page_state look.old) (L.words look.old) root }
     requires long { AreLong (pairs (L.words look.old) root) }
     ensures first { HasFirst found.old.items
         (numbers_in (take most (walk_of way.entry (pairs (L.words look.old) root))))
         found.new.items }
     ensures found { OnOk result (found.new.items ≡ found.old.items
         ++ numbers_in (take most (walk_of way.entry (pairs (L.words look.old) root)))) }
-    ensures last { IfOk result (λ last. IsLastOf (L.standing look.old) (L.words look.old) last
+    ensures last { IfOk result (λ last. IsLastOf (L.page_state look.old) (L.words look.old) last
         (take most (walk_of way.entry (pairs (L.words look.old) root)))) }
-    ensures unchanged { IsUnchanged L.kept L.standing L.words look.old look.new }
+    ensures unchanged { IsUnchanged L.kept L.page_state L.words look.old look.new }
 {
     let mut walk = Walk::begin(look, root, way);
     push_ahead(look, &mut walk, way, most, found)
@@ -64,7 +64,7 @@ fn push_ahead<L: Look>(
     most: usize,
     found: &mut Vec<u64>,
 ) -> Result<Option<(u64, usize)>, AllocError>
-    requires walk { IsWalk (L.standing look.old) (L.words look.old) walk.old }
+    requires walk { IsWalk (L.page_state look.old) (L.words look.old) walk.old }
     requires back { walk.old.back ≡ way.back }
     requires long { AreLong (ahead (L.words look.old) walk.old) }
     requires ends { StaysFalse (is_on_way way) (ahead (L.words look.old) walk.old) }
@@ -73,9 +73,9 @@ fn push_ahead<L: Look>(
         found.new.items }
     ensures found { OnOk result (found.new.items ≡ found.old.items
         ++ numbers_in (take most (on_way way.entry (ahead (L.words look.old) walk.old)))) }
-    ensures last { IfOk result (λ last. IsLastOf (L.standing look.old) (L.words look.old) last
+    ensures last { IfOk result (λ last. IsLastOf (L.page_state look.old) (L.words look.old) last
         (take most (on_way way.entry (ahead (L.words look.old) walk.old)))) }
-    ensures unchanged { IsUnchanged L.kept L.standing L.words look.old look.new }
+    ensures unchanged { IsUnchanged L.kept L.page_state L.words look.old look.new }
 {
     let first = first_of_end(way);
     let mut last = None;
@@ -99,7 +99,7 @@ fn push_ahead<L: Look>(
 /// How many of the items that a walk has ahead in a leaf are within its range, up to `want`. And
 /// how many are still wanted after them: none if the range ends in this leaf.
 fn run_in<L: Look>(look: &mut L, leaf: Leaf, way: Way<'_>, first: u64, want: usize) -> Run
-    requires leaf { IsLeaf (L.standing look.old) (L.words look.old) leaf }
+    requires leaf { IsLeaf (L.page_state look.old) (L.words look.old) leaf }
     requires back { leaf.back ≡ way.back }
     requires first { IsFirstOf (end_of_way way) first }
     requires some { 0 < length (items_ahead (L.words look.old) leaf) }
@@ -112,10 +112,10 @@ fn run_in<L: Look>(look: &mut L, leaf: Leaf, way: Way<'_>, first: u64, want: usi
         → take want (on_way way.entry (items_ahead (L.words look.old) leaf ++ rest))
         ≡ take result.count (items_ahead (L.words look.old) leaf)
         ++ take result.want (on_way way.entry rest) }
-    ensures unchanged { IsUnchanged L.kept L.standing L.words look.old look.new }
+    ensures unchanged { IsUnchanged L.kept L.page_state L.words look.old look.new }
 {
     let ahead = leaf.count(look);
-    let most = least_of(ahead, want);
+    let most = smaller_of(ahead, want);
     let count = count_within(look, leaf, way, first, most);
     if count < most {
         return Run { count, want: 0 };
@@ -129,7 +129,7 @@ fn run_in<L: Look>(look: &mut L, leaf: Leaf, way: Way<'_>, first: u64, want: usi
 /// How many of the first `most` items that a walk has ahead in a leaf are within its range. If the
 /// last of them is, no other is compared.
 fn count_within<L: Look>(look: &mut L, leaf: Leaf, way: Way<'_>, first: u64, most: usize) -> usize
-    requires leaf { IsLeaf (L.standing look.old) (L.words look.old) leaf }
+    requires leaf { IsLeaf (L.page_state look.old) (L.words look.old) leaf }
     requires back { leaf.back ≡ way.back }
     requires first { IsFirstOf (end_of_way way) first }
     requires in_range { most ≤ length (items_ahead (L.words look.old) leaf) }
@@ -138,7 +138,7 @@ fn count_within<L: Look>(look: &mut L, leaf: Leaf, way: Way<'_>, first: u64, mos
         (slice_index_or (items_ahead (L.words look.old) leaf) (result - 1) d).key ≡ true }
     ensures past { (d : Pair) → result < most → is_on_way way.entry
         (slice_index_or (items_ahead (L.words look.old) leaf) result d).key ≡ false }
-    ensures unchanged { IsUnchanged L.kept L.standing L.words look.old look.new }
+    ensures unchanged { IsUnchanged L.kept L.page_state L.words look.old look.new }
 {
     let mut count = most;
     while count > 0 {
@@ -155,12 +155,12 @@ fn count_within<L: Look>(look: &mut L, leaf: Leaf, way: Way<'_>, first: u64, mos
 /// `first` (`first_of_end`).
 #[inline(always)]
 pub fn is_within<L: Look>(look: &mut L, page: u64, at: usize, way: Way<'_>, first: u64) -> bool
-    requires readable { IsTrue (is_readable (L.standing look.old page)) }
+    requires readable { IsTrue (is_readable (L.page_state look.old page)) }
     requires in_page { at + 42 ≤ 512 }
     requires item { IsItem (L.words look.old page) at }
     requires first { IsFirstOf (end_of_way way) first }
     ensures within { result ≡ is_on_way way.entry (item_at (L.words look.old page) at).key }
-    ensures unchanged { IsUnchanged L.kept L.standing L.words look.old look.new }
+    ensures unchanged { IsUnchanged L.kept L.page_state L.words look.old look.new }
 {
     if way.back {
         !is_below(look, page, at, way.low, first)
@@ -187,14 +187,14 @@ fn push_run<L: Look>(
     count: usize,
     found: &mut Vec<u64>,
 ) -> Result<(), AllocError>
-    requires leaf { IsLeaf (L.standing look.old) (L.words look.old) leaf }
+    requires leaf { IsLeaf (L.page_state look.old) (L.words look.old) leaf }
     requires in_range { count ≤ length (items_ahead (L.words look.old) leaf) }
     requires long { AreLong (items_ahead (L.words look.old) leaf) }
     ensures first { HasFirst found.old.items
         (numbers_in (take count (items_ahead (L.words look.old) leaf))) found.new.items }
     ensures found { OnOk result (found.new.items ≡ found.old.items
         ++ numbers_in (take count (items_ahead (L.words look.old) leaf))) }
-    ensures unchanged { IsUnchanged L.kept L.standing L.words look.old look.new }
+    ensures unchanged { IsUnchanged L.kept L.page_state L.words look.old look.new }
 {
     for i in 0..count {
         let at = leaf.place(i);

@@ -30,16 +30,16 @@ pub const LENGTH_BITS: usize = 32;
 pub const MOST_ITEMS: usize = 12;
 
 /// The smallest number of items on a page other than a root.
-pub const LEAST_ITEMS: usize = 6;
+pub const MINIMUM_ITEMS: usize = 6;
 
 /// The page of the branch at this place.
 pub fn child_at<L: Look>(look: &mut L, page: u64, at: usize) -> u64
-    requires readable { IsTrue (is_readable (L.standing look.old page)) }
+    requires readable { IsTrue (is_readable (L.page_state look.old page)) }
     requires in_page { at + 42 ≤ 512 }
     requires item { IsItem (L.words look.old page) at }
     requires names_page { length (item_at (L.words look.old page) at).payload ≡ 8 }
     ensures child { result ≡ child (item_at (L.words look.old page) at) }
-    ensures unchanged { IsUnchanged L.kept L.standing L.words look.old look.new }
+    ensures unchanged { IsUnchanged L.kept L.page_state L.words look.old look.new }
 {
     let key_len = (look.word(page, at) >> LENGTH_BITS) as usize;
     number_beyond(look, page, at + 1 + key_len / 8, key_len % 8)
@@ -48,11 +48,11 @@ pub fn child_at<L: Look>(look: &mut L, page: u64, at: usize) -> u64
 /// The number in the eight bytes that begin `skip` bytes after the start of a word. They are in
 /// that word, or in it and the next.
 pub fn number_beyond<L: Look>(look: &mut L, page: u64, at: usize, skip: usize) -> u64
-    requires readable { IsTrue (is_readable (L.standing look.old page)) }
+    requires readable { IsTrue (is_readable (L.page_state look.old page)) }
     requires skips { skip < 8 }
     requires in_page { at + words_for (skip + 8) ≤ 512 }
     ensures number { result ≡ from_be_bytes w64 (bytes_past (L.words look.old page) at skip 8) }
-    ensures unchanged { IsUnchanged L.kept L.standing L.words look.old look.new }
+    ensures unchanged { IsUnchanged L.kept L.page_state L.words look.old look.new }
 {
     let first = look.word(page, at);
     if skip == 0 {
@@ -74,11 +74,11 @@ pub fn straddled(first: u64, second: u64, skip: usize) -> u64
 /// it only for short keys, so it isn't inlined into their loops.
 #[inline(never)]
 pub(crate) fn cmp_at<L: Look>(look: &mut L, page: u64, at: usize, key: &[u8]) -> Ordering
-    requires readable { IsTrue (is_readable (L.standing look.old page)) }
+    requires readable { IsTrue (is_readable (L.page_state look.old page)) }
     requires in_page { at + 42 ≤ 512 }
     requires item { IsItem (L.words look.old page) at }
     ensures order { result ≡ key_cmp (item_at (L.words look.old page) at).key key.now }
-    ensures unchanged { IsUnchanged L.kept L.standing L.words look.old look.new }
+    ensures unchanged { IsUnchanged L.kept L.page_state L.words look.old look.new }
 {
     let len = (look.word(page, at) >> LENGTH_BITS) as usize;
     cmp_from(look, page, at, len, key, 0)
@@ -95,7 +95,7 @@ pub(crate) fn cmp_from<L: Look>(
     key: &[u8],
     from: usize,
 ) -> Ordering
-    requires readable { IsTrue (is_readable (L.standing look.old page)) }
+    requires readable { IsTrue (is_readable (L.page_state look.old page)) }
     requires in_page { at + 42 ≤ 512 }
     requires item { IsItem (L.words look.old page) at }
     requires len { len ≡ key_len (L.words look.old page) at }
@@ -104,9 +104,9 @@ pub(crate) fn cmp_from<L: Look>(
         (drop (8 * from) key.now)
         ≡ key_cmp (item_at (L.words look.old page) at).key key.now }
     ensures order { result ≡ key_cmp (item_at (L.words look.old page) at).key key.now }
-    ensures unchanged { IsUnchanged L.kept L.standing L.words look.old look.new }
+    ensures unchanged { IsUnchanged L.kept L.page_state L.words look.old look.new }
 {
-    let common = least_of(len, key.len());
+    let common = smaller_of(len, key.len());
     for i in from..common / 8 {
         let mine = look.word(page, at + 1 + i);
         let other = whole_word(key, 8 * i);
@@ -130,7 +130,7 @@ pub(crate) fn cmp_from<L: Look>(
 }
 
 /// The lower of two numbers.
-pub(crate) fn least_of(a: usize, b: usize) -> usize
+pub(crate) fn smaller_of(a: usize, b: usize) -> usize
     ensures at_most { (result ≤ a) × (result ≤ b) }
     ensures one { (result ≡ a) ⊎ (result ≡ b) }
 {
@@ -147,13 +147,13 @@ pub fn fill_bytes<L: Look, const N: usize>(
     n: usize,
     rest: &mut ArrayVec<u8, N>,
 )
-    requires readable { IsTrue (is_readable (L.standing look.old page)) }
+    requires readable { IsTrue (is_readable (L.page_state look.old page)) }
     requires skips { skip < 8 }
     requires in_page { at + words_for (skip + n) ≤ 512 }
     requires fits { 8 * words_for (skip + n) ≤ N }
     requires empty { rest.old.items ≡ [] }
     ensures bytes { rest.new.items ≡ drop skip (bytes_at (L.words look.old page) at (skip + n)) }
-    ensures unchanged { IsUnchanged L.kept L.standing L.words look.old look.new }
+    ensures unchanged { IsUnchanged L.kept L.page_state L.words look.old look.new }
 {
     if n == 0 {
         return;

@@ -14,24 +14,24 @@ use be_pages::Look;
 
 /// The length in bytes of the payload at this place of a page.
 pub fn payload_len_at<L: Look>(look: &mut L, page: u64, at: usize) -> usize
-    requires readable { IsTrue (is_readable (L.standing look.old page)) }
+    requires readable { IsTrue (is_readable (L.page_state look.old page)) }
     requires in_page { at + 42 ≤ 512 }
     requires item { IsItem (L.words look.old page) at }
     ensures len { result ≡ length (item_at (L.words look.old page) at).payload }
     ensures fits { result ≤ 328 }
-    ensures unchanged { IsUnchanged L.kept L.standing L.words look.old look.new }
+    ensures unchanged { IsUnchanged L.kept L.page_state L.words look.old look.new }
 {
     (look.word(page, at) % (1 << LENGTH_BITS)) as usize
 }
 
 /// The byte at this place of a payload.
 pub fn payload_byte_at<L: Look>(look: &mut L, page: u64, at: usize, from: usize) -> u8
-    requires readable { IsTrue (is_readable (L.standing look.old page)) }
+    requires readable { IsTrue (is_readable (L.page_state look.old page)) }
     requires in_page { at + 42 ≤ 512 }
     requires item { IsItem (L.words look.old page) at }
     requires within { from < length (item_at (L.words look.old page) at).payload }
     ensures byte { result ≡ slice_index (item_at (L.words look.old page) at).payload from }
-    ensures unchanged { IsUnchanged L.kept L.standing L.words look.old look.new }
+    ensures unchanged { IsUnchanged L.kept L.page_state L.words look.old look.new }
 {
     let key_len = (look.word(page, at) >> LENGTH_BITS) as usize;
     let place = key_len + from;
@@ -41,13 +41,13 @@ pub fn payload_byte_at<L: Look>(look: &mut L, page: u64, at: usize, from: usize)
 
 /// The number in eight bytes of a payload, the first byte highest.
 pub fn payload_number_at<L: Look>(look: &mut L, page: u64, at: usize, from: usize) -> u64
-    requires readable { IsTrue (is_readable (L.standing look.old page)) }
+    requires readable { IsTrue (is_readable (L.page_state look.old page)) }
     requires in_page { at + 42 ≤ 512 }
     requires item { IsItem (L.words look.old page) at }
     requires within { from + 8 ≤ length (item_at (L.words look.old page) at).payload }
     ensures number { result ≡ from_be_bytes w64
         (take 8 (drop from (item_at (L.words look.old page) at).payload)) }
-    ensures unchanged { IsUnchanged L.kept L.standing L.words look.old look.new }
+    ensures unchanged { IsUnchanged L.kept L.page_state L.words look.old look.new }
 {
     let key_len = (look.word(page, at) >> LENGTH_BITS) as usize;
     let place = key_len + from;
@@ -56,13 +56,13 @@ pub fn payload_number_at<L: Look>(look: &mut L, page: u64, at: usize, from: usiz
 
 /// The number in four bytes of a payload, the first byte highest.
 pub fn payload_number32_at<L: Look>(look: &mut L, page: u64, at: usize, from: usize) -> u32
-    requires readable { IsTrue (is_readable (L.standing look.old page)) }
+    requires readable { IsTrue (is_readable (L.page_state look.old page)) }
     requires in_page { at + 42 ≤ 512 }
     requires item { IsItem (L.words look.old page) at }
     requires within { from + 4 ≤ length (item_at (L.words look.old page) at).payload }
     ensures number { result ≡ from_be_bytes w32
         (take 4 (drop from (item_at (L.words look.old page) at).payload)) }
-    ensures unchanged { IsUnchanged L.kept L.standing L.words look.old look.new }
+    ensures unchanged { IsUnchanged L.kept L.page_state L.words look.old look.new }
 {
     let key_len = (look.word(page, at) >> LENGTH_BITS) as usize;
     let place = key_len + from;
@@ -72,11 +72,11 @@ pub fn payload_number32_at<L: Look>(look: &mut L, page: u64, at: usize, from: us
 /// The number in the four bytes that begin `skip` bytes after the start of a word. They are in that
 /// word, or in it and the next.
 fn number32_after<L: Look>(look: &mut L, page: u64, at: usize, skip: usize) -> u32
-    requires readable { IsTrue (is_readable (L.standing look.old page)) }
+    requires readable { IsTrue (is_readable (L.page_state look.old page)) }
     requires skips { skip < 8 }
     requires in_page { at + words_for (skip + 4) ≤ 512 }
     ensures number { result ≡ from_be_bytes w32 (bytes_past (L.words look.old page) at skip 4) }
-    ensures unchanged { IsUnchanged L.kept L.standing L.words look.old look.new }
+    ensures unchanged { IsUnchanged L.kept L.page_state L.words look.old look.new }
 {
     if skip <= 4 {
         let word = look.word(page, at);
@@ -89,12 +89,12 @@ fn number32_after<L: Look>(look: &mut L, page: u64, at: usize, skip: usize) -> u
 
 /// Writes the payload at this place of a page into an empty vector.
 pub fn fill_payload<L: Look>(look: &mut L, page: u64, at: usize, payload: &mut ArrayVec<u8, 328>)
-    requires readable { IsTrue (is_readable (L.standing look.old page)) }
+    requires readable { IsTrue (is_readable (L.page_state look.old page)) }
     requires in_page { at + 42 ≤ 512 }
     requires item { IsItem (L.words look.old page) at }
     requires empty { payload.old.items ≡ [] }
     ensures payload { payload.new.items ≡ (item_at (L.words look.old page) at).payload }
-    ensures unchanged { IsUnchanged L.kept L.standing L.words look.old look.new }
+    ensures unchanged { IsUnchanged L.kept L.page_state L.words look.old look.new }
 {
     let header = look.word(page, at);
     let key_len = (header >> LENGTH_BITS) as usize;

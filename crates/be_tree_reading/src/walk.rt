@@ -26,10 +26,10 @@ pub struct TreeItem {
 /// The lowest pair whose key is at or after `from`; with `after` set, strictly after it. It costs
 /// one descent, and another to the next leaf if the first one has no such pair.
 pub fn range<L: Look>(look: &mut L, root: u64, from: &[u8], after: bool) -> Option<TreeItem>
-    requires tree { IsTree (L.standing look.old) (L.words look.old) root }
+    requires tree { IsTree (L.page_state look.old) (L.words look.old) root }
     ensures item { option_map pair_in result
         ≡ first_from (pairs (L.words look.old) root) from.now after }
-    ensures unchanged { IsUnchanged L.kept L.standing L.words look.old look.new }
+    ensures unchanged { IsUnchanged L.kept L.page_state L.words look.old look.new }
 {
     let mut cursor = Cursor::new();
     cursor.seek(look, root, from, after);
@@ -38,11 +38,11 @@ pub fn range<L: Look>(look: &mut L, root: u64, from: &[u8], after: bool) -> Opti
 
 /// The key of the item at this place of a page, which `Cursor::step` returned.
 pub fn key_at<L: Look>(look: &mut L, page: u64, at: usize) -> ArrayVec<u8, 264>
-    requires readable { IsTrue (is_readable (L.standing look.old page)) }
+    requires readable { IsTrue (is_readable (L.page_state look.old page)) }
     requires in_page { at + 42 ≤ 512 }
     requires item { IsItem (L.words look.old page) at }
     ensures key { result.items ≡ (item_at (L.words look.old page) at).key }
-    ensures unchanged { IsUnchanged L.kept L.standing L.words look.old look.new }
+    ensures unchanged { IsUnchanged L.kept L.page_state L.words look.old look.new }
 {
     let mut key = ArrayVec::new();
     fill_key(look, page, at, &mut key);
@@ -51,12 +51,12 @@ pub fn key_at<L: Look>(look: &mut L, page: u64, at: usize) -> ArrayVec<u8, 264>
 
 /// Writes the key at this place of a page into an empty vector.
 pub(crate) fn fill_key<L: Look>(look: &mut L, page: u64, at: usize, key: &mut ArrayVec<u8, 264>)
-    requires readable { IsTrue (is_readable (L.standing look.old page)) }
+    requires readable { IsTrue (is_readable (L.page_state look.old page)) }
     requires in_page { at + 42 ≤ 512 }
     requires item { IsItem (L.words look.old page) at }
     requires empty { key.old.items ≡ [] }
     ensures key { key.new.items ≡ (item_at (L.words look.old page) at).key }
-    ensures unchanged { IsUnchanged L.kept L.standing L.words look.old look.new }
+    ensures unchanged { IsUnchanged L.kept L.page_state L.words look.old look.new }
 {
     let key_len = (look.word(page, at) >> LENGTH_BITS) as usize;
     fill_bytes(look, page, at + 1, 0, key_len, key);

@@ -46,12 +46,12 @@ pub struct Leaf {
 impl Walk {
     /// A walk at the beginning of a way. It costs one descent.
     pub fn begin<L: Look>(look: &mut L, root: u64, way: Way<'_>) -> Walk
-        requires tree { IsTree (L.standing look.old) (L.words look.old) root }
-        ensures walk { IsWalk (L.standing look.old) (L.words look.old) result }
+        requires tree { IsTree (L.page_state look.old) (L.words look.old) root }
+        ensures walk { IsWalk (L.page_state look.old) (L.words look.old) result }
         ensures back { result.back ≡ way.entry.back }
         ensures ahead { ahead (L.words look.old) result
             ≡ begun way.entry (pairs (L.words look.old) root) }
-        ensures unchanged { IsUnchanged L.kept L.standing L.words look.old look.new }
+        ensures unchanged { IsUnchanged L.kept L.page_state L.words look.old look.new }
     {
         let mut walk = Walk {
             back: way.back,
@@ -68,17 +68,17 @@ impl Walk {
 
     /// The leaf of the next pair; the walk steps past all of the leaf's pairs that it has ahead.
     pub fn step_leaf<L: Look>(&mut self, look: &mut L) -> Option<Leaf>
-        requires walk { IsWalk (L.standing look.old) (L.words look.old) self.old }
+        requires walk { IsWalk (L.page_state look.old) (L.words look.old) self.old }
         ensures none { IfNone result (ahead (L.words look.old) self.old ≡ []) }
-        ensures leaf { IfSome result (λ leaf. IsLeaf (L.standing look.old) (L.words look.old)
+        ensures leaf { IfSome result (λ leaf. IsLeaf (L.page_state look.old) (L.words look.old)
             leaf) }
         ensures turned { IfSome result (λ leaf. leaf.back ≡ self.old.back) }
         ensures some { IfSome result (λ leaf. 0 < length (items_ahead (L.words look.old) leaf)) }
         ensures parts { IfSome result (λ leaf. ahead (L.words look.old) self.old
             ≡ items_ahead (L.words look.old) leaf ++ ahead (L.words look.old) self.new) }
         ensures back { self.new.back ≡ self.old.back }
-        ensures walk { IsWalk (L.standing look.old) (L.words look.old) self.new }
-        ensures unchanged { IsUnchanged L.kept L.standing L.words look.old look.new }
+        ensures walk { IsWalk (L.page_state look.old) (L.words look.old) self.new }
+        ensures unchanged { IsUnchanged L.kept L.page_state L.words look.old look.new }
     {
         if self.back {
             let (page, at) = self.falling.step_leaf(look)?;
@@ -101,9 +101,9 @@ impl Leaf {
     /// How many of the leaf's items the walk has ahead.
     #[inline(always)]
     pub fn count<L: Look>(self, look: &mut L) -> usize
-        requires leaf { IsLeaf (L.standing look.old) (L.words look.old) self }
+        requires leaf { IsLeaf (L.page_state look.old) (L.words look.old) self }
         ensures count { result ≡ length (items_ahead (L.words look.old) self) }
-        ensures unchanged { IsUnchanged L.kept L.standing L.words look.old look.new }
+        ensures unchanged { IsUnchanged L.kept L.page_state L.words look.old look.new }
     {
         if self.back {
             return self.at;

@@ -112,13 +112,13 @@ steps s ops = fold advance (Ok (s, [])) ops
 -- nothing changes, and the error is that of the steps, or OutOfMemory if they accept.
 abbrev pub Writes : {X : Type 0} → (X → List Done) → State → List Op → Result X Refusal → State
     → Type 0
-Writes dones_of old ops (Ok answer) new = steps old ops ≡ Ok (new, dones_of answer)
-Writes dones_of old ops (Err e) new = (new ≡ old)
+Writes outcomes_of old ops (Ok answer) new = steps old ops ≡ Ok (new, outcomes_of answer)
+Writes outcomes_of old ops (Err e) new = (new ≡ old)
     × (((e ≡ OutOfMemory) × IsOk (steps old ops)) ⊎ (steps old ops ≡ Err e))
 
 -- The same without memory limits: the list is accepted if the steps accept it, with the state after
 -- them; otherwise its error is theirs, and nothing changes.
 abbrev pub Replays : {X : Type 0} → (X → List Done) → State → List Op → Result X Refusal → State
     → Type 0
-Replays dones_of old ops (Ok answer) new = steps old ops ≡ Ok (new, dones_of answer)
-Replays dones_of old ops (Err e) new = (new ≡ old) × (steps old ops ≡ Err e)
+Replays outcomes_of old ops (Ok answer) new = steps old ops ≡ Ok (new, outcomes_of answer)
+Replays outcomes_of old ops (Err e) new = (new ≡ old) × (steps old ops ≡ Err e)

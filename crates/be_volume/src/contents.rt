@@ -161,11 +161,11 @@ impl Contents {
 
 /// The facts of contents that don't change.
 #[derive(Drop)]
-pub struct Standing<'a> {
+pub struct Unchanged<'a> {
     pub contents: &'a Contents,
 }
 
-impl Facts for Standing<'_> {
+impl Facts for Unchanged<'_> {
     ghost use Rattle.std.specs.Prelude.{◌≡◌};
     ghost use Rattle.be_volume.specs.Volume.{State};
 

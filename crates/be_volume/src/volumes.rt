@@ -16,7 +16,7 @@ ghost use Rattle.be_volume.specs.Reading.{attribute, attributes_at, index_kinds,
 ghost use Rattle.be_volume.specs.Sound.{IsSound};
 ghost use Rattle.be_volume.specs.Volume as model;
 
-use crate::contents::{Contents, Standing};
+use crate::contents::{Contents, Unchanged};
 use crate::queries::{covers, satisfies};
 use crate::{Done, Op, first_refusal};
 use arrayvec::ArrayVec;
@@ -38,7 +38,7 @@ pub struct Volume {
     alloc: Global,
     contents: Contents,
     /// A copy of the contents, or None if it has yet to be made.
-    twin: Option<Contents>,
+    shadow: Option<Contents>,
 }
 
 impl Model for Volume {
@@ -52,7 +52,7 @@ impl Model for Volume {
 
     ghost view = { λ v. v.contents };
 
-    ghost invariant = { λ v. IsSound v.contents × IfSome v.twin (λ twin. twin ≡ v.contents) };
+    ghost invariant = { λ v. IsSound v.contents × IfSome v.shadow (λ shadow. shadow ≡ v.contents) };
 }
 
 impl Volume {
@@ -63,7 +63,7 @@ impl Volume {
         Volume {
             alloc,
             contents: Contents::new(alloc),
-            twin: Some(Contents::new(alloc)),
+            shadow: Some(Contents::new(alloc)),
         }
     }
 
@@ -91,7 +91,7 @@ impl Volume {
         Ok(Volume {
             alloc: self.alloc,
             contents,
-            twin: None,
+            shadow: None,
         })
     }
 
@@ -102,7 +102,7 @@ impl Volume {
         requires fits { self.now.next + 64 < 2 ^ 64 }
         ensures { result ≡ result_err (model.steps self.now ops.now) }
     {
-        let mut facts = Standing {
+        let mut facts = Unchanged {
             contents: &self.contents,
         };
         first_refusal(&mut facts, ops)
@@ -130,11 +130,11 @@ impl Volume {
         if let Some(refusal) = self.refusal(ops) {
             return Err(refusal);
         }
-        let mut ahead = twin_of(&self.contents, self.twin.take())?;
+        let mut ahead = shadow_of(&self.contents, self.shadow.take())?;
         let dones = perform_all(&mut ahead, ops)?;
         let mut earlier = mem::replace(&mut self.contents, ahead);
         if perform_all(&mut earlier, ops).is_ok() {
-            self.twin = Some(earlier);
+            self.shadow = Some(earlier);
         }
         Ok(dones)
     }
@@ -159,13 +159,13 @@ impl Volume {
         let Volume {
             alloc,
             contents: mut own,
-            twin: _,
+            shadow: _,
         } = self;
         let dones = perform_all(&mut own, ops)?;
         let volume = Volume {
             alloc,
             contents: own,
-            twin: None,
+            shadow: None,
         };
         Ok((volume, Ok(dones)))
     }
@@ -243,12 +243,12 @@ impl Volume {
 }
 
 /// The shadow copy of these contents, or a new copy if there is none.
-fn twin_of(contents: &Contents, twin: Option<Contents>) -> Result<Contents, AllocError>
-    requires { IfSome twin (λ twin. twin ≡ contents.now) }
-    ensures { IfOk result (λ twin. twin ≡ contents.now) }
+fn shadow_of(contents: &Contents, shadow: Option<Contents>) -> Result<Contents, AllocError>
+    requires { IfSome shadow (λ shadow. shadow ≡ contents.now) }
+    ensures { IfOk result (λ shadow. shadow ≡ contents.now) }
 {
-    match twin {
-        Some(twin) => Ok(twin),
+    match shadow {
+        Some(shadow) => Ok(shadow),
         None => contents.copy(),
     }
 }

@@ -81,6 +81,6 @@ module _ (s : State) (sound : IsSound s) (node : ℕ) (name : List ℕ) where
           record { index = p.index; node = node; value = p.value; there = p.there; paired = p.paired; is = ap (λ v. key v node) (sym (value_is p)) }
 
       -- otherwise the key decides
-      pub told : (r : Bool) → (r ≡ true → IsKey s name (key value node)) → (IsKey s name (key value node) → r ≡ true) → r ≡ is_held s node name
-      told true found finds = sym (by_key (found refl))
-      told false found finds = not_held (λ h. let never : false ≡ true = finds (key_of_pair h) in cc)
+      pub reported : (r : Bool) → (r ≡ true → IsKey s name (key value node)) → (IsKey s name (key value node) → r ≡ true) → r ≡ is_held s node name
+      reported true found finds = sym (by_key (found refl))
+      reported false found finds = not_held (λ h. let never : false ≡ true = finds (key_of_pair h) in cc)

@@ -69,8 +69,8 @@ no_index t q h = by (fin.get t.indices q) h
 
 module _ (s : State) (sound : IsSound s) where
   -- a pair is an attribute of its node, and has the index's kind
-  pub pair_tells : (q : List ℕ) (n : ℕ) (v : Value) → pair_at s q n ≡ Some v → (attribute s n q ≡ Some v) × (index_kind s q ≡ Some (kind_of v))
-  pair_tells q n v h = by (fin.get s.indices q) refl h
+  pub pair_reports : (q : List ℕ) (n : ℕ) (v : Value) → pair_at s q n ≡ Some v → (attribute s n q ≡ Some v) × (index_kind s q ≡ Some (kind_of v))
+  pair_reports q n v h = by (fin.get s.indices q) refl h
     where
       by : (found : Option Index) → fin.get s.indices q ≡ found → option_and_then (λ (i : Index). fin.get i.pairs n) found ≡ Some v →
           (attribute s n q ≡ Some v) × (index_kind s q ≡ Some (kind_of v))
@@ -84,7 +84,7 @@ module _ (s : State) (sound : IsSound s) where
     where
       by : (found : Option Value) → pair_at s q n ≡ found → found ≡ None
       by None e = refl
-      by (Some v) e = let no : None ≡ Some v = sym (no_attribute s n q h) ∙ (pair_tells q n v e).0 in cc
+      by (Some v) e = let no : None ≡ Some v = sym (no_attribute s n q h) ∙ (pair_reports q n v e).0 in cc
 
 -- a node's attributes in two parts
 found_outside : (s : State) (n : ℕ) (q : List ℕ) → find name_cmp q (outside s n) ≡ cond (not (is_held s n q)) (attribute s n q) None
@@ -275,7 +275,7 @@ module _ (s : State) (sound : IsSound s) (n : ℕ) (t : State) (at : AtHeld s n 
       by : (found : Option Value) → pair_at s q n ≡ found → pair_after (cond (is_some found) (attribute s n q) None) (index_kind t q) (pair_at t q n) ≡ found
       by None h = none_before q
       by (Some v) h =
-          let p = pair_tells s sound q n v h in
+          let p = pair_reports s sound q n v h in
           ap (λ o. pair_after o (index_kind t q) (pair_at t q n)) p.0 ∙ ap (λ k. pair_set k v (pair_at t q n)) (at.kind_is q ∙ p.1)
           ∙ ap (λ b. if b then Some v else None) (own_kind (kind_of v))
 

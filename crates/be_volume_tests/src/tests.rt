@@ -75,7 +75,7 @@ fn write_next(
     let Some(ops) = next_list(whole, place)? else {
         return Ok(false);
     };
-    let _dones = write(alloc, again, ops.as_slice())?;
+    let _outcomes = write(alloc, again, ops.as_slice())?;
     Ok(true)
 }
 

@@ -20,8 +20,8 @@ mod outcomes;
 use crate::outcomes::{Outcome, status_of};
 use be_script::{
     Breaking, Ends, Finding, Journal, Limits, OpenGate, Peer, RefusedLine, RunFault, Screen, Task,
-    Terminal, check, dump, dump_state, journal_told, put_result, race, read_files, run,
-    run_and_tell, run_strictly, shell_and_close, task,
+    Terminal, check, dump, dump_state, put_result, race, read_files, reported_journal, run,
+    run_strictly, run_with_journal, shell_and_close, task,
 };
 use clap::Error;
 use clap::error::ErrorKind;
@@ -87,23 +87,23 @@ fn finish<W: Write + Drop>(
 enum Running {
     Plainly,
     /// The journal is written after the replies.
-    Telling,
+    Reporting,
     /// The run ends at the first line that is refused.
     Strictly,
     /// Both: the run ends there, and the journal is written.
-    StrictlyTelling,
+    StrictlyReporting,
 }
 
-/// Runs a script up to the first line that is refused, and writes its journal if `tells` is set.
+/// Runs a script up to the first line that is refused, and writes its journal if `reports` is set.
 fn run_strictly_into<I: Read, W: Write>(
     alloc: Global,
     script: &mut I,
     writer: &mut W,
     limits: Limits,
-    tells: bool,
+    reports: bool,
 ) -> Result<Option<RefusedLine>, RunFault> {
     let (refused, journal) = run_strictly(alloc, script, writer, limits)?;
-    if tells {
+    if reports {
         put_result(alloc, writer, &journal)?;
     }
     Ok(refused)
@@ -129,12 +129,12 @@ fn run_strictly_from<R: Runtime + AllocGlobal, I: Read>(
     file: &str,
     script: &mut I,
     limits: Limits,
-    tells: bool,
+    reports: bool,
 ) -> io::Result<Outcome> {
     let Ok(mut writer) = BufWriter::new(rt.alloc(), io::writer(rt)) else {
         return fail(rt, reason(RunFault::Memory));
     };
-    let (refused, ran) = match run_strictly_into(rt.alloc(), script, &mut writer, limits, tells) {
+    let (refused, ran) = match run_strictly_into(rt.alloc(), script, &mut writer, limits, reports) {
         Ok(refused) => (refused, Ok(())),
         Err(fault) => (None, Err(fault)),
     };
@@ -151,13 +151,13 @@ fn run_whole_from<R: Runtime + AllocGlobal, I: Read>(
     file: &str,
     script: &mut I,
     limits: Limits,
-    tells: bool,
+    reports: bool,
 ) -> io::Result<Outcome> {
     let Ok(mut writer) = BufWriter::new(rt.alloc(), io::writer(rt)) else {
         return fail(rt, reason(RunFault::Memory));
     };
-    let (legal, ran) = if tells {
-        match run_and_tell(rt.alloc(), script, &mut writer, limits) {
+    let (legal, ran) = if reports {
+        match run_with_journal(rt.alloc(), script, &mut writer, limits) {
             Ok(legal) => (legal, Ok(())),
             Err(fault) => (false, Err(fault)),
         }
@@ -181,9 +181,9 @@ fn run_from<R: Runtime + AllocGlobal, I: Read>(
 ) -> io::Result<Outcome> {
     match running {
         Running::Plainly => run_whole_from(rt, file, script, limits, false),
-        Running::Telling => run_whole_from(rt, file, script, limits, true),
+        Running::Reporting => run_whole_from(rt, file, script, limits, true),
         Running::Strictly => run_strictly_from(rt, file, script, limits, false),
-        Running::StrictlyTelling => run_strictly_from(rt, file, script, limits, true),
+        Running::StrictlyReporting => run_strictly_from(rt, file, script, limits, true),
     }
 }
 
@@ -486,7 +486,7 @@ fn check_text<R: Runtime + AllocGlobal>(rt: &R, file: &str, text: &[u8]) -> io::
 
 /// Prints the script that makes the writes of the journal in a text again.
 fn dump_text<R: Runtime + AllocGlobal>(rt: &R, file: &str, text: &[u8]) -> io::Result<Outcome> {
-    let entries = match journal_told(rt.alloc(), text) {
+    let entries = match reported_journal(rt.alloc(), text) {
         Ok(Some(entries)) => entries,
         Ok(None) => return fail_without_journal(rt, file),
         Err(_) => return fail(rt, reason(RunFault::Memory)),
@@ -512,26 +512,26 @@ fn dump_state_of_text<R: Runtime + AllocGlobal>(
 
 /// What to print about a journal.
 #[derive(Clone, Copy)]
-enum Telling {
+enum Reporting {
     Check,
     Dump,
     DumpState,
 }
 
 /// Prints this about the journal in a file.
-fn tell_of_file<R: Runtime + AllocGlobal>(
+fn report_on_file<R: Runtime + AllocGlobal>(
     rt: &R,
     file: &str,
-    telling: Telling,
+    reporting: Reporting,
 ) -> io::Result<Outcome> {
     let text = match read_whole(rt, file) {
         Ok(text) => text,
         Err(error) => return fail_whole(rt, file, &error),
     };
-    match telling {
-        Telling::Check => check_text(rt, file, &text),
-        Telling::Dump => dump_text(rt, file, &text),
-        Telling::DumpState => dump_state_of_text(rt, file, &text),
+    match reporting {
+        Reporting::Check => check_text(rt, file, &text),
+        Reporting::Dump => dump_text(rt, file, &text),
+        Reporting::DumpState => dump_state_of_text(rt, file, &text),
     }
 }
 
@@ -543,25 +543,30 @@ fn run_task<R: Runtime + AllocGlobal + Threads + Wait + Sync>(
 ) -> io::Result<Outcome> {
     match task {
         Task::Run(file, limits) => run_file(rt, file.as_str(), *limits, Running::Plainly),
-        Task::RunAndTell(file, limits) => run_file(rt, file.as_str(), *limits, Running::Telling),
+        Task::RunWithJournal(file, limits) => run_file(
+            rt,
+            file.as_str(),
+            *limits,
+            Running::Reporting,
+        ),
         Task::RunStrictly(file, limits) => run_file(rt, file.as_str(), *limits, Running::Strictly),
-        Task::RunStrictlyAndTell(file, limits) => {
-            run_file(rt, file.as_str(), *limits, Running::StrictlyTelling)
+        Task::RunStrictlyWithJournal(file, limits) => {
+            run_file(rt, file.as_str(), *limits, Running::StrictlyReporting)
         }
         Task::Race(files, limits) => race_files(rt, files.as_slice(), *limits),
         Task::Shell(file, limits) => open_shell(rt, file, None, *limits, sides),
-        Task::ShellAndTell(file, journal, limits) => {
+        Task::ShellWithJournal(file, journal, limits) => {
             open_shell(rt, file, Some(journal.as_str()), *limits, sides)
         }
-        Task::Check(file) => tell_of_file(rt, file.as_str(), Telling::Check),
-        Task::Dump(file) => tell_of_file(rt, file.as_str(), Telling::Dump),
-        Task::DumpState(file) => tell_of_file(rt, file.as_str(), Telling::DumpState),
+        Task::Check(file) => report_on_file(rt, file.as_str(), Reporting::Check),
+        Task::Dump(file) => report_on_file(rt, file.as_str(), Reporting::Dump),
+        Task::DumpState(file) => report_on_file(rt, file.as_str(), Reporting::DumpState),
     }
 }
 
 /// Prints help and the version to standard output, and errors of the command line to standard
 /// error.
-fn tell<R: Print + Eprint>(rt: &R, error: &Error) -> io::Result<Outcome> {
+fn report<R: Print + Eprint>(rt: &R, error: &Error) -> io::Result<Outcome> {
     match error.print(rt) {
         Err(_) if error.exit_code() == 0 => fail(rt, "write failed"),
         _ if error.exit_code() == 0 => Ok(Outcome::Done),
@@ -585,7 +590,7 @@ fn obey<R: Runtime + AllocGlobal + Threads + Wait + Sync>(
     match task(alloc, words.as_slice()) {
         Ok(task) => run_task(rt, &task, sides),
         Err(error) if matches!(error.kind(), ErrorKind::OutOfMemory) => fail(rt, "out of memory"),
-        Err(error) => tell(rt, &error),
+        Err(error) => report(rt, &error),
     }
 }
 

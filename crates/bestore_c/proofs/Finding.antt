@@ -33,7 +33,7 @@ found_fault {X} view (Some n) e meant places filled count code pinned is =
     let known : (pinned.0 ≡ OutOfMemory) ⊎ (meant ≡ Err pinned.0) = pinned.2 in
     elim known [
       | inl none ↦ inl (subst (λ why. Refuses (Refused why) count code) none refused)
-      | inr told ↦ inr (subst (λ m. PutsOutAnswer m places filled count code) (sym told) refused)
+      | inr reported ↦ inr (subst (λ m. PutsOutAnswer m places filled count code) (sym reported) refused)
     ]
 
 -- the same for a result that is known to be an answer

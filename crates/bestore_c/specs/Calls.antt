@@ -4,7 +4,7 @@ use Rattle.std.specs.Prelude.{slice_get, Option, None, Some, Ok, Err}
 use Rattle.std.specs.declared.result.Result.{Result}
 use Rattle.be_journal.specs.declared.entries.Entry.{Entry}
 use Rattle.be_journal.specs.Journal.{IsLegal}
-use Rattle.be_paged_reading.specs.Cells.{TellsColumns, name_in}
+use Rattle.be_paged_reading.specs.Cells.{ReportsColumns, name_in}
 use Rattle.be_paged_reading.specs.declared.cells.Cell.{Cell}
 use Rattle.be_paged_reading.specs.declared.cells.HeldName.{HeldName}
 use Rattle.be_query.specs.Grammar.{Formula, IsTextOf}
@@ -12,7 +12,7 @@ use Rattle.be_query.specs.Printing.{or_text}
 use Rattle.be_session.specs.Fault.{fault_carried, fault_code}
 use Rattle.be_session.specs.Items.{IsBuilt, IsUnbuilt}
 use Rattle.be_session.specs.Meaning.{HasNoMore, IsNoName, IsValueMeant}
-use Rattle.be_session.specs.Operations.{AreMeant, AreSpelled, IsMisspelt, IsWriteCount, TellNodes}
+use Rattle.be_session.specs.Operations.{AreMeant, AreEncoded, IsInvalid, IsWriteCount, ReportNodes}
 use Rattle.be_session.specs.Explained.{explanation_in}
 use Rattle.be_session.specs.Prepared.{IsUnasked, PreparedQuery, with_found}
 use Rattle.be_session.specs.Sitting.{IsHandedOut, IsNoQuery, IsOpened, IsUnrefreshed, IsUnwritten}
@@ -22,7 +22,7 @@ use Rattle.be_session.specs.declared.faults.Fault.TheVariants.{BadCount, NotPinn
 use Rattle.be_session.specs.declared.items.PredicateItem.{PredicateItem}
 use Rattle.be_session.specs.declared.lists.Operation.{Operation}
 use Rattle.be_store.specs.Conditional.{AcceptsAt}
-use Rattle.be_store.specs.History.{Accepts, IsUntold, Learns, LocksAndUnlocks, text_seen}
+use Rattle.be_store.specs.History.{Accepts, IsUnreported, Learns, LocksAndUnlocks, text_seen}
 use Rattle.be_store.specs.Live.{Refreshes}
 use Rattle.be_store.specs.Passes.{HasRead, IsPinnedTo, volume_pinned}
 use Rattle.be_table.specs.Rule.{IsWithin, entries}
@@ -106,11 +106,11 @@ MovesHandle (Some s) None from to code = (code ≡ 0) × (from ≡ None) × (to 
 -- index in the list. Otherwise they encode operations. If the store accepts these, the call returns
 -- the numbers of new nodes, and the number is the journal's length. If it doesn't, the number is
 -- what the error carries.
-abbrev pub WritesSpelled : Sitting → Sitting → List Operation → List ℕ → List ℕ → List ℕ → ℕ → ℕ
+abbrev pub WritesEncoded : Sitting → Sitting → List Operation → List ℕ → List ℕ → List ℕ → ℕ → ℕ
     → Type 0
-WritesSpelled s t spelled bytes places filled number code =
-    ((e : Fault) × (code ≡ fault_code e) × IsMisspelt spelled bytes e number × (t ≡ s))
-    ⊎ (IsWriteCount (length spelled) × (ops : List Op) × AreMeant spelled bytes ops ×
+WritesEncoded s t encoded bytes places filled number code =
+    ((e : Fault) × (code ≡ fault_code e) × IsInvalid encoded bytes e number × (t ≡ s))
+    ⊎ (IsWriteCount (length encoded) × (ops : List Op) × AreMeant encoded bytes ops ×
     (((code ≡ 0) × (dones : List Done) × Accepts s.knows t.knows ops number dones
     × (filled ≡ over (map node_of dones) places))
     ⊎ ((e : Fault) × Refuses e number code × IsUnwritten s.knows t.knows ops e)))
@@ -118,19 +118,19 @@ WritesSpelled s t spelled bytes places filled number code =
 -- A conditional write of encoded operations. If one of them is invalid, nothing happens. Otherwise
 -- the store accepts them on a journal of `expected` entries, and the number is the journal's
 -- length; or it writes nothing, and the number is what the error carries.
-abbrev pub WritesSpelledIf : Sitting → Sitting → ℕ → List Operation → List ℕ → List ℕ → List ℕ → ℕ
+abbrev pub WritesEncodedIf : Sitting → Sitting → ℕ → List Operation → List ℕ → List ℕ → List ℕ → ℕ
     → ℕ → Type 0
-WritesSpelledIf s t expected spelled bytes places filled number code =
-    ((e : Fault) × (code ≡ fault_code e) × IsMisspelt spelled bytes e number × (t ≡ s))
-    ⊎ (IsWriteCount (length spelled) × (ops : List Op) × AreMeant spelled bytes ops ×
+WritesEncodedIf s t expected encoded bytes places filled number code =
+    ((e : Fault) × (code ≡ fault_code e) × IsInvalid encoded bytes e number × (t ≡ s))
+    ⊎ (IsWriteCount (length encoded) × (ops : List Op) × AreMeant encoded bytes ops ×
     (((code ≡ 0) × (dones : List Done) × AcceptsAt s.knows t.knows expected ops number dones
     × (filled ≡ over (map node_of dones) places))
     ⊎ ((e : Fault) × Refuses e number code × IsUnwrittenIf s.knows t.knows expected ops e)))
 
 -- a number that is read from the pinned version; without a pin, NotPinned
-abbrev pub TellsNumber : Option ℕ → ℕ → ℕ → ℕ → Type 0
-TellsNumber None meant number code = Refuses NotPinned number code
-TellsNumber (Some n) meant number code = (code ≡ 0) × (number ≡ meant)
+abbrev pub ReportsNumber : Option ℕ → ℕ → ℕ → ℕ → Type 0
+ReportsNumber None meant number code = Refuses NotPinned number code
+ReportsNumber (Some n) meant number code = (code ≡ 0) × (number ≡ meant)
 
 -- A version's answer, a list of nodes or of a text's bytes: its length, and as many items as there
 -- are places. Or an error, with what it carries.
@@ -167,40 +167,40 @@ Explains s t text places filled count code =
 -- query's answer.
 abbrev pub FindsBuilt : Sitting → Sitting → List PredicateItem → List ℕ → List ℕ → List ℕ → ℕ → ℕ
     → Type 0
-FindsBuilt s t spelled bytes places filled count code =
-    ((e : Fault) × (code ≡ fault_code e) × IsUnbuilt spelled bytes e count × (t ≡ s))
-    ⊎ ((query : Formula) × IsBuilt spelled bytes query × HasRead s.knows t.knows
+FindsBuilt s t encoded bytes places filled count code =
+    ((e : Fault) × (code ≡ fault_code e) × IsUnbuilt encoded bytes e count × (t ≡ s))
+    ⊎ ((query : Formula) × IsBuilt encoded bytes query × HasRead s.knows t.knows
     × PutsOutAtPin (pinned_number s.knows.phase) (scan (volume_pinned s.knows) query) places filled
     count code)
 
 -- a value's type code, number and length, and as many of its bytes as there are places
 abbrev pub ShowsValue : Value → Attribute → List ℕ → List ℕ → Type 0
-ShowsValue value told places filled =
-    (bytes : List ℕ) × IsValueMeant told.code told.number bytes value
-    × HasNoMore told.number bytes value
-    × (told.length ≡ length bytes) × (filled ≡ over bytes places)
+ShowsValue value reported places filled =
+    (bytes : List ℕ) × IsValueMeant reported.code reported.number bytes value
+    × HasNoMore reported.number bytes value
+    × (reported.length ≡ length bytes) × (filled ≡ over bytes places)
 
 -- the attribute in the pinned version; 66 without a pin, and 3 if there is no such attribute
 abbrev pub Shown : Option ℕ → Option Value → Attribute → List ℕ → List ℕ → ℕ → Type 0
-Shown None found told places filled code = code ≡ 66
-Shown (Some n) None told places filled code = code ≡ 3
-Shown (Some n) (Some value) told places filled code = (code ≡ 0)
-    × ShowsValue value told places filled
+Shown None found reported places filled code = code ≡ 66
+Shown (Some n) None reported places filled code = code ≡ 3
+Shown (Some n) (Some value) reported places filled code = (code ≡ 0)
+    × ShowsValue value reported places filled
 
 -- A read of an attribute. If the bytes aren't a valid name, nothing happens; otherwise the call
 -- returns the attribute.
 abbrev pub Reads : Sitting → Sitting → ℕ → List ℕ → Attribute → List ℕ → List ℕ → ℕ → Type 0
-Reads s t node name told places filled code =
+Reads s t node name reported places filled code =
     ((e : Fault) × (code ≡ fault_code e) × IsNoName name e × (t ≡ s))
     ⊎ (IsUtf8 name × (name_from name ≡ Ok name) × HasRead s.knows t.knows
-    × Shown (pinned_number s.knows.phase) (attribute (volume_pinned s.knows) node name) told places
-    filled code)
+    × Shown (pinned_number s.knows.phase) (attribute (volume_pinned s.knows) node name) reported
+    places filled code)
 
 -- the same for a name that was checked before
 abbrev pub ReadsHeld : Sitting → Sitting → ℕ → List ℕ → Attribute → List ℕ → List ℕ → ℕ → Type 0
-ReadsHeld s t node name told places filled code =
+ReadsHeld s t node name reported places filled code =
     HasRead s.knows t.knows × Shown (pinned_number s.knows.phase)
-    (attribute (volume_pinned s.knows) node name) told places filled code
+    (attribute (volume_pinned s.knows) node name) reported places filled code
 
 -- A call checks a name and keeps it. If the bytes aren't a valid name, `held` stays as it was.
 abbrev pub HoldsName : List ℕ → HeldName → HeldName → ℕ → Type 0
@@ -210,12 +210,12 @@ HoldsName bytes was held code =
 
 -- The cells of these nodes at these names in the pinned version. Without a pin, NotPinned; with
 -- more than 2^32 cells, BadCount.
-abbrev pub TellsAtPin : Option ℕ → State → List ℕ → List (List ℕ) → List Cell → List Cell → List ℕ
+abbrev pub ReportsAtPin : Option ℕ → State → List ℕ → List (List ℕ) → List Cell → List Cell → List ℕ
     → List ℕ → ℕ → ℕ → Type 0
-TellsAtPin None volume nodes names cell_places cells places filled needed code = Refuses NotPinned
+ReportsAtPin None volume nodes names cell_places cells places filled needed code = Refuses NotPinned
     needed code
-TellsAtPin (Some n) volume nodes names cell_places cells places filled needed code =
-    ((code ≡ 0) × TellsColumns volume nodes names cell_places cells places filled needed)
+ReportsAtPin (Some n) volume nodes names cell_places cells places filled needed code =
+    ((code ≡ 0) × ReportsColumns volume nodes names cell_places cells places filled needed)
     ⊎ (Refuses BadCount needed code × (2 ^ 32 < length nodes * length names))
 
 -- A list is returned as these operations: how many operations and bytes their encoding has, and as
@@ -224,7 +224,7 @@ abbrev pub IsPutOut : List Op → Counts → List Operation → List Operation �
     → Type 0
 IsPutOut ops counts places filled byte_places bytes code =
     (code ≡ 10)
-    ⊎ ((code ≡ 0) × (os : List Operation) × (bs : List ℕ) × AreSpelled os bs ops
+    ⊎ ((code ≡ 0) × (os : List Operation) × (bs : List ℕ) × AreEncoded os bs ops
     × (counts.operations ≡ length os) × (filled ≡ over os places) × (counts.bytes ≡ length bs)
     × (bytes ≡ over bs byte_places))
 
@@ -329,29 +329,29 @@ abbrev pub IsEntryPutOut : Option Entry → ℕ → Counts → List Operation �
 IsEntryPutOut None by counts places filled byte_places bytes = (by ≡ 0) × (counts.operations ≡ 0)
     × (counts.bytes ≡ 0) × (filled ≡ places) × (bytes ≡ byte_places)
 IsEntryPutOut (Some entry) by counts places filled byte_places bytes =
-    (by ≡ entry.by) × (os : List Operation) × (bs : List ℕ) × AreSpelled os bs entry.ops
-    × TellNodes os entry.ops entry.dones
+    (by ≡ entry.by) × (os : List Operation) × (bs : List ℕ) × AreEncoded os bs entry.ops
+    × ReportNodes os entry.ops entry.dones
     × (counts.operations ≡ length os) × (filled ≡ over os places) × (counts.bytes ≡ length bs)
     × (bytes ≡ over bs byte_places)
 
 -- The journal's entry with this index, as far as the pass has seen the journal after the call, and
 -- the journal's length. The call's moves are a lock and an unlock. Or an error, with what it
 -- carries.
-abbrev pub TellsEntry : Sitting → Sitting → ℕ → ℕ → Counts → List Operation → List Operation
+abbrev pub ReportsEntry : Sitting → Sitting → ℕ → ℕ → Counts → List Operation → List Operation
     → List ℕ → List ℕ → ℕ → ℕ → Type 0
-TellsEntry s t from by counts places filled byte_places bytes number code =
+ReportsEntry s t from by counts places filled byte_places bytes number code =
     Learns s.knows t.knows
     × (((code ≡ 0) × LocksAndUnlocks s.knows t.knows × (number ≡ length t.knows.seen)
     × IsEntryPutOut (slice_get (entries t.knows.seen) from) by counts places filled byte_places
     bytes)
-    ⊎ ((why : Refusal) × Refuses (Refused why) number code × IsUntold s.knows t.knows why))
+    ⊎ ((why : Refusal) × Refuses (Refused why) number code × IsUnreported s.knows t.knows why))
 
 -- The journal, as far as the pass has seen it after the call, is legal. The call returns the length
 -- of its text, and as many of its bytes as there are places. Its moves are a lock and an unlock. Or
 -- it returns an error, with what that carries.
-abbrev pub TellsJournal : Sitting → Sitting → List ℕ → List ℕ → ℕ → ℕ → Type 0
-TellsJournal s t places filled count code =
+abbrev pub ReportsJournal : Sitting → Sitting → List ℕ → List ℕ → ℕ → ℕ → Type 0
+ReportsJournal s t places filled count code =
     Learns s.knows t.knows × IsLegal (entries t.knows.seen)
     × (((code ≡ 0) × LocksAndUnlocks s.knows t.knows × (count ≡ length (text_seen t.knows))
     × (filled ≡ over (text_seen t.knows) places))
-    ⊎ ((why : Refusal) × Refuses (Refused why) count code × IsUntold s.knows t.knows why))
+    ⊎ ((why : Refusal) × Refuses (Refused why) count code × IsUnreported s.knows t.knows why))

@@ -8,7 +8,7 @@ use Rattle.be_session.specs.Changes.{Abandons, CollectsMeant, EndsChange, IsNotC
 use Rattle.be_session.specs.Changes.{IsUnwrittenChange, WritesChange}
 use Rattle.be_session.specs.Fault.{fault_code}
 use Rattle.be_session.specs.Meaning.{IsNoName}
-use Rattle.be_session.specs.Operations.{AreMeant, IsMisspelt, IsWriteCount}
+use Rattle.be_session.specs.Operations.{AreMeant, IsInvalid, IsWriteCount}
 use Rattle.be_session.specs.Sitting.{Sitting}
 use Rattle.be_session.specs.declared.faults.Fault.{Fault}
 use Rattle.be_session.specs.declared.faults.Fault.TheVariants.{Refused}
@@ -44,11 +44,11 @@ TakesAnyKind (Some c) (Some d) code = (code ≡ 0) × (d ≡ record c { checks =
 
 -- The change collects an operation, and the call returns the number of the node that it will make,
 -- or 0. After an error the change is as it was. Or its handle is closed.
-abbrev pub AddsSpelled : Option Changing → Option Changing → Operation → List ℕ → ℕ → ℕ → Type 0
-AddsSpelled None None o bytes node code = IsClosed node code
-AddsSpelled None (Some d) o bytes node code = ⊥
-AddsSpelled (Some c) None o bytes node code = ⊥
-AddsSpelled (Some c) (Some d) o bytes node code =
+abbrev pub AddsEncoded : Option Changing → Option Changing → Operation → List ℕ → ℕ → ℕ → Type 0
+AddsEncoded None None o bytes node code = IsClosed node code
+AddsEncoded None (Some d) o bytes node code = ⊥
+AddsEncoded (Some c) None o bytes node code = ⊥
+AddsEncoded (Some c) (Some d) o bytes node code =
     ((code ≡ 0) × CollectsMeant c d o bytes node)
     ⊎ ((e : Fault) × Refuses e node code × (d ≡ c) × IsNotCollected c o bytes e)
 
@@ -56,21 +56,21 @@ AddsSpelled (Some c) (Some d) o bytes node code =
 -- to the change's snapshot. Otherwise 66.
 abbrev pub ShowsChanged : Changing → Knowledge → ℕ → List ℕ → Attribute → List ℕ → List ℕ → ℕ
     → Type 0
-ShowsChanged c a node name told places filled code =
+ShowsChanged c a node name reported places filled code =
     ((¬ (IsPinnedTo a c.number)) × (code ≡ 66))
     ⊎ (IsPinnedTo a c.number × (found : Option Value)
-    × Shown (Some c.number) found told places filled code
+    × Shown (Some c.number) found reported places filled code
     × (Reads c (volume_pinned a)
     → After c (volume_pinned a) (λ s. found ≡ attribute s node name)))
 
 -- A read in a change. If its handle is closed, or the bytes aren't a valid name, nothing happens.
 abbrev pub ReadsDraft : Sitting → Sitting → Option Changing → ℕ → List ℕ → Attribute → List ℕ
     → List ℕ → ℕ → Type 0
-ReadsDraft s t None node name told places filled code = (code ≡ 64) × (t ≡ s)
-ReadsDraft s t (Some c) node name told places filled code =
+ReadsDraft s t None node name reported places filled code = (code ≡ 64) × (t ≡ s)
+ReadsDraft s t (Some c) node name reported places filled code =
     ((e : Fault) × (code ≡ fault_code e) × IsNoName name e × (t ≡ s))
     ⊎ (IsUtf8 name × (name_from name ≡ Ok name) × HasRead s.knows t.knows
-    × ShowsChanged c s.knows node name told places filled code)
+    × ShowsChanged c s.knows node name reported places filled code)
 
 -- the operations that a change has collected, or its handle is closed
 abbrev pub ListsDraft : Option Changing → Counts → List Operation → List Operation → List ℕ
@@ -99,9 +99,9 @@ AbandonsDraft s t (Some c) code = (code ≡ 0) × Abandons c s.knows t.knows
 -- happens, and the number is its index in the list. Otherwise they encode operations. If the store
 -- accepts these, the number is the commit number. If it doesn't, the number is the index of the
 -- first set of a wrong kind, or what the error carries.
-abbrev pub WritesSpelledChange : Sitting → Sitting → List Operation → List ℕ → ℕ → ℕ → Type 0
-WritesSpelledChange s t spelled bytes number code =
-    ((e : Fault) × (code ≡ fault_code e) × IsMisspelt spelled bytes e number × (t ≡ s))
-    ⊎ (IsWriteCount (length spelled) × (ops : List Op) × AreMeant spelled bytes ops
+abbrev pub WritesEncodedChange : Sitting → Sitting → List Operation → List ℕ → ℕ → ℕ → Type 0
+WritesEncodedChange s t encoded bytes number code =
+    ((e : Fault) × (code ≡ fault_code e) × IsInvalid encoded bytes e number × (t ≡ s))
+    ⊎ (IsWriteCount (length encoded) × (ops : List Op) × AreMeant encoded bytes ops
     × (((code ≡ 0) × WritesChange s.knows t.knows ops number)
     ⊎ ((e : Fault) × (code ≡ fault_code e) × IsUnwrittenChange s.knows t.knows ops e number)))

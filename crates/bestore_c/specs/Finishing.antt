@@ -7,7 +7,7 @@ use Rattle.be_session.specs.Finishing.{IsFinishedBy, IsNotLast}
 use Rattle.be_session.specs.Sitting.{Sitting}
 use Rattle.be_session.specs.declared.faults.Fault.{Fault}
 use Rattle.be_session.specs.declared.faults.Fault.TheVariants.{InUse, Refused}
-use Rattle.be_store.specs.History.{IsUntold, Learns, LocksAndUnlocks, text_seen}
+use Rattle.be_store.specs.History.{IsUnreported, Learns, LocksAndUnlocks, text_seen}
 use Rattle.be_table.specs.declared.limits.Limits.{Limits}
 use Rattle.be_table.specs.declared.pass.Knowledge.{Knowledge}
 use Rattle.be_value.specs.declared.refusals.Refusal.{Refusal}
@@ -31,7 +31,7 @@ IsNoEnd s t room count code =
     ((t ≡ s) × (e : Fault) × IsNotLast e × Refuses e count code)
     ⊎ (Learns s.knows t.knows × (((code ≡ 0) × LocksAndUnlocks s.knows t.knows
     × (count ≡ length (text_seen t.knows)) × (room < count))
-    ⊎ ((why : Refusal) × Refuses (Refused why) count code × IsUntold s.knows t.knows why)))
+    ⊎ ((why : Refusal) × Refuses (Refused why) count code × IsUnreported s.knows t.knows why)))
 
 -- Closing a store by its last handle, which is then closed. A handle that isn't the last one stays
 -- open, and so does the last one if there is too little room. If another session got hold of the

@@ -4,8 +4,8 @@ use Rattle.be_query.specs.Faults.{fault}
 use Rattle.be_query.specs.Grammar.{Formula, IsTextOf}
 use Rattle.be_query_text.specs.Described.{Description, described, leaves}
 use Rattle.be_query_text.specs.Places.{places}
-use Rattle.be_query_text.specs.Spelled.{bytes_of, spelled_from}
-use Rattle.be_query_text.specs.declared.spelling.SpelledComparison.{SpelledComparison}
+use Rattle.be_query_text.specs.EncodedComparisons.{bytes_of, encoded_from}
+use Rattle.be_query_text.specs.declared.encoding.EncodedComparison.{EncodedComparison}
 use Rattle.be_session.specs.Sitting.{IsNoQuery}
 use Rattle.be_session.specs.declared.faults.Fault.{Fault}
 use Rattle.bestore_c.specs.Calls.{Refuses}
@@ -14,15 +14,15 @@ use Rattle.bestore_c.specs.declared.handle.Counts.{Counts}
 
 -- How many comparisons there are, how many bytes these take, and as many of both as there are
 -- places.
-pub record Lists (ds : List Description) (counts : Counts) (rows listed : List SpelledComparison)
+pub record Lists (ds : List Description) (counts : Counts) (rows listed : List EncodedComparison)
     (places filled : List ℕ) : Type 0 where
-  pub comparisons : counts.operations ≡ length (spelled_from 0 ds)
-  pub list : listed ≡ over (spelled_from 0 ds) rows
+  pub comparisons : counts.operations ≡ length (encoded_from 0 ds)
+  pub list : listed ≡ over (encoded_from 0 ds) rows
   pub bytes : counts.bytes ≡ length (bytes_of ds)
   pub text : filled ≡ over (bytes_of ds) places
 
 -- The comparisons of the tree that a text encodes, each with its place in the text.
-abbrev pub ListsComparisons : List ℕ → Counts → List SpelledComparison → List SpelledComparison
+abbrev pub ListsComparisons : List ℕ → Counts → List EncodedComparison → List EncodedComparison
     → List ℕ → List ℕ → Type 0
 ListsComparisons text counts rows listed bytes filled = (fault text ≡ None) × (tree : Formula)
     × IsTextOf text tree

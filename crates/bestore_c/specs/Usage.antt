@@ -4,7 +4,7 @@ use Rattle.std.specs.declared.option.Option.{Option}
 use Rattle.be_session.specs.Sitting.{Sitting}
 use Rattle.be_session.specs.declared.faults.Fault.TheVariants.{Refused}
 use Rattle.be_store.specs.History.{Learns}
-use Rattle.be_store.specs.Statuses.{TellsStatus}
+use Rattle.be_store.specs.Statuses.{ReportsStatus}
 use Rattle.be_table.specs.Works.{FoundHeld}
 use Rattle.be_table.specs.declared.status.Announcement.{Announcement}
 use Rattle.be_table.specs.declared.status.Status.{Status}
@@ -28,9 +28,9 @@ pub record Shows (s : Status) (u : Usage) : Type 0 where
 
 -- How full the store is: the call returns what the store reports. Or another pass holds the lock,
 -- and the error names it.
-abbrev pub TellsUsage : Sitting → Sitting → Usage → ℕ → ℕ → Type 0
-TellsUsage s t usage number code =
+abbrev pub ReportsUsage : Sitting → Sitting → Usage → ℕ → ℕ → Type 0
+ReportsUsage s t usage number code =
     Learns s.knows t.knows
-    × (((code ≡ 0) × (number ≡ 0) × (told : Status) × TellsStatus s.knows t.knows told
-    × Shows told usage)
+    × (((code ≡ 0) × (number ≡ 0) × (reported : Status) × ReportsStatus s.knows t.knows reported
+    × Shows reported usage)
     ⊎ ((why : Refusal) × Refuses (Refused why) number code × FoundHeld why s.knows t.knows))

@@ -45,7 +45,7 @@ pub(crate) fn query_for(
 
 /// Writes how many nodes a session found, and as many of them as there is room for; or the number
 /// that its error carries. What this means for the version follows from the session's own contract.
-pub(crate) fn tell(answer: Result<Vec<u64>, Fault>, nodes: &mut [u64], count: &mut u64) -> u32
+pub(crate) fn report(answer: Result<Vec<u64>, Fault>, nodes: &mut [u64], count: &mut u64) -> u32
     ensures found { (pin : AnyOption ℕ) (meant : AnyResult (List ℕ) AnyRefusal)
         → AtPin pin answer (ReadAnswers (λ found. found.items) answer meant)
         → PutsOutAtPin pin meant nodes.old nodes.new count.new result }
@@ -71,8 +71,8 @@ pub(crate) fn put_text(text: &str, bytes: &mut [u8], count: &mut u64)
 }
 
 /// Writes the length of a session's text in bytes, and as many of them as there is room for.
-/// Otherwise as `tell`.
-pub(crate) fn tell_text(answer: Result<String, Fault>, bytes: &mut [u8], count: &mut u64) -> u32
+/// Otherwise as `report`.
+pub(crate) fn report_text(answer: Result<String, Fault>, bytes: &mut [u8], count: &mut u64) -> u32
     ensures found { (pin : AnyOption ℕ) (meant : AnyResult (List ℕ) AnyRefusal)
         → AtPin pin answer (ReadAnswers string_bytes answer meant)
         → PutsOutAtPin pin meant bytes.old bytes.new count.new result }
@@ -87,7 +87,7 @@ pub(crate) fn tell_text(answer: Result<String, Fault>, bytes: &mut [u8], count: 
     }
 }
 
-/// Runs a prepared query in the session's pinned version, and returns what `tell` returns for its
+/// Runs a prepared query in the session's pinned version, and returns what `report` returns for its
 /// answer.
 pub(crate) fn find_prepared(
     session: &mut Session,

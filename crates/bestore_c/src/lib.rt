@@ -23,16 +23,18 @@ ghost use Rattle.bestore_c.specs.Calls.{FindsBuilt, GivesAnother, IsClosed};
 ghost use Rattle.bestore_c.specs.Calls.{IsTextFault, Listed, MovesHandle, Opens, Prepares};
 ghost use Rattle.bestore_c.specs.Calls.{PrintsPrepared, PutsOutAtPin, Reads, RefreshesPrepared};
 ghost use Rattle.bestore_c.specs.Calls.{Refuses, ShowsFound};
-ghost use Rattle.bestore_c.specs.Calls.{HoldsName, ReadsHeld, ShowsChanges, TellsAtPin, TellsEntry};
-ghost use Rattle.bestore_c.specs.Calls.{TellsJournal, TellsNumber, WritesSpelled, WritesSpelledIf};
-ghost use Rattle.bestore_c.specs.Drafts.{AbandonsDraft, AddsSpelled, BeginsDraft, EndsDraft};
+ghost use Rattle.bestore_c.specs.Calls.{HoldsName, ReadsHeld, ShowsChanges, ReportsAtPin};
+ghost use Rattle.bestore_c.specs.Calls.{ReportsEntry};
+ghost use Rattle.bestore_c.specs.Calls.{ReportsJournal, ReportsNumber, WritesEncoded};
+ghost use Rattle.bestore_c.specs.Calls.{WritesEncodedIf};
+ghost use Rattle.bestore_c.specs.Drafts.{AbandonsDraft, AddsEncoded, BeginsDraft, EndsDraft};
 ghost use Rattle.bestore_c.specs.Drafts.{ListsDraft, ReadsDraft, TakesAnyKind};
-ghost use Rattle.bestore_c.specs.Drafts.{WritesSpelledChange};
+ghost use Rattle.bestore_c.specs.Drafts.{WritesEncodedChange};
 ghost use Rattle.bestore_c.specs.Finishing.{Finishes};
 ghost use Rattle.bestore_c.specs.Ordering.{AnyFew, First, IsRefreshedHere, Ordered};
 ghost use Rattle.bestore_c.specs.Ordering.{ReadsPrepared, RefreshesByWrites};
-ghost use Rattle.bestore_c.specs.States.{TellsState, untold_at};
-ghost use Rattle.bestore_c.specs.Usage.{TellsUsage};
+ghost use Rattle.bestore_c.specs.States.{ReportsState, unreported_at};
+ghost use Rattle.bestore_c.specs.Usage.{ReportsUsage};
 ghost use Rattle.bestore_c.specs.Witnesses.{AreOfOneStore, JoinsWitness, Vouches};
 
 mod asking;
@@ -51,24 +53,24 @@ mod owned_witness;
 mod places;
 mod reading;
 mod refusing;
+mod reporting;
 mod states;
-mod telling;
 pub mod texts;
 
-use asking::{find_prepared, put_text, query_for, refresh_prepared, tell, tell_text};
+use asking::{find_prepared, put_text, query_for, refresh_prepared, report, report_text};
 use be_session::{
-    Cursor, HeldOrder, Operation, PredicateItem, Session, collect_operation, held_name, name,
-    operations, operations_spelled, prepare, prepare_items, query_of_items,
+    Cursor, HeldOrder, Operation, PredicateItem, Session, collect_operation, encoded_operations,
+    held_name, name, operations, prepare, prepare_items, query_of_items,
 };
 use be_store::{ArrayVec, Cell, HeldName, Limits};
 use drafts::{read_changed, take_change};
-use entries::tell_entry;
+use entries::report_entry;
 use finishing::{end, last_text};
 use handle::{
     Attribute, Counts, DraftHandle, Handle, PlaceHandle, PreparedHandle, UpdateCounts, Usage,
     WitnessHandle,
 };
-use listing::{put_spelled, tell_attributes, tell_indices};
+use listing::{put_encoded, report_attributes, report_indices};
 use ordering::{find_any, find_first, find_ordered, refresh_changed};
 use owned::Owned;
 use owned_draft::OwnedDraft;
@@ -78,10 +80,10 @@ use owned_witness::OwnedWitness;
 use places::{from_on, put, put_nodes};
 use reading::read;
 use refusing::{refuse, refuse_list};
-use states::{begin, tell_state};
+use reporting::usage_of;
+use states::{begin, report_state};
 use std::alloc::Global;
 use std::mem;
-use telling::usage_of;
 
 /// What a call without an error returns.
 const DONE: u32 = 0;
@@ -376,22 +378,22 @@ pub extern "C" fn bes_unpin(pass: &mut Handle) -> u32
 pub extern "C" fn bes_apply(
     alloc: Global,
     pass: &mut Handle,
-    spelled: &[Operation],
+    encoded: &[Operation],
     bytes: &[u8],
     made: &mut [u64],
     entries: &mut u64,
 ) -> u32
     ensures pass { Calls pass.old.owned.value pass.new.owned.value (IsClosed entries.new result)
-        (λ s t. WritesSpelled s t spelled.now bytes.now made.old made.new entries.new result) }
+        (λ s t. WritesEncoded s t encoded.now bytes.now made.old made.new entries.new result) }
     ensures kept { (result ≡ 0) ⊎ (made.new ≡ made.old) }
 {
     if !pass.live {
         *entries = 0;
         return CLOSED;
     }
-    let ops = match operations(alloc, spelled, bytes) {
+    let ops = match operations(alloc, encoded, bytes) {
         Ok(ops) => ops,
-        Err(misspelt) => return refuse_list(misspelt, entries),
+        Err(invalid) => return refuse_list(invalid, entries),
     };
     let mut dones = ArrayVec::new();
     let answer = pass.owned.lent().apply(ops.as_slice(), &mut dones);
@@ -412,13 +414,13 @@ pub extern "C" fn bes_apply_if(
     alloc: Global,
     pass: &mut Handle,
     expected: u64,
-    spelled: &[Operation],
+    encoded: &[Operation],
     bytes: &[u8],
     made: &mut [u64],
     entries: &mut u64,
 ) -> u32
     ensures pass { Calls pass.old.owned.value pass.new.owned.value (IsClosed entries.new result)
-        (λ s t. WritesSpelledIf s t expected spelled.now bytes.now made.old made.new entries.new
+        (λ s t. WritesEncodedIf s t expected encoded.now bytes.now made.old made.new entries.new
         result) }
     ensures kept { (result ≡ 0) ⊎ (made.new ≡ made.old) }
 {
@@ -426,9 +428,9 @@ pub extern "C" fn bes_apply_if(
         *entries = 0;
         return CLOSED;
     }
-    let ops = match operations(alloc, spelled, bytes) {
+    let ops = match operations(alloc, encoded, bytes) {
         Ok(ops) => ops,
-        Err(misspelt) => return refuse_list(misspelt, entries),
+        Err(invalid) => return refuse_list(invalid, entries),
     };
     let mut dones = ArrayVec::new();
     let session = pass.owned.lent();
@@ -449,20 +451,20 @@ pub extern "C" fn bes_apply_if(
 pub extern "C" fn bes_apply_change(
     alloc: Global,
     pass: &mut Handle,
-    spelled: &[Operation],
+    encoded: &[Operation],
     bytes: &[u8],
     number: &mut u64,
 ) -> u32
     ensures pass { Calls pass.old.owned.value pass.new.owned.value (IsClosed number.new result)
-        (λ s t. WritesSpelledChange s t spelled.now bytes.now number.new result) }
+        (λ s t. WritesEncodedChange s t encoded.now bytes.now number.new result) }
 {
     if !pass.live {
         *number = 0;
         return CLOSED;
     }
-    let ops = match operations(alloc, spelled, bytes) {
+    let ops = match operations(alloc, encoded, bytes) {
         Ok(ops) => ops,
-        Err(misspelt) => return refuse_list(misspelt, number),
+        Err(invalid) => return refuse_list(invalid, number),
     };
     let session = pass.owned.lent();
     match session.apply_change(ops.as_slice()) {
@@ -529,18 +531,18 @@ pub extern "C" fn bes_change_any_kind(draft: &mut DraftHandle) -> u32
 #[unsafe(no_mangle)]
 pub extern "C" fn bes_change_add(
     draft: &mut DraftHandle,
-    spelled: &Operation,
+    encoded: &Operation,
     bytes: &[u8],
     node: &mut u64,
 ) -> u32
-    ensures { AddsSpelled draft.old.owned.value draft.new.owned.value spelled.now bytes.now node.new
+    ensures { AddsEncoded draft.old.owned.value draft.new.owned.value encoded.now bytes.now node.new
         result }
 {
     *node = 0;
     if !draft.live {
         return CLOSED;
     }
-    match collect_operation(draft.owned.lent(), spelled, bytes) {
+    match collect_operation(draft.owned.lent(), encoded, bytes) {
         Ok(made) => {
             *node = made;
             DONE
@@ -599,8 +601,8 @@ pub extern "C" fn bes_change_batch(
     if !draft.live {
         return CLOSED;
     }
-    let spelled = operations_spelled(alloc, draft.owned.lent().operations());
-    put_spelled(spelled, counts, listed, bytes)
+    let encoded = encoded_operations(alloc, draft.owned.lent().operations());
+    put_encoded(encoded, counts, listed, bytes)
 }
 
 /// Ends the change: writes what it has collected if no other write came since its snapshot, and
@@ -699,7 +701,7 @@ pub extern "C" fn bes_number(pass: &mut Handle, number: &mut u64) -> u32
 #[unsafe(no_mangle)]
 pub extern "C" fn bes_next(pass: &mut Handle, node: &mut u64) -> u32
     ensures pass { Calls pass.old.owned.value pass.new.owned.value (IsClosed node.new result)
-        (λ s t. HasRead s.knows t.knows × TellsNumber (pinned_number s.knows.phase)
+        (λ s t. HasRead s.knows t.knows × ReportsNumber (pinned_number s.knows.phase)
         (volume_pinned s.knows).next node.new result) }
 {
     if !pass.live {
@@ -730,7 +732,7 @@ pub extern "C" fn bes_journal_from(
     number: &mut u64,
 ) -> u32
     ensures pass { Calls pass.old.owned.value pass.new.owned.value (IsClosed number.new result)
-        (λ s t. TellsEntry s t from by.new counts.new listed.old listed.new bytes.old bytes.new
+        (λ s t. ReportsEntry s t from by.new counts.new listed.old listed.new bytes.old bytes.new
         number.new result) }
     ensures kept { (result ≡ 0) ⊎ ((by.new ≡ by.old) × (counts.new ≡ counts.old)
         × (listed.new ≡ listed.old) × (bytes.new ≡ bytes.old)) }
@@ -740,7 +742,7 @@ pub extern "C" fn bes_journal_from(
         return CLOSED;
     }
     let session = pass.owned.lent();
-    match tell_entry(alloc, session, from, by, counts, listed, bytes) {
+    match report_entry(alloc, session, from, by, counts, listed, bytes) {
         Ok(length) => {
             *number = length;
             DONE
@@ -768,7 +770,7 @@ pub extern "C" fn bes_query(
         Err(code) => return code,
     };
     let answer = pass.owned.lent().query(alloc, &query);
-    tell(answer, nodes, count)
+    report(answer, nodes, count)
 }
 
 /// Runs the query that these items build in reverse Polish order. Otherwise as `bes_query`.
@@ -776,25 +778,25 @@ pub extern "C" fn bes_query(
 pub extern "C" fn bes_query_items(
     alloc: Global,
     pass: &mut Handle,
-    spelled: &[PredicateItem],
+    encoded: &[PredicateItem],
     bytes: &[u8],
     nodes: &mut [u64],
     count: &mut u64,
 ) -> u32
     ensures pass { Calls pass.old.owned.value pass.new.owned.value (IsClosed count.new result)
-        (λ s t. FindsBuilt s t spelled.now bytes.now nodes.old nodes.new count.new result) }
+        (λ s t. FindsBuilt s t encoded.now bytes.now nodes.old nodes.new count.new result) }
     ensures kept { (result ≡ 0) ⊎ (nodes.new ≡ nodes.old) }
 {
     if !pass.live {
         *count = 0;
         return CLOSED;
     }
-    let built = match query_of_items(alloc, spelled, bytes) {
+    let built = match query_of_items(alloc, encoded, bytes) {
         Ok(query) => query,
-        Err(misspelt) => return refuse_list(misspelt, count),
+        Err(invalid) => return refuse_list(invalid, count),
     };
     let answer = pass.owned.lent().query(alloc, &built);
-    tell(answer, nodes, count)
+    report(answer, nodes, count)
 }
 
 /// Returns a text that names the indices which would answer this query in the pinned version.
@@ -816,7 +818,7 @@ pub extern "C" fn bes_explain(
         Err(code) => return code,
     };
     let answer = pass.owned.lent().explain(alloc, &query);
-    tell_text(answer, bytes, count)
+    report_text(answer, bytes, count)
 }
 
 /// Lists the pinned version's nodes from a number on, in ascending order, as many as there is room
@@ -841,14 +843,14 @@ pub extern "C" fn bes_nodes(
     }
     let room = nodes.len();
     let answer = pass.owned.lent().nodes(alloc, from, room);
-    tell(answer, nodes, count)
+    report(answer, nodes, count)
 }
 
 /// Returns how full the store is, and the oldest version that a pass has published.
 #[unsafe(no_mangle)]
 pub extern "C" fn bes_status(pass: &mut Handle, usage: &mut Usage, number: &mut u64) -> u32
     ensures pass { Calls pass.old.owned.value pass.new.owned.value (IsClosed number.new result)
-        (λ s t. TellsUsage s t usage.new number.new result) }
+        (λ s t. ReportsUsage s t usage.new number.new result) }
     ensures kept { (result ≡ 0) ⊎ (usage.new ≡ usage.old) }
 {
     *number = 0;
@@ -933,7 +935,7 @@ pub extern "C" fn bes_columns(
     count: &mut u64,
 ) -> u32
     ensures pass { Calls pass.old.owned.value pass.new.owned.value (IsClosed count.new result)
-        (λ s t. HasRead s.knows t.knows × TellsAtPin (pinned_number s.knows.phase)
+        (λ s t. HasRead s.knows t.knows × ReportsAtPin (pinned_number s.knows.phase)
         (volume_pinned s.knows) nodes.now (map name_in names.now)
         cells.old cells.new bytes.old bytes.new count.new result) }
     ensures kept { (result ≡ 0) ⊎ ((cells.new ≡ cells.old) × (bytes.new ≡ bytes.old)) }
@@ -973,7 +975,7 @@ pub extern "C" fn bes_attributes(
         return CLOSED;
     }
     let answer = pass.owned.lent().attrs(alloc, node);
-    tell_attributes(alloc, node, answer, counts, listed, bytes)
+    report_attributes(alloc, node, answer, counts, listed, bytes)
 }
 
 /// Lists the pinned version's indices, as the operations that make them. Otherwise as
@@ -997,7 +999,7 @@ pub extern "C" fn bes_indices(
         return CLOSED;
     }
     let answer = pass.owned.lent().indices(alloc);
-    tell_indices(alloc, answer, counts, listed, bytes)
+    report_indices(alloc, answer, counts, listed, bytes)
 }
 
 /// Returns the next operations that rebuild the pinned version, up to 64, and none after the last.
@@ -1014,9 +1016,9 @@ pub extern "C" fn bes_state(
 ) -> u32
     ensures pass { Calls pass.old.owned.value pass.new.owned.value
         ((result ≡ 64) × (place.new.owned.value ≡ place.old.owned.value))
-        (λ s t. HasRead s.knows t.knows × TellsState (pinned_number s.knows.phase)
-        (untold_at (volume_pinned s.knows) place.old.owned.value)
-        (untold_at (volume_pinned s.knows) place.new.owned.value)
+        (λ s t. HasRead s.knows t.knows × ReportsState (pinned_number s.knows.phase)
+        (unreported_at (volume_pinned s.knows) place.old.owned.value)
+        (unreported_at (volume_pinned s.knows) place.new.owned.value)
         counts.new listed.old listed.new bytes.old bytes.new result) }
     ensures kept { (result ≡ 0) ⊎ ((counts.new ≡ counts.old) × (listed.new ≡ listed.old)
         × (bytes.new ≡ bytes.old)) }
@@ -1027,7 +1029,7 @@ pub extern "C" fn bes_state(
     let Ok(()) = begin(alloc, place) else {
         return NO_MEMORY;
     };
-    tell_state(
+    report_state(
         alloc,
         pass.owned.lent(),
         place.owned.lent(),
@@ -1083,19 +1085,19 @@ pub extern "C" fn bes_prepare(
 #[unsafe(no_mangle)]
 pub extern "C" fn bes_prepare_items(
     alloc: Global,
-    spelled: &[PredicateItem],
+    encoded: &[PredicateItem],
     bytes: &[u8],
     prepared: &mut PreparedHandle,
     place: &mut u64,
 ) -> u32
-    ensures { Prepares (IsBuilt spelled.now bytes.now) (IsUnbuilt spelled.now bytes.now)
+    ensures { Prepares (IsBuilt encoded.now bytes.now) (IsUnbuilt encoded.now bytes.now)
         prepared.old.owned.value prepared.new.owned.value place.new result }
 {
     *place = 0;
     if prepared.live {
         return OPEN;
     }
-    match prepare_items(alloc, spelled, bytes) {
+    match prepare_items(alloc, encoded, bytes) {
         Ok(query) => {
             *prepared = PreparedHandle {
                 live: true,
@@ -1103,7 +1105,7 @@ pub extern "C" fn bes_prepare_items(
             };
             DONE
         }
-        Err(misspelt) => refuse_list(misspelt, place),
+        Err(invalid) => refuse_list(invalid, place),
     }
 }
 
@@ -1412,7 +1414,7 @@ pub extern "C" fn bes_changes(
 #[unsafe(no_mangle)]
 pub extern "C" fn bes_journal(pass: &mut Handle, bytes: &mut [u8], count: &mut u64) -> u32
     ensures pass { Calls pass.old.owned.value pass.new.owned.value (IsClosed count.new result)
-        (λ s t. TellsJournal s t bytes.old bytes.new count.new result) }
+        (λ s t. ReportsJournal s t bytes.old bytes.new count.new result) }
     ensures kept { (result ≡ 0) ⊎ (bytes.new ≡ bytes.old) }
 {
     if !pass.live {

@@ -14,7 +14,7 @@ use be_session::{Cursor, Fault, HeldOrder, Prepared, Session};
 
 /// Writes how many nodes a prepared query has found, and as many of them as there is room for; or
 /// the number that the error carries.
-fn tell_found(
+fn report_found(
     answer: Result<(), Fault>,
     prepared: &Prepared,
     nodes: &mut [u64],
@@ -67,7 +67,7 @@ pub(crate) fn find_ordered(
     match prepared.find_ordered(session, order, cursor) {
         Ok(others) => {
             *more = number_of(others);
-            tell_found(Ok(()), prepared, nodes, count)
+            report_found(Ok(()), prepared, nodes, count)
         }
         Err(fault) => refuse(fault, count),
     }
@@ -90,7 +90,7 @@ pub(crate) fn find_first(
     ensures kept { (result ≡ 0) ⊎ (nodes.new ≡ nodes.old) }
 {
     let answer = prepared.find_first(session, from, nodes.len());
-    tell_found(answer, prepared, nodes, count)
+    report_found(answer, prepared, nodes, count)
 }
 
 /// Writes any of a prepared query's nodes in the session's pinned version, as many as there is room
@@ -109,7 +109,7 @@ pub(crate) fn find_any(
     ensures kept { (result ≡ 0) ⊎ (nodes.new ≡ nodes.old) }
 {
     let answer = prepared.find_any(session, nodes.len());
-    tell_found(answer, prepared, nodes, count)
+    report_found(answer, prepared, nodes, count)
 }
 
 /// Refreshes a prepared query in the session's pinned version by what was written since its last

@@ -32,7 +32,7 @@ pub(crate) fn read(
     session: &mut Session,
     node: u64,
     name: &HeldName,
-    told: &mut Attribute,
+    reported: &mut Attribute,
     bytes: &mut [u8],
 ) -> u32
     ensures store { (session.new.store ≡ session.old.store)
@@ -40,15 +40,15 @@ pub(crate) fn read(
     ensures read { HasRead session.old.knows session.new.knows }
     ensures shown { Shown (pinned_number session.old.knows.phase)
         (attribute (volume_pinned session.old.knows) node (name_in name.now))
-        told.new bytes.old bytes.new result }
-    ensures kept { (result ≡ 0) ⊎ ((told.new ≡ told.old) × (bytes.new ≡ bytes.old)) }
+        reported.new bytes.old bytes.new result }
+    ensures kept { (result ≡ 0) ⊎ ((reported.new ≡ reported.old) × (bytes.new ≡ bytes.old)) }
 {
     if !session.is_pinned() {
         return Fault::NotPinned.code();
     }
     match session.get_into(node, name, bytes) {
         Ok(Some(cell)) => {
-            *told = attribute_of(cell);
+            *reported = attribute_of(cell);
             0
         }
         Ok(None) => NO_ATTRIBUTE,

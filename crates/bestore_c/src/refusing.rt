@@ -14,10 +14,10 @@ pub(crate) fn refuse(fault: Fault, number: &mut u64) -> u32
 }
 
 /// Writes the place of the list's invalid item, and returns the error's code.
-pub(crate) fn refuse_list(misspelt: ListFault, number: &mut u64) -> u32
-    ensures code { result ≡ fault_code misspelt.fault }
-    ensures place { number.new ≡ misspelt.place }
+pub(crate) fn refuse_list(invalid: ListFault, number: &mut u64) -> u32
+    ensures code { result ≡ fault_code invalid.fault }
+    ensures place { number.new ≡ invalid.place }
 {
-    *number = misspelt.place;
-    misspelt.fault.code()
+    *number = invalid.place;
+    invalid.fault.code()
 }

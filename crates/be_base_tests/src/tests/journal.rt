@@ -45,7 +45,7 @@ fn done_of(text: &str) -> Done {
     }
 }
 
-fn dones_of(alloc: Global, texts: &str) -> Result<Vec<Done>, AllocError> {
+fn outcomes_of(alloc: Global, texts: &str) -> Result<Vec<Done>, AllocError> {
     let mut dones = Vec::new(alloc);
     for text in texts.split(';') {
         dones.push(done_of(text))?;
@@ -57,7 +57,7 @@ fn dones_of(alloc: Global, texts: &str) -> Result<Vec<Done>, AllocError> {
 fn push_text(alloc: Global, journal: &mut Journal, text: &str) -> Result<(), Refusal> {
     let (ops, dones) = text.split_once(" -> ").unwrap_or((text, ""));
     let ops = list_of(alloc, ops)?;
-    let dones = dones_of(alloc, dones)?;
+    let dones = outcomes_of(alloc, dones)?;
     if ops.len() > 1 {
         return enter(journal, 0, &ops, &dones);
     }
@@ -175,7 +175,7 @@ fn room(alloc: Global, journal: &mut Journal) -> Result<&'static str, Refusal> {
 }
 
 /// The report on a journal: its text, whether it is legal, whether it has room, and its contents.
-fn told(alloc: Global, mut journal: Journal) -> Result<String, Refusal> {
+fn report(alloc: Global, mut journal: Journal) -> Result<String, Refusal> {
     let text = journal.text()?;
     let word = if is_legal(&journal)? {
         "legal"
@@ -188,20 +188,20 @@ fn told(alloc: Global, mut journal: Journal) -> Result<String, Refusal> {
 }
 
 /// The report on the journal of a request.
-pub(crate) fn told_of(alloc: Global, request: &str) -> Result<String, Refusal> {
-    told(alloc, journal_of(alloc, request)?)
+pub(crate) fn report_of(alloc: Global, request: &str) -> Result<String, Refusal> {
+    report(alloc, journal_of(alloc, request)?)
 }
 
 /// The report on 1,100 nodes, from the text after the 1,099th entry on.
-pub(crate) fn told_end(alloc: Global) -> Result<String, Refusal> {
-    let text = told(alloc, nodes(alloc)?)?;
+pub(crate) fn report_end(alloc: Global) -> Result<String, Refusal> {
+    let text = report(alloc, nodes(alloc)?)?;
     let front = "\n1099 by 0 new -> node 1099\n";
     let (_, end) = text.as_str().split_once(front).unwrap_or(("", ""));
     Ok(String::from_str(alloc, end)?)
 }
 
 /// How many of the long lists are found in their journal.
-pub(crate) fn told_lists(alloc: Global, text: &str) -> Result<String, Refusal> {
+pub(crate) fn report_lists(alloc: Global, text: &str) -> Result<String, Refusal> {
     let (count, _) = first_number(text);
     let journal = long_lists(alloc, count)?;
     let found = found_lists(&journal);
@@ -213,7 +213,7 @@ pub(crate) fn told_lists(alloc: Global, text: &str) -> Result<String, Refusal> {
 /// an entry that the volume refuses. The last line is the example `batches`: a list is entered in
 /// the room that was reserved for it.
 #[test]
-fn journals_are_told(rt: HostRuntime) -> Result<(), Fail> {
+fn journals_are_reported(rt: HostRuntime) -> Result<(), Fail> {
     let lines =
         "journal 2 new -> node 1 | set 1 size LONG 5 -> ok => 1 by 0 new -> node 1 / 2 by 0 set 1 \
          \"size\" LONG 5 -> ok / legal, spent, next 2 / attrs 1 / \"size\" LONG 5

@@ -10,9 +10,9 @@ use std::test::Fail;
 /// The answer to a command.
 fn answer(alloc: Global, command: &str, text: &str) -> Result<String, Refusal> {
     match command {
-        "journal" => journal::told_of(alloc, text),
-        "nodes" => journal::told_end(alloc),
-        "lists" => journal::told_lists(alloc, text),
+        "journal" => journal::report_of(alloc, text),
+        "nodes" => journal::report_end(alloc),
+        "lists" => journal::report_lists(alloc, text),
         "machine" => machine::is_opened(alloc, text),
         "free" => tree::free_with(alloc, text),
         "emptied" => tree::free_without(alloc, text),
@@ -45,7 +45,7 @@ fn answer_pattern(alloc: Global, command: &str, text: &str) -> Result<String, Re
         "decided" => pattern::is_decided_by_prefix(alloc, text),
         "around" => pattern::around(alloc, text),
         "kind" => value::kind_numbered(alloc, text),
-        "number" => value::number_spelt(alloc, text),
+        "number" => value::encoded_number(alloc, text),
         "pair" => value::key_of_pair(alloc, text),
         _ => answer_long(alloc, command, repeated(alloc, text)?.as_str()),
     }

@@ -1,6 +1,6 @@
 //! How many words a write stores, counted by its page writer.
 ghost use Rattle.std.specs.Prelude.{◌≡◌, ℕ, ◌<◌, IfOk, IsTrue, OnOk};
-ghost use Rattle.be_pages.specs.declared.room.Standing.TheVariants.{Free};
+ghost use Rattle.be_pages.specs.declared.room.PageState.TheVariants.{Free};
 ghost use Rattle.be_tree_reading.specs.Tree.{IsTree};
 
 use super::counting_look::room_of;
@@ -19,8 +19,8 @@ const KEYS: u64 = 600;
 /// Inserts the keys in an order that is far from ascending, each in a write that is kept, and
 /// returns the root.
 fn put_keys(room: &mut VecRoom) -> Result<u64, Refusal>
-    requires { (q : ℕ) → ⟦<VecRoom as Look>⟧.standing room.old q ≡ Free }
-    ensures { IfOk result (λ root. IsTree (⟦<VecRoom as Look>⟧.standing room.new)
+    requires { (q : ℕ) → ⟦<VecRoom as Look>⟧.page_state room.old q ≡ Free }
+    ensures { IfOk result (λ root. IsTree (⟦<VecRoom as Look>⟧.page_state room.new)
         (⟦<VecRoom as Look>⟧.words room.new) root) }
 {
     let mut root = 0;
@@ -49,9 +49,9 @@ impl Numbers {
 
 /// Inserts numbers, and returns the root.
 fn put_all<R: Room>(room: &mut R, root: u64, numbers: Numbers) -> Result<u64, Refusal>
-    requires tree { IsTree (R.standing room.old) (R.words room.old) root }
+    requires tree { IsTree (R.page_state room.old) (R.words room.old) root }
     requires open { IsTrue (R.is_open (R.kept room.old)) }
-    ensures tree { IfOk result (λ new. IsTree (R.standing room.new) (R.words room.new) new) }
+    ensures tree { IfOk result (λ new. IsTree (R.page_state room.new) (R.words room.new) new) }
 {
     let mut root = root;
     for i in 0..numbers.count {
@@ -62,9 +62,9 @@ fn put_all<R: Room>(room: &mut R, root: u64, numbers: Numbers) -> Result<u64, Re
 
 /// Removes numbers, and returns the root.
 fn take_all<R: Room>(room: &mut R, root: u64, numbers: Numbers) -> Result<u64, Refusal>
-    requires tree { IsTree (R.standing room.old) (R.words room.old) root }
+    requires tree { IsTree (R.page_state room.old) (R.words room.old) root }
     requires open { IsTrue (R.is_open (R.kept room.old)) }
-    ensures tree { IfOk result (λ new. IsTree (R.standing room.new) (R.words room.new) new) }
+    ensures tree { IfOk result (λ new. IsTree (R.page_state room.new) (R.words room.new) new) }
     ensures kept { OnOk result (R.kept room.new ≡ R.kept room.old) }
 {
     let mut root = root;
@@ -82,7 +82,7 @@ fn change<R: Room>(
     count: u64,
     step: u64,
 ) -> Result<u64, Refusal>
-    requires tree { IsTree (R.standing room.old) (R.words room.old) root }
+    requires tree { IsTree (R.page_state room.old) (R.words room.old) root }
     requires open { IsTrue (R.is_open (R.kept room.old)) }
 {
     let first = KEYS * 500;

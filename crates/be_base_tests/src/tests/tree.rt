@@ -1,7 +1,7 @@
 //! Trees in a room of few pages: how many pages they take, and what is left when a room is full.
 //! Also equal values in one index.
 ghost use Rattle.std.specs.Prelude.{◌≡◌, ◌<◌, ◌≤◌, IfOk, OnErr};
-ghost use Rattle.be_pages.specs.declared.room.Standing.TheVariants.{Free};
+ghost use Rattle.be_pages.specs.declared.room.PageState.TheVariants.{Free};
 ghost use Rattle.be_pages.specs.Pages.{IsUnchanged};
 ghost use Rattle.be_tree_reading.specs.Forest.{IsWriteStart};
 ghost use Rattle.be_tree_reading.specs.Tree.{IsTree};
@@ -16,14 +16,14 @@ use std::test::Fail;
 
 /// Inserts a number's key and keeps the write, or undoes it if it is refused.
 pub(crate) fn put_number(room: &mut VecRoom, root: u64, i: u64) -> Result<u64, Refusal>
-    requires tree { IsTree (⟦<VecRoom as Look>⟧.standing room.old)
+    requires tree { IsTree (⟦<VecRoom as Look>⟧.page_state room.old)
         (⟦<VecRoom as Look>⟧.words room.old) root }
-    requires start { IsWriteStart (⟦<VecRoom as Look>⟧.standing room.old) }
-    ensures ok { IfOk result (λ new. IsTree (⟦<VecRoom as Look>⟧.standing room.new)
+    requires start { IsWriteStart (⟦<VecRoom as Look>⟧.page_state room.old) }
+    ensures ok { IfOk result (λ new. IsTree (⟦<VecRoom as Look>⟧.page_state room.new)
         (⟦<VecRoom as Look>⟧.words room.new) new) }
-    ensures err { OnErr result (IsTree (⟦<VecRoom as Look>⟧.standing room.new)
+    ensures err { OnErr result (IsTree (⟦<VecRoom as Look>⟧.page_state room.new)
         (⟦<VecRoom as Look>⟧.words room.new) root) }
-    ensures start { IsWriteStart (⟦<VecRoom as Look>⟧.standing room.new) }
+    ensures start { IsWriteStart (⟦<VecRoom as Look>⟧.page_state room.new) }
 {
     match insert(room, root, &i.to_be_bytes(), &i.to_le_bytes()) {
         Ok(new) => {
@@ -40,12 +40,12 @@ pub(crate) fn put_number(room: &mut VecRoom, root: u64, i: u64) -> Result<u64, R
 /// Inserts the numbers below `to` in order, each in a write that is kept. It returns the root, and
 /// the first number that was refused, or `to`.
 fn put_numbers(room: &mut VecRoom, root: u64, to: u64) -> (u64, u64)
-    requires tree { IsTree (⟦<VecRoom as Look>⟧.standing room.old)
+    requires tree { IsTree (⟦<VecRoom as Look>⟧.page_state room.old)
         (⟦<VecRoom as Look>⟧.words room.old) root }
-    requires start { IsWriteStart (⟦<VecRoom as Look>⟧.standing room.old) }
-    ensures tree { IsTree (⟦<VecRoom as Look>⟧.standing room.new)
+    requires start { IsWriteStart (⟦<VecRoom as Look>⟧.page_state room.old) }
+    ensures tree { IsTree (⟦<VecRoom as Look>⟧.page_state room.new)
         (⟦<VecRoom as Look>⟧.words room.new) result.0 }
-    ensures start { IsWriteStart (⟦<VecRoom as Look>⟧.standing room.new) }
+    ensures start { IsWriteStart (⟦<VecRoom as Look>⟧.page_state room.new) }
 {
     let mut root = root;
     for i in 0..to {
@@ -59,9 +59,9 @@ fn put_numbers(room: &mut VecRoom, root: u64, to: u64) -> (u64, u64)
 
 /// Removes the numbers below `to` in order, each in a write that is kept.
 fn take_numbers(room: &mut VecRoom, root: u64, to: u64) -> Result<u64, Refusal>
-    requires tree { IsTree (⟦<VecRoom as Look>⟧.standing room.old)
+    requires tree { IsTree (⟦<VecRoom as Look>⟧.page_state room.old)
         (⟦<VecRoom as Look>⟧.words room.old) root }
-    ensures tree { IfOk result (λ new. IsTree (⟦<VecRoom as Look>⟧.standing room.new)
+    ensures tree { IfOk result (λ new. IsTree (⟦<VecRoom as Look>⟧.page_state room.new)
         (⟦<VecRoom as Look>⟧.words room.new) new) }
 {
     let mut root = root;
@@ -145,7 +145,7 @@ fn value_key(node: u8) -> [u8; 10] {
 
 /// Inserts the keys of nodes, and returns the root.
 fn put_nodes(room: &mut VecRoom, nodes: &[u8]) -> Result<u64, Refusal>
-    ensures tree { IfOk result (λ root. IsTree (⟦<VecRoom as Look>⟧.standing room.new)
+    ensures tree { IfOk result (λ root. IsTree (⟦<VecRoom as Look>⟧.page_state room.new)
         (⟦<VecRoom as Look>⟧.words room.new) root) }
 {
     let mut root = 0;
@@ -157,8 +157,8 @@ fn put_nodes(room: &mut VecRoom, nodes: &[u8]) -> Result<u64, Refusal>
 
 /// Whether the tree has exactly the keys of these nodes from the text `x` on, in this order.
 fn has_nodes<L: Look>(look: &mut L, root: u64, nodes: &[u8]) -> bool
-    requires { IsTree (L.standing look.old) (L.words look.old) root }
-    ensures { IsUnchanged L.kept L.standing L.words look.old look.new }
+    requires { IsTree (L.page_state look.old) (L.words look.old) root }
+    ensures { IsUnchanged L.kept L.page_state L.words look.old look.new }
 {
     let mut cursor = Cursor::new();
     cursor.seek(look, root, b"x\0", false);

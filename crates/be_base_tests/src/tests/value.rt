@@ -78,7 +78,7 @@ fn keys_of_no_pair(rt: HostRuntime) {
 }
 
 /// The number that a text encodes.
-pub(crate) fn number_spelt(alloc: Global, text: &str) -> Result<String, Refusal> {
+pub(crate) fn encoded_number(alloc: Global, text: &str) -> Result<String, Refusal> {
     match number_of(text) {
         Some(number) => Ok(format!(in alloc; "{number}")?),
         None => yes_or_no(alloc, false),
@@ -88,7 +88,7 @@ pub(crate) fn number_spelt(alloc: Global, text: &str) -> Result<String, Refusal>
 /// Texts that encode a number, up to the limits of 64 bits and of 20 digits, and texts that encode
 /// none.
 #[test]
-fn texts_spell_numbers(rt: HostRuntime) -> Result<(), Fail> {
+fn texts_encode_numbers(rt: HostRuntime) -> Result<(), Fail> {
     let lines = "number 0 => 0
 number -0 => 0
 number 00000000000000000005 => 5
@@ -137,14 +137,14 @@ pub(crate) fn kind_numbered(alloc: Global, text: &str) -> Result<String, Refusal
     };
     let number = kind.number();
     let letters = kind.code().to_be_bytes();
-    let mut told = format!(in alloc; "{number} ")?;
+    let mut report = format!(in alloc; "{number} ")?;
     for letter in letters {
-        told.push(char::from(letter))?;
+        report.push(char::from(letter))?;
     }
     if kind.indexable() {
-        told.push_str(" indexable")?;
+        report.push_str(" indexable")?;
     }
-    Ok(told)
+    Ok(report)
 }
 
 /// Limits of names and values, and the kinds from the Be Book.

@@ -8,7 +8,7 @@ use std::test::Fail;
 
 /// The first six words of a tree's root page, or zeros for the empty tree.
 fn first_words<L: Look>(look: &mut L, root: u64) -> [u64; 6]
-    requires { IsTree (L.standing look.old) (L.words look.old) root }
+    requires { IsTree (L.page_state look.old) (L.words look.old) root }
 {
     if root == 0 {
         return [0; 6];

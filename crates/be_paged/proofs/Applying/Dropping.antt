@@ -20,7 +20,7 @@ use Rattle.be_volume.proofs.StepLemmas.{made}
 use Rattle.be_volume.proofs.Soundness.{step_sound}
 use Rattle.be_paged_reading.specs.Catalog.{value_at}
 use Rattle.be_paged.specs.Changes.{Leaves}
-use Rattle.be_paged_reading.proofs.CatalogPairs.Items.{get_here, get_other, gone_here, gone_other, keys_tell}
+use Rattle.be_paged_reading.proofs.CatalogPairs.Items.{get_here, get_other, gone_here, gone_other, keys_decided}
 use Rattle.be_paged_reading.proofs.CatalogPairs.Segments.{value_there}
 use Rattle.be_paged.proofs.Applying.Stepping.{stepped_found}
 
@@ -53,7 +53,7 @@ indices_left indices name node = by (fin.get indices name) refl
   where
     by : (found : Option Index) → fin.get indices name ≡ found → without_node (unpaired_at indices name found node) node ≡ without_node indices node
     by None e = refl
-    by (Some index) e = same_map names_total exact_names _ _ (λ q. get_left (fin.insert indices name (unpaired index node)) node q ∙ (elim (keys_tell q name) [
+    by (Some index) e = same_map names_total exact_names _ _ (λ q. get_left (fin.insert indices name (unpaired index node)) node q ∙ (elim (keys_decided q name) [
       | inl s ↦ subst (λ n. option_map (λ (i : Index). unpaired i node) (fin.get (fin.insert indices name (unpaired index node)) n) ≡ option_map (λ (i : Index). unpaired i node) (fin.get indices n)) (sym s)
           (ap (option_map (λ (i : Index). unpaired i node)) (get_here names_total exact_names indices name (unpaired index node)) ∙ ap Some (twice index node) ∙ sym (ap (option_map (λ (i : Index). unpaired i node)) e))
       | inr ne ↦ ap (option_map (λ (i : Index). unpaired i node)) (get_other names_total exact_names indices name (unpaired index node) q ne)

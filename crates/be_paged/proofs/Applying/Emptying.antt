@@ -20,7 +20,7 @@ use Rattle.be_volume.proofs.StepLemmas.{made}
 use Rattle.be_paged.specs.Changes.{Leaves, Steps, IsThinned}
 use Rattle.be_paged_reading.specs.Page.{Contents}
 use Rattle.be_paged_reading.specs.Reading.{AreValid}
-use Rattle.be_paged_reading.specs.Version.{Spells}
+use Rattle.be_paged_reading.specs.Version.{Encodes}
 use Rattle.be_paged.proofs.Applying.Dropping.{leaves_more, less_to_count}
 use Rattle.be_paged_reading.proofs.CatalogPairs.Segments.{value_there}
 use Rattle.be_paged.proofs.Applying.Stepping.{stepped_found}
@@ -75,7 +75,7 @@ module _ (volume left : State) (node : ℕ) (name : List ℕ) (h : Leaves volume
       let same = same_made (steps.made, done) (made left (Unset node name), _) (sym steps.stepped ∙ stepped_found left (Unset node name) (h.there, has)) in
       record {
         left = made left (Unset node name);
-        spells = subst (Spells words c) same steps.spells;
+        encodes = subst (Encodes words c) same steps.encodes;
         leaves = leaves_more volume left node h name has named fits;
         counted = omega (arith, count, some, less_to_count volume left node h name has);
       }

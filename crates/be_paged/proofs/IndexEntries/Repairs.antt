@@ -91,12 +91,12 @@ module _ (index : Index) (kind : Kind) (node : ℕ) (old : Option Value) (fits :
       (index_with items index node v (record { key = k; payload = [] }) fits ready.fits (some.4 ∙ ap (λ (w : Value). key w node) (sym same)) refl h)
 
   -- the new value's pair is already there
-  pub stands : (items : List Pair) (k : List ℕ) (new : Option Value) → Leaves kind node new k → IsTrue (is_indexable kind) → is_some (payload_at items k) ≡ true → IsIndexOf items index → IsIndexOf items (repaired index node new)
-  stands items k None some indexable found h = absurd (clash some.0 some.1)
+  pub lies : (items : List Pair) (k : List ℕ) (new : Option Value) → Leaves kind node new k → IsTrue (is_indexable kind) → is_some (payload_at items k) ≡ true → IsIndexOf items index → IsIndexOf items (repaired index node new)
+  lies items k None some indexable found h = absurd (clash some.0 some.1)
     where
       clash : (v : Value) → None ≡ Some v → ⊥
       clash v e = cc
-  stands items k (Some v) some indexable found h =
+  lies items k (Some v) some indexable found h =
       let same = same_value v some.0 some.1 in
       let pair = found_pair (IsPairOf index) k items h.only found in
       let p = pair.1 in

@@ -30,7 +30,7 @@ use Rattle.be_volume.specs.declared.ops.Op.TheVariants.{New, Drop, Set, Unset, M
 use Rattle.be_volume.proofs.MapLemmas.{exact_names, names_total}
 use Rattle.be_volume.proofs.StepLemmas.{made}
 use Rattle.be_paged_reading.specs.Catalog.{IsIndexOf}
-use Rattle.be_paged.specs.Changes.{SetsWhatStands}
+use Rattle.be_paged.specs.Changes.{SetsSameValue}
 use Rattle.be_paged_reading.specs.Entries.{with_root}
 use Rattle.be_paged_reading.specs.Entry.{Entry}
 use Rattle.be_paged_reading.proofs.CatalogPairs.Items.{get_here}
@@ -47,7 +47,7 @@ clash : false ≡ true → ⊥
 clash h = cc
 
 -- the step of a Set of what is already set
-sets_step : (s : State) (op : Op) → SetsWhatStands s op → step s op ≡ Ok (s, Nothing)
+sets_step : (s : State) (op : Op) → SetsSameValue s op → step s op ≡ Ok (s, Nothing)
 sets_step s New h = absurd h
 sets_step s (Drop node) h = absurd h
 sets_step s (Set node name value) h = h
@@ -55,10 +55,10 @@ sets_step s (Unset node name) h = absurd h
 sets_step s (MkIndex name kind) h = absurd h
 sets_step s (RmIndex name) h = absurd h
 
-pub sets_ok : (s : State) (op : Op) → SetsWhatStands s op → IsOk (step s op)
+pub sets_ok : (s : State) (op : Op) → SetsSameValue s op → IsOk (step s op)
 sets_ok s op h = ap is_ok (sets_step s op h)
 
-pub sets_same : (s reached : State) (op : Op) (done : Done) → SetsWhatStands s op → step s op ≡ Ok (reached, done) → reached ≡ s
+pub sets_same : (s reached : State) (op : Op) (done : Done) → SetsSameValue s op → step s op ≡ Ok (reached, done) → reached ≡ s
 sets_same s reached op done h is = same_made reached s done Nothing (sym is ∙ sets_step s op h)
 
 -- the volume's contents, if a Set leaves it as it is
@@ -66,7 +66,7 @@ pub record Settled (s : State) (node : ℕ) (name : List ℕ) (value : Value) : 
   pub has : attribute s node name ≡ Some value
   pub indices : with_pair s.indices name node value ≡ s.indices
 
-pub settled : (s : State) (node : ℕ) (name : List ℕ) (value : Value) → SetsWhatStands s (Set node name value) → Settled s node name value
+pub settled : (s : State) (node : ℕ) (name : List ℕ) (value : Value) → SetsSameValue s (Set node name value) → Settled s node name value
 settled s node name value h =
     let op = Set node name value in
     let is = same_made (made s op) s _ Nothing (sym (stepped_is s op (ap is_ok h)) ∙ h) in

@@ -20,7 +20,7 @@ use Rattle.be_value.specs.declared.values.Kind.{Kind}
 use Rattle.be_value.specs.declared.values.Value.{Value}
 use Rattle.be_value.specs.declared.values.Value.TheVariants.{Cstr, Long, Llng, Mims, Rawt, Ulng, Ullg}
 use Rattle.be_value.proofs.KeyPairs.{one_pair_of}
-use Rattle.be_pages.specs.declared.room.Standing.{Standing}
+use Rattle.be_pages.specs.declared.room.PageState.{PageState}
 use Rattle.be_tree_reading.specs.Pair.{Pair}
 use Rattle.be_volume.specs.Maps.{Nodes, Attributes, name_cmp}
 use Rattle.be_volume.specs.Indices.{Indices}
@@ -184,8 +184,8 @@ one_list w es s t g h p q =
 same_state : {a b : ℕ} {m n : Nodes} {i j : Indices} → a ≡ b → m ≡ n → i ≡ j → ◌≡◌ {A = State} (record { next = a; nodes = m; indices = i }) (record { next = b; nodes = n; indices = j })
 same_state p q r = cc
 
-pub one_volume : (s t : ℕ → Standing) (words : ℕ → ℕ → ℕ) (page : ℕ) (a b : State) → IsVersion s words page a → IsVersion t words page b → a ≡ b
+pub one_volume : (s t : ℕ → PageState) (words : ℕ → ℕ → ℕ) (page : ℕ) (a b : State) → IsVersion s words page a → IsVersion t words page b → a ≡ b
 one_volume s t words page a b g h =
-    same_state (sym g.spells.next ∙ h.spells.next)
-    (one_catalog _ a b g.spells.catalog h.spells.catalog g.sound h.sound (omega (arith, g.in_hand.fits, g.spells.next)) (omega (arith, h.in_hand.fits, h.spells.next)))
-    (one_list words _ a b g.spells.indices h.spells.indices g.sound h.sound)
+    same_state (sym g.encodes.next ∙ h.encodes.next)
+    (one_catalog _ a b g.encodes.catalog h.encodes.catalog g.sound h.sound (omega (arith, g.in_hand.fits, g.encodes.next)) (omega (arith, h.in_hand.fits, h.encodes.next)))
+    (one_list words _ a b g.encodes.indices h.encodes.indices g.sound h.sound)

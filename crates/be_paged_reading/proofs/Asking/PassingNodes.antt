@@ -36,7 +36,7 @@ use Rattle.be_paged_reading.specs.Catalog.{IsPairOf}
 use Rattle.be_paged_reading.specs.Entry.{Entry}
 use Rattle.be_paged_reading.specs.Page.{Contents, IsNamedAt}
 use Rattle.be_paged_reading.specs.Texts.{AreTexts, IsTextKey, node_if_passing, nodes_passing_to, passes}
-use Rattle.be_paged_reading.specs.Version.{Spells}
+use Rattle.be_paged_reading.specs.Version.{Encodes}
 use Rattle.be_paged_reading.proofs.IndexEntries.Indexing.{named_found}
 use Rattle.be_paged_reading.proofs.CatalogPairs.Segments.{all_from, payload_from, rising_from}
 use Rattle.be_paged_reading.proofs.Asking.RangeNodes.{below_past, node_of_key, not_true, past_above}
@@ -158,12 +158,12 @@ has_node op literal (x ∷ xs) high k rising some h holds = by (key_cmp x.key k)
         (subst (λ (q : List ℕ). Contains (if passes op literal q then number_of q ∷ [] else []) (number_of k)) (sym same) here))
     by Greater e s rest = let no : false ≡ true = sym (ap is_some (payload_at_above k xs (AllAbove_trans x.key k xs e rising.0))) ∙ s in absurd (cc no)
 
-module _ (w : ℕ → ℕ → ℕ) (c : Contents) (volume : State) (name : List ℕ) (i : ℕ) (d : Entry) (spells : Spells w c volume) (at : IsNamedAt c.entries name i) (sound : IsSound volume)
+module _ (w : ℕ → ℕ → ℕ) (c : Contents) (volume : State) (name : List ℕ) (i : ℕ) (d : Entry) (encodes : Encodes w c volume) (at : IsNamedAt c.entries name i) (sound : IsSound volume)
     (kind : (get_or c.entries i d).kind ≡ kinds.Cstr) where
   -- the keys of an index of texts have texts
   pub keys_texts : AreTexts (pairs w (get_or c.entries i d).root)
   keys_texts j e lt =
-      let found = named_found w c.entries (fin.entries volume.indices) name i spells.indices at in
+      let found = named_found w c.entries (fin.entries volume.indices) name i encodes.indices at in
       let p = (found.entry d).keys.only j e lt in
       let paired = sound.pairs name found.index p.node p.value (fin.get-entries volume.indices name ∙ found.found) p.there in
       record {
@@ -173,7 +173,7 @@ module _ (w : ℕ → ℕ → ℕ) (c : Contents) (volume : State) (name : List 
 
   is_of_texts : index_kind volume name ≡ Some kinds.Cstr
   is_of_texts =
-      let found = named_found w c.entries (fin.entries volume.indices) name i spells.indices at in
+      let found = named_found w c.entries (fin.entries volume.indices) name i encodes.indices at in
       ap (λ o. option_map (λ (x : Index). x.kind) o) (fin.get-entries volume.indices name ∙ found.found) ∙ ap (λ k. Some k) (sym (found.entry d).kind_is ∙ kind)
 
   module _ (op : Cmp) (literal : Literal) (low : List ℕ) (high : Option (List ℕ)) where
@@ -186,7 +186,7 @@ module _ (w : ℕ → ℕ → ℕ) (c : Contents) (volume : State) (name : List 
     passing_has rising k h within holds =
         let all = pairs w (get_or c.entries i d).root in
         let from : is_from low false k ≡ true = sym (same_from low false k) ∙ ap not within.from_low in
-        let some = ap is_some (payload_from low k false all) ∙ ap (λ b. is_some (cond b (payload_at all k) None)) from ∙ key_finds w c volume name i spells d at k h in
+        let some = ap is_some (payload_from low k false all) ∙ ap (λ b. is_some (cond b (payload_at all k) None)) from ∙ key_finds w c volume name i encodes d at k h in
         let fits = (sound.pairs name h.index h.node h.value h.there h.paired).node_fits in
         subst (λ (m : ℕ). Contains (nodes_passing_to op literal (pairs_from all low false) high) m) (ap number_of h.is ∙ node_of_key h.value h.node fits)
         (has_node op literal (pairs_from all low false) high k (rising_from low false all rising) some (past_above high k ∙ within.to_high) (passes_if k h ∙ holds))
@@ -195,7 +195,7 @@ module _ (w : ℕ → ℕ → ℕ) (c : Contents) (volume : State) (name : List 
         → IsNodeWithin volume name low high n × (sat volume (Leaf name op literal) n ≡ true)
     passing_only n has =
         let all = pairs w (get_or c.entries i d).root in
-        let found = named_found w c.entries (fin.entries volume.indices) name i spells.indices at in
+        let found = named_found w c.entries (fin.entries volume.indices) name i encodes.indices at in
         each_node (λ (m : ℕ). IsNodeWithin volume name low high m × (sat volume (Leaf name op literal) m ≡ true)) op literal (pairs_from all low false) high
         (λ j e lt not_past holds.
         let both = all_from (IsPairOf found.index) low false all (found.entry d).keys.only j e lt in

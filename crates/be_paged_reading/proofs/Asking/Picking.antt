@@ -21,7 +21,7 @@ use Rattle.be_tree_reading.specs.declared.way.Way.{Way}
 use Rattle.be_tree_reading.specs.Tree.{pairs}
 use Rattle.be_paged_reading.specs.Entry.{Entry}
 use Rattle.be_paged_reading.specs.Page.{Contents, IsNamedAt}
-use Rattle.be_paged_reading.specs.Version.{Spells}
+use Rattle.be_paged_reading.specs.Version.{Encodes}
 use Rattle.be_paged_reading.proofs.Asking.PassingNodes.{keys_texts, passes_if}
 use Rattle.be_paged_reading.proofs.Asking.RangeNodes.{keys_long}
 use Rattle.be_paged_reading.specs.KeyTests.{AreTestable, IsTestable, node_if, nodes_passing, passing_on}
@@ -36,16 +36,16 @@ begun_testable test true strict low high xs texts = λ i d lt.
     (All-filter (λ (x : Pair). is_until high strict x.key) (λ (x : Pair). IsTestable test x.key) xs texts (length ys - 1 - i) d (omega (arith, below)))
 
 -- an index's keys have what a test for its kind reads
-module _ (w : ℕ → ℕ → ℕ) (c : Contents) (volume : State) (name : List ℕ) (i : ℕ) (d : Entry) (spells : Spells w c volume) (at : IsNamedAt c.entries name i) (sound : IsSound volume) where
+module _ (w : ℕ → ℕ → ℕ) (c : Contents) (volume : State) (name : List ℕ) (i : ℕ) (d : Entry) (encodes : Encodes w c volume) (at : IsNamedAt c.entries name i) (sound : IsSound volume) where
   pub keys_testable : (test : KeyTest) → (reads_texts test ≡ true → (get_or c.entries i d).kind ≡ kinds.Cstr) → AreTestable test (pairs w (get_or c.entries i d).root)
-  keys_testable (Text test) of_texts = keys_texts w c volume name i d spells at sound (of_texts refl)
-  keys_testable (Marked marks) of_texts = keys_long w c volume name i d spells at
+  keys_testable (Text test) of_texts = keys_texts w c volume name i d encodes at sound (of_texts refl)
+  keys_testable (Marked marks) of_texts = keys_long w c volume name i d encodes at
 
   -- a test says about a key what it says about the key's node
   pub passes_as_node : (test : KeyTest) → (reads_texts test ≡ true → (get_or c.entries i d).kind ≡ kinds.Cstr) → (low : List ℕ) (high : Option (List ℕ)) (k : List ℕ) (n : ℕ) (h : IsKey volume name k) → h.node ≡ n →
       passes_key test k n ≡ passes_node volume name test n
   passes_as_node (Text test) of_texts low high k n h node =
-      passes_if w c volume name i d spells at sound (of_texts refl) test.now.0 test.now.1 low high k h ∙ ap (sat volume (Leaf name test.now.0 test.now.1)) node
+      passes_if w c volume name i d encodes at sound (of_texts refl) test.now.0 test.now.1 low high k h ∙ ap (sat volume (Leaf name test.now.0 test.now.1)) node
   passes_as_node (Marked marks) of_texts low high k n h node = refl
 
 module _ (test : KeyTest) (way : Way) where

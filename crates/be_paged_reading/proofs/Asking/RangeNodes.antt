@@ -26,7 +26,7 @@ use Rattle.be_plan.specs.Walk.{IsNodeWithin, HasOnly, Keeps}
 use Rattle.be_paged_reading.specs.Catalog.{IsPairOf}
 use Rattle.be_paged_reading.specs.Entry.{Entry}
 use Rattle.be_paged_reading.specs.Page.{Contents, IsNamedAt}
-use Rattle.be_paged_reading.specs.Version.{Spells}
+use Rattle.be_paged_reading.specs.Version.{Encodes}
 use Rattle.be_paged_reading.proofs.IndexEntries.Indexing.{named_found}
 use Rattle.be_paged_reading.proofs.CatalogPairs.Segments.{all_from, payload_from, rising_from}
 use Rattle.be_paged_reading.proofs.Asking.SourceKeys.{key_finds, same_from}
@@ -103,11 +103,11 @@ pub not_true : (b : Bool) → not b ≡ true → b ≡ false
 not_true true h = cc
 not_true false h = refl
 
-module _ (w : ℕ → ℕ → ℕ) (c : Contents) (volume : State) (name : List ℕ) (i : ℕ) (d : Entry) (spells : Spells w c volume) (at : IsNamedAt c.entries name i) where
+module _ (w : ℕ → ℕ → ℕ) (c : Contents) (volume : State) (name : List ℕ) (i : ℕ) (d : Entry) (encodes : Encodes w c volume) (at : IsNamedAt c.entries name i) where
   -- an index's keys are long enough
   pub keys_long : AreLong (pairs w (get_or c.entries i d).root)
   keys_long j e lt =
-      let p = ((named_found w c.entries (fin.entries volume.indices) name i spells.indices at).entry d).keys.only j e lt in
+      let p = ((named_found w c.entries (fin.entries volume.indices) name i encodes.indices at).entry d).keys.only j e lt in
       omega (arith, ap length p.is, length-append (value_key p.value) (to_be_bytes w64 p.node))
 
   module _ (sound : IsSound volume) (low : List ℕ) (high : Option (List ℕ)) where
@@ -116,7 +116,7 @@ module _ (w : ℕ → ℕ → ℕ) (c : Contents) (volume : State) (name : List 
     range_has rising k h within =
         let all = pairs w (get_or c.entries i d).root in
         let from : is_from low false k ≡ true = sym (same_from low false k) ∙ ap not within.from_low in
-        let some = ap is_some (payload_from low k false all) ∙ ap (λ b. is_some (cond b (payload_at all k) None)) from ∙ key_finds w c volume name i spells d at k h in
+        let some = ap is_some (payload_from low k false all) ∙ ap (λ b. is_some (cond b (payload_at all k) None)) from ∙ key_finds w c volume name i encodes d at k h in
         let fits = (sound.pairs name h.index h.node h.value h.there h.paired).node_fits in
         subst (λ (m : ℕ). Contains (numbers_to (pairs_from all low false) high) m) (ap number_of h.is ∙ node_of_key h.value h.node fits)
         (has_number (pairs_from all low false) high k (rising_from low false all rising) some (past_above high k ∙ within.to_high))
@@ -124,7 +124,7 @@ module _ (w : ℕ → ℕ → ℕ) (c : Contents) (volume : State) (name : List 
     pub range_only : (n : ℕ) → Contains (numbers_to (pairs_from (pairs w (get_or c.entries i d).root) low false) high) n → IsNodeWithin volume name low high n
     range_only n has =
         let all = pairs w (get_or c.entries i d).root in
-        let found = named_found w c.entries (fin.entries volume.indices) name i spells.indices at in
+        let found = named_found w c.entries (fin.entries volume.indices) name i encodes.indices at in
         each_number (IsNodeWithin volume name low high) (pairs_from all low false) high
         (λ j e lt not_past.
         let both = all_from (IsPairOf found.index) low false all (found.entry d).keys.only j e lt in

@@ -10,7 +10,7 @@ use Rattle.std.proofs.lemmas.List.{append-nil}
 use Rattle.be_value.specs.Name.{name_from}
 use Rattle.be_value.specs.Key.{IsValue}
 use Rattle.be_value.specs.declared.values.Value.{Value}
-use Rattle.be_pages.specs.declared.room.Standing.{Standing}
+use Rattle.be_pages.specs.declared.room.PageState.{PageState}
 use Rattle.be_tree_reading.specs.Pair.{Pair}
 use Rattle.be_tree_reading.specs.Key.{payload_at}
 use Rattle.be_value.specs.declared.refusals.Refusal.TheVariants.{NoNode}
@@ -101,26 +101,26 @@ pub no_attribute : (nodes : Nodes) (node : ℕ) (name : List ℕ) → fin.len (a
 no_attribute nodes node name bare = ap (λ (a : Attributes). is_some (fin.get a name)) (fin.empty_of_len (attributes_of nodes node) bare) ∙ ap is_some (fin.get-empty name_cmp name)
 
 -- the facts after pages were only read, with what is now remembered about a node
-pub facts_since : (s t : ℕ → Standing) (v w : ℕ → ℕ → ℕ) (c : Contents) (counted now : Option (ℕ × Option ℕ)) (asked : Option Asked) (volume : State) → t ≡ s → w ≡ v → FactsOf s v c counted asked volume
+pub facts_since : (s t : ℕ → PageState) (v w : ℕ → ℕ → ℕ) (c : Contents) (counted now : Option (ℕ × Option ℕ)) (asked : Option Asked) (volume : State) → t ≡ s → w ≡ v → FactsOf s v c counted asked volume
     → IsCounted now volume → FactsOf t w c now asked volume
-facts_since s t v w c counted now asked volume standing words of told =
+facts_since s t v w c counted now asked volume page_state words of reported =
     let read : FactsOf t w c counted asked volume =
-    subst (λ (u : ℕ → Standing). FactsOf u w c counted asked volume) (sym standing) (subst (λ (x : ℕ → ℕ → ℕ). FactsOf s x c counted asked volume) (sym words) of) in
-    record { told = read.told; counted_is = told; asked_is = read.asked_is }
+    subst (λ (u : ℕ → PageState). FactsOf u w c counted asked volume) (sym page_state) (subst (λ (x : ℕ → ℕ → ℕ). FactsOf s x c counted asked volume) (sym words) of) in
+    record { reported = read.reported; counted_is = reported; asked_is = read.asked_is }
 
 -- and with what is now remembered about an attribute
-pub facts_asked : (s t : ℕ → Standing) (v w : ℕ → ℕ → ℕ) (c : Contents) (counted : Option (ℕ × Option ℕ)) (asked : Option Asked) (last : Asked) (volume : State) → t ≡ s → w ≡ v → FactsOf s v c counted asked volume
+pub facts_asked : (s t : ℕ → PageState) (v w : ℕ → ℕ → ℕ) (c : Contents) (counted : Option (ℕ × Option ℕ)) (asked : Option Asked) (last : Asked) (volume : State) → t ≡ s → w ≡ v → FactsOf s v c counted asked volume
     → IsFoundAt t w c.catalog (catalog_key last.node last.name) last.place → FactsOf t w c counted (option_or asked (Some last)) volume
-facts_asked s t v w c counted asked last volume standing words of found =
-    let read = facts_since s t v w c counted counted asked volume standing words of of.counted_is in
-    record { told = read.told; counted_is = read.counted_is; asked_is = asked_or t w c.catalog asked last read.asked_is found }
+facts_asked s t v w c counted asked last volume page_state words of found =
+    let read = facts_since s t v w c counted counted asked volume page_state words of of.counted_is in
+    record { reported = read.reported; counted_is = read.counted_is; asked_is = asked_or t w c.catalog asked last read.asked_is found }
 
 -- what holds for each value with the payload found there holds for the node's value; without a value it is false
-pub holds_read : (items : List Pair) (nodes : Nodes) (node : ℕ) (name k payload : List ℕ) (told : Bool) (holds : Value → Bool) → IsCatalog items nodes → AreValid nodes → node < 2 ^ 64 → name_from name ≡ Ok name
-    → k ≡ catalog_key node name → payload_at items k ≡ Some payload → ((v : Value) → IsValue v → payload ≡ payload_of v → told ≡ holds v) → told ≡ option_map_or holds (value_at nodes node name) false
-holds_read items nodes node name k payload told holds catalog valid fits ok e there tells =
+pub holds_read : (items : List Pair) (nodes : Nodes) (node : ℕ) (name k payload : List ℕ) (reported : Bool) (holds : Value → Bool) → IsCatalog items nodes → AreValid nodes → node < 2 ^ 64 → name_from name ≡ Ok name
+    → k ≡ catalog_key node name → payload_at items k ≡ Some payload → ((v : Value) → IsValue v → payload ≡ payload_of v → reported ≡ holds v) → reported ≡ option_map_or holds (value_at nodes node name) false
+holds_read items nodes node name k payload reported holds catalog valid fits ok e there reports =
     by (value_at nodes node name) (λ v is. (valid node name v is).1) (sym there ∙ stored_at items nodes node name k catalog fits ok e)
   where
-    by : (v : Option Value) → ((w : Value) → v ≡ Some w → IsValue w) → Some payload ≡ option_map payload_of v → told ≡ option_map_or holds v false
+    by : (v : Option Value) → ((w : Value) → v ≡ Some w → IsValue w) → Some payload ≡ option_map payload_of v → reported ≡ option_map_or holds v false
     by None all h = cc
-    by (Some v) all h = tells v (all v refl) (ap (λ o. unwrap_or o []) h)
+    by (Some v) all h = reports v (all v refl) (ap (λ o. unwrap_or o []) h)

@@ -93,8 +93,8 @@ all_without P Q k (x ∷ xs) f all =
     apart r t s no_tie = no_tie (sym t ∙ ap (λ y. key_cmp y k) s ∙ tied_itself key_total k)
 
 -- two of the catalog's keys are equal or not
-pub keys_tell : (a b : List ℕ) → (a ≡ b) ⊎ (a ≡ b → ⊥)
-keys_tell a b = elim (key_cmp a b) as (λ o. key_cmp a b ≡ o → (a ≡ b) ⊎ (a ≡ b → ⊥)) [
+pub keys_decided : (a b : List ℕ) → (a ≡ b) ⊎ (a ≡ b → ⊥)
+keys_decided a b = elim (key_cmp a b) as (λ o. key_cmp a b ≡ o → (a ≡ b) ⊎ (a ≡ b → ⊥)) [
   | Less ↦ λ t. inr (λ e. apart Less t e (λ f. cc))
   | Equal ↦ λ t. inl (key_exact a b t)
   | Greater ↦ λ t. inr (λ e. apart Greater t e (λ f. cc))
@@ -120,7 +120,7 @@ module _ (items : List Pair) (nodes new : Nodes) (node : ℕ) (name : List ℕ) 
 
   pub catalog_put : (pair : Pair) → pair.key ≡ catalog_key node name → stored new node name ≡ Some pair.payload → IsCatalog (put pair items) new
   catalog_put pair key is = record {
-    each = λ q m lt. elim (keys_tell (catalog_key q m) (catalog_key node name)) [
+    each = λ q m lt. elim (keys_decided (catalog_key q m) (catalog_key node name)) [
       | inl e ↦ ap (payload_at (put pair items)) (e ∙ sym key) ∙ put_here pair items ∙ sym (here q m lt e ∙ is)
       | inr ne ↦ put_other pair (catalog_key q m) items (λ e. ne (sym e ∙ key)) ∙ catalog.each q m lt ∙ sym (same q m (apart q m ne))
     ];
@@ -129,7 +129,7 @@ module _ (items : List Pair) (nodes new : Nodes) (node : ℕ) (name : List ℕ) 
 
   pub catalog_without : (k : List ℕ) → k ≡ catalog_key node name → stored new node name ≡ None → IsCatalog (without k items) new
   catalog_without k key is = record {
-    each = λ q m lt. elim (keys_tell (catalog_key q m) (catalog_key node name)) [
+    each = λ q m lt. elim (keys_decided (catalog_key q m) (catalog_key node name)) [
       | inl e ↦ ap (payload_at (without k items)) (e ∙ sym key) ∙ without_here k items ∙ sym (here q m lt e ∙ is)
       | inr ne ↦ without_other k (catalog_key q m) items (λ e. ne (sym e ∙ key)) ∙ catalog.each q m lt ∙ sym (same q m (apart q m ne))
     ];

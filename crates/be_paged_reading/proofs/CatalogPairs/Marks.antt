@@ -12,7 +12,7 @@ use Rattle.std.proofs.lemmas.Bool.{le-leb, lt-leb}
 use Rattle.std.proofs.lemmas.List.{drop_all, length-append}
 use Rattle.std.proofs.lemmas.Map.Views.{exact_unsigned_eq}
 use Rattle.std.proofs.lemmas.Nat.{from_be_bytes-to_be_bytes_8}
-use Rattle.be_pages.specs.declared.room.Standing.{Standing}
+use Rattle.be_pages.specs.declared.room.PageState.{PageState}
 use Rattle.be_tree_reading.specs.Pair.{Pair}
 use Rattle.be_tree_reading.specs.Key.{key_cmp, payload_at, AllAbove, IsRising}
 use Rattle.be_tree_reading.specs.Page.{item_at, key_len}
@@ -190,13 +190,13 @@ module _ (xs : List Pair) (nodes : Nodes) (low : ℕ) (fits : low < 2 ^ 64) (ris
       there n (below n has) ∙ ap (λ b. cond b (fin.contains_key nodes n) false) is.1 ∙ has)
 
 -- what a version's catalog marks
-pub nodes_marked : (s : ℕ → Standing) (w : ℕ → ℕ → ℕ) (page : ℕ) (volume : State) (low most : ℕ) → IsVersion s w page volume → low < 2 ^ 64
+pub nodes_marked : (s : ℕ → PageState) (w : ℕ → ℕ → ℕ) (page : ℕ) (volume : State) (low most : ℕ) → IsVersion s w page volume → low < 2 ^ 64
     → take most (marked (pairs_from (pairs w (w page 3)) (to_be_bytes w64 low) false)) ≡ nodes_from volume low most
 nodes_marked s w page volume low most version fits =
     ap (take most) (marks_are (pairs w (w page 3)) volume.nodes low fits
     (tree_rising s w (w page 3) (version.in_hand.trees.each 0 0 (omega arith)))
-    version.spells.catalog
-    (λ n has. omega (arith, version.sound.nodes n has, version.spells.next, version.in_hand.fits)))
+    version.encodes.catalog
+    (λ n has. omega (arith, version.sound.nodes n has, version.encodes.next, version.in_hand.fits)))
 
 -- a step past a pair
 pub fewer : (xs : List Pair) (x : Pair) → slice_get xs 0 ≡ Some x → length (drop 1 xs) < length xs

@@ -48,8 +48,8 @@ module _ (words : ℕ → ℕ) (at node : ℕ) where
       by false e = refl
 
   -- a long key's first word decides
-  pub word_tells : (x : ℕ) → x ≡ words (at + 1) → x < 2 ^ 64 → node < 2 ^ 64 → 8 ≤ key_len words at → nat_eq x node ≡ is_of node (item_at words at).key
-  word_tells x is lx ln long = by (nat_eq x node) refl
+  pub word_reports : (x : ℕ) → x ≡ words (at + 1) → x < 2 ^ 64 → node < 2 ^ 64 → 8 ≤ key_len words at → nat_eq x node ≡ is_of node (item_at words at).key
+  word_reports x is lx ln long = by (nat_eq x node) refl
     where
       clash : false ≡ true → ⊥
       clash e = cc

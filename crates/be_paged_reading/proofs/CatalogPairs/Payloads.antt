@@ -67,10 +67,10 @@ numbers_differ a b e = absurd (omega (arith, e))
 pub kind_read : (payload : List ℕ) (byte : ℕ) (kind : Kind) (v : Value) → byte ≡ get_or payload 0 0 → kind_number kind ≡ byte → payload ≡ payload_of v → kind ≡ kind_of v
 kind_read payload byte kind v is number e = numbers_differ kind (kind_of v) (number ∙ is ∙ ap (λ p. get_or p 0 0) e ∙ first_of v)
 
-pub kind_told : (r : Option Kind) (payload : List ℕ) (byte : ℕ) (v : Value) → IfSome r (λ k. kind_number k ≡ byte) → IfNone r ((k : Kind) → kind_number k ≡ byte → ⊥) → byte ≡ get_or payload 0 0 → payload ≡ payload_of v
+pub kind_reported : (r : Option Kind) (payload : List ℕ) (byte : ℕ) (v : Value) → IfSome r (λ k. kind_number k ≡ byte) → IfNone r ((k : Kind) → kind_number k ≡ byte → ⊥) → byte ≡ get_or payload 0 0 → payload ≡ payload_of v
     → r ≡ Some (kind_of v)
-kind_told None payload byte v some none is e = absurd (none (kind_of v) (sym (is ∙ ap (λ p. get_or p 0 0) e ∙ first_of v)))
-kind_told (Some k) payload byte v some none is e = ap (λ (x : Kind). Some x) (kind_read payload byte k v is some e)
+kind_reported None payload byte v some none is e = absurd (none (kind_of v) (sym (is ∙ ap (λ p. get_or p 0 0) e ∙ first_of v)))
+kind_reported (Some k) payload byte v some none is e = ap (λ (x : Kind). Some x) (kind_read payload byte k v is some e)
 
 pub some_kind : (a b : Kind) → Some a ≡ Some b → a ≡ b
 some_kind a b e = ap (λ o. unwrap_or o a) e
@@ -96,32 +96,32 @@ module _ (payload : List ℕ) where
   Reads64 number = (k n : ℕ) → n < 2 ^ 64 → payload ≡ k ∷ to_be_bytes w64 n → number ≡ Some n
 
   pub cstr : (text : Option (List ℕ)) → IsKind kinds.Cstr → ReadsText text → IsRead (option_map Cstr text)
-  cstr text told reads (Cstr t) is e = ap (option_map Cstr) (reads 1 t is.0 is.1 e)
-  cstr text told reads v is e = let h = told v e in cc
+  cstr text reported reads (Cstr t) is e = ap (option_map Cstr) (reads 1 t is.0 is.1 e)
+  cstr text reported reads v is e = let h = reported v e in cc
 
   pub long : (number : Option ℕ) → IsKind kinds.Long → Reads32 number → IsRead (option_map (λ n. Long (cast_signed w32 n)) number)
-  long number told reads (Long n) is e = ap (option_map (λ n. Long (cast_signed w32 n))) (reads 2 (cast_unsigned w32 n) (Fits-lt-pow {w = w32} (Fits-of_z is)) e) ∙ ap (λ m. Some (Long m)) (to_z-of_z w32 n is)
-  long number told reads v is e = let h = told v e in cc
+  long number reported reads (Long n) is e = ap (option_map (λ n. Long (cast_signed w32 n))) (reads 2 (cast_unsigned w32 n) (Fits-lt-pow {w = w32} (Fits-of_z is)) e) ∙ ap (λ m. Some (Long m)) (to_z-of_z w32 n is)
+  long number reported reads v is e = let h = reported v e in cc
 
   pub llng : (number : Option ℕ) → IsKind kinds.Llng → Reads64 number → IsRead (option_map (λ n. Llng (cast_signed w64 n)) number)
-  llng number told reads (Llng n) is e = ap (option_map (λ n. Llng (cast_signed w64 n))) (reads 3 (cast_unsigned w64 n) (Fits-lt-pow {w = w64} (Fits-of_z is)) e) ∙ ap (λ m. Some (Llng m)) (to_z-of_z w64 n is)
-  llng number told reads v is e = let h = told v e in cc
+  llng number reported reads (Llng n) is e = ap (option_map (λ n. Llng (cast_signed w64 n))) (reads 3 (cast_unsigned w64 n) (Fits-lt-pow {w = w64} (Fits-of_z is)) e) ∙ ap (λ m. Some (Llng m)) (to_z-of_z w64 n is)
+  llng number reported reads v is e = let h = reported v e in cc
 
   pub mims : (text : Option (List ℕ)) → IsKind kinds.Mims → ReadsText text → IsRead (option_map Mims text)
-  mims text told reads (Mims t) is e = ap (option_map Mims) (reads 4 t is.0 is.1 e)
-  mims text told reads v is e = let h = told v e in cc
+  mims text reported reads (Mims t) is e = ap (option_map Mims) (reads 4 t is.0 is.1 e)
+  mims text reported reads v is e = let h = reported v e in cc
 
   pub rawt : (bytes : Option (List ℕ)) → IsKind kinds.Rawt → ReadsBytes bytes → IsRead (option_map Rawt bytes)
-  rawt bytes told reads (Rawt t) is e = ap (option_map Rawt) (reads 5 t is e)
-  rawt bytes told reads v is e = let h = told v e in cc
+  rawt bytes reported reads (Rawt t) is e = ap (option_map Rawt) (reads 5 t is e)
+  rawt bytes reported reads v is e = let h = reported v e in cc
 
   pub ulng : (number : Option ℕ) → IsKind kinds.Ulng → Reads32 number → IsRead (option_map Ulng number)
-  ulng number told reads (Ulng n) is e = ap (option_map Ulng) (reads 6 n is e)
-  ulng number told reads v is e = let h = told v e in cc
+  ulng number reported reads (Ulng n) is e = ap (option_map Ulng) (reads 6 n is e)
+  ulng number reported reads v is e = let h = reported v e in cc
 
   pub ullg : (number : Option ℕ) → IsKind kinds.Ullg → Reads64 number → IsRead (option_map Ullg number)
-  ullg number told reads (Ullg n) is e = ap (option_map Ullg) (reads 7 n is e)
-  ullg number told reads v is e = let h = told v e in cc
+  ullg number reported reads (Ullg n) is e = ap (option_map Ullg) (reads 7 n is e)
+  ullg number reported reads v is e = let h = reported v e in cc
 
   -- the same for what is seen of the value
   pub seen : {A : Type 0} (f : Value → A) (none : A) (read : Option Value) → IsRead read → (v : Value) → IsValue v → payload ≡ payload_of v → option_map_or f read none ≡ f v

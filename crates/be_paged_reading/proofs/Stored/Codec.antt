@@ -52,8 +52,8 @@ have_text text a b c d e f g h p0 p1 p2 p3 p4 p5 p6 p7 = record { small = λ j l
     each (suc (suc (suc (suc (suc (suc (suc (suc j)))))))) lt = absurd (omega (arith, lt))
 
 -- and they encode it
-pub text_told : (words : ℕ → ℕ) (text : List ℕ) → length text ≤ 63 → HaveText words text → bytes_at words 0 (length text) ≡ text
-text_told words text short have =
+pub text_reported : (words : ℕ → ℕ) (text : List ℕ) → length text ≤ 63 → HaveText words text → bytes_at words 0 (length text) ≡ text
+text_reported words text short have =
     bytes_at_stored words 0 text at
   where
     at : (j : ℕ) → j < words_for (length text) → to_be_bytes w64 (words (0 + j)) ≡ map (λ k. slice_index text k) (range_with_len (8 * j) 8)
@@ -75,12 +75,12 @@ text_moved v w text same have = record {
 -- the words of a loaded index and those of a page encode the same name
 pub name_moved : (v ws : ℕ → ℕ) (at len : ℕ) → len ≤ 63 → len ≡ v at → ((j : ℕ) → j < 8 → ws j ≡ v (at + 1 + j)) → bytes_at ws 0 len ≡ (entry_at v at).name
 unfolding entry_at
-name_moved v ws at len short is told = bytes_moved v ws (at + 1) 0 len short moved ∙ ap (bytes_at v (at + 1)) is
+name_moved v ws at len short is reported = bytes_moved v ws (at + 1) 0 len short moved ∙ ap (bytes_at v (at + 1)) is
   where
     moved : (j : ℕ) → j < 8 → ws (0 + j) ≡ v (at + 1 + j)
     moved j lt =
         let e : 0 + j ≡ j = omega arith in
-        ap ws e ∙ told j lt
+        ap ws e ∙ reported j lt
 
 pub entry_is : (v : ℕ → ℕ) (at : ℕ) (e : Entry) → e.name ≡ (entry_at v at).name → e.kind ≡ kind_numbered (v (at + 9)) → e.root ≡ v (at + 10) → e ≡ entry_at v at
 unfolding entry_at

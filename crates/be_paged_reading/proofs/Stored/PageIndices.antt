@@ -6,7 +6,7 @@ use Rattle.std.specs.declared.cmp.Ordering.{Ordering}
 use Rattle.std.specs.declared.option.Option.{Option}
 use Rattle.std.specs.declared.option.Option.TheVariants.{Some, None}
 use Rattle.std.specs.declared.cmp.Ordering.TheVariants.{Less, Equal, Greater}
-use Rattle.be_pages.specs.declared.room.Standing.{Standing}
+use Rattle.be_pages.specs.declared.room.PageState.{PageState}
 use Rattle.be_tree_reading.specs.declared.cursor.Cursor.{Cursor}
 use Rattle.be_volume.specs.Maps.{name_cmp}
 use Rattle.be_volume.specs.Volume.{State}
@@ -73,10 +73,10 @@ module _ (words : ℕ → ℕ) (name : List ℕ) where
   }
 
 -- an index reader after pages were only read, with what it now remembers
-pub source_since : (s t : ℕ → Standing) (v w : ℕ → ℕ → ℕ) (page : ℕ) (was known : Option FoundIndex) (cursor : Cursor) (place last_page last_at : ℕ) (volume : State) → t ≡ s → w ≡ v →
+pub source_since : (s t : ℕ → PageState) (v w : ℕ → ℕ → ℕ) (page : ℕ) (was known : Option FoundIndex) (cursor : Cursor) (place last_page last_at : ℕ) (volume : State) → t ≡ s → w ≡ v →
     IsKnown (contents_of (w page)).entries known → SourceOf s v page was cursor place last_page last_at volume → SourceOf t w page known cursor place last_page last_at volume
-source_since s t v w page was known cursor place last_page last_at volume standing words is h =
-    let now = subst (λ (u : ℕ → Standing). SourceOf u w page was cursor place last_page last_at volume) (sym standing) (subst (λ (x : ℕ → ℕ → ℕ). SourceOf s x page was cursor place last_page last_at volume) (sym words) h) in
+source_since s t v w page was known cursor place last_page last_at volume page_state words is h =
+    let now = subst (λ (u : ℕ → PageState). SourceOf u w page was cursor place last_page last_at volume) (sym page_state) (subst (λ (x : ℕ → ℕ → ℕ). SourceOf s x page was cursor place last_page last_at volume) (sym words) h) in
     record { version = now.version; known_is = is; beyond = now.beyond }
 
 -- what is remembered about an index

@@ -98,7 +98,7 @@ fn answer_pages<L: Look>(
     query: &Query,
 ) -> (L, Result<Vec<u64>, Refusal>)
     ghost volume: { State }
-    requires version { IsVersion (L.standing look) (L.words look) page volume }
+    requires version { IsVersion (L.page_state look) (L.words look) page volume }
 {
     let mut reader = source(look, page);
     let nodes = answer(alloc, query, &mut reader);
@@ -158,7 +158,7 @@ fn apply_counted<R: Room>(
     ops: &[Op],
 ) -> Result<(), Refusal>
     ghost volume: { State }
-    requires version { IsVersion (R.standing room.old) (R.words room.old) page volume }
+    requires version { IsVersion (R.page_state room.old) (R.words room.old) page volume }
     requires count { (1 ≤ length ops.now) × (length ops.now ≤ 64) }
     requires fits { volume.next + 64 < 2 ^ 64 }
     requires open { IsTrue (R.is_open (R.kept room.old)) }

@@ -25,8 +25,8 @@ fn expect_look<L: Look + Drop>(
     text: &str,
     expected: &str,
 ) -> Result<L, Fail>
-    requires version { IsVersion (L.standing look) (L.words look) page plain.now }
-    ensures unchanged { IfOk result (λ r. IsUnchanged L.kept L.standing L.words look r) }
+    requires version { IsVersion (L.page_state look) (L.words look) page plain.now }
+    ensures unchanged { IfOk result (λ r. IsUnchanged L.kept L.page_state L.words look r) }
 {
     let query = read_query(alloc, text)?;
     let (look, answer) = query_both(alloc, plain, look, page, &query, None)?;
@@ -83,10 +83,10 @@ fn expect_before(
     text: &str,
     expected: &str,
 ) -> Result<VecRoom, Fail>
-    requires version { IsVersion (λ q. after_undo (⟦<VecRoom as Look>⟧.standing room q))
+    requires version { IsVersion (λ q. after_undo (⟦<VecRoom as Look>⟧.page_state room q))
         (⟦<VecRoom as Look>⟧.words room) page plain.now }
     ensures unchanged { IfOk result (λ r. IsUnchanged ⟦<VecRoom as Look>⟧.kept
-        ⟦<VecRoom as Look>⟧.standing ⟦<VecRoom as Look>⟧.words room r) }
+        ⟦<VecRoom as Look>⟧.page_state ⟦<VecRoom as Look>⟧.words room r) }
 {
     let before = Before { look: room };
     let before = expect_look(alloc, plain, before, page, text, expected)?;
@@ -102,11 +102,11 @@ fn read_copies(
     page: u64,
     new_page: u64,
 ) -> Result<VecRoom, Fail>
-    requires before { IsVersion (λ q. after_undo (⟦<VecRoom as Look>⟧.standing room q))
+    requires before { IsVersion (λ q. after_undo (⟦<VecRoom as Look>⟧.page_state room q))
         (⟦<VecRoom as Look>⟧.words room) page original.now }
-    requires version { IsVersion (⟦<VecRoom as Look>⟧.standing room)
+    requires version { IsVersion (⟦<VecRoom as Look>⟧.page_state room)
         (⟦<VecRoom as Look>⟧.words room) new_page copy.now }
-    ensures version { IfOk result (λ r. IsVersion (⟦<VecRoom as Look>⟧.standing r)
+    ensures version { IfOk result (λ r. IsVersion (⟦<VecRoom as Look>⟧.page_state r)
         (⟦<VecRoom as Look>⟧.words r) new_page copy.now) }
 {
     let room = expect_before(alloc, original, room, page, "k==x", "nodes 1 3\n")?;
@@ -123,13 +123,13 @@ fn drop_first(
     page: u64,
 ) -> Result<(Volume, VecRoom, u64), Fail>
     requires same { copy ≡ original.now }
-    requires version { IsVersion (⟦<VecRoom as Look>⟧.standing room)
+    requires version { IsVersion (⟦<VecRoom as Look>⟧.page_state room)
         (⟦<VecRoom as Look>⟧.words room) page original.now }
-    requires start { IsWriteStart (⟦<VecRoom as Look>⟧.standing room) }
+    requires start { IsWriteStart (⟦<VecRoom as Look>⟧.page_state room) }
     ensures before { IfOk result (λ r. IsVersion
-        (λ q. after_undo (⟦<VecRoom as Look>⟧.standing r.1 q)) (⟦<VecRoom as Look>⟧.words r.1) page
-        original.now) }
-    ensures version { IfOk result (λ r. IsVersion (⟦<VecRoom as Look>⟧.standing r.1)
+        (λ q. after_undo (⟦<VecRoom as Look>⟧.page_state r.1 q)) (⟦<VecRoom as Look>⟧.words r.1)
+        page original.now) }
+    ensures version { IfOk result (λ r. IsVersion (⟦<VecRoom as Look>⟧.page_state r.1)
         (⟦<VecRoom as Look>⟧.words r.1) r.2 r.0) }
 {
     if original.next() > u64::MAX - 65 {
@@ -147,7 +147,7 @@ fn drop_first(
 
 /// Keeps the write, and reads the copy.
 fn read_kept(alloc: Global, copy: &Volume, mut room: VecRoom, page: u64) -> Result<(), Fail>
-    requires version { IsVersion (⟦<VecRoom as Look>⟧.standing room)
+    requires version { IsVersion (⟦<VecRoom as Look>⟧.page_state room)
         (⟦<VecRoom as Look>⟧.words room) page copy.now }
 {
     room.keep();

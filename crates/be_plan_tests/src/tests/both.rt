@@ -92,7 +92,7 @@ fn crossing(alloc: Global) -> Result<Volume, Refusal> {
 }
 
 /// The nodes, and how often a value was read, as `FIRST LAST COUNT asks ASKED`.
-fn told(alloc: Global, volume: &Volume, text: &str, keys: u64) -> Result<String, Refusal> {
+fn summary(alloc: Global, volume: &Volume, text: &str, keys: u64) -> Result<String, Refusal> {
     let query = parse(alloc, text)?;
     let mut source = start_estimating(volume, keys);
     let nodes = answer(alloc, &query, &mut source)?;
@@ -101,19 +101,19 @@ fn told(alloc: Global, volume: &Volume, text: &str, keys: u64) -> Result<String,
     Ok(format!(in alloc; "{first} {last} {} asks {}", nodes.len(), source.values)?)
 }
 
-/// Whether `told` returns this text. If memory runs out, it tries again.
-fn tells(
+/// Whether `summary` returns this text. If memory runs out, it tries again.
+fn has_summary(
     alloc: Global,
     volume: &Volume,
     text: &str,
     keys: u64,
     wanted: &str,
 ) -> Result<bool, Refusal> {
-    let told = match told(alloc, volume, text, keys) {
-        Err(Refusal::OutOfMemory) => told(alloc, volume, text, keys)?,
-        told => told?,
+    let summary = match summary(alloc, volume, text, keys) {
+        Err(Refusal::OutOfMemory) => summary(alloc, volume, text, keys)?,
+        summary => summary?,
     };
-    Ok(told.as_str() == wanted)
+    Ok(summary.as_str() == wanted)
 }
 
 /// The query, the estimate for an index, and the text.
@@ -142,9 +142,9 @@ const CASES: &[(&str, u64, &str)] = &[
 ];
 
 /// Fails unless each case has its text.
-fn tells_each(alloc: Global, volume: &Volume) -> Result<(), Fail> {
+fn check_summaries(alloc: Global, volume: &Volume) -> Result<(), Fail> {
     for (text, keys, wanted) in CASES {
-        if !tells(alloc, volume, text, *keys, wanted)? {
+        if !has_summary(alloc, volume, text, *keys, wanted)? {
             return Err(Fail::new(text));
         }
     }
@@ -153,5 +153,5 @@ fn tells_each(alloc: Global, volume: &Volume) -> Result<(), Fail> {
 
 #[test]
 fn both_sides(rt: HostRuntime) -> Result<(), Fail> {
-    tells_each(rt.alloc(), &crossing(rt.alloc())?)
+    check_summaries(rt.alloc(), &crossing(rt.alloc())?)
 }

@@ -259,7 +259,7 @@ fn both_threads_run(rt: HostRuntime) -> Result<(), Fail> {
 
 /// Whether a gate is called for this many lines of a script, and for none of an empty second
 /// script. `None` if memory ran out.
-fn tells_lines<R: Threads + Wait>(
+fn is_called_for_lines<R: Threads + Wait>(
     rt: &R,
     alloc: Global,
     script: &str,
@@ -281,11 +281,11 @@ fn check_lines<R: Threads + Wait>(rt: &R, alloc: Global, line: &str) -> Result<(
         Ok(script) => script,
         Err(_) => script.replace(alloc, "|", "\n")?,
     };
-    let told = match tells_lines(rt, alloc, script.as_str(), lines)? {
-        None => tells_lines(rt, alloc, script.as_str(), lines)?,
-        told => told,
+    let called = match is_called_for_lines(rt, alloc, script.as_str(), lines)? {
+        None => is_called_for_lines(rt, alloc, script.as_str(), lines)?,
+        called => called,
     };
-    expect(told == Some(true), line)
+    expect(called == Some(true), line)
 }
 
 /// Blank lines, comments and bad lines count, and so does what follows the last LF, unless it is

@@ -217,7 +217,7 @@ fn number_in(word: Option<&str>) -> u64 {
 }
 
 /// Whether a run ends as a line says: the pages, the passes, the commits, and the end.
-fn ends_as_told(alloc: Global, line: &str) -> bool {
+fn ends_as_said(alloc: Global, line: &str) -> bool {
     let mut words = line.split(' ');
     let limits = Limits {
         pages: number_in(words.next()),
@@ -239,7 +239,7 @@ fn limits(rt: HostRuntime) -> Result<(), Fail> {
 8 1 1 well
 16384 64 4294967295 well";
     for line in lines.lines() {
-        if !ends_as_told(rt.alloc(), line) {
+        if !ends_as_said(rt.alloc(), line) {
             return Err(Fail::new(line));
         }
     }

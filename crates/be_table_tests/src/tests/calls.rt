@@ -1,7 +1,7 @@
 //! Calls on a seat as texts: requests and their replies.
 ghost use Rattle.be_table_tests.specs.Resting.{IsPinnedSeat, IsResting, StaysSeat};
 
-use crate::tests::reads::{Told, look_at, pin, read, tell, unpin};
+use crate::tests::reads::{Reported, look_at, pin, read, report, unpin};
 use crate::tests::writes::in_write;
 use be_script_language::{Reply, Request, read_line};
 use be_table::{Seat, VersionTable};
@@ -36,10 +36,10 @@ fn kind_text(alloc: Global, kind: Option<Kind>) -> Result<String, AllocError> {
 }
 
 /// The value by the page reader, the index's kind, and the value by a query's source.
-fn told_text(alloc: Global, told: Told) -> Text {
-    let mut text = text_of(alloc, Reply::Value(told.value))?;
-    text.push_str(kind_text(alloc, told.kind)?.as_str())?;
-    text.push_str(text_of(alloc, Reply::Value(told.asked))?.as_str())?;
+fn reported_text(alloc: Global, reported: Reported) -> Text {
+    let mut text = text_of(alloc, Reply::Value(reported.value))?;
+    text.push_str(kind_text(alloc, reported.kind)?.as_str())?;
+    text.push_str(text_of(alloc, Reply::Value(reported.asked))?.as_str())?;
     Ok(text)
 }
 
@@ -81,8 +81,8 @@ fn read_pinned(
 {
     match request {
         Request::Get(node, Ok(name)) => {
-            let (seat, told) = tell(table, seat, *node, name);
-            (seat, told_text(alloc, told))
+            let (seat, reported) = report(table, seat, *node, name);
+            (seat, reported_text(alloc, reported))
         }
         _ if words == "look" => {
             let (seat, word) = look_at(table, seat);

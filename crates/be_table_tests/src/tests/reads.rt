@@ -93,17 +93,17 @@ fn ask_source(
 
 /// What the page reader and a query's source return for a node and a name.
 #[derive(Drop)]
-pub(crate) struct Told {
+pub(crate) struct Reported {
     pub(crate) value: Option<Value>,
     pub(crate) kind: Option<Kind>,
     pub(crate) asked: Option<Value>,
 }
 
-pub(crate) fn tell(table: &VersionTable, seat: Seat, node: u64, name: &Name) -> (Seat, Told)
+pub(crate) fn report(table: &VersionTable, seat: Seat, node: u64, name: &Name) -> (Seat, Reported)
     requires { IsPinnedSeat table.now seat }
     ensures { IsPinnedSeat table.now result.0 }
 {
     let (seat, value) = value_of(table, seat, node, name);
     let (seat, kind, asked) = ask_source(table, seat, node, name);
-    (seat, Told { value, kind, asked })
+    (seat, Reported { value, kind, asked })
 }

@@ -80,27 +80,27 @@ pub(crate) fn opened(alloc: Global, pages: u64) -> Result<Room, Refusal> {
 fn hold(
     table: &VersionTable,
     alloc: Global,
-    holder: &mut Seat,
+    writer: &mut Seat,
     second: &mut Seat,
     third: &mut Seat,
     requests: &str,
 ) -> Text
-    requires { IsResting table.now holder.old × IsResting table.now second.old
+    requires { IsResting table.now writer.old × IsResting table.now second.old
         × IsResting table.now third.old }
-    ensures { IsResting table.now holder.new × IsResting table.now second.new
+    ensures { IsResting table.now writer.new × IsResting table.now second.new
         × IsResting table.now third.new }
 {
     let (before, beyond) = requests.split_once(" | ").unwrap_or((requests, ""));
-    let writing = match table.lock(holder.move_out()) {
+    let writing = match table.lock(writer.move_out()) {
         Ok(writing) => writing,
         Err((kept, refusal)) => {
-            *holder = kept;
+            *writer = kept;
             return Err(refusal);
         }
     };
     let first = answers(table, alloc, second, before);
     let last = answers(table, alloc, third, beyond);
-    *holder = writing.unlock();
+    *writer = writing.unlock();
     both_texts(alloc, first, last)
 }
 
@@ -108,25 +108,25 @@ fn hold(
 fn write_between(
     table: &VersionTable,
     alloc: Global,
-    holder: &mut Seat,
+    writer: &mut Seat,
     second: &mut Seat,
     requests: &str,
 ) -> Text
-    requires { IsResting table.now holder.old × IsResting table.now second.old }
-    ensures { IsResting table.now holder.new × IsResting table.now second.new }
+    requires { IsResting table.now writer.old × IsResting table.now second.old }
+    ensures { IsResting table.now writer.new × IsResting table.now second.new }
 {
     let (before, beyond) = requests.split_once(" | ").unwrap_or((requests, ""));
-    let mut writing = match table.lock(holder.move_out()) {
+    let mut writing = match table.lock(writer.move_out()) {
         Ok(writing) => writing,
         Err((kept, refusal)) => {
-            *holder = kept;
+            *writer = kept;
             return Err(refusal);
         }
     };
     let first = answers(table, alloc, second, before);
     let entered = act(&mut writing, &[Op::New], "");
     let last = answers(table, alloc, second, beyond);
-    *holder = writing.unlock();
+    *writer = writing.unlock();
     both_texts(
         alloc,
         first,

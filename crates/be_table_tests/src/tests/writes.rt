@@ -5,7 +5,8 @@ ghost use Rattle.be_table.specs.declared.pass.Knowledge.{Knowledge};
 ghost use Rattle.be_paged.specs.Changes.{Applies};
 ghost use Rattle.be_paged_reading.specs.Version.{IsVersion};
 ghost use Rattle.be_volume.specs.Volume.{State};
-ghost use Rattle.be_table.specs.Reading.{open_of, standing_among, word_of_page, standing_in_work};
+ghost use Rattle.be_table.specs.Reading.{open_of, page_state_among, word_of_page};
+ghost use Rattle.be_table.specs.Reading.{page_state_in_work};
 ghost use Rattle.be_table.specs.Reading.{words_of};
 ghost use Rattle.be_table.specs.Works.{TakesLock};
 ghost use Rattle.be_table_tests.specs.Resting.{IsResting, StaysSeat};
@@ -36,13 +37,13 @@ fn apply_to(
     ops: &[Op],
 ) -> Result<(u64, ArrayVec<Done, 64>), Refusal>
     ghost volume: { State }
-    requires version { IsVersion (standing_among writing.old.knows.places)
+    requires version { IsVersion (page_state_among writing.old.knows.places)
         (word_of_page writing.old.knows.words) page volume }
     requires count { (1 ≤ length ops.now) × (length ops.now ≤ 64) }
     requires fits { volume.next + 64 < 2 ^ 64 }
     requires open { writing.old.knows.published ≡ false }
-    ensures ok { IfOk result (λ r. Applies open_of standing_in_work words_of page r.0 volume ops.now
-        r.1.items writing.old writing.new) }
+    ensures ok { IfOk result (λ r. Applies open_of page_state_in_work words_of page r.0 volume
+        ops.now r.1.items writing.old writing.new) }
     ensures err { IfErr result (λ e. open_of writing.new ≡ open_of writing.old) }
 {
     apply(writing, page, ops)

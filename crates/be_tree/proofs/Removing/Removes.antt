@@ -4,10 +4,10 @@ use Rattle.std.specs.List.{flat_map}
 use Rattle.std.specs.Ordering.{is_eq}
 use Rattle.std.specs.declared.cmp.Ordering.TheVariants.{Less, Equal, Greater}
 use Rattle.std.proofs.lemmas.List.Elements.{All-cons}
-use Rattle.be_pages.specs.declared.room.Standing.{Standing}
+use Rattle.be_pages.specs.declared.room.PageState.{PageState}
 use Rattle.be_tree_reading.specs.Pair.{Pair}
 use Rattle.be_tree_reading.specs.Key.{key_cmp, AllAbove, AllBelow, IsRising, without}
-use Rattle.be_tree_reading.specs.Tree.{least_of_root, IsTreeAt}
+use Rattle.be_tree_reading.specs.Tree.{minimum_of_root, IsTreeAt}
 use Rattle.be_tree_reading.proofs.Order.{AllAbove_left, AllAbove_right}
 use Rattle.be_tree_reading.proofs.TreeFacts.{flat_map_in_three, IsSplit}
 
@@ -90,13 +90,13 @@ keys_without k (x ∷ xs) h =
     rest : All (λ x. length x.key ≤ 264) xs
     rest = λ i d lt. h (suc i) d (omega (arith, lt))
 
-pub least_small : (level : ℕ) → least_of_root level ≤ 6
-least_small zero = omega arith
-least_small (suc level) = omega arith
+pub minimum_small : (level : ℕ) → minimum_of_root level ≤ 6
+minimum_small zero = omega arith
+minimum_small (suc level) = omega arith
 
-pub tree_least : (level : ℕ) (standing : ℕ → Standing) (words : ℕ → ℕ → ℕ) (page : ℕ) → IsTreeAt level 6 standing words page → IsTreeAt level (least_of_root level) standing words page
-tree_least level standing words page tree = record {
-  node = record { is_page = tree.node.is_page; at_level = tree.node.at_level; enough = omega (arith, tree.node.enough, least_small level) };
+pub tree_minimum : (level : ℕ) (page_state : ℕ → PageState) (words : ℕ → ℕ → ℕ) (page : ℕ) → IsTreeAt level 6 page_state words page → IsTreeAt level (minimum_of_root level) page_state words page
+tree_minimum level page_state words page tree = record {
+  node = record { is_page = tree.node.is_page; at_level = tree.node.at_level; enough = omega (arith, tree.node.enough, minimum_small level) };
   below = tree.below;
   page_once = tree.page_once;
   page_in_use = tree.page_in_use;

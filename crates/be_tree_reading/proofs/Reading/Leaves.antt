@@ -6,7 +6,7 @@ use Rattle.std.specs.declared.option.Option.{Option}
 use Rattle.std.specs.declared.cmp.Ordering.TheVariants.{Greater}
 use Rattle.std.proofs.lemmas.Bool.{false≢true}
 use Rattle.std.proofs.lemmas.List.{append-nil, get_or-drop, length-drop}
-use Rattle.be_pages.specs.declared.room.Standing.{Standing}
+use Rattle.be_pages.specs.declared.room.PageState.{PageState}
 use Rattle.be_tree_reading.specs.Pair.{Pair}
 use Rattle.be_tree_reading.specs.Key.{key_cmp, IsRising}
 use Rattle.be_tree_reading.specs.Page.{item_at, item_place, items_of}
@@ -143,5 +143,5 @@ module _ (before numbers mid now : List ℕ) (xs ys : List Pair) (high : Option 
       (push ∙ sym (ap (λ ns. mid ++ ns) (to_append xs ys high ∙ ap (λ b. numbers_to xs high ++ (if b then [] else numbers_to ys high)) (sym e) ∙ append-nil (numbers_to xs high))))
 
 -- a leaf is the same after pages were only read
-pub leaf_same : (s t : ℕ → Standing) (v w : ℕ → ℕ → ℕ) (page : ℕ) → t ≡ s → w ≡ v → IsTreeAt 0 1 s v page → IsTreeAt 0 1 t w page
-leaf_same s t v w page es ew tree = subst (λ (u : ℕ → ℕ → ℕ). IsTreeAt 0 1 t u page) (sym ew) (subst (λ (r : ℕ → Standing). IsTreeAt 0 1 r v page) (sym es) tree)
+pub leaf_same : (s t : ℕ → PageState) (v w : ℕ → ℕ → ℕ) (page : ℕ) → t ≡ s → w ≡ v → IsTreeAt 0 1 s v page → IsTreeAt 0 1 t w page
+leaf_same s t v w page es ew tree = subst (λ (u : ℕ → ℕ → ℕ). IsTreeAt 0 1 t u page) (sym ew) (subst (λ (r : ℕ → PageState). IsTreeAt 0 1 r v page) (sym es) tree)

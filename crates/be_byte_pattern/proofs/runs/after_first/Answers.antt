@@ -1,6 +1,6 @@
 use Rattle.std.proofs.Common.{◌≡◌, ◌∷◌, ◌++◌, ◌<◌, List, length, drop, map, false, sym, ap, ◌∙◌, arith, rules, length-drop}
 use Rattle.be_pattern.specs.Match.{Part, Run, Only, matches, some_tail}
-use Rattle.be_byte_pattern.proofs.Standing.{first_serves, nothing_sought, one_passed, passed_to, run_missing, run_too_long}
+use Rattle.be_byte_pattern.proofs.LiteralRuns.{first_serves, nothing_sought, one_passed, passed_to, run_missing, run_too_long}
 use Rattle.be_byte_pattern.proofs.runs.after_first.Goals as goal
 use Rattle.be_byte_pattern.proofs.runs.after_first.Goals.{After-place_of-at}
 

@@ -10,7 +10,7 @@ invariant-halves g l = record {
   above : AreAbove (g.L.Look.words l.fn.look l.page) l.name l.high;
   ordered : l.low ≤ l.high;
   in_range : l.high ≤ g.L.Look.words l.fn.look l.page 1;
-  unchanged : IsUnchanged g.L.Look.kept g.L.Look.standing g.L.Look.words l.fn.look l.look;
+  unchanged : IsUnchanged g.L.Look.kept g.L.Look.page_state g.L.Look.words l.fn.look l.look;
 }
 
 abbrev pub decreases-halves : goal.decreases-halves

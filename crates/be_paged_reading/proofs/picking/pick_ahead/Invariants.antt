@@ -10,5 +10,5 @@ invariant-loop-i g l = record {
   parts : l.fn.found.items ++ passing_on l.test l.way (items_ahead (g.L.Look.words l.fn.look) l.leaf)
       ≡ l.found.items ++ passing_on l.test l.way (drop l.i (items_ahead (g.L.Look.words l.fn.look) l.leaf));
   few : length l.found.items ≤ l.most;
-  unchanged : IsUnchanged g.L.Look.kept g.L.Look.standing g.L.Look.words l.fn.look l.look;
+  unchanged : IsUnchanged g.L.Look.kept g.L.Look.page_state g.L.Look.words l.fn.look l.look;
 }

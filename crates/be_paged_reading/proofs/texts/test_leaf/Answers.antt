@@ -16,7 +16,7 @@ pub loop-i-init : goal.loop-i-init
 loop-i-init g c = record {
   has = record { got = []; parts = refl; is = sym (append-nil c.args.found.now.items) };
   same = refl;
-  unchanged = record { kept = c.word-count.ensures.kept; standing = c.word-count.ensures.standing; words = c.word-count.ensures.words };
+  unchanged = record { kept = c.word-count.ensures.kept; page_state = c.word-count.ensures.page_state; words = c.word-count.ensures.words };
 }
 
 pub is_past_at-is_past-requires-clause-in_page : goal.is_past_at-is_past-requires-clause-in_page
@@ -72,8 +72,8 @@ loop-i-preserved g c =
           (ap to parts ∙ opened t x (drop (i + 1) items) high within)
           (c.in_ok-test_item.ensures.added ∙ ap (λ (w : ℕ → ℕ → ℕ). c.loop-i.found.items ++ t (item_at (w c.args.leaf.0) (2 + 42 * i))) (read g b));
       same = c.loop-i.invariant.same ∙ ap (any_past high) parts ∙ ap (λ q. q || any_past high (drop (i + 1) items)) within;
-      unchanged = unchanged_trans g.L.Look.kept g.L.Look.standing g.L.Look.words c.args.look.now c.is_past_at-is_past.new.look c.test_item.new.look
-          (unchanged_trans g.L.Look.kept g.L.Look.standing g.L.Look.words c.args.look.now c.loop-i.look c.is_past_at-is_past.new.look c.loop-i.invariant.unchanged c.is_past_at-is_past.ensures.unchanged)
+      unchanged = unchanged_trans g.L.Look.kept g.L.Look.page_state g.L.Look.words c.args.look.now c.is_past_at-is_past.new.look c.test_item.new.look
+          (unchanged_trans g.L.Look.kept g.L.Look.page_state g.L.Look.words c.args.look.now c.loop-i.look c.is_past_at-is_past.new.look c.loop-i.invariant.unchanged c.is_past_at-is_past.ensures.unchanged)
           c.test_item.ensures.unchanged;
     }
 

@@ -13,5 +13,5 @@ invariant-loop-i g l = record {
   has : HasGot l.fn.found.items (nodes_passing_to l.fn.test.0 l.fn.test.1 (drop l.fn.leaf.1 (items_of (g.L.Look.words l.fn.look l.fn.leaf.0))) (option_copied l.fn.high))
       (nodes_passing_to l.fn.test.0 l.fn.test.1 (drop l.i (items_of (g.L.Look.words l.fn.look l.fn.leaf.0))) (option_copied l.fn.high)) l.found.items;
   same : any_past (option_copied l.fn.high) (drop l.fn.leaf.1 (items_of (g.L.Look.words l.fn.look l.fn.leaf.0))) ≡ any_past (option_copied l.fn.high) (drop l.i (items_of (g.L.Look.words l.fn.look l.fn.leaf.0)));
-  unchanged : IsUnchanged g.L.Look.kept g.L.Look.standing g.L.Look.words l.fn.look l.look;
+  unchanged : IsUnchanged g.L.Look.kept g.L.Look.page_state g.L.Look.words l.fn.look l.look;
 }

@@ -19,7 +19,7 @@ loop-at-init g c = record {
   some = omega arith;
   in_range = c.requires.some;
   not_above = λ j d e some gt. absurd (omega (arith, e, some));
-  unchanged = record { kept = refl; standing = refl; words = refl };
+  unchanged = record { kept = refl; page_state = refl; words = refl };
 }
 
 -- the place is an item's
@@ -69,7 +69,7 @@ loop-at-preserved g c =
           let words = g.L.Look.words c.args.look.now c.args.page in
           not_greater _ (asked g at d (here g at) ∙ c.if-is_above.false)
           (sym (ap (λ (n : ℕ). key_cmp (get_or (items_of words) n d).key c.args.key.now) same) ∙ gt);
-      unchanged = unchanged_trans g.L.Look.kept g.L.Look.standing g.L.Look.words c.args.look.now c.loop-at.look c.is_above.new.look i.unchanged c.is_above.ensures.unchanged;
+      unchanged = unchanged_trans g.L.Look.kept g.L.Look.page_state g.L.Look.words c.args.look.now c.loop-at.look c.is_above.new.look i.unchanged c.is_above.ensures.unchanged;
     }
 
 pub returns-then-is_above-clause-branch : goal.returns-then-is_above-clause-branch

@@ -14,7 +14,7 @@ invariant-loop-at g l = record {
   some : 0 < number;
   in_range : number ≤ g.L.Look.words l.fn.look l.page 1;
   not_above : (j : ℕ) (d : Pair) → suc j ≡ number → 0 < j → key_cmp (slice_index_or (items_of (g.L.Look.words l.fn.look l.page)) j d).key l.key ≢ Greater;
-  unchanged : IsUnchanged g.L.Look.kept g.L.Look.standing g.L.Look.words l.fn.look l.look;
+  unchanged : IsUnchanged g.L.Look.kept g.L.Look.page_state g.L.Look.words l.fn.look l.look;
 }
 
 abbrev pub decreases-loop-at : goal.decreases-loop-at

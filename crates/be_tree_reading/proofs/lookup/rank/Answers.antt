@@ -36,7 +36,7 @@ loop-at-preserved g c = record {
       let words = g.L.Look.words c.args.look.now c.args.page in
       not_greater _ (asked g (goal.at.loop-at-preserved g c).After-is_above d (omega (arith, c.loop-at-test.true, c.word-count.ensures.value)) ∙ c.if-is_above.false)
       (sym (ap (λ (i : ℕ). key_cmp (get_or (items_of words) i d).key c.args.key.now) here) ∙ gt);
-  unchanged = unchanged_trans g.L.Look.kept g.L.Look.standing g.L.Look.words c.args.look.now c.loop-at.look c.is_above.new.look c.loop-at.invariant.unchanged c.is_above.ensures.unchanged;
+  unchanged = unchanged_trans g.L.Look.kept g.L.Look.page_state g.L.Look.words c.args.look.now c.loop-at.look c.is_above.new.look c.loop-at.invariant.unchanged c.is_above.ensures.unchanged;
 }
 
 pub returns-then-is_above-clause-rank : goal.returns-then-is_above-clause-rank

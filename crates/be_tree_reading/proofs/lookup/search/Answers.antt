@@ -75,7 +75,7 @@ loop-at-preserved g c =
           let same : j ≡ i.number = omega (arith, e) in
           ap (λ (n : ℕ). key_cmp (get_or items n d).key c.args.key.now) same ∙ asked_item g at d
           ∙ less c.order_at-order.result (sym c.is_eq.ensures ∙ c.if-is_eq.false) (sym c.is_gt.ensures ∙ c.if-is_gt.false);
-      unchanged = unchanged_trans g.L.Look.kept g.L.Look.standing g.L.Look.words c.args.look.now c.loop-at.look c.order_at-order.new.look i.unchanged c.order_at-order.ensures.unchanged;
+      unchanged = unchanged_trans g.L.Look.kept g.L.Look.page_state g.L.Look.words c.args.look.now c.loop-at.look c.order_at-order.new.look i.unchanged c.order_at-order.ensures.unchanged;
     }
 
 pub returns-then-is_eq-clause-found : goal.returns-then-is_eq-clause-found

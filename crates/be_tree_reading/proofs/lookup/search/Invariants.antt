@@ -13,7 +13,7 @@ invariant-loop-at g l = record {
   is_place : l.at ≡ item_place number;
   in_range : number ≤ g.L.Look.words l.fn.look l.page 1;
   below : (j : ℕ) (d : Pair) → suc j ≡ number → key_cmp (slice_index_or (items_of (g.L.Look.words l.fn.look l.page)) j d).key l.key ≡ Less;
-  unchanged : IsUnchanged g.L.Look.kept g.L.Look.standing g.L.Look.words l.fn.look l.look;
+  unchanged : IsUnchanged g.L.Look.kept g.L.Look.page_state g.L.Look.words l.fn.look l.look;
 }
 
 abbrev pub decreases-loop-at : goal.decreases-loop-at

@@ -82,8 +82,8 @@ loop-at-preserved g c =
       has = got_one c.args.found.now.items (numbers_to (drop (number_at_place c.args.from) items) high) c.loop-at.found.items c.push.new.self.items (drop place items) (drop (place + 1) items) high x c.number_at-number.result
           (ap (λ (xs : List Pair). slice_get xs 0) parts) (sym (ap (λ (xs : List Pair). drop 1 xs) parts)) within number c.in_ok-push.ensures.items c.loop-at.invariant.has;
       same = c.loop-at.invariant.same ∙ ap (any_past high) parts ∙ ap (λ b. b || any_past high (drop (place + 1) items)) within;
-      unchanged = unchanged_trans g.L.Look.kept g.L.Look.standing g.L.Look.words c.args.look.now c.is_past_at.new.look c.number_at-number.new.look
-          (unchanged_trans g.L.Look.kept g.L.Look.standing g.L.Look.words c.args.look.now c.loop-at.look c.is_past_at.new.look c.loop-at.invariant.unchanged c.is_past_at.ensures.unchanged)
+      unchanged = unchanged_trans g.L.Look.kept g.L.Look.page_state g.L.Look.words c.args.look.now c.is_past_at.new.look c.number_at-number.new.look
+          (unchanged_trans g.L.Look.kept g.L.Look.page_state g.L.Look.words c.args.look.now c.loop-at.look c.is_past_at.new.look c.loop-at.invariant.unchanged c.is_past_at.ensures.unchanged)
           c.number_at-number.ensures.unchanged;
     }
 

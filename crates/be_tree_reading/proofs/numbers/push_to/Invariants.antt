@@ -17,7 +17,7 @@ invariant-loop-at g l = record {
   has : HasGot l.fn.found.items (numbers_to (drop (number_at_place l.from) (items_of (g.L.Look.words l.fn.look l.page))) (option_copied l.high))
       (numbers_to (drop number (items_of (g.L.Look.words l.fn.look l.page))) (option_copied l.high)) l.found.items;
   same : any_past (option_copied l.high) (drop (number_at_place l.from) (items_of (g.L.Look.words l.fn.look l.page))) ≡ any_past (option_copied l.high) (drop number (items_of (g.L.Look.words l.fn.look l.page)));
-  unchanged : IsUnchanged g.L.Look.kept g.L.Look.standing g.L.Look.words l.fn.look l.look;
+  unchanged : IsUnchanged g.L.Look.kept g.L.Look.page_state g.L.Look.words l.fn.look l.look;
 }
 
 abbrev pub decreases-loop-at : goal.decreases-loop-at
