@@ -19,7 +19,7 @@ ghost use Rattle.std.specs.Prelude.{◌≡◌, true, IfOk};
 ghost use Rattle.be_volume.specs.Volume.{State};
 ghost use Rattle.be_plan.specs.Explain.{are_places};
 
-use crate::tests::counting::{nodes_by, nodes_chosen};
+use crate::tests::counting::{Counts, nodes_by, nodes_chosen};
 use be_plan::{Cover, Picks, Source, choose, choose_from, explain, volume_source};
 use be_query::{Query, parse};
 use be_test_tools::{Answers, check_lines, list_of};
@@ -145,6 +145,20 @@ fn are_scanned(volume: &Volume, query: &Query, nodes: &[u64]) -> Result<bool, Re
     Ok(volume.query(query)?.as_slice() == nodes)
 }
 
+/// The count of ranges if these are the nodes of a scan.
+fn ranges_text(
+    alloc: Global,
+    volume: &Volume,
+    query: &Query,
+    nodes: &[u64],
+    ranges: u64,
+) -> Result<String, Refusal> {
+    if are_scanned(volume, query, nodes)? {
+        return number(alloc, ranges);
+    }
+    Ok(String::from_str(alloc, "not the nodes of a scan")?)
+}
+
 /// How many ranges were asked for whole by the cover, which has to give the nodes of a scan.
 fn count_ranges(
     alloc: Global,
@@ -152,12 +166,10 @@ fn count_ranges(
     query: &Query,
     cover: &Cover,
 ) -> Result<String, Refusal> {
-    if let Some((nodes, counts)) = nodes_by(alloc, volume, query, cover)? {
-        if are_scanned(volume, query, &nodes)? {
-            return number(alloc, counts.ranges);
-        }
+    match nodes_by(alloc, volume, query, cover)? {
+        Some((nodes, counts)) => ranges_text(alloc, volume, query, &nodes, counts.ranges),
+        None => Ok(String::from_str(alloc, "not covered")?),
     }
-    Ok(String::from_str(alloc, "not the nodes of a scan")?)
 }
 
 /// The nodes, and how many kinds and ranges were asked for them.
@@ -174,6 +186,20 @@ fn looks(alloc: Global, values: u64, searches: u64) -> Result<String, Refusal> {
 
 /// The counts of calls to a source that knows the kinds: the keys of a range without its end, the
 /// values and the keys that were searched for, or the kinds and the ranges.
+fn counts_text(
+    alloc: Global,
+    command: &str,
+    nodes: &[u64],
+    counts: &Counts,
+) -> Result<String, Refusal> {
+    match command {
+        "keys" => number(alloc, (counts.asked.as_str().len() as u64).wrapping_sub(1)),
+        "kinds" => kinds(alloc, nodes, counts.kinds, counts.ranges),
+        _ => looks(alloc, counts.values, counts.searches),
+    }
+}
+
+/// The same of what is chosen.
 fn counted(
     alloc: Global,
     volume: &Volume,
@@ -181,11 +207,7 @@ fn counted(
     query: &Query,
 ) -> Result<String, Refusal> {
     let (nodes, counts) = nodes_chosen(alloc, volume, query)?;
-    match command {
-        "keys" => number(alloc, (counts.asked.as_str().len() as u64).wrapping_sub(1)),
-        "kinds" => kinds(alloc, &nodes, counts.kinds, counts.ranges),
-        _ => looks(alloc, counts.values, counts.searches),
-    }
+    counts_text(alloc, command, &nodes, &counts)
 }
 
 /// What is chosen by the volume's indices.
@@ -485,6 +507,13 @@ fn gives_keys(volume: &Volume, index: &Name, other: &Name) -> bool {
         && is_next_in(volume, other, LAST, false, &[])
 }
 
+/// Whether a volume gives the kinds and the keys of k and of q, of which k has an index.
+fn gives_each(volume: &Volume) -> Result<(bool, bool), Refusal> {
+    let k = Name::new("k")?;
+    let q = Name::new("q")?;
+    Ok((gives_kinds(volume, &k, &q), gives_keys(volume, &k, &q)))
+}
+
 /// A volume as a source gives the kind of an index and its keys in order, and neither for a name
 /// without an index.
 #[test]
@@ -494,11 +523,9 @@ fn plan_source(rt: HostRuntime) -> Result<(), Fail> {
 each k CSTR: x x x
 drop 2
 new";
-    let k = Name::new("k")?;
-    let q = Name::new("q")?;
-    let volume = volume_of(rt.alloc(), lines)?;
-    assert!(rt; gives_kinds(&volume, &k, &q));
-    assert!(rt; gives_keys(&volume, &k, &q));
+    let (kinds, keys) = gives_each(&volume_of(rt.alloc(), lines)?)?;
+    assert!(rt; kinds);
+    assert!(rt; keys);
     Ok(())
 }
 
