@@ -115,12 +115,22 @@ fn push_rows(script: &mut String, replies: &mut String, rows: &str) -> Result<()
     Ok(())
 }
 
+/// Appends an example's rows and the rows after it.
+fn push_both(
+    script: &mut String,
+    replies: &mut String,
+    example: &str,
+    rows: &str,
+) -> Result<(), AllocError> {
+    push_rows(script, replies, example)?;
+    push_rows(script, replies, rows)
+}
+
 /// The script of an example's rows and of the rows after it, and its replies.
 fn script_of(alloc: Global, example: &str, rows: &str) -> Result<(String, String), AllocError> {
     let mut script = String::new(alloc);
     let mut replies = String::new(alloc);
-    push_rows(&mut script, &mut replies, example)?;
-    push_rows(&mut script, &mut replies, rows)?;
+    push_both(&mut script, &mut replies, example, rows)?;
     Ok((script, replies))
 }
 
@@ -168,6 +178,18 @@ fn run_by(
     }
 }
 
+/// True if a run that ended so and wrote this gave these replies, and false if memory ran out after
+/// a front of them.
+fn has_replies(result: Result<(), RunFault>, written: &str, replies: &str) -> Result<bool, Fail> {
+    match result {
+        Ok(()) if written == replies => Ok(true),
+        Ok(()) if wants_memory(written, replies) => Ok(false),
+        // A vector that can't grow is a write that fails.
+        Err(RunFault::Memory | RunFault::Write) if replies.starts_with(written) => Ok(false),
+        _ => Err(Fail::new(first_other(written, replies).unwrap_or("too few lines"))),
+    }
+}
+
 /// Runs a script. True if its replies are these, and false if memory ran out after a front of these
 /// replies.
 fn replies_to(
@@ -181,14 +203,7 @@ fn replies_to(
 {
     let mut written: Vec<u8> = Vec::new(alloc);
     let result = run_by(by, alloc, script, &mut written, commits);
-    let written = str::from_utf8(&written)?;
-    match result {
-        Ok(()) if written == replies => Ok(true),
-        Ok(()) if wants_memory(written, replies) => Ok(false),
-        // A vector that can't grow is a write that fails.
-        Err(RunFault::Memory | RunFault::Write) if replies.starts_with(written) => Ok(false),
-        _ => Err(Fail::new(first_other(written, replies).unwrap_or("too few lines"))),
-    }
+    has_replies(result, str::from_utf8(&written)?, replies)
 }
 
 /// Fails unless the script has these replies by this server, at the second run if memory ran out at

@@ -180,6 +180,23 @@ fn ends_unwritten(alloc: Global, bytes: &[u8], fails: bool, end: &str) -> bool {
     outcome.end == end && outcome.written == 0 && outcome.reads == 1_048_577
 }
 
+/// Fails unless it ends so.
+fn end_so(alloc: Global, bytes: &[u8], fails: bool, end: &str) -> Result<(), Fail> {
+    if ends_unwritten(alloc, bytes, fails, end) {
+        return Ok(());
+    }
+    Err(Fail::new(end))
+}
+
+/// The same of a script that is a byte too long, and of one without its first byte.
+fn check_longest(alloc: Global, script: &[u8]) -> Result<(), Fail> {
+    let longest = script.get(1..).unwrap_or(&[]);
+    end_so(alloc, script, false, "too long")?;
+    end_so(alloc, longest, false, "well")?;
+    end_so(alloc, longest, true, "read")?;
+    end_so(alloc, script, true, "too long")
+}
+
 /// 1,048,576 bytes run, a byte more is too long, and each byte costs a read. A read that fails
 /// after the last allowed byte is reported, and a read after one byte more is never made.
 #[test]
@@ -189,12 +206,7 @@ fn longest_script(rt: HostRuntime) -> Result<(), Fail> {
         Ok(script) => script,
         Err(_) => vec![in alloc; b'#'; 1_048_577]?,
     };
-    let longest = &script[1..];
-    assert!(rt; ends_unwritten(alloc, &script, false, "too long"));
-    assert!(rt; ends_unwritten(alloc, longest, false, "well"));
-    assert!(rt; ends_unwritten(alloc, longest, true, "read"));
-    assert!(rt; ends_unwritten(alloc, &script, true, "too long"));
-    Ok(())
+    check_longest(alloc, &script)
 }
 
 /// How a run of a script without a request ends within these limits.
