@@ -98,15 +98,6 @@ impl Both {
         }
     }
 
-    /// Writes a list, which has to be accepted.
-    pub fn accepted(self, ops: &[Op]) -> Result<Both, Fail> {
-        let (both, answer) = self.write(ops)?;
-        if answer?.len() != ops.len() {
-            return Err(Fail::new("another number of answers"));
-        }
-        Ok(both)
-    }
-
     /// The answer to a query, from one pick or from what is chosen.
     pub fn query(
         self,
