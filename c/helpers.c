@@ -360,7 +360,7 @@ static void *unpin_later(void *pass)
     return NULL;
 }
 
-/* Makes nodes until there is no free page. */
+/* Creates nodes until no page is free. */
 static void fill_up(bes_pass *pass)
 {
     uint64_t number = 0, made = 0;

@@ -17,7 +17,7 @@ from pathlib import Path
 
 TOP = Path(__file__).resolve().parent.parent
 
-# Files of crates/, and the names that are refused, each with its line.
+# Files of crates/ and mutants/, and the names that are refused, each with its line.
 REFUSED = {
     "low/src/calls.rt": ("fn told() {}\nlet TellsNode = LEAST_ITEMS;\n", ["1 told", "2 LEAST_ITEMS", "2 TellsNode"]),
     "low/src/texts.rt": ("// told\nlet a = \"told\"; let b = '\"'; let spelt = b'\"';\n", ["2 spelt"]),
@@ -30,6 +30,7 @@ REFUSED = {
     "low/proofs/Ledgers.antt": ("pub a : b\n", ["0 Ledgers"]),
     "low/proofs/calls/tell_all/Answers.antt": ("pub a : b\n", ["0 tell_all"]),
     "low/must-fail/first.edit": ("file: src/calls.rt\nold: told(\"told\")\nnew: standing()\n", ["2 told", "3 standing"]),
+    "mutants/low/tells_nothing.edit": ("file: src/calls.rt\nold: 1\nnew: spelt\n", ["0 tells_nothing", "3 spelt"]),
 }
 PASSED = {
     "low/src/others.rt": "fn understands_household(retold: u8, withstand: u8, bestowed: u8) {}\n",
@@ -37,7 +38,13 @@ PASSED = {
     "low/proofs/Kept.antt": "pub in_ok-dones : length-least\n",
     "low/README.md": "What `told` told.\n",
     "bestore_c/src/usage.rt": "let holder = 1;\n",
+    "mutants/bestore_c/usage.edit": "file: src/usage.rt\nold: holder = 1\nnew: holder = 2\n",
 }
+
+
+def place_of(name: str) -> str:
+    """The place of a file: in crates/, or where it says."""
+    return name if name.startswith("mutants/") else f"crates/{name}"
 
 
 class Repository:
@@ -48,7 +55,7 @@ class Repository:
         (folder / "tools").mkdir(parents=True)
         shutil.copy(TOP / "tools/check-words", folder / "tools")
         for name, text in files.items():
-            path = folder / "crates" / name
+            path = folder / place_of(name)
             path.parent.mkdir(parents=True, exist_ok=True)
             path.write_text(text)
         subprocess.run(["git", "init", "--quiet"], cwd=folder, check=True)
@@ -61,7 +68,7 @@ class Repository:
 
 def names_in(printed: str, file: str) -> list[str]:
     """Returns the names that were found in a file, each with its line."""
-    return [f"{it[0]} {it[1]}" for it in re.findall(rf"^crates/{re.escape(file)}:(\d+): '(\S+)': write ", printed, re.M)]
+    return [f"{it[0]} {it[1]}" for it in re.findall(rf"^{re.escape(place_of(file))}:(\d+): '(\S+)': write ", printed, re.M)]
 
 
 def check_refused(folder: Path, faults: list[str]) -> None:
@@ -71,7 +78,7 @@ def check_refused(folder: Path, faults: list[str]) -> None:
     wanted = {name: sorted({*names}) for name, (_, names) in REFUSED.items()}
     for name, names in wanted.items():
         check(faults, f"the names of {name}", sorted(names_in(printed, name)), names)
-        alone = repository.check("--names", f"crates/{name}")
+        alone = repository.check("--names", place_of(name))
         check(faults, f"those of {name} alone", (alone[0], sorted(names_in(alone[1], name))), (1, names))
     count = sum(len(it) for it in wanted.values())
     check(faults, "the status", status, 1)

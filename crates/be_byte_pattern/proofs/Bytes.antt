@@ -1,4 +1,4 @@
--- A pattern matches the bytes of characters exactly where it matches the characters.
+-- A pattern matches the bytes of characters exactly if it matches the characters.
 use Rattle.std.proofs.Common.{◌≡◌, ℕ, ◌+◌, ◌/◌, ◌%◌, ◌<◌, ◌≤◌, Bool, true, false, List, [], ◌∷◌, ◌++◌, map, length, ◌&&◌, ◌||◌, refl, sym, ap, ◌∙◌, subst, arith}
 use Rattle.std.specs.Cmp.{both_ways}
 use Rattle.std.specs.Char.{encode_utf8}
@@ -11,7 +11,7 @@ use Rattle.std.proofs.lemmas.Str.{encode_same, encodes-chars}
 use Rattle.be_pattern.specs.Match.{Part, Run, One, Among, Only, matches, some_tail}
 use Rattle.be_byte_pattern.specs.Runs.{byte_parts, has_runs_alone, IsOfRuns, parts_of_runs}
 use Rattle.be_byte_pattern.specs.declared.runs.Runs.{Runs}
-use Rattle.be_byte_pattern.proofs.Standing.{tail_further, tail_whole, run_taken, takes_run}
+use Rattle.be_byte_pattern.proofs.LiteralRuns.{tail_further, tail_whole, run_taken, takes_run}
 
 -- a byte inside a character, after its first
 abbrev pub IsInside : ℕ → Type 0
@@ -21,8 +21,8 @@ abbrev pub AreInside : List ℕ → Type 0
 AreInside [] = Unit {0}
 AreInside (b ∷ bs) = IsInside b × AreInside bs
 
--- the bytes of a character: the first, which is never inside one, and the others
-record Spelled (c : ℕ) : Type 0 where
+-- a character's bytes: the first, which never occurs inside a character, and the others
+record Encoded (c : ℕ) : Type 0 where
   pub lead : ℕ
   pub more : List ℕ
   pub bytes : encode_utf8 c ≡ lead ∷ more
@@ -32,9 +32,9 @@ record Spelled (c : ℕ) : Type 0 where
 next_inside : (n : ℕ) → IsInside (128 + n % 64)
 next_inside n = (omega arith, omega arith)
 
-spelled : (c : ℕ) → Spelled c
+encoded : (c : ℕ) → Encoded c
 unfolding encode_utf8
-spelled c = ⊎_elim
+encoded c = ⊎_elim
     (λ one. record { lead = c; more = []; bytes = cond-true _ _ _ one; begins = λ h. let k = ltb-true c 128 one in omega (arith, k, h.0); inside = tt })
     (λ more. ⊎_elim
     (λ two. record { lead = 192 + c / 64; more = (128 + c % 64) ∷ []; bytes = cond-false _ _ _ more ∙ cond-true _ _ _ two; begins = λ h. omega (arith, h.1); inside = (next_inside c, tt) })
@@ -45,7 +45,7 @@ spelled c = ⊎_elim
     (cases_Bool (nat_lt c 2048)))
     (cases_Bool (nat_lt c 128))
 
--- What is matched from inside a character is matched from its end too.
+-- What matches from inside a character also matches from its end.
 
 tails_in : (p : List ℕ → Bool) → ((b : ℕ) (k ds : List ℕ) → AreInside (b ∷ k) → p (b ∷ (k ++ ds)) ≡ true → p ds ≡ true)
     → (k ds : List ℕ) → AreInside k → some_tail p (k ++ ds) ≡ true → some_tail p ds ≡ true
@@ -60,7 +60,7 @@ from_inside (Run ∷ ps) alone b k ds inside h = tails_in (matches (byte_parts p
 from_inside (One ∷ ps) alone b k ds inside h = absurd (true≢false (sym alone))
 from_inside (Among n ms ∷ ps) alone b k ds inside h = absurd (true≢false (sym alone))
 from_inside (Only d ∷ ps) alone b k ds inside h =
-    let s = spelled d in
+    let s = encoded d in
     let first : matches (map Only (s.lead ∷ s.more) ++ byte_parts ps) (b ∷ (k ++ ds)) ≡ true = ap (λ l. matches (map Only l ++ byte_parts ps) (b ∷ (k ++ ds))) (sym s.bytes) ∙ h in
     let same : b ≡ s.lead = eqb-true b s.lead (and_parts _ _ first).0 in
     absurd (s.begins (subst IsInside same inside.0))
@@ -69,10 +69,10 @@ from_inside (Only d ∷ ps) alone b k ds inside h =
 
 none_left : (cs : List ℕ) → matches [] (encode_utf8_all cs) ≡ matches [] cs
 none_left [] = refl
-none_left (c ∷ cs) = let s = spelled c in ap (λ l. matches [] (l ++ encode_utf8_all cs)) s.bytes
+none_left (c ∷ cs) = let s = encoded c in ap (λ l. matches [] (l ++ encode_utf8_all cs)) s.bytes
 
 literal_ended : (d : ℕ) (ps : List Part) → matches (map Only (encode_utf8 d) ++ ps) [] ≡ false
-literal_ended d ps = let s = spelled d in ap (λ l. matches (map Only l ++ ps) []) s.bytes
+literal_ended d ps = let s = encoded d in ap (λ l. matches (map Only l ++ ps) []) s.bytes
 
 other_literal : (c d : ℕ) (rest : List ℕ) (ps : List Part) → (c ≡ d → ⊥) → matches (map Only (encode_utf8 d) ++ ps) (encode_utf8 c ++ rest) ≡ false
 other_literal c d rest ps other = false_from_ne_true _ (λ h. let t = takes_run (encode_utf8 d) (encode_utf8 c ++ rest) ps h in other (encode_same c d rest t.0 t.1.0).0)
@@ -81,7 +81,7 @@ run_bytes : (ps : List Part) → has_runs_alone ps ≡ true → ((cs : List ℕ)
     → (cs : List ℕ) → some_tail (matches (byte_parts ps)) (encode_utf8_all cs) ≡ some_tail (matches ps) cs
 run_bytes ps alone same [] = same []
 run_bytes ps alone same (c ∷ cs) =
-    let s = spelled c in
+    let s = encoded c in
     let p = matches (byte_parts ps) in
     let rest = encode_utf8_all cs in
     let whole : encode_utf8 c ++ rest ≡ s.lead ∷ (s.more ++ rest) = ap (λ l. l ++ rest) s.bytes in
@@ -109,7 +109,7 @@ matches_bytes (One ∷ ps) alone cs = absurd (true≢false (sym alone))
 matches_bytes (Among n ms ∷ ps) alone cs = absurd (true≢false (sym alone))
 matches_bytes (Only d ∷ ps) alone cs = literal_bytes d ps (matches_bytes ps alone) cs
 
--- The runs of a pattern match a text as the pattern does.
+-- A pattern's runs match a text if and only if the pattern does.
 pub runs_match : (ps : List Part) (runs : Runs) (text : List ℕ) → IsOfRuns ps runs → IsUtf8 text → matches (parts_of_runs runs) text ≡ matches ps (chars text)
 runs_match ps runs text of utf8 =
     ap (λ l. matches l text) (sym of.bytes) ∙ ap (matches (byte_parts ps)) (sym (encodes-chars text utf8)) ∙ matches_bytes ps of.alone (chars text)

@@ -1,3 +1,3 @@
-pub mod Standing
+pub mod LiteralRuns
 pub mod Bytes
-pub mod Spelling
+pub mod CanonicalStarts

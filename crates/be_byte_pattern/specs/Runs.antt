@@ -1,4 +1,4 @@
--- Patterns of literal characters and `*` over bytes.
+-- Patterns of literal characters and `*`, over bytes.
 use Rattle.std.specs.Prelude.{◌≡◌, ℕ, Bool, true, false, List, [], ◌∷◌, ◌++◌, map, ◌||◌, ◌==◌}
 use Rattle.std.specs.Prelude.{encode_utf8, encode_utf8_all, string_bytes}
 use Rattle.std.specs.List.{flat_map, list_all}
@@ -21,37 +21,38 @@ is_run_or_literal (Only c) = true
 abbrev pub has_runs_alone : List Part → Bool
 has_runs_alone = list_all is_run_or_literal
 
--- a literal character as the bytes of its UTF-8, each a part of its own
+-- the bytes of a literal character's UTF-8, each as a part of its own
 abbrev pub part_bytes : Part → List Part
 part_bytes Run = Run ∷ []
 part_bytes One = One ∷ []
 part_bytes (Among negated ms) = Among negated ms ∷ []
 part_bytes (Only c) = map Only (encode_utf8 c)
 
--- the parts with bytes in place of literal characters
+-- the parts with each literal character replaced by its bytes
 abbrev pub byte_parts : List Part → List Part
 byte_parts = flat_map part_bytes
 
--- each of the runs of literal bytes, after a `*`
+-- each of the runs of literal bytes, with a `*` before it
 abbrev pub after_stars : List (List ℕ) → List Part
 after_stars [] = []
 after_stars (r ∷ rs) = Run ∷ (map Only r ++ after_stars rs)
 
--- The literal character with which the parts of a canonical text begin, and the text of the parts
--- after it.
+-- A canonical text begins with this literal character, and the rest is the canonical text of the
+-- parts after it.
 pub record BeginsWith (parts : List Part) (char : ℕ) (rest : List ℕ) : Type 0 where
   pub after : List Part
   pub first : parts ≡ Only char ∷ after
   pub text : rest ≡ encode_utf8_all (canonical after)
 
--- What is left of the parts of a canonical text after bytes of which these are the parts.
+-- What remains of the parts of a canonical text, once the bytes whose parts are `read` have been
+-- read.
 pub record Leaves (parts read : List Part) (rest : List ℕ) : Type 0 where
   pub after : List Part
   pub bytes : byte_parts parts ≡ read ++ byte_parts after
   pub alone : has_runs_alone parts ≡ has_runs_alone after
   pub text : rest ≡ encode_utf8_all (canonical after)
 
--- the parts that these runs are
+-- the parts that these runs consist of
 abbrev pub parts_of_runs : Runs → List Part
 parts_of_runs runs = map Only (string_bytes runs.front)
     ++ after_stars (map string_bytes runs.later.items)

@@ -12,8 +12,8 @@ use std::alloc::Global;
 use std::marker::Model;
 use std::str;
 
-/// A pattern that is ready to be asked of the bytes of many texts. A contract sees the pattern's
-/// parts.
+/// A compiled pattern, ready to be matched against the bytes of many texts. Contracts see the
+/// pattern's parts.
 #[derive(Drop)]
 pub struct BytePattern<'p> {
     pattern: &'p Pattern,
@@ -34,7 +34,7 @@ impl<'p> Model for BytePattern<'p> {
 }
 
 impl<'p> BytePattern<'p> {
-    /// Compiles a pattern. It asks for memory a few times for each run of literal characters.
+    /// Compiles a pattern. It allocates memory a few times for each run of literal characters.
     pub fn new(alloc: Global, pattern: &'p Pattern) -> Result<BytePattern<'p>, Refusal>
         ensures ok { IfOk result (λ compiled. compiled ≡ pattern.now) }
         ensures err { IfErr result (λ e. e ≡ OutOfMemory) }
@@ -44,8 +44,8 @@ impl<'p> BytePattern<'p> {
         Ok(BytePattern { pattern, runs })
     }
 
-    /// Whether the pattern matches the whole text, given by its bytes, as `Pattern::matches` does.
-    /// It takes no memory. Bytes that are no text get any answer.
+    /// Whether the pattern matches the whole text, given as bytes, as `Pattern::matches` does. It
+    /// takes no memory. If the bytes aren't valid UTF-8, the result may be either.
     #[inline(always)]
     pub fn matches(&self, text: &[u8]) -> bool
         ensures { IsUtf8 text.now → result ≡ matches self.now (chars text.now) }
@@ -57,8 +57,8 @@ impl<'p> BytePattern<'p> {
     }
 }
 
-/// Whether a pattern matches a text, character by character. It is a function of its own, so that
-/// who asks of bytes needs no room for it.
+/// Whether a pattern matches a text, character by character. It is a separate function, so that
+/// callers that compare bytes need no stack space for it.
 #[inline(never)]
 fn matches_chars(pattern: &Pattern, text: &[u8]) -> bool
     ensures { IsUtf8 text.now → result ≡ matches pattern.now (chars text.now) }

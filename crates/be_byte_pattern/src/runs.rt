@@ -1,4 +1,4 @@
-//! Runs of literal bytes with a `*` between two.
+//! Runs of literal bytes with a `*` between each two.
 ghost use Rattle.std.specs.Prelude.{◌≡◌, ◌≢◌, ◌<◌, ◌≤◌, ◌++◌, ◌∷◌, List, ℕ, true, false, map};
 ghost use Rattle.std.specs.Prelude.{nat_eq, length, take, drop, IfNone, IfSome, slice_index};
 ghost use Rattle.std.specs.Prelude.{string_bytes};
@@ -9,15 +9,15 @@ ghost use Rattle.be_byte_pattern.specs.Runs.{after_stars, parts_of_runs};
 /// The runs of a pattern without `?` and sets.
 #[derive(Drop)]
 pub(crate) struct Runs {
-    /// What comes before the first `*`, with which a text begins.
+    /// What comes before the first `*`. A text has to begin with it.
     pub(crate) front: String,
     /// What comes after each `*`.
     pub(crate) later: Vec<String>,
 }
 
 impl Runs {
-    /// Whether the bytes begin with the first run, end with the last one, and have the others
-    /// between these in their order.
+    /// Whether the bytes begin with the first run, end with the last, and have the others between
+    /// them in order.
     pub(crate) fn are_in(&self, text: &[u8]) -> bool
         ensures { result ≡ matches (parts_of_runs self.now) text.now }
     {
@@ -28,7 +28,7 @@ impl Runs {
     }
 }
 
-/// Whether bytes begin with a run that is no longer than they are. Most don't, and differ in the
+/// Whether the bytes begin with a run, which is at most as long as they are. Most differ in the
 /// first byte.
 #[inline(always)]
 fn begins_with(bytes: &[u8], run: &[u8]) -> bool
@@ -44,7 +44,7 @@ fn begins_with(bytes: &[u8], run: &[u8]) -> bool
     true
 }
 
-/// The bytes after a run with which they begin.
+/// The bytes after a run, if they begin with it.
 #[inline(always)]
 fn after_run<'a>(bytes: &'a [u8], run: &[u8]) -> Option<&'a [u8]>
     ensures some { IfSome result (λ rest. bytes.now ≡ run.now ++ rest.now) }
@@ -56,7 +56,6 @@ fn after_run<'a>(bytes: &'a [u8], run: &[u8]) -> Option<&'a [u8]>
     Some(&bytes[run.len()..])
 }
 
-/// Whether bytes end with a run.
 #[inline(always)]
 fn ends_with(bytes: &[u8], run: &[u8]) -> bool
     ensures { result ≡ ends_with nat_eq bytes.now run.now }
@@ -68,7 +67,7 @@ fn ends_with(bytes: &[u8], run: &[u8]) -> bool
     begins_with(end, run)
 }
 
-/// The first place before an end at which a byte is, or the end.
+/// The first place before `end` that has this byte, or `end`.
 #[inline(always)]
 fn place_of(byte: u8, bytes: &[u8], end: usize) -> usize
     requires { end ≤ length bytes.now }
@@ -83,7 +82,7 @@ fn place_of(byte: u8, bytes: &[u8], end: usize) -> usize
     end
 }
 
-/// The bytes after the first one.
+/// The bytes after the first one, if there is one.
 #[inline(always)]
 fn after_byte(bytes: &[u8]) -> &[u8]
     ensures { result.now ≡ drop 1 bytes.now }
@@ -94,8 +93,8 @@ fn after_byte(bytes: &[u8]) -> &[u8]
     }
 }
 
-/// The bytes after the first place at which a run is found. Its first byte is looked for, and the
-/// run is compared only where that is.
+/// The bytes after the first occurrence of a run. It looks for the run's first byte, and compares
+/// the run only where it finds that.
 fn after_first<'a>(bytes: &'a [u8], run: &[u8]) -> Option<&'a [u8]>
     ensures some { IfSome result (λ rest. (ps : List Part) →
         some_tail (matches (map Only run.now ++ (Run ∷ ps))) bytes.now
@@ -122,8 +121,7 @@ fn after_first<'a>(bytes: &'a [u8], run: &[u8]) -> Option<&'a [u8]>
     None
 }
 
-/// Whether the runs, each after a `*`, are found one after the other, with the last of them at the
-/// end.
+/// Whether the runs, each after a `*`, occur one after another, with the last one at the end.
 fn follow(runs: &[String], bytes: &[u8]) -> bool
     ensures { result ≡ matches (after_stars (map string_bytes runs.now)) bytes.now }
 {

@@ -53,7 +53,7 @@ taken : (b : Bool) (d : Attributes) (o : Option Attributes) → unwrap_or (cond 
 taken true d o = refl
 taken false d o = refl
 
--- the attributes of a node after another got some
+-- the attributes of a node, after a node got some
 own : (m : Nodes) (node : ℕ) (a : Attributes) (q : ℕ) → attributes_of (fin.insert m node a) q ≡ cond (nat_eq q node) a (attributes_of m q)
 own m node a q = ap (λ found. unwrap_or found fin.empty) (get-insert nat_cmp_total m node a q ∙ ap (λ b. cond b (Some a) (fin.get m q)) (unsigned_tied q node)) ∙ put (nat_eq q node) a fin.empty (fin.get m q)
 
@@ -119,7 +119,7 @@ is_tied Less h = cc
 is_tied Equal h = refl
 is_tied Greater h = cc
 
--- an index of the same kind in the place of one that is there
+-- an index is replaced with one of the same kind
 replaced : (m : Indices) (name : List ℕ) (old new : Index) (q : List ℕ) → fin.get m name ≡ Some old → kind_in (Some new) ≡ kind_in (Some old) → kind_in (fin.get (fin.insert m name new) q) ≡ kind_in (fin.get m q)
 replaced m name old new q h e = ap kind_in (get-insert names_total m name new q) ∙ by (eq_by_cmp name_cmp q name) refl
   where
@@ -165,7 +165,7 @@ kind_made s (RmIndex name) q = ap kind_in (get-remove names_total s.indices name
     ∙ ap (λ b. kind_in (cond b None (fin.get s.indices q))) (sym (texts_ties q name))
     ∙ removed_in (pointwise nat_eq q name) (fin.get s.indices q)
 
--- ## Lists of operations, from the last one backwards
+-- ## Lists of operations, from the last one back
 
 module _ (s : State) (ops : List Op) (i : ℕ) (op : Op) (short : i < length ops) (at : op ≡ get_or ops i op) (ok : IsOk (steps s ops)) where
   after_is : state_after s (take (i + 1) ops) ≡ made (state_after s (take i ops)) op
@@ -177,7 +177,7 @@ module _ (s : State) (ops : List Op) (i : ℕ) (op : Op) (short : i < length ops
   pub kind_turn : (q : List ℕ) → index_kind (state_after s (take (i + 1) ops)) q ≡ unwrap_or (index_left_by op q) (index_kind (state_after s (take i ops)) q)
   kind_turn q = ap (λ t. index_kind t q) after_is ∙ kind_made (state_after s (take i ops)) op q
 
--- how many nodes a front of the operations makes
+-- how many nodes a prefix of the operations makes
 pub news_turn : (ops : List Op) (i : ℕ) (op : Op) → i < length ops → op ≡ get_or ops i op → count_by is_new (take (i + 1) ops) ≡ next_after op (count_by is_new (take i ops))
 news_turn ops i op short at = by op at
   where
@@ -189,7 +189,7 @@ news_turn ops i op short at = by op at
     by (MkIndex name kind) e = count_by_more_no is_new ops i op short (sym (ap is_new e))
     by (RmIndex name) e = count_by_more_no is_new ops i op short (sym (ap is_new e))
 
--- before an operation the numbers add up as after it
+-- the numbers add up before an operation as they do after it
 pub news_before : (op : Op) (number before all next made : ℕ) → number ≡ next_after op before → number + all ≡ next + next_after op made → before + all ≡ next + made
 news_before New number before all next made e h = omega (arith, e, h)
 news_before (Drop node) number before all next made e h = omega (arith, e, h)
@@ -198,7 +198,7 @@ news_before (Unset node name) number before all next made e h = omega (arith, e,
 news_before (MkIndex name kind) number before all next made e h = omega (arith, e, h)
 news_before (RmIndex name) number before all next made e h = omega (arith, e, h)
 
--- an operation that makes a node has a number to make
+-- an operation that makes a node has a number for it
 pub new_fits : (op : Op) (number all next made : ℕ) → all ≤ next → number + all ≡ next + next_after op made → is_new op ≡ true → 1 ≤ number
 new_fits New number all next made few h is = omega (arith, few, h)
 new_fits (Drop node) number all next made few h is = cc
@@ -270,7 +270,7 @@ new_back ops i next number op some within at few h is =
     let turned : count_by is_new (take i ops) ≡ next_after op (count_by is_new (take (i - 1) ops)) = ap (λ n. count_by is_new (take n ops)) (back i some) ∙ news_turn ops (i - 1) op (omega (arith, some, within)) at in
     new_fits op number (count_by is_new ops) next (count_by is_new (take (i - 1) ops)) few (h ∙ ap (λ n. next + n) turned) is
 
--- ## The kind of an index in the list of all
+-- ## An index's kind in the list of all indices
 
 abbrev pub kind_listed : List (List ℕ × Kind) → List ℕ → Option Kind
 kind_listed [] name = None

@@ -19,7 +19,7 @@ use Rattle.be_volume.proofs.StepLemmas.{made, not_both, refused_stays}
 use Rattle.be_change.specs.Changing.{After, Changing, Reads, outcome, outcomes, with_op}
 use Rattle.be_change.specs.Left.{is_new}
 
--- where a test did not refuse
+-- if a test didn't refuse
 passed : {A : Type 0} (b : Bool) (e : Refusal) (r : Result A Refusal) → IsOk (if b then Err e else r) → (if b then Err e else r) ≡ r
 passed true e r h = cc
 passed false e r h = refl
@@ -60,19 +60,19 @@ or_in : {A : Type 0} → A → Result A Refusal → A
 or_in x (Ok y) = y
 or_in x (Err e) = x
 
-dones_in : Result (State × List Done) Refusal → List Done
-dones_in (Ok x) = x.1
-dones_in (Err e) = []
+outcomes_in : Result (State × List Done) Refusal → List Done
+outcomes_in (Ok x) = x.1
+outcomes_in (Err e) = []
 
 record Returned (s t : State) (old dones : List Done) (ops : List Op) : Type 0 where
   pub next : t.next ≡ s.next + count_by is_new ops
   pub each : dones ≡ old ++ outcomes s.next ops
 
 returned : (s t : State) (old dones : List Done) (ops : List Op) → fold advance (Ok (s, old)) ops ≡ Ok (t, dones) → Returned s t old dones ops
-unfolding dones_in or_in
+unfolding outcomes_in or_in
 returned s t old dones [] e = record {
   next = let same : s.next ≡ t.next = ap (λ r. (reached s r).next) e in omega arith;
-  each = ap dones_in (sym e) ∙ sym (append_nil old);
+  each = ap outcomes_in (sym e) ∙ sym (append_nil old);
 }
   where
     append_nil : (xs : List Done) → xs ++ [] ≡ xs
@@ -103,14 +103,14 @@ next_front s ops h = by (steps s ops) refl h
     by (Ok x) e h = (returned s x.0 [] x.1 ops e).next
     by (Err f) e h = cc
 
--- a list's outcomes end with those of its end
+-- the outcomes of a list end with the outcomes of its last part
 pub outcomes_append : (next : ℕ) (ops more : List Op) → outcomes next (ops ++ more) ≡ outcomes next ops ++ outcomes (next + count_by is_new ops) more
 outcomes_append next [] more = ap (λ n. outcomes n more) (omega arith)
 outcomes_append next (op ∷ ops) more = ap (λ l. outcome op next ∷ l)
     (outcomes_append (next_after op next) ops more
     ∙ ap (λ n. outcomes (next_after op next) ops ++ outcomes n more) (news_first op next ops))
 
--- what is true of the state that accepted operations reach
+-- what holds for the state that accepted operations reach
 pub after_ok : (base : State) (ops : List Op) (P : State → Type 0) → (IsOk (steps base ops) → P (state_after base ops)) → IfOk (steps base ops) (λ r. P r.0)
 after_ok base ops P h = by (steps base ops) h
   where

@@ -9,9 +9,9 @@ use Rattle.be_volume.specs.declared.ops.Done.TheVariants.{Node, Unit as Nothing}
 use Rattle.be_volume.specs.declared.ops.Op.{Op}
 use Rattle.be_volume.specs.declared.ops.Op.TheVariants.{New, Drop, Set, Unset, MkIndex, RmIndex}
 
--- The number of the snapshot, the number that the first new node gets, the kinds of the snapshot's
--- indices, the operations that were collected, whether a set must have the kind of its index, and
--- whether the change has pinned its pass itself.
+-- The snapshot's number; the number that the first new node gets; the kinds of the snapshot's
+-- indices; the collected operations; whether a set must have the kind of its index; and whether the
+-- change has pinned its pass itself.
 pub record Changing : Type 0 where
   pub number : ℕ
   pub first : ℕ
@@ -25,7 +25,7 @@ pub record Reads (c : Changing) (base : State) : Type 0 where
   pub first : c.first ≡ base.next
   pub indices : c.indices ≡ index_kinds base
 
--- If the base accepts the collected operations, this holds of the volume after them.
+-- If the base accepts the collected operations, this holds for the volume after them.
 abbrev pub After : Changing → State → (State → Type 0) → Type 0
 After c base P = IfOk (steps base c.ops) (λ r. P r.0)
 
@@ -33,7 +33,7 @@ After c base P = IfOk (steps base c.ops) (λ r. P r.0)
 abbrev pub with_op : Changing → Op → Changing
 with_op c op = record c { ops = c.ops ++ op ∷ [] }
 
--- what an operation returns, if the next node has this number
+-- an operation's outcome, if the next node has this number
 abbrev pub outcome : Op → ℕ → Done
 outcome New next = Node next
 outcome (Drop node) next = Nothing
@@ -42,7 +42,7 @@ outcome (Unset node name) next = Nothing
 outcome (MkIndex name kind) next = Nothing
 outcome (RmIndex name) next = Nothing
 
--- what operations one after the other return, if the first new node has this number
+-- the outcomes of consecutive operations, if the first new node has this number
 abbrev pub outcomes : ℕ → List Op → List Done
 outcomes next [] = []
 outcomes next (op ∷ ops) = outcome op next ∷ outcomes (next_after op next) ops

@@ -9,7 +9,7 @@ use Rattle.be_change.specs.declared.errors.CollectError.{CollectError}
 use Rattle.be_change.specs.declared.errors.CollectError.TheVariants.{TooMany, WrongKind}
 use Rattle.be_change.specs.declared.errors.CollectError.TheVariants.{OutOfMemory}
 
--- The change has 64 operations, or it has fewer and memory ran out.
+-- Either the change has 64 operations, or it has fewer and memory ran out.
 abbrev pub HasNoRoom : Changing → CollectError → Type 0
 HasNoRoom c e = ((e ≡ TooMany) × (length c.ops ≡ 64))
     ⊎ ((e ≡ OutOfMemory) × (length c.ops < 64))
@@ -18,7 +18,7 @@ HasNoRoom c e = ((e ≡ TooMany) × (length c.ops ≡ 64))
 abbrev pub TakesKind : Option Kind → Kind → Type 0
 TakesKind index kind = (indexed : Kind) → index ≡ Some indexed → indexed ≡ kind
 
--- the kind is that of the index of this name, if there is one, as the collected operations leave it
+-- the index of this name, if there is one, has this kind, as the collected operations leave it
 abbrev pub IsOfRightKind : Changing → List ℕ → Kind → Type 0
 IsOfRightKind c name kind = (base : State) → Reads c base
     → TakesKind (index_kind_left base c.ops name) kind

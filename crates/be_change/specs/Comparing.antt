@@ -31,7 +31,7 @@ HasWrongKind base before (Unset node name) index = ⊥
 HasWrongKind base before (MkIndex name kind) index = ⊥
 HasWrongKind base before (RmIndex name) index = ⊥
 
--- the operation has the right kind, or the kind of its index is returned, which is another
+-- either the operation has the right kind, or the other kind of its index is returned
 abbrev pub ComparesKinds : State → List Op → Op → Option Kind → Type 0
 ComparesKinds base before op None = HasRightKind base before op
 ComparesKinds base before op (Some index) = HasWrongKind base before op index
@@ -41,7 +41,7 @@ abbrev pub HaveRightKinds : State → List Op → ℕ → Type 0
 HaveRightKinds base ops n = (i : ℕ) (op : Op) → i < n → slice_get ops i ≡ Some op
     → HasRightKind base (take i ops) op
 
--- The first operation of a wrong kind has this place, counted from 0, and the index of its name
+-- The first operation of a wrong kind is at this place, counted from 0, and the index of its name
 -- takes this kind.
 abbrev pub IsFirstOfWrongKind : State → List Op → ℕ → Kind → Type 0
 IsFirstOfWrongKind base ops place index = HaveRightKinds base ops place

@@ -1,4 +1,4 @@
--- Which pass a change is of, how it begins, and how it ends.
+-- Which pass a change belongs to, how it begins, and how it ends.
 use Rattle.std.specs.Prelude.{◌≡◌, ◌⊎◌, ◌≤◌, ℕ, Bool, true, false, List, [], length}
 use Rattle.std.specs.declared.result.Result.{Result}
 use Rattle.std.specs.declared.result.Result.TheVariants.{Ok, Err}
@@ -23,8 +23,8 @@ are_checked Unchecked = false
 abbrev pub IsChangeOf : Changing → Knowledge → Type 0
 IsChangeOf change a = IsPinnedTo a change.number × Reads change (volume_pinned a)
 
--- A change that has collected nothing, and that checks kinds as this says. Its pass has read at the
--- pin that it had; or it wasn't pinned, and is now.
+-- A change that has collected nothing, and that checks kinds or not, as stated. Either its pass has
+-- read at the pin that it had; or the pass wasn't pinned, and is now.
 pub record Begins (change : Changing) (checks : Bool) (a c : Knowledge) : Type 0 where
   pub of : IsChangeOf change c
   pub empty : change.ops ≡ []
@@ -32,36 +32,37 @@ pub record Begins (change : Changing) (checks : Bool) (a c : Knowledge) : Type 0
   pub pass : ((change.pins ≡ false) × HasRead a c)
       ⊎ ((change.pins ≡ true) × (b : Knowledge) × Pins a b change.number × HasRead b c)
 
--- A change that wasn't begun leaves the pass pinned or not, as it was. It may have pinned it, and
--- unpinned it again.
+-- A change that wasn't begun leaves the pass pinned or not, as before. It may have pinned and
+-- unpinned it.
 abbrev pub IsNotBegun : Knowledge → Knowledge → Type 0
 IsNotBegun a d = HasRead a d
     ⊎ ((n : ℕ) × (b c : Knowledge) × Pins a b n × HasRead b c × Unpins c d)
 
--- What was written, with this commit number: nothing, if nothing was collected. Otherwise it is
--- exactly the collected operations, on exactly what was read, as the next entry after the snapshot.
--- Their outcomes are those that the change had given, so new nodes have the numbers that it gave.
+-- What was written, with this commit number. If nothing was collected, it is nothing. Otherwise it
+-- is exactly the collected operations, on exactly what was read, as the next entry after the
+-- snapshot. Their outcomes are those that the change had given, so new nodes have the numbers that
+-- it gave.
 abbrev pub Wrote : Changing → (a c : Knowledge) → ℕ → Type 0
 Wrote change a c n = ((change.ops ≡ []) × (c ≡ a) × (n ≡ change.number))
     ⊎ ((1 ≤ length change.ops) × (dones : List Done)
     × AcceptsAt a c change.number change.ops n dones
     × (IsChangeOf change a → dones ≡ outcomes change.first change.ops))
 
--- How a change ends, that is tried up to so many times while another pass holds the lock, before
--- its pin is released. If it has to be made again, another write came between, and nothing is
--- written, and the journal's length is returned; nor is anything if it is refused.
+-- How a change ends, before its pin is released, if it is tried up to `tries` times while another
+-- pass holds the lock. If another write came in between, nothing is written, the journal's length
+-- is returned, and the change has to be made again. If it is refused, nothing is written either.
 abbrev pub Ends : ℕ → Changing → (a c : Knowledge) → Result Ended Refusal → Type 0
 Ends tries change a c (Ok (Accepted n)) = Wrote change a c n
 Ends tries change a c (Ok (Again found)) = IsConflict a c change.number found
 Ends tries change a c (Err e) = IsLastUnapplied tries a c change.number change.ops (Refused e)
 
--- how a change ends by a single try, before its pin is released
+-- how a change ends with a single try, before its pin is released
 abbrev pub EndsOnce : Changing → (a c : Knowledge) → Result Ended Refusal → Type 0
 EndsOnce change a c (Ok (Accepted n)) = Wrote change a c n
 EndsOnce change a c (Ok (Again found)) = IsConflict a c change.number found
 EndsOnce change a c (Err e) = IsUnapplied a c change.number change.ops (Refused e)
 
--- a pin that the change made is released, and another stays
+-- a pin that the change made is released, and any other stays
 abbrev pub Releases : Bool → Knowledge → Knowledge → Type 0
 Releases true c d = Unpins c d
 Releases false c d = d ≡ c

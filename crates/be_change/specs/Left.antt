@@ -19,7 +19,8 @@ is_new (Unset node name) = false
 is_new (MkIndex name kind) = false
 is_new (RmIndex name) = false
 
--- what the operation leaves of this attribute, if it touches that; it makes the node `next`
+-- what the operation leaves of this attribute, if it touches it; a node that it makes has the
+-- number `next`
 abbrev pub left_by : Op → ℕ → ℕ → List ℕ → Option (Option Value)
 left_by New next node name = if nat_eq node next then Some None else None
 left_by (Drop dropped) next node name = if nat_eq node dropped then Some None else None
@@ -30,7 +31,7 @@ left_by (Unset changed unset) next node name =
 left_by (MkIndex made kind) next node name = None
 left_by (RmIndex removed) next node name = None
 
--- what the operation leaves of the index of this name, if it touches that
+-- what the operation leaves of the index of this name, if it touches it
 abbrev pub index_left_by : Op → List ℕ → Option (Option Kind)
 index_left_by New name = None
 index_left_by (Drop node) name = None

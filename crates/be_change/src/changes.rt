@@ -1,4 +1,4 @@
-//! A change: the snapshot on which it is made, and the operations that it collects.
+//! A change: the snapshot on which it is based, and the operations that it collects.
 ghost use Rattle.std.specs.Prelude.{◌≡◌, ◌⊎◌, ◌≤◌, ◌<◌, ◌+◌, ◌^◌, [], ◌∷◌, ◌++◌, true, IfOk, IfErr};
 ghost use Rattle.std.specs.Prelude.{OnOk, false, length, unwrap_or};
 ghost use Rattle.be_value.specs.Value.{kind_of};
@@ -17,21 +17,21 @@ use be_volume::Op;
 use std::alloc::Global;
 use std::marker::Model;
 
-/// The most operations of a change, since it is written as one transaction.
+/// The most operations of a change, because it is written as one transaction.
 pub const MOST_OPERATIONS: usize = 64;
 
-/// What a program has read and will write: the number of a snapshot, and up to 64 operations that
-/// are to be written on it. Collecting an operation writes nothing.
+/// What a program has read and will write: the number of a snapshot, and up to 64 operations to be
+/// written on it. Collecting an operation writes nothing.
 ///
-/// A contract sees a `Changing`. What the operations leave of the snapshot's volume is said of all
-/// volumes that the change may read (`Reads`), and that accept the operations (`After`).
+/// A contract sees a `Changing`. What the operations leave of the snapshot's volume is stated for
+/// all volumes that the change may read (`Reads`) and that accept the operations (`After`).
 #[derive(Drop)]
 pub struct Change {
     number: u64,
     first: u64,
     /// How many nodes the operations make.
     made: u64,
-    /// Those of the snapshot.
+    /// The snapshot's indices.
     indices: Vec<(Name, Kind)>,
     ops: Vec<Op>,
     checks_kinds: bool,
@@ -89,7 +89,7 @@ impl Change {
         }
     }
 
-    /// The number of the snapshot.
+    /// The snapshot's number.
     pub fn number(&self) -> u64
         ensures { result ≡ self.now.number }
     {
@@ -103,7 +103,7 @@ impl Change {
         self.first
     }
 
-    /// Takes values of any kind from here on.
+    /// From now on, sets may have values of any kind.
     pub fn take_any_kind(&mut self)
         ensures { self.new ≡ record self.old { checks = false } }
     {
@@ -117,7 +117,7 @@ impl Change {
         self.pins
     }
 
-    /// The operations that were collected, in their order.
+    /// The collected operations, in order.
     pub fn operations(&self) -> &[Op]
         ensures list { result.now ≡ self.now.ops }
         ensures few { length result.now ≤ 64 }
@@ -125,7 +125,7 @@ impl Change {
         self.ops.as_slice()
     }
 
-    /// Makes a node, and returns the number that it will have. TooMany, OutOfMemory.
+    /// Makes a node, and returns the number that it will have. TooMany; OutOfMemory.
     pub fn new_node(&mut self) -> Result<u64, CollectError>
         ensures ok { OnOk result (self.new ≡ with_op self.old ops.New) }
         ensures given { IfOk result (λ node. outcomes self.new.first self.new.ops
@@ -139,7 +139,7 @@ impl Change {
         Ok(node)
     }
 
-    /// Removes a node and all its attributes. TooMany, OutOfMemory.
+    /// Removes a node and all its attributes. TooMany; OutOfMemory.
     pub fn remove_node(&mut self, node: u64) -> Result<(), CollectError>
         ensures ok { OnOk result (self.new ≡ with_op self.old (ops.Drop node)) }
         ensures err { IfErr result (λ e. (self.new ≡ self.old) × HasNoRoom self.old e) }
@@ -147,10 +147,10 @@ impl Change {
         self.collect(Op::Drop(node))
     }
 
-    /// Sets an attribute of a node, in place of any value that it has.
+    /// Sets an attribute of a node, and replaces any value that it has.
     ///
     /// WrongKind if the change checks kinds, and the index of this name takes values of another
-    /// kind, as the collected operations leave it; a name without an index takes any kind. TooMany,
+    /// kind, as the collected operations leave it; a name without an index takes any kind. TooMany;
     /// OutOfMemory.
     pub fn set(&mut self, node: u64, name: Name, value: Value) -> Result<(), CollectError>
         ensures ok { OnOk result (self.new ≡ with_op self.old (ops.Set node name value)) }
@@ -163,7 +163,7 @@ impl Change {
         self.collect(Op::Set(node, name, value))
     }
 
-    /// Removes an attribute of a node. TooMany, OutOfMemory.
+    /// Removes an attribute of a node. TooMany; OutOfMemory.
     pub fn unset(&mut self, node: u64, name: Name) -> Result<(), CollectError>
         ensures ok { OnOk result (self.new ≡ with_op self.old (ops.Unset node name)) }
         ensures err { IfErr result (λ e. (self.new ≡ self.old) × HasNoRoom self.old e) }
@@ -171,7 +171,7 @@ impl Change {
         self.collect(Op::Unset(node, name))
     }
 
-    /// Makes an index, which is empty at first. TooMany, OutOfMemory.
+    /// Makes an index, which is empty at first. TooMany; OutOfMemory.
     pub fn make_index(&mut self, name: Name, kind: Kind) -> Result<(), CollectError>
         ensures ok { OnOk result (self.new ≡ with_op self.old (ops.MkIndex name kind)) }
         ensures err { IfErr result (λ e. (self.new ≡ self.old) × HasNoRoom self.old e) }
@@ -179,7 +179,7 @@ impl Change {
         self.collect(Op::MkIndex(name, kind))
     }
 
-    /// Removes an index. TooMany, OutOfMemory.
+    /// Removes an index. TooMany; OutOfMemory.
     pub fn remove_index(&mut self, name: Name) -> Result<(), CollectError>
         ensures ok { OnOk result (self.new ≡ with_op self.old (ops.RmIndex name)) }
         ensures err { IfErr result (λ e. (self.new ≡ self.old) × HasNoRoom self.old e) }
@@ -187,8 +187,8 @@ impl Change {
         self.collect(Op::RmIndex(name))
     }
 
-    /// The kind of the index of this name, as the collected operations leave it. It reads no page:
-    /// the change knows the snapshot's indices.
+    /// The kind of the index of this name, as the collected operations leave it. It reads no page,
+    /// because the change knows the snapshot's indices.
     pub fn index_kind(&self, name: &Name) -> Option<Kind>
         ensures left { (base : State) → Reads self.now base
             → result ≡ index_kind_left base self.now.ops name.now }
@@ -209,7 +209,8 @@ impl Change {
         attribute_left(self.ops.as_slice(), self.first + self.made, node, name)
     }
 
-    /// WrongKind if the change checks kinds, and the index of this name takes values of another.
+    /// WrongKind if the change checks kinds, and the index of this name takes values of another
+    /// kind.
     fn check_kind(&self, name: &Name, kind: Kind) -> Result<(), CollectError>
         ensures right { OnOk result (self.now.checks ≡ true
             → IsOfRightKind self.now name.now kind) }

@@ -1,4 +1,4 @@
-//! How a change begins, reads and ends at a store.
+//! How a change begins, reads and ends in a store.
 ghost use Rattle.std.specs.Prelude.{◌≡◌, ◌≤◌, ℕ, [], None, IfErr, IfOk};
 ghost use Rattle.be_value.specs.declared.refusals.Refusal.TheVariants.{OutOfMemory};
 ghost use Rattle.be_volume.specs.Reading.{attribute};
@@ -15,19 +15,19 @@ use be_store::laws::seen_is_legal;
 use be_store::{ApplyIfError, Name, Pass, Refusal, Store, Value};
 use std::alloc::Global;
 
-/// How a change ended that wasn't refused.
+/// How a change ended, if it wasn't refused.
 #[derive(Clone, Copy, Debug, PartialEq, Eq)]
 pub enum Ended {
-    /// It is written, and this is its commit number. A change that collected nothing writes
-    /// nothing; the number is then the snapshot's.
+    /// It was written with this commit number. A change that collected nothing writes nothing; the
+    /// number is then the snapshot's.
     Accepted(u64),
-    /// Another write came between, and nothing is written: begin anew, on a new snapshot. This is
-    /// how many entries the journal has.
+    /// Another write came in between, and nothing was written: begin again, on a new snapshot. The
+    /// number is how many entries the journal has.
     Again(u64),
 }
 
-/// Whether a change refuses a value that the index of its name doesn't take. The store would keep
-/// the attribute, and no query of that name would find its node.
+/// Whether a change refuses a value of another kind than the index of its name takes. The store
+/// would keep such an attribute, but no query on that name would find its node.
 #[derive(Clone, Copy, Debug, PartialEq, Eq)]
 pub enum Kinds {
     Checked,
@@ -43,11 +43,11 @@ impl Kinds {
 }
 
 impl Change {
-    /// Begins a change on the snapshot that the pass is pinned to. A pass that isn't pinned is
-    /// pinned now, and `end` unpins it.
+    /// Begins a change on the snapshot to which the pass is pinned. A pass that isn't pinned gets
+    /// pinned, and `end` unpins it.
     ///
-    /// OutOfMemory: the pass is pinned or not, as it was. It takes memory for the list of the
-    /// snapshot's indices, and costs two reads of the version page besides the pin.
+    /// After OutOfMemory the pass is pinned or not, as before. It allocates memory for the list of
+    /// the snapshot's indices. Apart from the pin it costs two reads of the version page.
     pub fn begin(
         alloc: Global,
         store: &Store,
@@ -68,9 +68,9 @@ impl Change {
         }
     }
 
-    /// A node's attribute, as the collected operations leave it, if it has one. It looks for the
-    /// last of them that touches the attribute or its node, and asks the snapshot only if there is
-    /// none. No memory.
+    /// A node's attribute, as the collected operations leave it, if it has one. It searches for the
+    /// last operation that touches the attribute or its node, and reads the snapshot only if there
+    /// is none. No memory is allocated.
     pub fn get(&self, store: &Store, pass: &mut Pass, node: u64, name: &Name) -> Option<Value>
         requires pass { IsPassOf store.now pass.old }
         requires pinned { (n : ℕ) × IsPinnedTo pass.old.knows n }
@@ -85,13 +85,13 @@ impl Change {
         }
     }
 
-    /// Writes the collected operations as one transaction, if no other write came since the
-    /// snapshot, and unpins the pass if `begin` pinned it. While another pass holds the lock it
-    /// tries again, up to `tries` times in all, as `Store::apply_if_or_retry` does.
+    /// Writes the collected operations as one transaction, if no other write has come since the
+    /// snapshot. Unpins the pass if `begin` pinned it. While another pass holds the lock it tries
+    /// again, up to `tries` times in all, as `Store::apply_if_or_retry` does.
     ///
-    /// Errors are those of `Store::apply_if_or_retry`, a Conflict excepted: Busy; NoNode to
-    /// NotIndexable as the snapshot with the operations before gives it; CommitsSpent; OutOfMemory;
-    /// Full. After an error nothing is written.
+    /// Errors are those of `Store::apply_if_or_retry` except Conflict: Busy; an error of the
+    /// snapshot after the operations before, from NoNode to NotIndexable; CommitsSpent;
+    /// OutOfMemory; Full. After an error nothing is written.
     pub fn end(self, store: &Store, pass: &mut Pass, tries: u64) -> Result<Ended, Refusal>
         requires pass { IsPassOf store.now pass.old }
         requires pinned { (n : ℕ) × IsPinnedTo pass.old.knows n }
@@ -105,7 +105,7 @@ impl Change {
         ended
     }
 
-    /// Ends the change without writing: unpins the pass if `begin` pinned it. A change that is
+    /// Ends the change without writing, and unpins the pass if `begin` pinned it. A change that is
     /// dropped leaves that pin.
     pub fn abandon(self, store: &Store, pass: &mut Pass)
         requires pass { IsPassOf store.now pass.old }
@@ -117,7 +117,7 @@ impl Change {
     }
 }
 
-/// A change on the snapshot that the pass is pinned to.
+/// A change on the snapshot to which the pass is pinned.
 fn at_pin(
     alloc: Global,
     store: &Store,
@@ -140,7 +140,7 @@ fn at_pin(
     Ok(Change::new(alloc, number, first, indices, checks_kinds, pins))
 }
 
-/// A change on the current snapshot, to which the pass is pinned now.
+/// A change on the current snapshot, to which the pass gets pinned.
 fn at_new_pin(
     alloc: Global,
     store: &Store,
@@ -165,7 +165,7 @@ fn at_new_pin(
     }
 }
 
-/// Writes what the change has collected, if it has collected anything. The pin stays.
+/// Writes what the change has collected, if anything. The pin stays.
 fn write(change: &Change, store: &Store, pass: &mut Pass, tries: u64) -> Result<Ended, Refusal>
     requires pass { IsPassOf store.now pass.old }
     requires tries { 1 ≤ tries }
@@ -184,7 +184,7 @@ fn write(change: &Change, store: &Store, pass: &mut Pass, tries: u64) -> Result<
     }
 }
 
-/// Unpins the pass, if the change had pinned it.
+/// Unpins the pass if the change had pinned it.
 pub(crate) fn release(pins: bool, store: &Store, pass: &mut Pass)
     requires pass { IsPassOf store.now pass.old }
     requires pinned { (n : ℕ) × IsPinnedTo pass.old.knows n }

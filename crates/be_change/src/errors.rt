@@ -1,4 +1,4 @@
-//! Why an operation was not collected.
+//! Why an operation wasn't collected.
 ghost use Rattle.std.specs.Prelude.{◌≡◌};
 ghost use Rattle.be_change.specs.declared.errors.CollectError.TheVariants.{OutOfMemory};
 
@@ -7,13 +7,13 @@ use std::alloc::AllocFailed;
 use std::error::Error;
 use std::fmt;
 
-/// Why an operation was not collected. The change is then as it was.
+/// Why an operation wasn't collected. The change is then as it was.
 #[derive(Clone, Copy, Debug, PartialEq, Eq)]
 pub enum CollectError {
     /// The change has 64 operations, as many as a transaction may have.
     TooMany,
     /// The index of that name takes values of the first kind, and this value has the second. The
-    /// store would keep the attribute, and no query of its name would find the node.
+    /// store would keep the attribute, but no query on its name would find the node.
     WrongKind(Kind, Kind),
     /// Memory ran out: the call may be made again.
     OutOfMemory,

@@ -9,8 +9,8 @@ use be_store::{Name, Pass, Store};
 use be_value::Kind;
 use be_volume::Op;
 
-/// A set of another kind than the index of its name takes. The store would keep the attribute, and
-/// no query of that name would find its node.
+/// A set whose value has another kind than the index of its name takes. The store would keep the
+/// attribute, but no query on that name would find its node.
 #[derive(Clone, Copy, Debug, PartialEq, Eq)]
 pub struct KindMismatch {
     /// The index of the operation in its list, from 0.
@@ -19,9 +19,9 @@ pub struct KindMismatch {
     pub index: Kind,
 }
 
-/// Compares the kind of each set with that of the index of its name, as the operations before it
-/// leave the pinned snapshot's, and returns the first that differs. A name without an index takes
-/// any kind. It reads the version page for each set, and takes no memory.
+/// Compares the kind of each set with that of the index of its name, and returns the first set that
+/// differs. The index is the pinned snapshot's, as the operations before the set leave it. A name
+/// without an index takes any kind. It reads the version page for each set; no memory is allocated.
 pub fn check_kinds(store: &Store, pass: &mut Pass, ops: &[Op]) -> Result<(), KindMismatch>
     requires pass { IsPassOf store.now pass.old }
     requires pinned { (n : ℕ) × IsPinnedTo pass.old.knows n }
@@ -39,7 +39,7 @@ pub fn check_kinds(store: &Store, pass: &mut Pass, ops: &[Op]) -> Result<(), Kin
     Ok(())
 }
 
-/// The kind of the index of a set's name, if the value has another.
+/// The kind of the index of a set's name, if the value has another kind.
 fn other_kind(store: &Store, pass: &mut Pass, before: &[Op], op: &Op) -> Option<Kind>
     requires pass { IsPassOf store.now pass.old }
     requires pinned { (n : ℕ) × IsPinnedTo pass.old.knows n }
@@ -55,7 +55,7 @@ fn other_kind(store: &Store, pass: &mut Pass, before: &[Op], op: &Op) -> Option<
     }
 }
 
-/// The kind of the index of this name, as the operations leave the pinned snapshot's.
+/// The kind of the index of this name in the pinned snapshot, as the operations leave it.
 fn kind_left(store: &Store, pass: &mut Pass, ops: &[Op], name: &Name) -> Option<Kind>
     requires pass { IsPassOf store.now pass.old }
     requires pinned { (n : ℕ) × IsPinnedTo pass.old.knows n }

@@ -15,8 +15,8 @@ ghost use Rattle.be_change.specs.Changing.{Changing};
 ghost use Rattle.be_change.specs.Ending.{IsChangeOf};
 ghost use Rattle.be_change.specs.Left.{index_kind_left};
 
-/// A change stays one of its pass, and reads the same volume, while the pass reads, is refused a
-/// write, or writes: none of these moves its pin.
+/// A change still belongs to its pass, and reads the same volume, while the pass reads, is refused
+/// a write, or writes: none of these moves its pin.
 pub fn stays()
     ensures read { (change : Changing) (a c : Knowledge) → HasRead a c → IsChangeOf change a
         → IsChangeOf change c }

@@ -1,5 +1,5 @@
 //! Changes: a program reads a snapshot, collects operations, and writes them if no other write came
-//! between.
+//! in between.
 #![tactic(auto)]
 
 mod changes;

@@ -8,8 +8,9 @@ ghost use Rattle.be_change.specs.Left.{index_kind_left, index_left_by, is_new, l
 use be_value::{Kind, Name, Value};
 use be_volume::Op;
 
-/// What the operations leave of the attribute, if one of them touches it: the last that sets or
-/// removes it, or makes or removes its node. The next node after all of them would be `next`.
+/// What the operations leave of the attribute, if one of them touches it. The last one that sets or
+/// removes it, or makes or removes its node, decides. The next node after all of them would be
+/// `next`.
 pub(crate) fn attribute_left(ops: &[Op], next: u64, node: u64, name: &Name) -> Option<Option<Value>>
     requires made { count_by is_new ops.now ≤ next }
     ensures { (base : State) → next ≡ base.next + count_by is_new ops.now
@@ -27,7 +28,7 @@ pub(crate) fn attribute_left(ops: &[Op], next: u64, node: u64, name: &Name) -> O
     None
 }
 
-/// The number of the next node before the operation, if it is this one after it.
+/// The next node's number before the operation, given the number after it.
 fn number_before(op: &Op, next: u64) -> u64
     requires { is_new op.now ≡ true → 1 ≤ next }
     ensures { next ≡ next_after op.now result }
@@ -38,8 +39,8 @@ fn number_before(op: &Op, next: u64) -> u64
     }
 }
 
-/// What the operation leaves of the attribute, if it touches that. It makes the node `next`, if it
-/// makes one.
+/// What the operation leaves of the attribute, if it touches it. A node that it makes has the
+/// number `next`.
 fn left_by(op: &Op, next: u64, node: u64, name: &Name) -> Option<Option<Value>>
     ensures { result ≡ left_by op.now next node name.now }
 {
@@ -54,8 +55,7 @@ fn left_by(op: &Op, next: u64, node: u64, name: &Name) -> Option<Option<Value>>
     }
 }
 
-/// The kind that the operations leave to the index of this name, if one of them makes or removes
-/// it.
+/// The kind of the index of this name after the operations, if one of them makes or removes it.
 pub(crate) fn index_left(ops: &[Op], name: &Name) -> Option<Option<Kind>>
     ensures { (base : State) → index_kind_left base ops.now name.now
         ≡ unwrap_or result (index_kind base name.now) }
@@ -68,7 +68,7 @@ pub(crate) fn index_left(ops: &[Op], name: &Name) -> Option<Option<Kind>>
     None
 }
 
-/// The kind that the operation leaves to the index of this name, if it makes or removes it.
+/// The kind of the index of this name after the operation, if the operation makes or removes it.
 fn index_left_by(op: &Op, name: &Name) -> Option<Option<Kind>>
     ensures { result ≡ index_left_by op.now name.now }
 {

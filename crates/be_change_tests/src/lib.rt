@@ -1,6 +1,6 @@
 //! Changes, by their public calls.
 //!
-//! They are in a crate of their own, so that be_change isn't proved a second time with them.
+//! They have a crate of their own, so that be_change isn't proved a second time with them.
 #![tactic(auto)]
 
 #[cfg(test)]

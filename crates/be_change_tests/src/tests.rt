@@ -1,5 +1,5 @@
 //! Changes: what they read of their own operations, what they refuse, how they end, and two threads
-//! that write by them.
+//! that write with them.
 
 mod endings;
 mod kinds;
@@ -16,8 +16,8 @@ use be_store::{Kind, Refusal};
 use be_test_tools::again;
 use std::test::Fail;
 
-/// Two threads move amounts between two nodes until each has moved 200. The sum stays, and no move
-/// is lost.
+/// Two threads move amounts between two nodes until each has made 200 moves. The sum stays the
+/// same, and no move is lost.
 #[test]
 fn moves_keep_the_sum(rt: HostRuntime) -> Result<(), Fail> {
     let amounts = again!(move_both_ways(&rt));
@@ -25,7 +25,7 @@ fn moves_keep_the_sum(rt: HostRuntime) -> Result<(), Fail> {
     Ok(())
 }
 
-/// A change reads its last operation on an attribute or its node, and otherwise the snapshot.
+/// A change reads its own last operation on an attribute or its node, and otherwise the snapshot.
 #[test]
 fn reads_its_own_operations(rt: HostRuntime) -> Result<(), Fail> {
     let reads = again!(own_reads(rt.alloc()));
@@ -37,7 +37,7 @@ fn reads_its_own_operations(rt: HostRuntime) -> Result<(), Fail> {
     Ok(())
 }
 
-/// A set is checked against the index of its name as the operations before it leave that index.
+/// A set is checked against the index of its name, as the operations before it leave that index.
 #[test]
 fn refuses_the_wrong_kind(rt: HostRuntime) -> Result<(), Fail> {
     let taken = again!(kinds_taken(rt.alloc()));
@@ -46,7 +46,7 @@ fn refuses_the_wrong_kind(rt: HostRuntime) -> Result<(), Fail> {
     Ok(())
 }
 
-/// In a list that is written at once the first set of another kind is found, wherever it is.
+/// In a list that is written all at once, the first set of another kind is found, wherever it is.
 #[test]
 fn finds_the_wrong_kind(rt: HostRuntime) -> Result<(), Fail> {
     let lists = [
@@ -72,7 +72,7 @@ fn finds_the_wrong_kind(rt: HostRuntime) -> Result<(), Fail> {
     Ok(())
 }
 
-/// A change of each size is written once, and one of none writes nothing. The 65th operation is
+/// A change of each size is written once, and an empty one writes nothing. The 65th operation is
 /// refused.
 #[test]
 fn sizes(rt: HostRuntime) -> Result<(), Fail> {
@@ -87,7 +87,7 @@ fn sizes(rt: HostRuntime) -> Result<(), Fail> {
     Ok(())
 }
 
-/// A change on an old snapshot writes nothing, and its next attempt does.
+/// A change on an old snapshot writes nothing, but its next attempt does.
 #[test]
 fn begins_anew(rt: HostRuntime) -> Result<(), Fail> {
     assert_eq!(rt;
@@ -97,7 +97,7 @@ fn begins_anew(rt: HostRuntime) -> Result<(), Fail> {
     Ok(())
 }
 
-/// What the volume refuses is said at the end, and nothing is written then.
+/// What the volume refuses is reported at the end, and then nothing is written.
 #[test]
 fn refused_at_the_end(rt: HostRuntime) -> Result<(), Fail> {
     let refused = again!(refusals(rt.alloc()));
@@ -108,7 +108,7 @@ fn refused_at_the_end(rt: HostRuntime) -> Result<(), Fail> {
     Ok(())
 }
 
-/// A pin that a change made goes with it, and another stays.
+/// A pin that a change made ends with it, and any other stays.
 #[test]
 fn releases_its_pin(rt: HostRuntime) -> Result<(), Fail> {
     assert_eq!(rt; again!(keeps_pins(rt.alloc())), Ok((None, None, Some(0))));

@@ -1,32 +1,33 @@
--- What a command line may ask for.
+-- What a command line can request.
 use Rattle.std.specs.Prelude.{◌≡◌, ◌≤◌, ⊤, vec_len}
 use Rattle.be_table.specs.declared.limits.Limits.{Limits}
 use Rattle.be_table.specs.Rule.{IsWithin}
 use Rattle.be_command_line.specs.declared.tasks.Task.{Task}
-use Rattle.be_command_line.specs.declared.tasks.Task.TheVariants.{Run, RunAndTell, RunStrictly}
-use Rattle.be_command_line.specs.declared.tasks.Task.TheVariants.{RunStrictlyAndTell, Race, Shell}
-use Rattle.be_command_line.specs.declared.tasks.Task.TheVariants.{ShellAndTell, Check, Dump}
+use Rattle.be_command_line.specs.declared.tasks.Task.TheVariants.{Run, RunWithJournal, RunStrictly}
+use Rattle.be_command_line.specs.declared.tasks.Task.TheVariants.{RunStrictlyWithJournal, Race}
+use Rattle.be_command_line.specs.declared.tasks.Task.TheVariants.{Shell}
+use Rattle.be_command_line.specs.declared.tasks.Task.TheVariants.{ShellWithJournal, Check, Dump}
 use Rattle.be_command_line.specs.declared.tasks.Task.TheVariants.{DumpState}
 
--- the limits with one pass, whatever their own number of passes
+-- the limits with one pass, whatever their own number of passes is
 abbrev pub for_one : Limits → Limits
 for_one limits = record limits { passes = 1 }
 
--- limits in range, of a store of one pass
+-- limits within range, for a store with one pass
 abbrev pub AreForOne : Limits → Type 0
 AreForOne limits = IsWithin limits × (limits.passes ≡ 1)
 
--- The pages and commits are within their ranges. A run and a shell have one pass; a race has a
--- script, and each of its scripts a pass. What is read from a file alone has no store.
+-- Pages and commits are within their ranges. A run and a shell have one pass. A race has at least
+-- one script, and as many passes as scripts. Tasks that only read a file have no limits.
 abbrev pub IsTask : Task → Type 0
 IsTask (Run file limits) = AreForOne limits
-IsTask (RunAndTell file limits) = AreForOne limits
+IsTask (RunWithJournal file limits) = AreForOne limits
 IsTask (RunStrictly file limits) = AreForOne limits
-IsTask (RunStrictlyAndTell file limits) = AreForOne limits
+IsTask (RunStrictlyWithJournal file limits) = AreForOne limits
 IsTask (Race files limits) = IsWithin (for_one limits) × (1 ≤ vec_len files)
     × (limits.passes ≡ vec_len files)
 IsTask (Shell file limits) = AreForOne limits
-IsTask (ShellAndTell file journal limits) = AreForOne limits
+IsTask (ShellWithJournal file journal limits) = AreForOne limits
 IsTask (Check file) = ⊤
 IsTask (Dump file) = ⊤
 IsTask (DumpState file) = ⊤

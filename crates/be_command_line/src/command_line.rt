@@ -1,10 +1,10 @@
-//! The command line.
+//! Parses the command line.
 //!
-//! `bestore run [--journal] [--strict] [--pages N] [--commits N] FILE`,
-//! `bestore race [--pages N] [--commits N] SCRIPT...`,
-//! `bestore shell [--journal FILE] [--pages N] [--commits N] [FILE]`, `bestore check FILE` and
-//! `bestore dump [--state] FILE`. `clap` reads the words, writes the help and the version, and
-//! reports what is wrong. How many scripts a race takes is for the program to look at.
+//! The commands are `bestore run [--journal] [--strict] [--pages N] [--commits N] FILE`, `bestore
+//! race [--pages N] [--commits N] SCRIPT...`, `bestore shell [--journal FILE] [--pages N]
+//! [--commits N] [FILE]`, `bestore check FILE` and `bestore dump [--state] FILE`. `clap` reads the
+//! words, writes the help and the version, and reports errors. The program itself checks how many
+//! scripts a race has.
 ghost use Rattle.std.specs.Prelude.{IfOk, IfSome};
 ghost use Rattle.be_command_line.specs.Task.{AreForOne, IsTask};
 
@@ -14,26 +14,26 @@ use clap::error::ErrorKind;
 use clap::{Arg, ArgAction, ArgMatches, Command, Error, value_parser};
 use std::alloc::{AllocError, Global};
 
-/// The program's version. The library for C says its own in include/bestore.h, and c/test.sh
+/// The program's version. The library for C has its own in include/bestore.h, and c/test.sh
 /// compares the two.
 const VERSION: &str = "0.4.0";
 
 /// The argument of all commands but `race`, as help shows it.
 const FILE: &str = "FILE";
 
-/// The option of `run`, and that of `shell` with a file.
+/// The option `--journal` of `run`, and of `shell`, where it takes a file.
 const JOURNAL: &str = "journal";
 
-/// The other option of `run`.
+/// The option `--strict` of `run`.
 const STRICT: &str = "strict";
 
-/// The option of `dump`.
+/// The option `--state` of `dump`.
 const STATE: &str = "state";
 
 /// The arguments of `race`.
 const SCRIPT: &str = "SCRIPT";
 
-/// An option that takes a number between these two, and is the default if it isn't given.
+/// An option that takes a number in this range, with this default.
 fn number_option<'a>(
     alloc: Global,
     name: &'a str,
@@ -51,7 +51,7 @@ fn number_option<'a>(
         .default_value(default)
 }
 
-/// An option that is given or not.
+/// An option without a value.
 fn flag<'a>(alloc: Global, name: &'a str, help: &'a str) -> Arg<'a> {
     Arg::new(alloc, name)
         .long(name)
@@ -59,7 +59,7 @@ fn flag<'a>(alloc: Global, name: &'a str, help: &'a str) -> Arg<'a> {
         .action(ArgAction::SetTrue)
 }
 
-/// A file that a command can't do without.
+/// A file that the command requires.
 fn required_file<'a>(alloc: Global, help: &'a str) -> Arg<'a> {
     Arg::new(alloc, FILE)
         .help(help)
@@ -75,7 +75,7 @@ fn with_arg<'a>(
     command?.arg(arg)
 }
 
-/// The command with one more command below it.
+/// The command with one more subcommand.
 fn with_subcommand<'a>(
     command: Result<Command<'a>, AllocError>,
     subcommand: Result<Command<'a>, AllocError>,
@@ -93,7 +93,7 @@ fn commits_option<'a>(alloc: Global) -> Arg<'a> {
     number_option(alloc, "commits", help, 1, 4294967295, "1000000")
 }
 
-/// A command that takes the limits of a store, and its files.
+/// A command with its files and the options for a store's limits.
 fn command<'a>(
     alloc: Global,
     name: &'a str,
@@ -141,7 +141,7 @@ fn journal_option<'a>(alloc: Global) -> Arg<'a> {
         .action(ArgAction::Set)
 }
 
-/// The command `shell`: a file and a file for the journal, which may be left out, and the limits.
+/// The command `shell`: an optional file, `--journal` with a file, and the limits.
 fn shell_command<'a>(alloc: Global) -> Result<Command<'a>, AllocError> {
     let file = Arg::new(alloc, FILE)
         .help("Lines that are run first")
@@ -150,7 +150,7 @@ fn shell_command<'a>(alloc: Global) -> Result<Command<'a>, AllocError> {
     with_arg(command(alloc, "shell", about, file), journal_option(alloc))
 }
 
-/// A command that takes the file of a journal alone.
+/// A command whose only argument is a journal's file.
 fn journal_command<'a>(
     alloc: Global,
     name: &'a str,
@@ -196,7 +196,7 @@ fn commands<'a>(alloc: Global) -> Result<Command<'a>, AllocError> {
     with_subcommand(command, dump_command(alloc))
 }
 
-/// The task that the words ask for, by a program with all commands.
+/// The task that the words request, given the program with all its commands.
 fn task_by<'a>(
     alloc: Global,
     command: &mut Command<'a>,
@@ -211,8 +211,9 @@ fn task_by<'a>(
     }
 }
 
-/// Reads the words of a command line, which begin with the program's name. An error is `clap`'s: a
-/// request for help or for the version, a fault of the command line, or out of memory, by its kind.
+/// Reads the words of a command line, which begin with the program's name. An error is `clap`'s.
+/// Its kind says whether it is a request for help or the version, an invalid command line, or out
+/// of memory.
 pub fn task<'a>(alloc: Global, words: &'a [&'a str]) -> Result<Task, Error>
     ensures { IfOk result IsTask }
 {
@@ -220,7 +221,7 @@ pub fn task<'a>(alloc: Global, words: &'a [&'a str]) -> Result<Task, Error>
     task_by(alloc, &mut command, words)
 }
 
-/// The limits of a store of one pass, if they are within their ranges, as `clap` has seen to.
+/// The limits of a store with one pass, if they are within their ranges, which `clap` has checked.
 fn limits_of(matches: &ArgMatches) -> Option<Limits>
     ensures { IfSome result AreForOne }
 {
@@ -241,7 +242,7 @@ fn limits_of(matches: &ArgMatches) -> Option<Limits>
     Some(limits)
 }
 
-/// The value of an option or an argument that takes one, if it is given.
+/// The value of an option or argument that takes one, if it is given.
 fn value_of(alloc: Global, matches: &ArgMatches, name: &str) -> Result<Option<String>, AllocError> {
     match matches.get_strs(name).unwrap_or(&[]).first() {
         Some(value) => Ok(Some(String::from_str(alloc, value)?)),
@@ -263,7 +264,8 @@ fn files_of(alloc: Global, matches: &ArgMatches) -> Result<Vec<String>, AllocErr
     Ok(files)
 }
 
-/// The task of `run`, by its two flags. None if the file is missing or a limit is out of its range.
+/// The task of `run`, according to its two flags. `None` if the file is missing or a limit is out
+/// of range.
 fn run_task(alloc: Global, matches: &ArgMatches) -> Result<Option<Task>, AllocError>
     ensures { IfOk result (λ task. IfSome task IsTask) }
 {
@@ -275,14 +277,14 @@ fn run_task(alloc: Global, matches: &ArgMatches) -> Result<Option<Task>, AllocEr
     };
     match (matches.get_flag(STRICT), matches.get_flag(JOURNAL)) {
         (false, false) => Ok(Some(Task::Run(file, limits))),
-        (false, true) => Ok(Some(Task::RunAndTell(file, limits))),
+        (false, true) => Ok(Some(Task::RunWithJournal(file, limits))),
         (true, false) => Ok(Some(Task::RunStrictly(file, limits))),
-        (true, true) => Ok(Some(Task::RunStrictlyAndTell(file, limits))),
+        (true, true) => Ok(Some(Task::RunStrictlyWithJournal(file, limits))),
     }
 }
 
-/// The task of `race`, with a pass for each script. None if no script is named or a limit is out of
-/// its range.
+/// The task of `race`, with a pass for each script. `None` if there is no script or a limit is out
+/// of range.
 fn race_task(alloc: Global, matches: &ArgMatches) -> Result<Option<Task>, AllocError>
     ensures { IfOk result (λ task. IfSome task IsTask) }
 {
@@ -308,7 +310,7 @@ fn shell_task(alloc: Global, matches: &ArgMatches) -> Result<Option<Task>, Alloc
     };
     let file = file_of(alloc, matches)?;
     match value_of(alloc, matches, JOURNAL)? {
-        Some(journal) => Ok(Some(Task::ShellAndTell(file, journal, limits))),
+        Some(journal) => Ok(Some(Task::ShellWithJournal(file, journal, limits))),
         None => Ok(Some(Task::Shell(file, limits))),
     }
 }
@@ -332,8 +334,8 @@ fn dump_task(alloc: Global, matches: &ArgMatches) -> Result<Option<Task>, AllocE
     }
 }
 
-/// The task of the command, if there is one and its values are within their ranges, as `clap` has
-/// seen to.
+/// The task of the given command, if there is one and its values are within their ranges, which
+/// `clap` has checked.
 fn task_of(alloc: Global, matches: &ArgMatches) -> Result<Option<Task>, AllocError>
     ensures { IfOk result (λ task. IfSome task IsTask) }
 {

@@ -1,19 +1,19 @@
-//! Command lines, a line `WORDS => TASK` each: the task's command, its pages, passes and commits,
-//! and its files in their order; or the kind of the fault. A command line that is refused memory is
-//! read again: so each test passes with any one request for memory refused.
+//! Command lines, each in a line `WORDS => TASK`. The task is its command, its pages, passes and
+//! commits, and its files in order; or the kind of the error. If memory runs out, a command line is
+//! read again, so each test passes even if any one request for memory is refused.
 use be_command_line::{Task, task};
 use clap::Error;
 use clap::error::ErrorKind;
 use std::alloc::{AllocError, Global};
 use std::test::Fail;
 
-/// The pages, passes and commits of a task; zeros of one without a store.
+/// A task's pages, passes and commits; zeros if it has no store.
 fn numbers(task: &Task) -> (u64, u64, u64) {
     let limits = match task {
-        Task::Run(_, limits) | Task::RunAndTell(_, limits) => limits,
-        Task::RunStrictly(_, limits) | Task::RunStrictlyAndTell(_, limits) => limits,
+        Task::Run(_, limits) | Task::RunWithJournal(_, limits) => limits,
+        Task::RunStrictly(_, limits) | Task::RunStrictlyWithJournal(_, limits) => limits,
         Task::Race(_, limits) | Task::Shell(_, limits) => limits,
-        Task::ShellAndTell(_, _, limits) => limits,
+        Task::ShellWithJournal(_, _, limits) => limits,
         Task::Check(_) | Task::Dump(_) | Task::DumpState(_) => return (0, 0, 0),
     };
     (limits.pages, limits.passes, limits.commits)
@@ -23,37 +23,38 @@ fn numbers(task: &Task) -> (u64, u64, u64) {
 fn name_of(task: &Task) -> &'static str {
     match task {
         Task::Run(..) => "run",
-        Task::RunAndTell(..) => "run --journal",
+        Task::RunWithJournal(..) => "run --journal",
         Task::RunStrictly(..) => "run --strict",
-        Task::RunStrictlyAndTell(..) => "run --strict --journal",
+        Task::RunStrictlyWithJournal(..) => "run --strict --journal",
         Task::Check(..) => "check",
         Task::Dump(..) => "dump",
         Task::DumpState(..) => "dump --state",
         Task::Race(..) => "race",
         Task::Shell(..) => "shell",
-        Task::ShellAndTell(..) => "shell --journal",
+        Task::ShellWithJournal(..) => "shell --journal",
     }
 }
 
-/// The file at a place of a task, if it has so many. The journal's file of a shell is its first.
+/// A task's file at this place, if it has that many. A shell's first file is the one for the
+/// journal.
 fn file_at(task: &Task, place: usize) -> Option<&str> {
     match task {
-        Task::Run(file, _) | Task::RunAndTell(file, _) if place == 0 => Some(file.as_str()),
-        Task::RunStrictly(file, _) | Task::RunStrictlyAndTell(file, _) if place == 0 => {
+        Task::Run(file, _) | Task::RunWithJournal(file, _) if place == 0 => Some(file.as_str()),
+        Task::RunStrictly(file, _) | Task::RunStrictlyWithJournal(file, _) if place == 0 => {
             Some(file.as_str())
         }
         Task::Check(file) | Task::Dump(file) if place == 0 => Some(file.as_str()),
         Task::DumpState(file) if place == 0 => Some(file.as_str()),
         Task::Shell(Some(file), _) if place == 0 => Some(file.as_str()),
-        Task::ShellAndTell(_, journal, _) if place == 0 => Some(journal.as_str()),
-        Task::ShellAndTell(Some(file), _, _) if place == 1 => Some(file.as_str()),
+        Task::ShellWithJournal(_, journal, _) if place == 0 => Some(journal.as_str()),
+        Task::ShellWithJournal(Some(file), _, _) if place == 1 => Some(file.as_str()),
         Task::Race(files, _) => files.get(place).map(|file| file.as_str()),
         _ => None,
     }
 }
 
-/// A task as a text, with at most eight files.
-fn told_task(alloc: Global, task: &Task) -> Result<String, AllocError> {
+/// A task as a text, with up to eight files.
+fn task_text(alloc: Global, task: &Task) -> Result<String, AllocError> {
     let name = name_of(task);
     let (pages, passes, commits) = numbers(task);
     let mut text = format!(in alloc; "{name} {pages} {passes} {commits}")?;
@@ -66,8 +67,8 @@ fn told_task(alloc: Global, task: &Task) -> Result<String, AllocError> {
     Ok(text)
 }
 
-/// A fault as a text; None if memory ran out.
-fn told_fault(alloc: Global, fault: &Error) -> Option<String> {
+/// An error as a text, or `None` if memory ran out.
+fn fault_text(alloc: Global, fault: &Error) -> Option<String> {
     let kind = fault.kind();
     if matches!(kind, ErrorKind::OutOfMemory) {
         return None;
@@ -75,7 +76,7 @@ fn told_fault(alloc: Global, fault: &Error) -> Option<String> {
     format!(in alloc; "{kind:?}").ok()
 }
 
-/// The name of the program, and the words of a line.
+/// The program's name, and the words of a line.
 fn words_of(alloc: Global, line: &str) -> Result<Vec<&str>, AllocError> {
     let mut words = Vec::new(alloc);
     words.push("bestore")?;
@@ -87,21 +88,21 @@ fn words_of(alloc: Global, line: &str) -> Result<Vec<&str>, AllocError> {
     Ok(words)
 }
 
-/// What a command line gives, as a text; None if memory ran out.
-fn told(alloc: Global, line: &str) -> Option<String> {
+/// The result of a command line as a text, or `None` if memory ran out.
+fn text_of(alloc: Global, line: &str) -> Option<String> {
     let words = words_of(alloc, line).ok()?;
     match task(alloc, &words) {
-        Ok(task) => told_task(alloc, &task).ok(),
-        Err(fault) => told_fault(alloc, &fault),
+        Ok(task) => task_text(alloc, &task).ok(),
+        Err(fault) => fault_text(alloc, &fault),
     }
 }
 
-/// Fails unless each command line gives the task or the fault that its row has.
+/// Fails unless each command line has the task or the error in its row.
 fn check_tasks(alloc: Global, lines: &str) -> Result<(), Fail> {
     for line in lines.lines() {
         let (words, expected) = line.split_once(" => ").unwrap_or((line, ""));
-        let found = match told(alloc, words) {
-            None => told(alloc, words),
+        let found = match text_of(alloc, words) {
+            None => text_of(alloc, words),
             found => found,
         };
         match found {
@@ -112,9 +113,9 @@ fn check_tasks(alloc: Global, lines: &str) -> Result<(), Fail> {
     Ok(())
 }
 
-/// With the defaults and without, an option before the files or after them. `-` is a file's name
-/// here, and so are names of commands. In a race each script has a pass; how many there may be
-/// isn't looked at here. What takes a journal's file has no limits.
+/// With and without the defaults, and options before and after the files. Here `-` is the name of a
+/// file, and so are names of commands. A race has a pass for each script; how many there may be
+/// isn't checked here. Tasks that only read a journal's file have no limits.
 #[test]
 fn tasks(rt: HostRuntime) -> Result<(), Fail> {
     let lines = "run f => run 1024 1 1000000 f
@@ -145,7 +146,7 @@ race b --pages 64 a --commits 9 b => race 64 3 9 b a b";
     check_tasks(rt.alloc(), lines)
 }
 
-/// Command lines that ask for nothing, each with the kind of its fault.
+/// Command lines that are invalid, each with the kind of its error.
 #[test]
 fn faults(rt: HostRuntime) -> Result<(), Fail> {
     let lines = "run --pages 7 f => ValueValidation

@@ -5,7 +5,7 @@ use Rattle.be_core.specs.declared.event.Event.{Event}
 use Rattle.be_core.specs.declared.event.Event.TheVariants.{Look, Announce, LookAgain, Read, Unpin, Lock, Scan, Fill, Publish, Unlock}
 use Rattle.be_core.specs.declared.event.Phase.{Phase}
 use Rattle.be_core.specs.declared.event.Phase.TheVariants.{Idle, Looked, Announced, Pinned}
-use Rattle.be_core.specs.Machine.{World, Holder, HasOpenWrite, Allowed, after_event}
+use Rattle.be_core.specs.Machine.{World, Writer, HasOpenWrite, Allowed, after_event}
 use Rattle.be_core.specs.Laws.{EachScheduleRuns}
 
 abbrev Decided : Type 0 → Type 0
@@ -34,9 +34,9 @@ is_false : (b : Bool) → Decided (IsFalse b)
 is_false true = inr (λ h. cc)
 is_false false = inl refl
 
-no_holder : (o : Option Holder) → Decided (o ≡ None)
-no_holder None = inl refl
-no_holder (Some h) = inr (λ e. cc)
+no_writer : (o : Option Writer) → Decided (o ≡ None)
+no_writer None = inl refl
+no_writer (Some h) = inr (λ e. cc)
 
 is_looked : (ph : Phase) → Decided ((a : ℕ) × (ph ≡ Looked a))
 is_looked Idle = inr (λ x. let e = x.1 in cc)
@@ -50,7 +50,7 @@ is_announced (Looked a) = inr (λ x. let e = x.1 in cc)
 is_announced (Announced a) = inl (a, refl)
 is_announced (Pinned a n) = inr (λ x. let e = x.1 in cc)
 
--- pinned to a version of which a test holds
+-- the phase is pinned to a version that passes the test
 is_pinned : (test : ℕ → Bool) (ph : Phase) → Decided ((a : ℕ) × (n : ℕ) × (ph ≡ Pinned a n) × IsTrue (test n))
 is_pinned test Idle = inr (λ x. let e = x.2 in cc)
 is_pinned test (Looked a) = inr (λ x. let e = x.2 in cc)
@@ -61,12 +61,12 @@ is_pinned test (Pinned a n) = by_test (test n) refl
     by_test true t = inl (a, n, refl, t)
     by_test false t = inr (λ x. let same : n ≡ x.1 = (let e = x.2 in cc) in let yes : IsTrue (test n) = rw same x.3 in cc)
 
--- the lock is held by one of whom P holds
-held_by : (o : Option Holder) (P : Holder → Type 0) → ((h : Holder) → Decided (P h)) → Decided ((h : Holder) × (o ≡ Some h) × P h)
+-- the lock is held, and P holds for the writer
+held_by : (o : Option Writer) (P : Writer → Type 0) → ((h : Writer) → Decided (P h)) → Decided ((h : Writer) × (o ≡ Some h) × P h)
 held_by None P d = inr (λ x. let e = x.1 in cc)
 held_by (Some h) P d = like (λ p. (h, refl, p)) (λ x. let same : x.0 ≡ h = (let e = x.1 in cc) in rw (← same) x.2) (d h)
 
--- each number passes the test
+-- every number passes the test
 each_passes : (test : ℕ → Bool) (xs : List ℕ) → Decided (All (λ p. IsTrue (test p)) xs)
 each_passes test [] = inl (λ k d b. absurd (omega arith))
 each_passes test (x ∷ xs) = like {A = IsTrue (test x) × All (λ p. IsTrue (test p)) xs} to_all from_all (both (is_true (test x)) (each_passes test xs))
@@ -102,8 +102,8 @@ all_distinct (x ∷ xs) = like {A = All (λ p. IsTrue (differs x p)) xs × AllPa
     from_pairs h = ((λ k d b. differ x _ (h 0 (suc k) d (omega arith) (omega arith))), (λ i j d a b. h (suc i) (suc j) d (omega arith) (omega arith)))
 
 module _ (w : World) where
-  writes : (k : ℕ) → Decided ((h : Holder) × HasOpenWrite w k h)
-  writes k = like (λ x. (x.0, (x.1, x.2.0, x.2.1))) (λ x. (x.0, x.1.0, (x.1.1, x.1.2))) (held_by w.holder (λ h. (h.pass ≡ k) × IsFalse h.published) (λ h. both (equal h.pass k) (is_false h.published)))
+  writes : (k : ℕ) → Decided ((h : Writer) × HasOpenWrite w k h)
+  writes k = like (λ x. (x.0, (x.1, x.2.0, x.2.1))) (λ x. (x.0, x.1.0, (x.1.1, x.1.2))) (held_by w.writer (λ h. (h.pass ≡ k) × IsFalse h.published) (λ h. both (equal h.pass k) (is_false h.published)))
 
   decided : (e : Event) → Decided (Allowed w e)
   decided (Look k) = below k w.passes
@@ -111,13 +111,13 @@ module _ (w : World) where
   decided (LookAgain k) = both (below k w.passes) (is_announced (w.phases k))
   decided (Read k p i) = like (λ x. (x.0, x.1.0, x.1.1.0, x.1.1.1)) (λ x. (x.0, (x.1, (x.2, x.3)))) (both (below k w.passes) (both (below p w.pages) (both (below i 512) (is_pinned (λ n. w.reach n p) (w.phases k)))))
   decided (Unpin k) = like (λ x. (x.0, (x.1.0, x.1.1, x.1.2))) (λ x. (x.0, (x.1.0, x.1.1, x.1.2, refl))) (both (below k w.passes) (is_pinned (λ n. true) (w.phases k)))
-  decided (Lock k) = both (below k w.passes) (no_holder w.holder)
+  decided (Lock k) = both (below k w.passes) (no_writer w.writer)
   decided (Scan k j) = both (below j w.passes) (like (λ x. (x.0, (x.1, x.2.0, x.2.1), x.2.2)) (λ x. (x.0, x.1.0, (x.1.1, x.1.2, x.2)))
-      (held_by w.holder (λ h. (h.pass ≡ k) × IsFalse h.published × (j ≡ h.scanned)) (λ h. like (λ x. (x.0, x.1.0, x.1.1)) (λ x. (x.0, (x.1, x.2))) (both (equal h.pass k) (both (is_false h.published) (equal j h.scanned))))))
+      (held_by w.writer (λ h. (h.pass ≡ k) × IsFalse h.published × (j ≡ h.scanned)) (λ h. like (λ x. (x.0, x.1.0, x.1.1)) (λ x. (x.0, (x.1, x.2))) (both (equal h.pass k) (both (is_false h.published) (equal j h.scanned))))))
   decided (Fill k p i word) = like (λ x. (x.0, x.1.0, x.1.1.0, x.1.1.1)) (λ x. (x.0, (x.1, (x.2, x.3)))) (both (below p w.pages) (both (below i 512) (both (writes k) (is_true (w.taken p || w.free p)))))
   decided (Publish k v given) = like (λ x. (x.0, x.1.0, x.1.1.0, x.1.1.1.0, x.1.1.1.1.0, x.1.1.1.1.1)) (λ x. (x.0, (x.1, (x.2, (x.3, (x.4, x.5))))))
       (both (below w.current w.commits) (both (below v w.pages) (both (writes k) (both (is_true (w.taken v)) (both (all_distinct given.items) (each_passes (w.reach w.current) given.items))))))
-  decided (Unlock k) = held_by w.holder (λ h. h.pass ≡ k) (λ h. equal h.pass k)
+  decided (Unlock k) = held_by w.writer (λ h. h.pass ≡ k) (λ h. equal h.pass k)
 
 pub each_schedule_runs : EachScheduleRuns
 each_schedule_runs w [] = (w, refl)

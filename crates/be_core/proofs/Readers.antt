@@ -1,12 +1,12 @@
--- The invariant is kept by a reader's events.
+-- A reader's events keep the invariant.
 use Rattle.std.proofs.Common.{◌≡◌, ℕ, ◌<◌, ◌≤◌, Some, IsTrue, IsFalse, arith, refl, ◌∙◌, inl, inr, subst, le_refl}
 use Rattle.std.proofs.lemmas.Bool.Decides.{eqb_tells}
 use Rattle.be_core.specs.declared.event.Phase.{Phase}
 use Rattle.be_core.specs.declared.event.Phase.TheVariants.{Idle, Looked, Announced, Pinned}
-use Rattle.be_core.specs.Machine.{World, Holder, update, to, Sound, InTime, KeepsPinned, phase_after_look, after_look, after_announce, after_look_again, after_unpin, MayLook, MayAnnounce, MayLookAgain, MayUnpin}
+use Rattle.be_core.specs.Machine.{World, Writer, update, to, Sound, InTime, KeepsPinned, phase_after_look, after_look, after_announce, after_look_again, after_unpin, MayLook, MayAnnounce, MayLookAgain, MayUnpin}
 use Rattle.be_core.proofs.Places.{current-keeps}
 
--- a fact of each phase, where one was changed
+-- a fact about each phase, once one phase is changed
 each_phase : (P : ℕ → Phase → Type 0) (f : ℕ → Phase) (k0 : ℕ) (phase : Phase) → P k0 phase → ((k : ℕ) → P k (f k)) → (k : ℕ) → P k (update f k0 phase k)
 each_phase P f k0 phase new old k = elim (eqb_tells k k0) [
   | inl y ↦ rw (y.0, y.1) new
@@ -16,7 +16,7 @@ each_phase P f k0 phase new old k = elim (eqb_tells k k0) [
 module _ (w : World) (s : Sound w) (k0 : ℕ) (phase : Phase) where
   pub to-sound : k0 < w.passes → InTime w.current phase
       → ((a n p : ℕ) → phase ≡ Pinned a n → IsTrue (w.reach n p) → KeepsPinned w n p)
-      → ((h : Holder) → w.holder ≡ Some h → IsFalse h.published → (a n : ℕ) → k0 < h.scanned → phase ≡ Pinned a n → n < w.current → h.least ≤ a)
+      → ((h : Writer) → w.writer ≡ Some h → IsFalse h.published → (a n : ℕ) → k0 < h.scanned → phase ≡ Pinned a n → n < w.current → h.least ≤ a)
       → Sound (to w k0 phase)
   to-sound inside in_time pinned counted = record {
     partition = s.partition;
@@ -27,14 +27,14 @@ module _ (w : World) (s : Sound w) (k0 : ℕ) (phase : Phase) where
     was_reached = s.was_reached;
     counted = λ h is open_ k a n below. each_phase (λ k ph. k < h.scanned → (a n : ℕ) → ph ≡ Pinned a n → n < w.current → h.least ≤ a) w.phases k0 phase
         (λ b a n e l. counted h is open_ a n b e l) (λ k b a n e l. s.counted h is open_ k a n b e l) k below a n;
-    least_in_time = s.least_in_time;
+    lowest_in_time = s.lowest_in_time;
     unheld = s.unheld;
     inside = s.inside;
-    holder_inside = s.holder_inside;
+    writer_inside = s.writer_inside;
   }
 
 module _ (w : World) (s : Sound w) (k : ℕ) where
-  -- a phase that pins nothing
+  -- a change to a phase that pins nothing keeps the invariant
   plain : (phase : Phase) → k < w.passes → InTime w.current phase → ((a n : ℕ) → phase ≡ Pinned a n → ⊥) → Sound (to w k phase)
   plain phase inside in_time unpinned = to-sound w s k phase inside in_time (λ a n p e r. absurd (unpinned a n e)) (λ h i o a n b e l. absurd (unpinned a n e))
 

@@ -1,4 +1,4 @@
--- The laws: the invariant holds at first, each event keeps it, and so it holds after every schedule.
+-- The laws: the invariant holds at first and each event keeps it, so it holds after every schedule.
 use Rattle.std.proofs.Common.{◌≡◌, ℕ, suc, ◌+◌, ◌<◌, Bool, true, false, not, ◌&&◌, ◌==◌, nat_lt, List, [], ◌∷◌, IsTrue, IsFalse, refl, sym, inl, inr, subst}
 use Rattle.std.proofs.lemmas.Bool.Decides.{eqb_tells, leb_tells}
 use Rattle.be_core.specs.declared.event.Event.{Event}
@@ -25,10 +25,10 @@ first-sound pages passes commits words some = record {
   now = λ p i r. refl;
   was_reached = λ p r e. absurd (cc);
   counted = λ h is. absurd (cc);
-  least_in_time = λ h is. absurd (cc);
+  lowest_in_time = λ h is. absurd (cc);
   unheld = λ e p. refl;
   inside = λ n p r. only_first n p r;
-  holder_inside = λ h is. absurd (cc);
+  writer_inside = λ h is. absurd (cc);
 }
   where
     no_and : (b : Bool) → IsTrue (b && false) → ⊥

@@ -1,4 +1,4 @@
--- What a step of a `State` that shows a sound one leaves.
+-- What a step leaves, if the `State` represents a sound state.
 use Rattle.std.proofs.Common.{◌≡◌, Bool, true, false, IsTrue, IfOk, OnErr, sym, subst}
 use Rattle.std.specs.declared.result.Result.{Result}
 use Rattle.std.specs.declared.result.Result.TheVariants.{Ok, Err}
@@ -20,7 +20,7 @@ pub step-sound : (old new : State) (e : Event) (r : Result Bool Refusal) → IfO
 step-sound old new e (Ok done) made same s = made-sound old new e done made s
 step-sound old new e (Err x) made same (image, s) = (image, subst Sound (sym (same image)) s)
 
--- the words of the versions don't matter
+-- what a step leaves doesn't depend on the words of past versions
 reads : (old new : State) (e : Event) (image after : Images) → LeavesNone (shown old image) e (shown new after) → LeavesNone (shown old blank) e (shown new blank)
 reads old new (Look k) image after left = left
 reads old new (Announce k) image after left = left

@@ -4,25 +4,25 @@ use Rattle.be_core.specs.declared.event.Event.{Event}
 use Rattle.be_core.specs.declared.event.Event.TheVariants.{Look, Announce, LookAgain, Read, Unpin}
 use Rattle.be_core.specs.declared.event.Event.TheVariants.{Lock, Scan, Fill, Publish, Unlock}
 use Rattle.be_core.specs.declared.event.Phase.TheVariants.{Pinned}
-use Rattle.be_core.specs.Machine.{World, Holder, Run, Move, happens, first_state, Unreached}
+use Rattle.be_core.specs.Machine.{World, Writer, Run, Move, happens, first_state, Unreached}
 use Rattle.be_core.specs.Machine.{after_scan, MayScan, MayFill}
 
 -- P holds after every schedule, from the first state of any size with at least one page, whatever
--- its words
+-- its words are
 abbrev pub Always : (World → Type 0) → Type 0
 Always P = (pages passes commits : ℕ) (words : ℕ → ℕ → ℕ) (moves : List Move) (w : World) → 0
     < pages
     → Run (first_state pages passes commits words) moves w → P w
 
--- no page is filled that a pinned version reaches
+-- no page that a pinned version reaches may be filled
 abbrev pub FillsNoPinned : World → Type 0
 FillsNoPinned w = (k p i j a n : ℕ) → MayFill w k p i → w.phases j ≡ Pinned a n
     → IsFalse (w.reach n p)
 
--- After a scan of the last announcement, each page that no version from the least on reaches is
+-- After a scan of the last reader slot, each page that no version from the minimum on reaches is
 -- free or taken
 abbrev pub LeavesNone : World → Event → World → Type 0
-LeavesNone w (Scan k j) w' = suc j ≡ w.passes → (h : Holder) → w'.holder ≡ Some h
+LeavesNone w (Scan k j) w' = suc j ≡ w.passes → (h : Writer) → w'.writer ≡ Some h
     → (p : ℕ) → p < w'.pages → Unreached w' h.least w'.current p → IsTrue (w'.free p || w'.taken p)
 LeavesNone w (Look k) w' = Unit {0}
 LeavesNone w (Announce k) w' = Unit {0}

@@ -1,4 +1,4 @@
 pub mod Machine
 pub mod Laws
 pub mod Shown
-pub mod Least
+pub mod Lowest

@@ -10,16 +10,16 @@ use Rattle.be_core.specs.declared.event.Event.{Event}
 use Rattle.be_core.specs.declared.event.Event.TheVariants.{Look, Announce, LookAgain, Read, Unpin}
 use Rattle.be_core.specs.declared.event.Event.TheVariants.{Lock, Scan, Fill, Publish, Unlock}
 
--- the holder of the lock, how many announcements its scan has read, the least so far, and whether
--- it has published
-pub record Holder : Type 0 where
+-- the writer: its pass, how many reader slots its scan has read, the minimum so far, and whether it
+-- has published
+pub record Writer : Type 0 where
   pub pass : ℕ
   pub scanned : ℕ
   pub least : ℕ
   pub published : Bool
 
--- A state. `reach n` is the set of the pages of version n, and `image n` what all words were when
--- it was published. `retired p` is the number that the page p was retired with
+-- A state. `reach n` is the set of version n's pages, and `image n` the words that all pages had
+-- when it was published. `retired p` is the number with which page p was retired
 pub record World : Type 0 where
   pub pages : ℕ
   pub passes : ℕ
@@ -31,10 +31,10 @@ pub record World : Type 0 where
   pub free : ℕ → Bool
   pub taken : ℕ → Bool
   pub retired : ℕ → Option ℕ
-  pub holder : Option Holder
+  pub writer : Option Writer
   pub phases : ℕ → Phase
 
--- f, but b at a
+-- f, except that it has the value b at a
 abbrev pub update : {X : Type 0} → (ℕ → X) → ℕ → X → ℕ → X
 update f a b k = if k == a then b else f k
 
@@ -45,7 +45,7 @@ nowhere p = false
 abbrev pub zeros : ℕ → ℕ → ℕ
 zeros p i = 0
 
--- how many pages, passes and commits there may be: of pages, so many at least
+-- limits on the number of pages, passes and commits; `least` is the minimum number of pages
 pub record AreLimits (least pages passes commits : ℕ) : Type 0 where
   pub some_pages : least ≤ pages
   pub few_pages : pages ≤ 16384
@@ -54,7 +54,7 @@ pub record AreLimits (least pages passes commits : ℕ) : Type 0 where
   pub some_commit : 0 < commits
   pub short : commits < 4294967296
 
--- version 0 has the page 0 alone, with these words, and each other page is free
+-- version 0 has only page 0, with these words, and every other page is free
 abbrev pub first_state : ℕ → ℕ → ℕ → (ℕ → ℕ → ℕ) → World
 first_state pages passes commits words =
     record {
@@ -68,7 +68,7 @@ first_state pages passes commits words =
       free = λ p. nat_lt p pages && not (p == 0);
       taken = nowhere;
       retired = λ p. None;
-      holder = None;
+      writer = None;
       phases = λ k. Idle;
     }
 
@@ -124,35 +124,35 @@ MayRead w k p i = (k < w.passes) × (p < w.pages) × (i < 512)
 abbrev pub MayUnpin : World → ℕ → Type 0
 MayUnpin w k = (k < w.passes) × ((a : ℕ) × (n : ℕ) × (w.phases k ≡ Pinned a n))
 
--- ## The holder's events
+-- ## The writer's events
 
--- h has the lock, is the pass k, and has not published
-abbrev pub HasOpenWrite : World → ℕ → Holder → Type 0
-HasOpenWrite w k h = (w.holder ≡ Some h) × (h.pass ≡ k) × IsFalse h.published
+-- h holds the lock, is pass k, and hasn't published
+abbrev pub HasOpenWrite : World → ℕ → Writer → Type 0
+HasOpenWrite w k h = (w.writer ≡ Some h) × (h.pass ≡ k) × IsFalse h.published
 
 abbrev pub MayLock : World → ℕ → Type 0
-MayLock w k = (k < w.passes) × (w.holder ≡ None)
+MayLock w k = (k < w.passes) × (w.writer ≡ None)
 
 abbrev pub after_lock : World → ℕ → World
 after_lock w k = record w {
-  holder = Some
+  writer = Some
       record { pass = k; scanned = 0; least = w.current; published = false };
   taken = nowhere;
 }
 
--- the least, after a phase was read
-abbrev pub least_with : ℕ → Phase → ℕ
-least_with l Idle = l
-least_with l (Looked a) = l
-least_with l (Announced a) = min l a
-least_with l (Pinned a n) = min l a
+-- the minimum, once the reader slot of a pass in this phase is read
+abbrev pub lowest_with : ℕ → Phase → ℕ
+lowest_with l Idle = l
+lowest_with l (Looked a) = l
+lowest_with l (Announced a) = min l a
+lowest_with l (Pinned a n) = min l a
 
--- a page is retired with a number below l
+-- the page is retired with a number below l
 abbrev pub is_below : ℕ → Option ℕ → Bool
 is_below l None = false
 is_below l (Some r) = nat_lt r l
 
--- each page that is retired with a number below l is free
+-- the state once each page that is retired with a number below l is freed
 abbrev pub swept : World → ℕ → World
 swept w l =
     record w {
@@ -160,36 +160,36 @@ swept w l =
       retired = λ p. if is_below l (w.retired p) then None else w.retired p;
     }
 
--- what the least is after the j-th announcement is read
-abbrev pub least_after : World → Holder → ℕ → ℕ
-least_after w h j = least_with (if j == 0 then w.current else h.least) (w.phases j)
+-- the minimum, once the j-th reader slot is read
+abbrev pub lowest_after : World → Writer → ℕ → ℕ
+lowest_after w h j = lowest_with (if j == 0 then w.current else h.least) (w.phases j)
 
--- one more announcement is read, and it isn't the last
-abbrev pub scanned_on : World → Holder → ℕ → World
+-- the state once one more reader slot is read that isn't the last
+abbrev pub scanned_on : World → Writer → ℕ → World
 scanned_on w h j = record w {
-  holder = Some record h
-      { scanned = suc j; least = least_after w h j };
+  writer = Some record h
+      { scanned = suc j; least = lowest_after w h j };
 }
 
--- the last announcement is read
-abbrev pub scanned_out : World → Holder → ℕ → World
+-- the state once the last reader slot is read
+abbrev pub scanned_out : World → Writer → ℕ → World
 scanned_out w h j = swept (record w {
-  holder = Some record h
-      { scanned = 0; least = least_after w h j };
-}) (least_after w h j)
+  writer = Some record h
+      { scanned = 0; least = lowest_after w h j };
+}) (lowest_after w h j)
 
-abbrev pub scanned_by : World → Option Holder → ℕ → World
+abbrev pub scanned_by : World → Option Writer → ℕ → World
 scanned_by w None j = w
 scanned_by w (Some h) j = if suc j == w.passes then scanned_out w h j else scanned_on w h j
 
 abbrev pub MayScan : World → ℕ → ℕ → Type 0
-MayScan w k j = (j < w.passes) × ((h : Holder) × HasOpenWrite w k h × (j ≡ h.scanned))
+MayScan w k j = (j < w.passes) × ((h : Writer) × HasOpenWrite w k h × (j ≡ h.scanned))
 
 abbrev pub after_scan : World → ℕ → World
-after_scan w j = scanned_by w w.holder j
+after_scan w j = scanned_by w w.writer j
 
 abbrev pub MayFill : World → ℕ → ℕ → ℕ → Type 0
-MayFill w k p i = (p < w.pages) × (i < 512) × ((h : Holder) × HasOpenWrite w k h)
+MayFill w k p i = (p < w.pages) × (i < 512) × ((h : Writer) × HasOpenWrite w k h)
     × IsTrue (w.taken p || w.free p)
 
 abbrev pub after_fill : World → ℕ → ℕ → ℕ → World
@@ -200,17 +200,17 @@ after_fill w p i word =
       words = update w.words p (update (w.words p) i word);
     }
 
--- the page is one of the list
+-- the list has the page
 abbrev pub has : List ℕ → ℕ → Bool
 has given p = list_any (λ q. q == p) given
 
 abbrev pub MayPublish : World → ℕ → ℕ → List ℕ → Type 0
 MayPublish w k v given =
-    (w.current < w.commits) × (v < w.pages) × ((h : Holder) × HasOpenWrite w k h)
+    (w.current < w.commits) × (v < w.pages) × ((h : Writer) × HasOpenWrite w k h)
     × IsTrue (w.taken v)
     × AllPairs ◌≢◌ given × All (λ p. IsTrue (w.reach w.current p)) given
 
-abbrev pub with_published : Option Holder → Option Holder
+abbrev pub with_published : Option Writer → Option Writer
 with_published None = None
 with_published (Some h) = Some record h { published = true }
 
@@ -223,14 +223,14 @@ after_publish w given =
       image = update w.image (suc w.current) w.words;
       retired = λ p. if has given p then Some w.current else w.retired p;
       taken = nowhere;
-      holder = with_published w.holder;
+      writer = with_published w.writer;
     }
 
 abbrev pub MayUnlock : World → ℕ → Type 0
-MayUnlock w k = (h : Holder) × (w.holder ≡ Some h) × (h.pass ≡ k)
+MayUnlock w k = (h : Writer) × (w.writer ≡ Some h) × (h.pass ≡ k)
 
 abbrev pub after_unlock : World → World
-after_unlock w = record w { holder = None; taken = nowhere; free = λ p. w.free p || w.taken p }
+after_unlock w = record w { writer = None; taken = nowhere; free = λ p. w.free p || w.taken p }
 
 -- ## Any event
 
@@ -246,7 +246,7 @@ Allowed w (Fill k p i word) = MayFill w k p i
 Allowed w (Publish k v given) = MayPublish w k v given.items
 Allowed w (Unlock k) = MayUnlock w k
 
--- what an allowed event makes of the state
+-- the state after an allowed event
 abbrev pub after_event : World → Event → World
 after_event w (Look k) = after_look w k
 after_event w (Announce k) = after_announce w k
@@ -259,18 +259,18 @@ after_event w (Fill k p i word) = after_fill w p i word
 after_event w (Publish k v given) = after_publish w given.items
 after_event w (Unlock k) = after_unlock w
 
--- the holder gives a page that it has taken back
+-- the writer returns a page that it has taken
 abbrev pub after_return : World → ℕ → World
 after_return w p = record w { taken = update w.taken p false; free = update w.free p true }
 
 -- ## Schedules
 
--- one entry of a schedule: an event, or a page of T that goes back to F
+-- one entry of a schedule: an event, or a taken page that returns to the free ones
 pub data Move : Type 0 where
   happens : Event → Move
   returns : ℕ → Move
 
--- An event that isn't allowed changes nothing
+-- an event that isn't allowed changes nothing
 abbrev pub Moves : World → Move → World → Type 0
 Moves w (happens e) w' = (Allowed w e × (w' ≡ after_event w e)) ⊎ ((¬ (Allowed w e)) × (w' ≡ w))
 Moves w (returns p) w' = IsTrue (w.taken p) × (w' ≡ after_return w p)
@@ -285,38 +285,38 @@ abbrev pub bit : Bool → ℕ
 bit true = 1
 bit false = 0
 
--- in how many of the four sets the page is
+-- how many of the four sets the page is in
 abbrev pub set_count : World → ℕ → ℕ
 set_count w p = bit (w.free p) + bit (w.taken p) + bit (is_some (w.retired p))
     + bit (w.reach w.current p)
 
--- each page is in exactly one of the four, and nothing else is in any
+-- each page is in exactly one of the four sets, and nothing else is in any
 abbrev pub Partition : World → Type 0
 Partition w = (p : ℕ) → set_count w p ≡ bit (nat_lt p w.pages)
 
--- no page of a pinned version is free or taken, and its words are those of the version
+-- no page of a pinned version is free or taken, and its words are the version's
 abbrev pub Protected : World → Type 0
 Protected w = (k a n p : ℕ) → w.phases k ≡ Pinned a n → IsTrue (w.reach n p)
     → IsFalse (w.free p) × IsFalse (w.taken p) × ((i : ℕ) → w.words p i ≡ w.image n p i)
 
--- the page is in no version from l to c
+-- no version from l to c has the page
 abbrev pub Unreached : World → ℕ → ℕ → ℕ → Type 0
 Unreached w l c p = (n : ℕ) → l ≤ n → n ≤ c → IsFalse (w.reach n p)
 
--- a phase names no number above the current one
+-- a phase has no number above the current one
 abbrev pub InTime : ℕ → Phase → Type 0
 InTime c Idle = ⊤
 InTime c (Looked a) = a ≤ c
 InTime c (Announced a) = a ≤ c
 InTime c (Pinned a n) = (a ≤ n) × (n ≤ c)
 
--- what a pin to the version n keeps of the page p: it is neither free nor taken, nor retired too
--- early, and its words stay
+-- what a pin to version n guarantees for page p: it is neither free nor taken, its words stay, and
+-- it isn't retired with a number below n
 abbrev pub KeepsPinned : World → ℕ → ℕ → Type 0
 KeepsPinned w n p = IsFalse (w.free p) × IsFalse (w.taken p)
     × ((r : ℕ) → w.retired p ≡ Some r → n ≤ r) × ((i : ℕ) → w.words p i ≡ w.image n p i)
 
--- The invariant
+-- the invariant
 pub record Sound (w : World) : Type 0 where
   pub partition : Partition w
   pub in_time : (k : ℕ) → InTime w.current (w.phases k)
@@ -324,12 +324,12 @@ pub record Sound (w : World) : Type 0 where
   pub pinned : (k a n p : ℕ) → w.phases k ≡ Pinned a n → IsTrue (w.reach n p) → KeepsPinned w n p
   pub now : (p i : ℕ) → IsTrue (w.reach w.current p) → w.words p i ≡ w.image w.current p i
   pub was_reached : (p r : ℕ) → w.retired p ≡ Some r → (r < w.current) × IsTrue (w.reach r p)
-  -- while the lock is held, a pass that was scanned and is pinned to an older version has announced
-  -- no less than the least
-  pub counted : (h : Holder) → w.holder ≡ Some h → IsFalse h.published
+  -- while the writer hasn't published, each pass that was scanned and is pinned to an older version
+  -- has announced at least the minimum
+  pub counted : (h : Writer) → w.writer ≡ Some h → IsFalse h.published
       → (k a n : ℕ) → k < h.scanned → w.phases k ≡ Pinned a n → n < w.current → h.least ≤ a
-  pub least_in_time : (h : Holder) → w.holder ≡ Some h → h.least ≤ w.current
-  pub unheld : w.holder ≡ None → (p : ℕ) → IsFalse (w.taken p)
-  -- each version has pages of the machine alone, and the lock is held by one of its passes
+  pub lowest_in_time : (h : Writer) → w.writer ≡ Some h → h.least ≤ w.current
+  pub unheld : w.writer ≡ None → (p : ℕ) → IsFalse (w.taken p)
+  -- each version has only pages of the machine, and the writer is one of its passes
   pub inside : (n p : ℕ) → IsTrue (w.reach n p) → p < w.pages
-  pub holder_inside : (h : Holder) → w.holder ≡ Some h → h.pass < w.passes
+  pub writer_inside : (h : Writer) → w.writer ≡ Some h → h.pass < w.passes

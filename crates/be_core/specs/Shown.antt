@@ -1,18 +1,18 @@
--- The state of the machine that a `State` shows, and what a step of it returns.
+-- The machine's state that a `State` represents, and what a step on it returns.
 use Rattle.std.specs.Prelude.{◌≡◌, ℕ, Bool, true, false, Option, Some, None, slice_get, slice_index}
 use Rattle.std.specs.Prelude.{slice_index_or, vec_len, Vec, []}
 use Rattle.std.specs.declared.alloc.Global.{Global}
 use Rattle.be_core.specs.declared.event.Phase.TheVariants.{Idle}
-use Rattle.be_core.specs.declared.state.Holder.{Holder}
+use Rattle.be_core.specs.declared.state.Writer.{Writer}
 use Rattle.be_core.specs.declared.state.State.{State}
 use Rattle.be_core.specs.Machine.{World, Sound}
 use Rattle.be_core.specs.Machine as machine
 
--- the words of each version, of which a `State` keeps none
+-- the words of each version, which a `State` doesn't keep
 abbrev pub Images : Type 0
 Images = ℕ → ℕ → ℕ → ℕ
 
--- what an event asks reads no images
+-- whether an event is allowed doesn't depend on the images, so these serve for that
 abbrev pub blank : Images
 blank n p i = 0
 
@@ -20,17 +20,17 @@ abbrev pub is_marked : Option (Vec Bool Global) → ℕ → Bool
 is_marked None p = false
 is_marked (Some row) p = slice_index_or row.items p false
 
-abbrev pub as_holder : Holder → machine.Holder
-as_holder h = record {
+abbrev pub as_writer : Writer → machine.Writer
+as_writer h = record {
   pass = h.pass;
   scanned = h.scanned;
   least = h.least;
   published = h.published;
 }
 
-abbrev pub holder_of : Option Holder → Option machine.Holder
-holder_of None = None
-holder_of (Some h) = Some (as_holder h)
+abbrev pub writer_of : Option Writer → Option machine.Writer
+writer_of None = None
+writer_of (Some h) = Some (as_writer h)
 
 abbrev pub shown : State → Images → World
 shown s image =
@@ -45,12 +45,12 @@ shown s image =
       free = λ p. slice_index_or s.free.items p false;
       taken = λ p. slice_index_or s.taken.items p false;
       retired = λ p. slice_index_or s.retired.items p None;
-      holder = holder_of s.holder;
+      writer = writer_of s.writer;
       phases = λ k. slice_index_or s.phases.items k Idle;
     }
 
--- The result says whether the event may happen. If so, the new state shows what it makes of the old
--- one; otherwise nothing changed
+-- The result says whether the event is allowed. If it is, the new state represents the result of
+-- the event; otherwise nothing changes
 abbrev pub MakesStep : State → (World → Type 0) → (World → World) → Bool → State → Type 0
 MakesStep old may next true new = (image : Images) → may (shown old image)
     × (shown new (next (shown old image)).image ≡ next (shown old image))
@@ -63,6 +63,6 @@ IsUnchanged old new = (image : Images) → shown new image ≡ shown old image
 abbrev pub page_count : State → ℕ
 page_count s = vec_len s.words
 
--- with some words of its versions, the state shows one in which the invariant holds
+-- for some words of its versions, the state represents one in which the invariant holds
 abbrev pub ShowsSound : State → Type 0
 ShowsSound s = (image : Images) × Sound (shown s image)

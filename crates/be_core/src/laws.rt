@@ -1,7 +1,7 @@
-//! The laws of the machine, one for each event: if it is allowed, it keeps the invariant `Sound`.
+//! The machine's laws, one for each event: an allowed event keeps the invariant `Sound`.
 //!
-//! The functions do nothing; to use a law, call its function and take the fact from its contract.
-//! Each speaks of any state of the machine, so a table of words that shows one, without having it,
+//! These functions do nothing. To use a law, call its function and take the fact from its contract.
+//! Each law is about any state of the machine, so a table that only represents a state in its words
 //! can use them too.
 ghost use Rattle.std.specs.Prelude.{◌≡◌, ℕ, suc, ◌<◌, ◌≤◌, ◌||◌, List, Some, IsTrue};
 ghost use Rattle.be_core.specs.declared.event.Phase.TheVariants.{Pinned};
@@ -9,97 +9,101 @@ ghost use Rattle.be_core.specs.Machine.{World, Sound, first_state, Protected, Pa
 ghost use Rattle.be_core.specs.Machine.{after_look, MayAnnounce, after_announce};
 ghost use Rattle.be_core.specs.Machine.{MayLookAgain, after_look_again, MayRead, MayUnpin};
 ghost use Rattle.be_core.specs.Machine.{after_unpin, MayLock, after_lock, MayScan};
-ghost use Rattle.be_core.specs.Machine.{after_scan, Holder, HasOpenWrite, scanned_on, scanned_out};
-ghost use Rattle.be_core.specs.Machine.{least_after, Unreached, MayFill, after_fill};
+ghost use Rattle.be_core.specs.Machine.{after_scan, Writer, HasOpenWrite, scanned_on, scanned_out};
+ghost use Rattle.be_core.specs.Machine.{lowest_after, Unreached, MayFill, after_fill};
 ghost use Rattle.be_core.specs.Machine.{MayPublish, after_publish, MayUnlock, after_unlock};
 ghost use Rattle.be_core.specs.Machine.{after_return};
 ghost use Rattle.be_core.specs.Laws.{FillsNoPinned, ScanLeavesNone};
-ghost use Rattle.be_core.specs.Least.{FindsLeast};
+ghost use Rattle.be_core.specs.Lowest.{FindsLowest};
 
-/// The first state, with whatever words, is sound.
+/// The first state is sound, whatever its words are.
 pub fn first()
     ensures { (pages passes commits : ℕ) (words : ℕ → ℕ → ℕ) → 0 < pages
         → Sound (first_state pages passes commits words) }
 {}
 
-/// What the invariant is for.
+/// What follows from the invariant.
 pub fn holds()
     ensures protected { (w : World) → Sound w → Protected w }
     ensures partition { (w : World) → Sound w → Partition w }
     ensures fills_no_pinned { (w : World) → Sound w → FillsNoPinned w }
 {}
 
-/// A pass that is on its way already stays as it is.
+/// A look keeps the invariant. It doesn't change the phase of a pass that has announced or pinned.
 pub fn look()
     ensures { (w : World) (k : ℕ) → Sound w → MayLook w k → Sound (after_look w k) }
 {}
 
-/// From here on a scan sees the pass.
+/// Announcing keeps the invariant. From here on, a scan sees the pass.
 pub fn announce()
     ensures { (w : World) (k : ℕ) → Sound w → MayAnnounce w k → Sound (after_announce w k) }
 {}
 
-/// The pass is pinned to the version that is current now, whatever it had announced.
+/// The second look keeps the invariant. It pins the pass to the current version, whatever number it
+/// had announced.
 pub fn look_again()
     ensures { (w : World) (k : ℕ) → Sound w → MayLookAgain w k → Sound (after_look_again w k) }
 {}
 
-/// A read changes nothing, and finds the word of the version.
+/// A read changes nothing, and finds the version's word.
 pub fn read()
     ensures { (w : World) (k a n p i : ℕ) → Sound w → w.phases k ≡ Pinned a n → IsTrue (w.reach n p)
         → w.words p i ≡ w.image n p i }
 {}
 
-/// The announcement goes away, and the version's pages with it when a scan comes.
+/// Unpinning keeps the invariant. It clears the reader slot, so a later scan can free the version's
+/// pages.
 pub fn unpin()
     ensures { (w : World) (k : ℕ) → Sound w → MayUnpin w k → Sound (after_unpin w k) }
 {}
 
-/// Nothing is taken and nothing scanned at the start of a write.
+/// Taking the lock keeps the invariant. At the start of a write, no page is taken and no slot
+/// scanned.
 pub fn lock()
     ensures { (w : World) (k : ℕ) → Sound w → MayLock w k → Sound (after_lock w k) }
 {}
 
-/// After a whole scan each page that no version from the least on reaches is free or taken. The
-/// least is the smallest among the number that was current when the scan began and the
-/// announcements that it read, whatever else happened between its steps.
+/// A scan keeps the invariant. After a whole scan, each page that no version from the minimum on
+/// reaches is free or taken. The minimum is the lowest of the number that was current when the scan
+/// began and the numbers it found in the reader slots. This holds whatever else happened between
+/// its steps.
 pub fn scan()
     ensures kept { (w : World) (k j : ℕ) → Sound w → MayScan w k j → Sound (after_scan w j) }
-    // the two outcomes of a scan by a holder that the caller knows
-    ensures on { (w : World) (k j : ℕ) (h : Holder) → Sound w → HasOpenWrite w k h → j ≡ h.scanned
+    // the two outcomes of a scan, if the caller knows the writer's state
+    ensures on { (w : World) (k j : ℕ) (h : Writer) → Sound w → HasOpenWrite w k h → j ≡ h.scanned
         → Sound (scanned_on w h j) }
-    ensures out { (w : World) (k j : ℕ) (h : Holder) → Sound w → HasOpenWrite w k h → j ≡ h.scanned
+    ensures out { (w : World) (k j : ℕ) (h : Writer) → Sound w → HasOpenWrite w k h → j ≡ h.scanned
         → suc j ≡ w.passes → Sound (scanned_out w h j) }
-    // a page that is still retired after a whole scan has a number from the least on
-    ensures gone { (w : World) (j p r : ℕ) (h : Holder) → (scanned_out w h j).retired p ≡ Some r
-        → least_after w h j ≤ r }
-    ensures leaves { (w : World) (k j p : ℕ) (h : Holder) → Sound w → HasOpenWrite w k h → j
+    // a page that is still retired after a whole scan has at least the minimum as its number
+    ensures gone { (w : World) (j p r : ℕ) (h : Writer) → (scanned_out w h j).retired p ≡ Some r
+        → lowest_after w h j ≤ r }
+    ensures leaves { (w : World) (k j p : ℕ) (h : Writer) → Sound w → HasOpenWrite w k h → j
         ≡ h.scanned → suc j ≡ w.passes
-        → p < w.pages → Unreached w (least_after w h j) w.current p
+        → p < w.pages → Unreached w (lowest_after w h j) w.current p
         → IsTrue ((scanned_out w h j).free p || (scanned_out w h j).taken p) }
-    ensures least { FindsLeast }
+    ensures least { FindsLowest }
     ensures leaves_none { (w : World) → Sound w → ScanLeavesNone w }
 {}
 
-/// A page that is filled is taken, and no pinned version has it.
+/// Filling keeps the invariant. The filled page is taken, and no pinned version has it.
 pub fn fill()
     ensures { (w : World) (k p i word : ℕ) → Sound w → MayFill w k p i
         → Sound (after_fill w p i word) }
 {}
 
-/// The pages given up are retired, and not free: passes that are pinned to the old version still
-/// read them.
+/// Publishing keeps the invariant. The pages given up are retired, not free: passes pinned to the
+/// old version still read them.
 pub fn publish()
     ensures { (w : World) (k v : ℕ) (given : List ℕ) → Sound w → MayPublish w k v given
         → Sound (after_publish w given) }
 {}
 
-/// What was taken and not published is free again.
+/// Releasing the lock keeps the invariant. Pages that were taken and not published are free again.
 pub fn unlock()
     ensures { (w : World) (k : ℕ) → Sound w → MayUnlock w k → Sound (after_unlock w) }
 {}
 
-/// A taken page goes back to the free ones, which is no event.
+/// Returning a taken page to the free ones keeps the invariant. This isn't an event.
 pub fn give_back()
     ensures { (w : World) (p : ℕ) → Sound w → IsTrue (w.taken p) → Sound (after_return w p) }
 {}

@@ -1,20 +1,24 @@
 //! The reclamation machine: when a page of an old version may be used again.
 //!
 //! # The machine
-//! Versions are sets of pages. A pass that wants to read looks at the current number, announces it,
-//! and looks again: then it is pinned to the version that is current at the second look. The holder
-//! of the lock fills free pages and publishes them as the next version; the pages that this one
-//! gives up are retired with the old number. A scan reads every announcement and frees what was
-//! retired below the least.
+//! Versions are sets of pages. A pass that wants to read looks at the current number, publishes it
+//! in its reader slot (announces it), and looks again. It is then pinned to the version that is
+//! current at the second look.
 //!
-//! # Why it is apart
+//! The writer, the pass that holds the lock, fills free pages and publishes them as part of the
+//! next version. The pages that this version gives up are retired with the old version's number. A
+//! scan reads every reader slot, and frees the pages that were retired with a number below the
+//! minimum it found.
+//!
+//! # Why it is a crate of its own
 //! The machine is pure: it has no threads and no atomics, only states, events, and which event is
-//! allowed in which state (`specs/Machine.antt`). Whoever runs it on words that threads share shows
-//! that each step is one of its events, and has the theorem for every schedule.
+//! allowed in which state (`specs/Machine.antt`). A program that runs it on words shared by threads
+//! shows that each of its steps is one of these events. The theorem then holds for that program
+//! under every schedule.
 //!
 //! # What is proved
 //! `law` is the theorem over every list of events. `laws` has its parts, one for each event, for
-//! such a program. `State` is a machine that runs.
+//! such a program. `State` is an executable machine.
 #![tactic(auto)]
 
 ghost use Rattle.be_core.specs.Machine.{Protected, Partition};
@@ -27,10 +31,10 @@ mod state;
 pub use event::{Event, Phase};
 pub use state::State;
 
-/// Whatever events come, in whatever order: no page of a pinned version is free, taken or changed,
-/// or may be filled; each page is in exactly one of the free, the taken, the retired and the
-/// current version's; and a whole scan leaves no page that no version from the least on reaches.
-/// Each list of events has a run, so this isn't said of nothing.
+/// After any events, in any order: no page of a pinned version is free, taken or changed, or may be
+/// filled. Each page is in exactly one set: free, taken, retired or the current version's. A whole
+/// scan leaves no retired page that no version from the minimum on reaches. Each list of events has
+/// a run, so the theorem isn't vacuous.
 pub fn law()
     ensures protected { Always Protected }
     ensures partition { Always Partition }

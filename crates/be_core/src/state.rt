@@ -1,8 +1,8 @@
-//! A machine that runs: it does any list of events one by one, and returns whether each was
+//! An executable machine: it applies a list of events one by one, and returns whether each was
 //! allowed.
 //!
-//! A `State` shows a state of the machine (`shown`). It doesn't keep what the words were at each
-//! publishing, so those are given to `shown`; each clause holds for all of them.
+//! A `State` represents a state of the machine (`shown`). It doesn't keep the words of past
+//! versions, so `shown` takes those as an argument, and each clause holds for all of them.
 ghost use Rattle.std.specs.Prelude.{◌≡◌, ◌≢◌, ℕ, suc, ◌+◌, ◌<◌, ◌≤◌, ◌^◌, vec_len, length};
 ghost use Rattle.std.specs.Prelude.{slice_index_or, false, ◌||◌, if◌then◌else◌};
 ghost use Rattle.std.specs.Prelude.{◌&&◌, not, All, AllPairs, IsTrue, IfOk, Vec, Bool, ◌∷◌, []};
@@ -14,18 +14,18 @@ use crate::event::{Event, Phase};
 use be_value::Refusal;
 use std::alloc::{AllocError, Global};
 
-/// The holder of the lock: its pass, how many announcements its scan has read, the least so far,
-/// and whether it has published.
+/// The writer: its pass, how many reader slots its scan has read, the minimum so far, and whether
+/// it has published.
 #[derive(Clone, Copy)]
-struct Holder {
+struct Writer {
     pass: u64,
     scanned: u64,
     least: u64,
     published: bool,
 }
 
-/// The state of the machine: the pages of each version, the words of all pages, and where each page
-/// is.
+/// The machine's state: each version's pages, the words of all pages, and which set each page is
+/// in.
 #[derive(Drop)]
 pub struct State {
     alloc: Global,
@@ -36,7 +36,7 @@ pub struct State {
     free: Vec<bool>,
     taken: Vec<bool>,
     retired: Vec<Option<u64>>,
-    holder: Option<Holder>,
+    writer: Option<Writer>,
     phases: Vec<Phase>,
     ghost in_free: { vec_len free ≡ vec_len words },
     ghost in_taken: { vec_len taken ≡ vec_len words },
@@ -46,7 +46,7 @@ pub struct State {
     ghost few: { commits < 2 ^ 32 },
 }
 
-/// Adds to a set what another has.
+/// Adds the members of another set to a set.
 fn add_all(set: &mut Vec<bool>, other: &Vec<bool>)
     requires { vec_len set.old ≡ vec_len other.now }
     ensures len { vec_len set.new ≡ vec_len set.old }
@@ -65,7 +65,7 @@ fn empty_set(alloc: Global, len: usize) -> Result<Vec<bool>, AllocError>
     Ok(vec![in alloc; false; len]?)
 }
 
-/// Version 0 has the page 0 alone.
+/// The pages of version 0: only page 0.
 fn first_row(alloc: Global, len: usize) -> Result<Vec<bool>, AllocError>
     requires { 0 < len }
     ensures len { IfOk result (λ row. vec_len row ≡ len) }
@@ -88,7 +88,7 @@ fn zero_pages(alloc: Global, len: usize) -> Result<Vec<[u64; 512]>, AllocError>
     Ok(words)
 }
 
-/// Each page but the first is free.
+/// The pages that are free at first: all except page 0.
 fn first_free(alloc: Global, len: usize) -> Result<Vec<bool>, AllocError>
     requires { 0 < len }
     ensures len { IfOk result (λ free. vec_len free ≡ len) }
@@ -115,7 +115,6 @@ fn all_idle(alloc: Global, len: usize) -> Result<Vec<Phase>, AllocError>
     Ok(vec![in alloc; Phase::Idle; len]?)
 }
 
-/// Empties a set.
 fn clear(set: &mut Vec<bool>)
     ensures len { vec_len set.new ≡ vec_len set.old }
     ensures empty { (p : ℕ) → slice_index_or set.new.items p false ≡ false }
@@ -123,7 +122,7 @@ fn clear(set: &mut Vec<bool>)
     set.fill(false);
 }
 
-/// Frees each page that is retired with a number below the least.
+/// Frees each page that is retired with a number below the minimum.
 fn sweep(free: &mut Vec<bool>, retired: &mut Vec<Option<u64>>, least: u64)
     requires { vec_len free.old ≡ vec_len retired.old }
     ensures len_free { vec_len free.new ≡ vec_len free.old }
@@ -145,7 +144,7 @@ fn sweep(free: &mut Vec<bool>, retired: &mut Vec<Option<u64>>, least: u64)
     }
 }
 
-/// Takes the numbers out of a set.
+/// Removes the given pages from a set.
 fn remove_all(set: &mut Vec<bool>, given: &[u64])
     requires { All (λ p. p < vec_len set.old) given.now }
     ensures len { vec_len set.new ≡ vec_len set.old }
@@ -157,7 +156,7 @@ fn remove_all(set: &mut Vec<bool>, given: &[u64])
     }
 }
 
-/// Retires the pages with a number.
+/// Retires the given pages with a number.
 fn retire(retired: &mut Vec<Option<u64>>, given: &[u64], number: u64)
     requires { All (λ p. p < vec_len retired.old) given.now }
     ensures len { vec_len retired.new ≡ vec_len retired.old }
@@ -169,7 +168,6 @@ fn retire(retired: &mut Vec<Option<u64>>, given: &[u64], number: u64)
     }
 }
 
-/// Whether no two of the numbers are equal.
 fn is_distinct(given: &[u64]) -> bool
     ensures { IsTrue result ↔ AllPairs ◌≢◌ given.now }
 {
@@ -196,12 +194,12 @@ impl State {
     ghost use Rattle.be_core.specs.Machine.{zeros, AreLimits};
     ghost use Rattle.be_core.specs.Machine as machine;
     ghost use Rattle.be_core.specs.Laws.{LeavesNone};
-    ghost use Rattle.be_core.specs.Shown.{shown, MakesStep, ShowsSound, Images, blank, as_holder};
+    ghost use Rattle.be_core.specs.Shown.{shown, MakesStep, ShowsSound, Images, blank, as_writer};
     ghost use Rattle.be_core.specs.Shown.{IsUnchanged, page_count};
 
-    /// The first state, with every word 0: version 0 has the page 0 alone, and each other page is
-    /// free. `BadLimits` outside 1 to 16,384 pages, 1 to 64 passes and 1 to 4,294,967,295 commits.
-    /// A page costs 4 KiB.
+    /// The first state, with every word 0: version 0 has only page 0, and every other page is free.
+    /// The error is `BadLimits` outside 1 to 16,384 pages, 1 to 64 passes and 1 to 4,294,967,295
+    /// commits. A page costs 4 KiB.
     pub fn new(alloc: Global, pages: u64, passes: u64, commits: u64) -> Result<State, Refusal>
         ensures first { IfOk result (λ s. shown s blank ≡ first_state pages passes commits zeros) }
         ensures size { IfOk result (λ s. page_count s ≡ pages) }
@@ -229,12 +227,12 @@ impl State {
             free: first_free(alloc, len)?,
             taken: empty_set(alloc, len)?,
             retired: none_retired(alloc, len)?,
-            holder: None,
+            writer: None,
             phases: all_idle(alloc, passes as usize)?,
         })
     }
 
-    /// The word of a page at a place.
+    /// The word at a place in a page.
     pub fn word(&self, page: u64, i: usize) -> u64
         requires page_in { page < page_count self.now }
         requires place_in { i < 512 }
@@ -243,7 +241,7 @@ impl State {
         self.words[page as usize][i]
     }
 
-    /// The phase of the pass with this number, if there is one.
+    /// The phase of pass k, or `None` if there is no such pass.
     fn phase(&self, k: u64) -> Option<Phase>
         ensures phase { IfSome result (λ phase. (k < vec_len self.now.phases)
             × (slice_index_or self.now.phases.items k Phase.Idle ≡ phase)) }
@@ -310,7 +308,7 @@ impl State {
         }
     }
 
-    /// Whether the page is one of the version.
+    /// Whether the version has the page.
     fn reaches(&self, version: u64, page: u64) -> bool
         ensures { result ≡ (shown self.now blank).reach version page }
     {
@@ -335,17 +333,17 @@ impl State {
         }
     }
 
-    /// Pass k takes the lock. False, and nothing changes, if there is no such pass or a pass holds
-    /// the lock.
+    /// Pass k takes the lock. It returns false, and changes nothing, if there is no such pass or
+    /// the lock is held.
     fn lock(&mut self, k: u64) -> bool
         ensures done { MakesStep self.old (λ w. MayLock w k) (λ w. after_lock w k) result self.new }
         ensures size { page_count self.new ≡ page_count self.old }
     {
-        if k >= self.phases.len() as u64 || self.holder.is_some() {
+        if k >= self.phases.len() as u64 || self.writer.is_some() {
             return false;
         }
         clear(&mut self.taken);
-        self.holder = Some(Holder {
+        self.writer = Some(Writer {
             pass: k,
             scanned: 0,
             least: self.current,
@@ -359,21 +357,21 @@ impl State {
             self.new }
         ensures size { page_count self.new ≡ page_count self.old }
     {
-        match self.holder {
+        match self.writer {
             Some(h) if h.pass == k => {}
             _ => return false,
         }
         add_all(&mut self.free, &self.taken);
         clear(&mut self.taken);
-        self.holder = None;
+        self.writer = None;
         true
     }
 
-    /// Whether the pass k holds the lock and has not published.
+    /// Whether pass k holds the lock and hasn't published.
     fn writes(&self, k: u64) -> bool
-        ensures { IsTrue result ↔ ((h : machine.Holder) × HasOpenWrite (shown self.now blank) k h) }
+        ensures { IsTrue result ↔ ((h : machine.Writer) × HasOpenWrite (shown self.now blank) k h) }
     {
-        match self.holder {
+        match self.writer {
             Some(h) => h.pass == k && !h.published,
             None => false,
         }
@@ -405,25 +403,25 @@ impl State {
         true
     }
 
-    /// The holder, if the pass k may read the announcement of the pass j.
-    fn scanner(&self, k: u64, j: u64) -> Option<Holder>
-        ensures some { IfSome result (λ h. (self.now.holder ≡ Some h)
+    /// The writer's state, if pass k may read the reader slot of pass j.
+    fn scanner(&self, k: u64, j: u64) -> Option<Writer>
+        ensures some { IfSome result (λ h. (self.now.writer ≡ Some h)
             × MayScan (shown self.now blank) k j) }
         ensures none { IsNone result → ¬ (MayScan (shown self.now blank) k j) }
     {
         if j >= self.phases.len() as u64 || !self.writes(k) {
             return None;
         }
-        match self.holder {
+        match self.writer {
             Some(h) if h.scanned == j => Some(h),
             _ => None,
         }
     }
 
-    /// The least after the announcement of the pass j is read.
-    fn least_after(&self, h: Holder, j: u64) -> u64
+    /// The minimum, once the reader slot of pass j is read.
+    fn lowest_after(&self, h: Writer, j: u64) -> u64
         requires { j < vec_len self.now.phases }
-        ensures { result ≡ machine.least_after (shown self.now blank) (as_holder h) j }
+        ensures { result ≡ machine.lowest_after (shown self.now blank) (as_writer h) j }
     {
         let least = if j == 0 { self.current } else { h.least };
         match self.phases[j as usize] {
@@ -432,9 +430,9 @@ impl State {
         }
     }
 
-    /// The holder k reads pass j's announcement, as the next one of its scan. After the last pass
-    /// it frees each page that is retired with a number below the least that it found. False, and
-    /// nothing changes, if the step isn't allowed.
+    /// The writer k reads the reader slot of pass j, the next one of its scan. After the last one,
+    /// it frees each page that is retired with a number below the minimum found. It returns false,
+    /// and changes nothing, if the step isn't allowed.
     fn scan(&mut self, k: u64, j: u64) -> bool
         ensures done { MakesStep self.old (λ w. MayScan w k j) (λ w. after_scan w j) result
             self.new }
@@ -443,16 +441,16 @@ impl State {
         let Some(h) = self.scanner(k, j) else {
             return false;
         };
-        let least = self.least_after(h, j);
+        let least = self.lowest_after(h, j);
         if j + 1 == self.phases.len() as u64 {
             sweep(&mut self.free, &mut self.retired, least);
-            self.holder = Some(Holder {
+            self.writer = Some(Writer {
                 scanned: 0,
                 least,
                 ..h
             });
         } else {
-            self.holder = Some(Holder {
+            self.writer = Some(Writer {
                 scanned: j + 1,
                 least,
                 ..h
@@ -485,7 +483,6 @@ impl State {
         &self.reach[self.current as usize]
     }
 
-    /// The pages of the next version.
     fn next_row(&self, given: &[u64]) -> Result<Vec<bool>, AllocError>
         requires { All (λ p. IsTrue ((shown self.now blank).reach self.now.current p)) given.now }
         ensures len { IfOk result (λ row. vec_len row ≡ vec_len self.now.words) }
@@ -500,8 +497,9 @@ impl State {
         Ok(row)
     }
 
-    /// The holder k publishes a version: its pages are the current ones without those given, and
-    /// those that k took. False, and nothing changes, if it may not. The only error is OutOfMemory.
+    /// The writer k publishes a version: the current version's pages without the given ones, and
+    /// the pages that k took. It returns false, and changes nothing, if this isn't allowed. The
+    /// only error is `OutOfMemory`.
     fn publish(&mut self, k: u64, version: u64, given: &[u64]) -> Result<bool, Refusal>
         ensures done { IfOk result (λ done. MakesStep self.old
             (λ w. MayPublish w k version given.now) (λ w. after_publish w given.now) done
@@ -518,8 +516,8 @@ impl State {
         retire(&mut self.retired, given, self.current);
         clear(&mut self.taken);
         self.current += 1;
-        if let Some(h) = self.holder {
-            self.holder = Some(Holder {
+        if let Some(h) = self.writer {
+            self.writer = Some(Writer {
                 published: true,
                 ..h
             });
@@ -527,7 +525,7 @@ impl State {
         Ok(true)
     }
 
-    /// Does what the event says, and returns whether it was allowed.
+    /// Applies the event, and returns whether it was allowed.
     fn happen(&mut self, event: &Event) -> Result<bool, Refusal>
         ensures done { IfOk result (λ done. MakesStep self.old (λ w. Allowed w event.now)
             (λ w. after_event w event.now) done self.new) }
@@ -548,16 +546,16 @@ impl State {
             Event::Unlock(k) => Ok(self.unlock(*k)),
         }
     }
-    /// Does what the event says, and returns whether it was allowed. It isn't allowed if a page, a
-    /// place in one or a pass is out of range. The only error is `OutOfMemory`, which only
-    /// `Publish` may give.
+    /// Applies the event, and returns whether it was allowed. It isn't allowed if a page, a place
+    /// in a page or a pass is out of range. The only error is `OutOfMemory`, and only `Publish` can
+    /// return it.
     pub fn step(&mut self, event: &Event) -> Result<bool, Refusal>
         ensures done { IfOk result (λ done. MakesStep self.old (λ w. Allowed w event.now)
             (λ w. after_event w event.now) done self.new) }
         ensures err { OnErr result (IsUnchanged self.old self.new) }
         ensures memory { IsOkUnless result Refusal.OutOfMemory }
         ensures sound { ShowsSound self.old → ShowsSound self.new }
-        // a whole scan leaves no page that no version from the least on reaches
+        // a whole scan leaves no retired page that no version from the minimum on reaches
         ensures leaves_none { ShowsSound self.old
             → IfOk result (λ done. IsTrue done
             → LeavesNone (shown self.old blank) event.now (shown self.new blank)) }

@@ -1,4 +1,4 @@
--- Operations with their answers one after the other, as loops read and write them.
+-- Operations and their outcomes one after another, as loops read and write them.
 use Rattle.std.proofs.Common.{◌≡◌, ℕ, suc, ◌-◌, ◌+◌, ◌≤◌, ◌<◌, List, [], ◌∷◌, ◌++◌, length, drop, get_or, Some, None, refl, sym, ap, ◌∙◌, append_assoc, append-nil, add-one, drop-cons, length-append, arith}
 use Rattle.std.proofs.lemmas.List.{at_drop_all}
 use Rattle.std.specs.Option.{option_map}
@@ -8,11 +8,11 @@ use Rattle.be_volume.specs.declared.ops.Op.{Op}
 use Rattle.be_entry_bytes.specs.Encoding.{step_bytes, steps_bytes}
 use Rattle.be_entry_bytes.specs.Decoding.{◌>>=◌, step_at, steps_at, Found}
 
--- what was read before, and what is still read
+-- what was read before, and what is read after it
 abbrev pub beyond : List Op → List Done → Option (List Op × List Done × List ℕ) → Option (List Op × List Done × List ℕ)
 beyond ops dones read = read >>= λ x. Some (ops ++ x.0, dones ++ x.1, x.2)
 
--- at first nothing was read
+-- at first, nothing has been read
 pub nothing_after : (read : Option (List Op × List Done × List ℕ)) → beyond [] [] read ≡ read
 nothing_after None = refl
 nothing_after (Some x) = refl
@@ -89,7 +89,7 @@ pub left_of_entry : (by : ℕ) (read : Option (List Op × List Done × List ℕ)
 left_of_entry by None = refl
 left_of_entry by (Some x) = refl
 
--- what is left of operations with their answers, from place i on
+-- what remains of operations and their outcomes, from place i on
 pub steps_left : (ops : List Op) (dones : List Done) (i : ℕ) (op : Op) (d : Done) → i < length ops → length dones ≡ length ops → op ≡ get_or ops i op →
     steps_bytes (drop i ops) (drop i dones) ≡ step_bytes op (get_or dones i d) ++ steps_bytes (drop (i + 1) ops) (drop (i + 1) dones)
 unfolding steps_bytes
@@ -103,7 +103,7 @@ pub none_left : (ops : List Op) (dones : List Done) (i : ℕ) → length ops ≤
 unfolding steps_bytes
 none_left ops dones i past = at_drop_all (λ xs. steps_bytes xs (drop i dones)) ops i past
 
--- one step less is left, and it takes its bytes of the room
+-- one step fewer remains, and its bytes use up some of the capacity
 pub record Stepped (ops : List Op) (dones : List Done) (i : ℕ) (step : List ℕ) : Type 0 where
   pub bytes : steps_bytes (drop i ops) (drop i dones) ≡ step ++ steps_bytes (drop (i + 1) ops) (drop (i + 1) dones)
   pub len : length (steps_bytes (drop i ops) (drop i dones)) ≡ length step + length (steps_bytes (drop (i + 1) ops) (drop (i + 1) dones))

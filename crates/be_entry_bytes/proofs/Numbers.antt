@@ -8,12 +8,12 @@ use Rattle.std.proofs.lemmas.Nat.{from_be_bytes-to_be_bytes_2, from_be_bytes-to_
 use Rattle.be_entry_bytes.specs.Encoding.{number_bytes, counted_bytes}
 use Rattle.be_entry_bytes.specs.Decoding.{fixed_at, number_at, below_at, counted_at}
 
--- what a test answers, either way
+-- the result of a test, either way
 pub choose : {P : Type 0} (b : Bool) → (b ≡ true → P) → (b ≡ false → P) → P
 choose true holds fails = holds refl
 choose false holds fails = fails refl
 
--- numbers of a width, below the limit, have its bytes and are read back from them
+-- numbers of this width below the limit have the width's number of bytes, and are read back from them
 record Holds (w : Width) (limit : ℕ) : Type 0 where
   len : (n : ℕ) → length (to_be_bytes w n) ≡ byte_len w
   back : (n : ℕ) → n < limit → from_be_bytes w (to_be_bytes w n) ≡ n

@@ -26,12 +26,12 @@ name_short name is = grind (arith, nat_tests)
 pub text_short : (text : List ℕ) → text_from text ≡ Ok text → length text ≤ 255
 text_short text is = grind (arith, nat_tests)
 
--- the text that bytes spell, or none
-pub spells : (bytes text : List ℕ) → text ≡ bytes → IsUtf8 bytes → Some text ≡ text_in bytes
-spells bytes text same is = rw (is_utf8-from_IsUtf8 bytes is) (ap (λ (t : List ℕ). Some t) same)
+-- the text that bytes encode, if they are valid UTF-8
+pub encodes : (bytes text : List ℕ) → text ≡ bytes → IsUtf8 bytes → Some text ≡ text_in bytes
+encodes bytes text same is = rw (is_utf8-from_IsUtf8 bytes is) (ap (λ (t : List ℕ). Some t) same)
 
-pub spells_none : (bytes : List ℕ) → (IsUtf8 bytes → ⊥) → None ≡ text_in bytes
-spells_none bytes isnt = choose (is_utf8 bytes) (λ h. absurd (isnt (IsUtf8-from_is_utf8 bytes h))) (λ h. rw h refl)
+pub encodes_none : (bytes : List ℕ) → (IsUtf8 bytes → ⊥) → None ≡ text_in bytes
+encodes_none bytes isnt = choose (is_utf8 bytes) (λ h. absurd (isnt (IsUtf8-from_is_utf8 bytes h))) (λ h. rw h refl)
 
 pub name_again : (name rest : List ℕ) → IsName name → name_at (counted_bytes name ++ rest) ≡ Some (name, rest)
 unfolding name_at

@@ -26,7 +26,7 @@ abbrev pub first_at : List ℕ → Option (ℕ × List ℕ)
 first_at [] = None
 first_at (first ∷ rest) = Some (first, rest)
 
--- a number with as many bytes as the width has
+-- a number with as many bytes as the width
 abbrev pub fixed_at : Width → List ℕ → Option (ℕ × List ℕ)
 fixed_at w bytes = if nat_lt (length bytes) (byte_len w) then None
     else Some (from_be_bytes w (take (byte_len w) bytes), drop (byte_len w) bytes)
@@ -50,7 +50,7 @@ counted_at bytes = do
   len ← number_at bytes
   if nat_lt (length len.1) len.0 then None else Some (take len.0 len.1, drop len.0 len.1)
 
--- the text that the bytes are
+-- the bytes as a text, if they are valid UTF-8
 abbrev pub text_in : List ℕ → Option (List ℕ)
 text_in bytes = if is_utf8 bytes then Some bytes else None
 
@@ -74,7 +74,7 @@ raw_at bytes = do
   raw ← result_ok (bytes_from part.0)
   Some (raw, part.1)
 
--- the kind of a number
+-- the kind with this number
 unfoldable pub kind_numbered : ℕ → Option Kind
 kind_numbered zero = None
 kind_numbered (suc zero) = Some kinds.Cstr
@@ -141,7 +141,7 @@ op_at form bytes =
     else if nat_eq form 5 then (name_at bytes >>= (λ name. Some (RmIndex name.0, name.1)))
     else None
 
--- an operation without a result
+-- an operation with no result
 unfoldable pub quiet_at : ℕ → List ℕ → Option (Op × Done × List ℕ)
 quiet_at form bytes = do
   op ← op_at form bytes
@@ -167,14 +167,14 @@ steps_at (suc count) bytes = do
   others ← steps_at count first.2
   Some (first.0 ∷ others.0, first.1 ∷ others.1, others.2)
 
--- what is read of an entry: the pass, the operations, their outcomes, and the bytes after them
+-- what is read from an entry: the pass, the operations, their outcomes, and the bytes after them
 abbrev pub Found : Type 0
 Found = ℕ × List Op × List Done × List ℕ
 
 abbrev pub found : ℕ → List Op → List Done → List ℕ → Option Found
 found by ops dones rest = Some (by, ops, dones, rest)
 
--- the pass, how many operations there are, and the bytes from the first of these on
+-- the pass, the number of operations, and the bytes from the first operation on
 unfoldable pub head_at : List ℕ → Option (ℕ × ℕ × List ℕ)
 head_at bytes = do
   by ← number_at bytes

@@ -1,4 +1,4 @@
-//! Laws over the bytes of entries, for the crates above.
+//! Laws about the bytes of entries, for the crates above.
 //!
 //! Each is a function that does nothing; its contract is the law.
 ghost use Rattle.std.specs.Prelude.{◌≡◌, ◌≤◌, ◌++◌, ℕ, List, length};
@@ -7,7 +7,7 @@ ghost use Rattle.be_entry_bytes.specs.Encoding.{entry_bytes, most_bytes, CanBeEn
 ghost use Rattle.be_volume.specs.declared.ops.Done.{Done as AnyDone};
 ghost use Rattle.be_volume.specs.declared.ops.Op.{Op as AnyOp};
 
-/// A law: what is read of an entry that was written is that entry, whatever comes after it.
+/// A law: an entry that was written is read back as it was, whatever comes after it.
 pub fn entry_is_read()
     ensures { (by : ℕ) (ops : List AnyOp) (dones : List AnyDone) (rest : List ℕ)
         → CanBeEntry by ops dones →

@@ -1,13 +1,13 @@
-//! The bytes of an entry of a journal, and how they are read back.
+//! The bytes of a journal's entry, and reading them back.
 //!
-//! An entry is written in few bytes: a number in one byte if it is small, a name and a text by
-//! their own length, and an outcome only if it is a node. `set 1 "size" LONG 5`, written by pass 0,
+//! An entry takes few bytes. A number takes one byte if it is small, and a name or a text its own
+//! length. An outcome takes bytes only if it is a node. `set 1 "size" LONG 5`, written by pass 0,
 //! takes eleven bytes.
 //!
 //! # What is proved
-//! What is appended is `entry_bytes`, a function of the entry alone (`specs/Encoding.antt`). What
+//! What is appended is `entry_bytes`, which depends only on the entry (`specs/Encoding.antt`). What
 //! was written is read back, whatever comes after it (`entry_is_read`). An entry takes at most 18
-//! bytes, and 356 for each of its operations (`entry_is_short`), so a writer can make room first.
+//! bytes, and 356 for each operation (`entry_is_short`), so a writer can reserve memory first.
 #![tactic(auto)]
 
 mod laws;

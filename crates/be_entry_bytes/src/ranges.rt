@@ -1,5 +1,5 @@
-//! Numbers and operations are in the ranges of their types. A contract can't see this of a number
-//! or an operation that is only borrowed. Each function does nothing; its contract says so.
+//! Borrowed numbers and operations are in the range of their types, which a contract can't conclude
+//! by itself. Each function does nothing; its contract is the fact.
 ghost use Rattle.std.specs.Prelude.{◌<◌, ◌^◌, All};
 ghost use Rattle.be_entry_bytes.specs.Encoding as spec;
 
@@ -17,7 +17,7 @@ fn op_can_be(op: &Op)
     }
 }
 
-/// Each of the operations is one of the program.
+/// Each operation is one that the program can make.
 pub(crate) fn ops_can_be(ops: &[Op])
     ensures { All spec.CanBeOp ops.now }
 {
@@ -37,8 +37,8 @@ fn done_can_be(done: &Done)
     }
 }
 
-/// Each of the outcomes is one of the program.
-pub(crate) fn dones_can_be(dones: &[Done])
+/// Each outcome is one that the program can make.
+pub(crate) fn outcomes_can_be(dones: &[Done])
     ensures { All spec.CanBeDone dones.now }
 {
     for done in dones {

@@ -1,7 +1,7 @@
-//! Reading an entry from its bytes.
+//! Reads an entry from its bytes.
 //!
-//! Each function reads one thing at the front of the bytes and returns it with the bytes after it,
-//! or None if there is no such thing.
+//! Each function reads one thing at the start of the bytes, and returns it with the bytes after it.
+//! If there is no such thing, it returns `None`.
 ghost use Rattle.std.specs.Prelude.{◌≡◌, ◌<◌, ◌^◌, ◌++◌, ℕ, List, IfOk, IfSome, negsuc};
 ghost use Rattle.std.specs.Int.{w16, w32, w64};
 ghost use Rattle.std.specs.Option.{option_map};
@@ -91,7 +91,7 @@ fn counted_of(bytes: &[u8]) -> Option<(&[u8], &[u8])>
     Some(rest.split_at(len as usize))
 }
 
-/// The text that the bytes are, all of them.
+/// All the bytes as a text, if they are valid UTF-8.
 fn text_in(bytes: &[u8]) -> Option<&str>
     ensures { option_map (λ x. x.now) result ≡ spec.text_in bytes.now }
 {
@@ -145,7 +145,7 @@ fn kind_of(bytes: &[u8]) -> Option<(Kind, &[u8])>
     Some((kind, rest))
 }
 
-/// The negative number that is `n` below -1.
+/// The negative number -1 - `n`.
 fn negative32(n: u64) -> i32
     requires { n < 2 ^ 31 }
     ensures { result ≡ negsuc n }
@@ -153,7 +153,7 @@ fn negative32(n: u64) -> i32
     (-1 - n as i64) as i32
 }
 
-/// The same for 64 bits.
+/// The same with 64 bits.
 fn negative64(n: u64) -> i64
     requires { n < 2 ^ 63 }
     ensures { result ≡ negsuc n }
@@ -161,7 +161,7 @@ fn negative64(n: u64) -> i64
     -1 - n as i64
 }
 
-/// The number of a value, after the byte of its kind and sign, and the bytes after it. None if no
+/// The number of a value, after the byte of its kind and sign, and the bytes after it. `None` if no
 /// number has that byte, or if the number is too large for its kind.
 #[tactic(auto, unfolding(crate::specs::Decoding::number_value_at))]
 fn number_value_of(first: u8, rest: &[u8]) -> Option<(Value, &[u8])>
@@ -196,7 +196,7 @@ fn number_value_of(first: u8, rest: &[u8]) -> Option<(Value, &[u8])>
     }
 }
 
-/// The value at the front of the bytes, and the bytes after it; None if there is none.
+/// The value at the start of the bytes, and the bytes after it. `None` if there is none.
 #[tactic(auto, unfolding(crate::specs::Decoding::value_at))]
 fn value_of(bytes: &[u8]) -> Option<(Value, &[u8])>
     ensures { option_map (λ x. (x.0, x.1.now)) result ≡ spec.value_at bytes.now }
@@ -247,7 +247,7 @@ fn mkindex_of(bytes: &[u8]) -> Option<(Op, &[u8])>
     Some((Op::MkIndex(name, kind), rest))
 }
 
-/// The operation of this form at the front of the bytes, and the bytes after it; None if there is
+/// The operation of this form at the start of the bytes, and the bytes after it. `None` if there is
 /// none.
 #[tactic(auto, unfolding(crate::specs::Decoding::op_at))]
 fn op_of(form: u8, bytes: &[u8]) -> Option<(Op, &[u8])>
@@ -287,8 +287,8 @@ fn answered_of(form: u8, bytes: &[u8]) -> Option<(Op, Done, &[u8])>
     Some((op, Done::Node(node), rest))
 }
 
-/// The operation at the front of the bytes with its outcome, and the bytes after them; None if
-/// there is none. It takes no memory, and costs what the operation has.
+/// The operation at the start of the bytes, its outcome, and the bytes after them. `None` if there
+/// is none. It takes no memory, and its cost grows with the operation's length.
 #[tactic(auto, unfolding(crate::specs::Decoding::step_at))]
 pub fn read_step(bytes: &[u8]) -> Option<(Op, Done, &[u8])>
     ensures { option_map (λ x. (x.0, x.1, x.2.now)) result ≡ spec.step_at bytes.now }
@@ -301,9 +301,8 @@ pub fn read_step(bytes: &[u8]) -> Option<(Op, Done, &[u8])>
     }
 }
 
-/// The first `count` operations at the front of the bytes, the outcome of each, and the bytes after
-/// them; None if there are fewer. It takes memory for the two lists alone, and costs what they
-/// have.
+/// The first `count` operations, the outcome of each, and the bytes after them. `None` if there are
+/// fewer. It takes memory only for the two lists, and its cost grows with their length.
 pub fn read_steps(
     alloc: Global,
     count: u64,
@@ -326,9 +325,9 @@ pub fn read_steps(
     Ok(Some((ops, dones, rest)))
 }
 
-/// The head of the entry at the front of the bytes: its pass, how many operations it has, and the
-/// bytes from the first of these on; None if there are no such numbers. It takes no memory, and
-/// costs a few steps.
+/// The head of the entry at the start of the bytes: its pass, its number of operations, and the
+/// bytes after the head. `None` if there are no such numbers. It takes no memory, and costs a few
+/// steps.
 #[tactic(auto, unfolding(crate::specs::Decoding::head_at))]
 pub fn read_head(bytes: &[u8]) -> Option<(u64, u64, &[u8])>
     ensures { option_map (λ x. (x.0, x.1, x.2.now)) result ≡ spec.head_at bytes.now }
@@ -355,9 +354,9 @@ fn entry_of(
     Ok(Some((by, ops, dones, rest)))
 }
 
-/// The entry at the front of the bytes, its pass, operations and outcomes, and the bytes after it;
-/// None if there is none. What `write_entry` appended is read back, whatever follows it. It takes
-/// memory for the two lists alone, and costs what the entry has.
+/// The entry at the start of the bytes (its pass, operations and outcomes), and the bytes after it.
+/// `None` if there is none. What `write_entry` appended is read back, whatever follows it. It takes
+/// memory only for the two lists, and its cost grows with the entry's length.
 pub fn read_entry(
     alloc: Global,
     bytes: &[u8],
@@ -373,7 +372,7 @@ pub fn read_entry(
     entry_of(alloc, bytes)
 }
 
-/// The bytes after the first `count` operations with their outcomes.
+/// The bytes after the first `count` operations and their outcomes.
 fn after_steps(count: u64, bytes: &[u8]) -> Option<&[u8]>
     ensures { option_map (λ x. x.now) result
         ≡ option_map (λ x. x.2) (spec.steps_at count bytes.now) }
@@ -386,8 +385,8 @@ fn after_steps(count: u64, bytes: &[u8]) -> Option<&[u8]>
     Some(rest)
 }
 
-/// The bytes after the entry at their front; None if there is no entry. It takes no memory, and
-/// costs what the entry has.
+/// The bytes after the entry at their start. `None` if there is no entry. It takes no memory, and
+/// its cost grows with the entry's length.
 #[tactic(auto, unfolding(crate::specs::Decoding::entry_at))]
 pub fn skip_entry(bytes: &[u8]) -> Option<&[u8]>
     ensures { option_map (λ x. x.now) result ≡ option_map (λ x. x.3) (spec.entry_at bytes.now) }

@@ -1,11 +1,11 @@
-//! Writing an entry in bytes.
+//! Writes an entry as bytes.
 //!
-//! Each function appends to bytes that have room for what it appends, so none takes memory.
+//! Each function appends to a vector that has capacity for the bytes, so none takes memory.
 ghost use Rattle.std.specs.Prelude.{◌≡◌, ◌+◌, ◌<◌, ◌≤◌, ◌++◌, ◌∷◌, [], All, length, vec_len};
 ghost use Rattle.std.specs.Prelude.{vec_capacity};
 ghost use Rattle.be_entry_bytes.specs.Encoding as spec;
 
-use crate::ranges::{dones_can_be, ops_can_be};
+use crate::ranges::{ops_can_be, outcomes_can_be};
 use be_value::Value;
 use be_volume::{Done, Op};
 
@@ -16,12 +16,12 @@ fn write_bytes(bytes: &mut Vec<u8>, part: &[u8])
     ensures len { vec_len bytes.new ≡ vec_len bytes.old + length part.now }
     ensures room { vec_capacity bytes.old ≤ vec_capacity bytes.new }
 {
-    // There is room.
+    // The vector has capacity for it.
     let _ = bytes.extend_from_slice(part);
 }
 
-/// Appends a number: one byte if it is below 253, and otherwise a byte for its length and 2, 4 or 8
-/// bytes.
+/// Appends a number: one byte if it is below 253, and otherwise a byte that gives its length, and
+/// 2, 4 or 8 bytes.
 #[tactic(auto, unfolding(crate::specs::Encoding::number_bytes))]
 fn write_number(bytes: &mut Vec<u8>, n: u64)
     requires room { vec_len bytes.old + length (spec.number_bytes n) ≤ vec_capacity bytes.old }
@@ -67,7 +67,7 @@ fn write_kind_number(bytes: &mut Vec<u8>, first: u8, n: u64)
     write_number(bytes, n);
 }
 
-/// Appends the byte of a kind, and bytes with their count.
+/// Appends the byte of a kind, and then bytes after their count.
 fn write_kind_bytes(bytes: &mut Vec<u8>, first: u8, part: &[u8])
     requires room { vec_len bytes.old + length (first ∷ spec.counted_bytes part.now)
         ≤ vec_capacity bytes.old }
@@ -133,7 +133,7 @@ fn form_of(op: &Op) -> u8
     }
 }
 
-/// Appends what an operation has besides its form.
+/// Appends what an operation has apart from its form.
 #[tactic(auto, unfolding(crate::specs::Encoding::op_bytes))]
 fn write_op(bytes: &mut Vec<u8>, op: &Op)
     requires room { vec_len bytes.old + length (spec.op_bytes op.now) ≤ vec_capacity bytes.old }
@@ -208,7 +208,7 @@ fn write_parts(bytes: &mut Vec<u8>, by: u64, ops: &[Op], dones: &[Done])
     write_steps(bytes, ops, dones);
 }
 
-/// The most bytes that an entry with this many operations has.
+/// The maximum number of bytes of an entry with this many operations.
 pub fn most_bytes(count: usize) -> usize
     requires { count ≤ 64 }
     ensures { result ≡ spec.most_bytes count }
@@ -216,8 +216,9 @@ pub fn most_bytes(count: usize) -> usize
     18 + 356 * count
 }
 
-/// Appends an entry to bytes that have room for the longest one with as many operations. It takes
-/// no memory, and `read_entry` reads back what it appends. It costs what the entry has.
+/// Appends an entry to a vector that has capacity for the longest entry with as many operations. It
+/// takes no memory, and its cost grows with the entry's length. `read_entry` reads back what it
+/// appends.
 pub fn write_entry(bytes: &mut Vec<u8>, by: u64, ops: &[Op], dones: &[Done])
     requires few { length ops.now ≤ 64 }
     requires each { length dones.now ≡ length ops.now }
@@ -227,6 +228,6 @@ pub fn write_entry(bytes: &mut Vec<u8>, by: u64, ops: &[Op], dones: &[Done])
     ensures can_be { spec.CanBeEntry by ops.now dones.now }
 {
     ops_can_be(ops);
-    dones_can_be(dones);
+    outcomes_can_be(dones);
     write_parts(bytes, by, ops, dones);
 }

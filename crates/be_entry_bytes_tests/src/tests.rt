@@ -1,9 +1,9 @@
-//! Entries as bytes, and bytes that are no entry.
+//! Entries as bytes, and bytes that aren't an entry.
 //!
-//! A request is the line of an entry, as a journal's text has it, or `bytes` and bytes as numbers.
-//! The reply is the bytes of the entry in the line, or of the entry that the bytes are. Each entry
-//! is written and read back with a byte after it, and no shorter prefix of its bytes is read. Every
-//! test passes if any one request for memory is refused.
+//! A request is an entry's line, as in a journal's text, or `bytes` and then bytes as numbers. The
+//! reply is the bytes of that entry, or of the entry that the bytes encode. Each entry is written
+//! and read back with a byte after it, and no shorter prefix of its bytes is read as an entry.
+//! Every test passes even if any one request for memory is refused.
 use be_entry_bytes::{most_bytes, read_entry, write_entry};
 use be_journal::Entry;
 use be_journal_text::read_journal;
@@ -45,7 +45,7 @@ fn has_no_front(alloc: Global, bytes: &[u8]) -> Result<bool, AllocError> {
     Ok(true)
 }
 
-/// The bytes as numbers, on a line.
+/// The bytes as a line of numbers.
 fn numbers(alloc: Global, bytes: &[u8]) -> Result<String, AllocError> {
     let mut text = String::new(alloc);
     for byte in bytes {
@@ -58,7 +58,7 @@ fn numbers(alloc: Global, bytes: &[u8]) -> Result<String, AllocError> {
     Ok(text)
 }
 
-/// The bytes of an entry; `lost` if they aren't read back.
+/// The bytes of an entry, or `lost` if they aren't read back.
 fn bytes_of(alloc: Global, entry: &Entry) -> Result<String, Refusal> {
     let mut bytes = written(
         alloc,
@@ -76,7 +76,7 @@ fn bytes_of(alloc: Global, entry: &Entry) -> Result<String, Refusal> {
 }
 
 /// The bytes of the entry in a line.
-fn bytes_told(alloc: Global, line: &str) -> Result<String, Refusal> {
+fn bytes_of_line(alloc: Global, line: &str) -> Result<String, Refusal> {
     let text = format!(in alloc; "{line}\n")?;
     let Some(entries) = read_journal(alloc, text.as_bytes())? else {
         return Ok(String::from_str(alloc, "no entry\n")?);
@@ -87,7 +87,7 @@ fn bytes_told(alloc: Global, line: &str) -> Result<String, Refusal> {
     }
 }
 
-/// The bytes of these numbers.
+/// The bytes with these numbers.
 fn bytes_in(alloc: Global, text: &str) -> Result<Vec<u8>, AllocError> {
     let mut bytes = Vec::new(alloc);
     for word in text.split(' ') {
@@ -97,7 +97,7 @@ fn bytes_in(alloc: Global, text: &str) -> Result<Vec<u8>, AllocError> {
     Ok(bytes)
 }
 
-/// The bytes as which an entry is written after it was read from these bytes.
+/// The bytes of the entry that is read from these bytes, written again.
 fn bytes_again(alloc: Global, text: &str) -> Result<String, Refusal> {
     let bytes = bytes_in(alloc, text)?;
     match read_entry(alloc, &bytes)? {
@@ -113,12 +113,13 @@ impl Answers for Encoder {
     fn reply(&mut self, alloc: Global, request: &str) -> Result<String, Refusal> {
         match request.strip_prefix("bytes ") {
             Some(bytes) => bytes_again(alloc, bytes),
-            None => bytes_told(alloc, request),
+            None => bytes_of_line(alloc, request),
         }
     }
 }
 
-/// Small numbers take a byte. A node as an outcome takes its own bytes, and any other outcome none.
+/// Small numbers take one byte. A node as an outcome takes its own bytes, and any other outcome
+/// takes none.
 #[test]
 fn entries_have_bytes(rt: HostRuntime) -> Result<(), Fail> {
     let lines = r#"1 by 0 set 1 "size" LONG 5 -> ok => 0 1 2 1 4 115 105 122 101 2 5
@@ -146,7 +147,7 @@ fn numbers_have_bytes(rt: HostRuntime) -> Result<(), Fail> {
     check_lines(rt.alloc(), &mut Encoder, lines)
 }
 
-/// A value of each kind, and the numbers at the bounds of their kinds.
+/// A value of each kind, and the lowest and highest numbers of each kind.
 #[test]
 fn values_have_bytes(rt: HostRuntime) -> Result<(), Fail> {
     let lines = "1 by 0 set 1 \"a\" CSTR \"\" -> ok => 0 1 2 1 1 97 1 0
@@ -162,9 +163,9 @@ fn values_have_bytes(rt: HostRuntime) -> Result<(), Fail> {
     check_lines(rt.alloc(), &mut Encoder, lines)
 }
 
-/// Bytes that are no entry: another form or kind, a name with a zero byte or that isn't UTF-8, a
-/// number that is too large for its kind, and fewer operations than the entry says. A number that
-/// takes more bytes than it needs is read all the same.
+/// Bytes that aren't an entry, since they have an unknown form or kind, an invalid name, a number
+/// too large for its kind, or too few operations. A name is invalid with a zero byte, or if it
+/// isn't valid UTF-8. A number with more bytes than it needs is accepted.
 #[test]
 fn other_bytes_are_no_entry(rt: HostRuntime) -> Result<(), Fail> {
     let lines = r#"bytes 0 1 6 => none

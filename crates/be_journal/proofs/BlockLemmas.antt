@@ -1,4 +1,4 @@
--- Entries that were written one after the other are read one after the other.
+-- Entries that were written one after another are read one after another.
 use Rattle.std.proofs.Common.{◌≡◌, ◌<◌, ◌≤◌, ℕ, suc, ◌+◌, ◌-◌, ◌*◌, List, [], ◌∷◌, ◌++◌, length, drop, get_or, All, Some, refl, sym, ap, subst, ◌∙◌, append_assoc, append-nil, length-append, length-drop, arith}
 use Rattle.std.specs.List.{flat_map}
 use Rattle.std.specs.Option.{option_map_or}
@@ -11,7 +11,7 @@ use Rattle.be_entry_bytes.proofs.Entries.{entry_again}
 use Rattle.be_journal.specs.Blocks.{bytes_of, entries_at, IsStored, AreEntries}
 use Rattle.be_journal.specs.declared.entries.Entry.{Entry}
 
--- the first of entries in bytes
+-- the first of some entries in bytes
 first_again : (e : Entry) (es : List Entry) (rest : List ℕ) → IsStored e → entry_at (flat_map bytes_of (e ∷ es) ++ rest) ≡ Some (e.by, e.ops, e.dones, flat_map bytes_of es ++ rest)
 first_again e es rest is =
     ap (λ b. entry_at (b ++ rest)) (flat_map-cons bytes_of e es)
@@ -24,7 +24,7 @@ entries_again [] rest are = refl
 entries_again (e ∷ es) rest are =
     rw (first_again e es rest (All-head IsStored e es are)) (ap (λ (xs : List Entry). e ∷ xs) (entries_again es rest (All-tail IsStored e es are)))
 
--- the bytes are those of these entries
+-- the bytes encode these entries
 pub record Holds (count : ℕ) (bytes : List ℕ) (es : List Entry) : Type 0 where
   pub same : entries_at count bytes ≡ es
   pub are : AreEntries count bytes
@@ -48,7 +48,7 @@ pushed count bytes e are is =
     let es = entries_at count bytes in
     holds (es ++ e ∷ []) (count + 1) (bytes ++ bytes_of e) (All-push IsStored es e are.stored is) (ap (λ b. b ++ bytes_of e) are.whole ∙ sym (one_more es e)) (length_push es e ∙ ap (λ n. n + 1) are.counted)
 
--- what the first entry leaves
+-- what is left after the first entry
 pub record Taken (count : ℕ) (bytes : List ℕ) (e : Entry) (rest : List ℕ) : Type 0 where
   pub read : entry_at bytes ≡ Some (e.by, e.ops, e.dones, rest)
   pub first : entries_at (suc count) bytes ≡ e ∷ entries_at count rest

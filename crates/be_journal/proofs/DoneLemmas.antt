@@ -1,4 +1,4 @@
--- Lists of answers that test as equal are equal.
+-- Lists of outcomes that are tested as equal are equal.
 use Rattle.std.proofs.Common.{◌≡◌, ℕ, Bool, true, false, ◌&&◌, nat_eq, List, [], ◌∷◌, refl, ap, subst, ◌∙◌, arith}
 use Rattle.std.proofs.lemmas.Bool.Decides.{nat_tests}
 use Rattle.std.specs.Cmp.Lexicographic.{pointwise}
@@ -31,22 +31,22 @@ both : (a b : Bool) → (a && b) ≡ true → (a ≡ true) × (b ≡ true)
 both true b h = (refl, h)
 both false b h = cc
 
-pub same_dones : (xs ys : List Done) → pointwise same.it xs ys ≡ true → xs ≡ ys
-same_dones [] [] h = refl
-same_dones [] (b ∷ ys) h = cc
-same_dones (a ∷ xs) [] h = cc
-same_dones (a ∷ xs) (b ∷ ys) h = let p = both (same.it a b) (pointwise same.it xs ys) h in
-    ap (λ x. x ∷ xs) (same_done a b p.0) ∙ ap (λ zs. b ∷ zs) (same_dones xs ys p.1)
+pub same_outcomes : (xs ys : List Done) → pointwise same.it xs ys ≡ true → xs ≡ ys
+same_outcomes [] [] h = refl
+same_outcomes [] (b ∷ ys) h = cc
+same_outcomes (a ∷ xs) [] h = cc
+same_outcomes (a ∷ xs) (b ∷ ys) h = let p = both (same.it a b) (pointwise same.it xs ys) h in
+    ap (λ x. x ∷ xs) (same_done a b p.0) ∙ ap (λ zs. b ∷ zs) (same_outcomes xs ys p.1)
 
-pub own_dones : (xs : List Done) → pointwise same.it xs xs ≡ true
-own_dones [] = refl
-own_dones (a ∷ xs) = ap (λ b. b && pointwise same.it xs xs) (own_done a) ∙ own_dones xs
+pub own_outcomes : (xs : List Done) → pointwise same.it xs xs ≡ true
+own_outcomes [] = refl
+own_outcomes (a ∷ xs) = ap (λ b. b && pointwise same.it xs xs) (own_done a) ∙ own_outcomes xs
 
--- the answers of what was accepted
-abbrev pub dones_of : List Done → Result (State × List Done) Refusal → List Done
-dones_of d (Ok x) = x.1
-dones_of d (Err e) = d
+-- the outcomes, if the operations were accepted
+abbrev pub outcomes_of : List Done → Result (State × List Done) Refusal → List Done
+outcomes_of d (Ok x) = x.1
+outcomes_of d (Err e) = d
 
--- what a replay tells where it was accepted
-pub told : {X : Type 0} (view : X → List Done) (old new : State) (ops : List Op) (r : Result X Refusal) (x : X) → r ≡ Ok x → Replays view old ops r new → steps old ops ≡ Ok (new, view x)
-told view old new ops r x e h = subst (λ q. Replays view old ops q new) e h
+-- what a replay returns if it was accepted
+pub reported : {X : Type 0} (view : X → List Done) (old new : State) (ops : List Op) (r : Result X Refusal) (x : X) → r ≡ Ok x → Replays view old ops r new → steps old ops ≡ Ok (new, view x)
+reported view old new ops r x e h = subst (λ q. Replays view old ops q new) e h

@@ -18,7 +18,7 @@ pub replay_agreed : (entries : List Entry) (i : ℕ) (entry : Entry) (old new : 
     old ≡ replay (take i entries) → steps old entry.ops ≡ Ok (new, entry.dones) → new ≡ replay (take (i + 1) entries)
 replay_agreed entries i entry old new h e is s = sym (replay_more entries i entry h e ∙ ap (λ t. state_after t entry.ops) (sym is) ∙ ap (reached old) s)
 
--- the entries up to and with this one
+-- the entries up to and including this one
 pub agree_more : (entries : List Entry) (n : ℕ) (now : Entry) → now ≡ get_or entries n now → Agrees (replay (take n entries)) now →
     ((i : ℕ) (entry : Entry) → i < n → entry ≡ get_or entries i entry → Agrees (replay (take i entries)) entry) → n < length entries →
     (i : ℕ) (entry : Entry) → i < n + 1 → entry ≡ get_or entries i entry → Agrees (replay (take i entries)) entry
@@ -31,7 +31,7 @@ agree_more entries n now is agrees before short i entry h e = by (nat_lt i n) re
         let one : now ≡ entry = is ∙ get_or_default entries n now entry short ∙ ap (λ k. get_or entries k entry) same ∙ sym e in
         subst (λ k. Agrees (replay (take k entries)) entry) same (subst (λ x. Agrees (replay (take n entries)) x) one agrees)
 
--- an entry that does not tell what the volume answers
+-- an entry without the outcomes that the volume gives
 pub differs : (entries : List Entry) (n : ℕ) (now : Entry) (old : State) (b : Bool) → n < length entries → now ≡ get_or entries n now → old ≡ replay (take n entries) →
     (Agrees old now → b ≡ true) → b ≡ false → IsLegal entries → false ≡ true
 differs entries n now old b short is e so not_so legal = sym not_so ∙ so (subst (λ s. Agrees s now) (sym e) (legal n now short is))
@@ -43,7 +43,7 @@ never h = cc
 pub past : (i n len : ℕ) → len ≤ n → i < len → i < n
 past i n len h k = omega arith
 
--- a legal journal and an entry that tells what the volume answers after it
+-- a legal journal, with one more entry that has the outcomes that the volume gives after it
 pub legal_push : (entries : List Entry) (now : Entry) → IsLegal entries → Agrees (replay entries) now → IsLegal (entries ++ now ∷ [])
 legal_push entries now legal agrees i entry h e =
     let long : length (entries ++ now ∷ []) ≡ length entries + 1 = length_push entries now in
@@ -71,7 +71,7 @@ legal_last entries now legal =
     let whole : take (length entries) (entries ++ now ∷ []) ≡ entries = take-append-le (length entries) entries (now ∷ []) (omega arith) ∙ take_all (length entries) entries (omega arith) in
     subst (λ es. Agrees (replay es) now) whole (legal (length entries) now (omega arith) (sym (get_or_push entries now now (length entries) refl)))
 
--- the first entries are legal where each of them tells what the volume answers
+-- the first entries are legal if each of them has the outcomes that the volume gives
 pub front_legal : (entries : List Entry) (n : ℕ) → n < length entries → ((i : ℕ) (entry : Entry) → i < n → entry ≡ get_or entries i entry → Agrees (replay (take i entries)) entry) →
     IsLegal (take n entries)
 front_legal entries n short agree i entry h e =
@@ -83,7 +83,7 @@ front_legal entries n short agree i entry h e =
     subst (λ es. Agrees (replay es) entry) (sym same)
     (agree i entry below (e ∙ sym (get_or_append_left (take n entries) (drop n entries) entry i h) ∙ ap (λ es. get_or es i entry) whole))
 
--- an entry that does not tell what the volume answers, by whatever it is read as
+-- an entry without the outcomes that the volume gives, however it is read
 pub not_agreed : (entries : List Entry) (n : ℕ) (now : Entry) (old : State) (b : Bool) → n < length entries → now ≡ get_or entries n now → old ≡ replay (take n entries) →
     (Agrees old now → b ≡ true) → b ≡ false → (entry : Entry) → entry ≡ get_or entries n entry → Agrees (replay (take n entries)) entry → ⊥
 not_agreed entries n now old b short is e so not_so entry same agrees =

@@ -1,4 +1,4 @@
--- Lists of blocks: the entry with a number, and one more entry in the last block.
+-- Lists of blocks: the entry with an index, and one more entry in the last block.
 use Rattle.std.proofs.Common.{◌≡◌, ◌<◌, ◌≤◌, ℕ, zero, suc, ◌+◌, ◌-◌, true, false, nat_le, List, [], ◌∷◌, ◌++◌, length, take, drop, get_or, set, Some, refl, sym, ap, subst, ◌∙◌, append_assoc, append-nil, length-append, arith}
 use Rattle.std.specs.Prelude.{slice_get}
 use Rattle.std.specs.List.{flat_map}
@@ -25,7 +25,7 @@ entries_more blocks k b short is =
     ∙ ap length (flat_map-append (λ (x : Filled). x.entries) (take k blocks) (b ∷ []) ∙ ap (λ (es : List Entry). entries_of (take k blocks) ++ es) (one b))
     ∙ length-append (entries_of (take k blocks)) b.entries
 
--- an entry of all blocks is one of its own block
+-- an entry of all blocks is an entry of its own block
 pub same_entry : (blocks : List Filled) (k : ℕ) (b : Filled) (i left : ℕ) → k < length blocks → b ≡ get_or blocks k b → i ≡ length (entries_of (take k blocks)) + left → left < length b.entries →
     (e : Entry) → get_or b.entries left e ≡ get_or (entries_of blocks) i e
 same_entry blocks k b i left short is place within e =
@@ -34,13 +34,13 @@ same_entry blocks k b i left short is place within e =
     ∙ sym (get_or-flat_map (λ (x : Filled). x.entries) blocks k left b e short here)
     ∙ ap (λ n. get_or (entries_of blocks) n e) (sym place)
 
--- after the last block there is no entry
+-- there is no entry after the last block
 pub past_all : (blocks : List Filled) (k i left : ℕ) → length blocks ≤ k → i ≡ length (entries_of (take k blocks)) + left → i < length (entries_of blocks) → ⊥
 past_all blocks k i left past place within =
     let all : length (entries_of (take k blocks)) ≡ length (entries_of blocks) = ap (λ (bs : List Filled). length (entries_of bs)) (take_all k blocks past) in
     absurd (omega (arith, all, place, within))
 
--- one more entry in the last of the blocks
+-- one more entry in the last block
 pub pushed_last : (blocks : List Filled) (k : ℕ) (b b2 : Filled) (e : Entry) → length blocks ≡ k + 1 → b ≡ get_or blocks k b → b2.entries ≡ b.entries ++ e ∷ [] →
     entries_of (set blocks k b2) ≡ entries_of blocks ++ e ∷ []
 pushed_last [] k b b2 e len is more = absurd (omega (arith, len))
@@ -60,7 +60,7 @@ pub filled_last : (blocks : List Filled) (k : ℕ) (b b2 : Filled) (e : Entry) �
 filled_last blocks k b b2 e more are =
     All-set (λ (x : Filled). 0 < length x.entries) blocks k b2 (omega (arith, ap length more, length-append b.entries (e ∷ []))) are
 
--- one more entry in a block of its own
+-- one more entry in a new block
 pub pushed_new : (blocks : List Filled) (b b2 : Filled) (e : Entry) → b.entries ≡ [] → b2.entries ≡ b.entries ++ e ∷ [] → entries_of (blocks ++ b2 ∷ []) ≡ entries_of blocks ++ e ∷ []
 pushed_new blocks b b2 e empty more =
     flat_map-append (λ (x : Filled). x.entries) blocks (b2 ∷ []) ∙ ap (λ (es : List Entry). entries_of blocks ++ es) (one b2 ∙ more ∙ ap (λ (es : List Entry). es ++ e ∷ []) empty)
@@ -71,7 +71,7 @@ filled_new blocks b b2 e more are = All-push (λ (x : Filled). 0 < length x.entr
 room_of : (n m : ℕ) → nat_le n m ≡ true → n ≤ m
 room_of n m h = grind (arith, nat_tests, h)
 
--- where the last block has room, there is one
+-- if the last block has room, there is a last block
 pub some_last : (count : ℕ) (blocks : List Filled) → has_room count blocks ≡ true → 0 < length blocks
 some_last count [] h = cc
 some_last count (b ∷ blocks) h = omega arith
@@ -82,7 +82,7 @@ last_room count blocks k b h len is =
     let at : slice_get blocks (length blocks - 1) ≡ Some b = ap (slice_get blocks) last ∙ slice_get-get_or blocks k b (omega (arith, len)) ∙ ap (λ (x : Filled). Some x) (sym is) in
     room_of (most_bytes count) b.room (sym (ap (λ (o : Option Filled). option_map_or (λ (x : Filled). nat_le (most_bytes count) x.room) o false) at) ∙ h)
 
--- the entries of one block are not more than those of all
+-- a block has no more entries than all blocks together
 pub few_of : (blocks : List Filled) (k : ℕ) (b : Filled) → k < length blocks → b ≡ get_or blocks k b → length b.entries ≤ length (entries_of blocks)
 few_of blocks k b short is =
     let more = entries_more blocks k b short is in

@@ -11,17 +11,17 @@ use Rattle.be_journal.specs.Blocks.{bytes_of, entries_at, IsStored, AreEntries, 
 use Rattle.be_journal.specs.declared.entries.Entry.{Entry}
 use Rattle.be_journal.proofs.BlockLemmas.{Holds, holds, one_more, pushed}
 
--- of no entries
+-- the offsets of no entries
 pub no_places : ArePlaces [] 0 []
 no_places = record { each = λ k short. absurd (omega (arith, short)); all = omega arith }
 
--- the entries from a place on
+-- the entries from an offset on
 pub from_place : (before place count : ℕ) (bytes : List ℕ) → AreEntries count bytes → IsPlace before place count bytes → Holds (count - before) (drop place bytes) (drop before (entries_at count bytes))
 from_place before place count bytes are is =
     let es = entries_at count bytes in
     holds (drop before es) (count - before) (drop place bytes) (All-drop IsStored before es are.stored) is.beyond (length-drop before es ∙ ap (λ n. n - before) are.counted)
 
--- a place stays one with one more entry
+-- an offset stays valid when one more entry is added
 still_place : (before place count : ℕ) (bytes : List ℕ) (e : Entry) → AreEntries count bytes → IsStored e → IsPlace before place count bytes → IsPlace before place (count + 1) (bytes ++ bytes_of e)
 still_place before place count bytes e are stored is =
     let es = entries_at count bytes in
@@ -51,7 +51,7 @@ new_place count bytes e are stored =
           ∙ ap (λ (xs : List Entry). flat_map bytes_of (drop count xs)) (sym (pushed count bytes e are stored).same);
     }
 
--- the numbers of entries and places
+-- the numbers of entries and offsets
 full : (count places : ℕ) → nat_eq (count / 16) places ≡ true → count ≤ 16 * places → count ≡ 16 * places
 full count places h all = let same : count / 16 ≡ places = grind (arith, nat_tests, h) in omega (arith, same, all)
 
@@ -61,7 +61,7 @@ not_full count places h all = let other : count / 16 ≢ places = grind (arith, 
 last_of : (k places : ℕ) → nat_lt k places ≡ false → k < places + 1 → k ≡ places
 last_of k places h short = grind (arith, nat_tests, h, short)
 
--- one more entry, which has a place
+-- one more entry, whose offset is kept
 with_new : (places : List ℕ) (count : ℕ) (bytes : List ℕ) (e : Entry) → AreEntries count bytes → IsStored e → count ≡ 16 * length places → ArePlaces places count bytes →
     ArePlaces (places ++ length bytes ∷ []) (count + 1) (bytes ++ bytes_of e)
 with_new places count bytes e are stored whole is =
@@ -88,11 +88,11 @@ places_more places count bytes e are stored is =
       all = not_full count (length places) h is.all;
     }))
 
--- the place before an entry
+-- there is an offset at or before an entry
 pub place_before : (i count places : ℕ) → i < count → count ≤ 16 * places → i / 16 < places
 place_before i count places short all = omega (arith, short, all)
 
--- the entries from the place before an entry on, in a slice of the bytes
+-- the entries from that offset on, in a slice of the bytes
 pub from_before : (places : List ℕ) (count i place : ℕ) (bytes : List ℕ) → AreEntries count bytes → ArePlaces places count bytes → i < count → place ≡ get_or places (i / 16) place →
     Holds (count - 16 * (i / 16)) (take (length bytes - place) (drop place bytes)) (drop (16 * (i / 16)) (entries_at count bytes))
 from_before places count i place bytes are is short at =

@@ -1,4 +1,4 @@
--- A reader that has read so many entries, one after the other.
+-- A reader that has read some entries, one after another.
 use Rattle.std.proofs.Common.{◌≡◌, ◌<◌, ℕ, suc, ◌+◌, ◌-◌, List, [], ◌∷◌, length, drop, get_or, sym, ap, ◌∙◌, add-one, drop-cons, length-drop, arith}
 use Rattle.be_journal.specs.declared.entries.Entry.{Entry}
 

@@ -13,7 +13,7 @@ use Rattle.be_volume.proofs.Soundness.{empty_sound, steps_sound}
 use Rattle.be_journal.specs.Journal.{replay, HasOperations}
 use Rattle.be_journal.specs.declared.entries.Entry.{Entry}
 
--- a state that is sound and whose next number is at most n
+-- the state is sound, and its next number is at most n
 record Reaches (s : State) (n : ℕ) : Type 0 where
   sound : IsSound s
   bound : s.next ≤ n

@@ -1,4 +1,4 @@
--- Views of entries: operations with their answers in bytes, one after the other.
+-- Views of entries: operations with their outcomes in bytes, one after another.
 use Rattle.std.proofs.Common.{◌≡◌, ◌<◌, ℕ, zero, suc, ◌-◌, List, [], ◌∷◌, length, drop, map, IfSome, IsSome, Some, None, refl, sym, ap, subst, ◌∙◌, arith}
 use Rattle.std.specs.declared.option.Option.{Option}
 use Rattle.be_volume.specs.declared.ops.Done.{Done}
@@ -12,7 +12,7 @@ use Rattle.be_journal.proofs.NextLemmas.{read, never_read}
 abbrev Found : Type 0
 Found = List Op × List Done × List ℕ
 
--- what is read at once is what is read one after the other
+-- reading all at once gives what reading one by one gives
 abbrev IsReadAs : ℕ → List ℕ → Found → Type 0
 IsReadAs count bytes x = (map (λ s. s.0) (steps_in count bytes) ≡ x.0) × (map (λ s. s.1) (steps_in count bytes) ≡ x.1) × (length (steps_in count bytes) ≡ count)
 
@@ -44,11 +44,11 @@ count_of : (count : ℕ) (bytes : List ℕ) (o : Option Found) → IsSome o → 
 count_of count bytes None some is = cc
 count_of count bytes (Some x) some is = is.2
 
--- where so many operations lie, so many are read
+-- if the bytes have this many operations, this many are read
 pub counted : (count : ℕ) (bytes : List ℕ) → IsSome (steps_at count bytes) → length (steps_in count bytes) ≡ count
 counted count bytes some = count_of count bytes (steps_at count bytes) some (read_alike count bytes)
 
--- an entry as a view of it has it
+-- an entry as a view of it shows it
 abbrev pub viewed : ℕ → ℕ → List ℕ → Entry
 viewed by count bytes = record { by = by; ops = map (λ s. s.0) (steps_in count bytes); dones = map (λ s. s.1) (steps_in count bytes) }
 
@@ -84,7 +84,7 @@ view_of left bytes by count rest are some is = view_at left bytes by count rest 
 pub never_viewed : (left : ℕ) (bytes : List ℕ) → AreEntries left bytes → 0 < length (entries_at left bytes) → None ≡ head_at bytes → ⊥
 never_viewed left bytes are some is = never_read left bytes are some (entry_of_none bytes is)
 
--- the next of the operations that are left, with its answer
+-- the next of the operations that are left, with its outcome
 pub next_step : (left : ℕ) (bytes : List ℕ) (op : Op) (done : Done) (rest : List ℕ) → length (steps_in left bytes) ≡ left → (left ≡ 0 → ⊥) → Some (op, done, rest) ≡ step_at bytes →
     (steps_in left bytes ≡ (op, done) ∷ steps_in (left - 1) rest) × (length (steps_in (left - 1) rest) ≡ left - 1)
 unfolding steps_in

@@ -19,7 +19,7 @@ coded_entry = code_by _ (coded× coded_ℕ (coded× (coded_list coded_op) (coded
     (λ p. record { by = p.0; ops = p.1.0; dones = p.1.1 }) (λ _. refl)
 
 -- The most entries that a journal may have, its entries, and the number of operations for which
--- room is reserved, 0 for none.
+-- room is reserved: 0 for none.
 pub record Log : Type 0 where
   pub limit : ℕ
   pub entries : List Entry
@@ -37,22 +37,22 @@ extended log entry = record { limit = log.limit; entries = log.entries ++ entry 
 abbrev pub with_room : Log → ℕ → Log
 with_room log count = record { limit = log.limit; entries = log.entries; reserved = count }
 
--- a growth of the log was refused: at its limit, or because memory ran out below it
+-- the log couldn't grow: it is at its limit, or below it and memory ran out
 abbrev pub IsRefused : Log → Refusal → Type 0
 IsRefused log e = ((e ≡ CommitsSpent) × (length log.entries ≡ log.limit))
     ⊎ ((e ≡ OutOfMemory) × (length log.entries < log.limit))
 
--- A growth of the log below its limit gave the new log. Otherwise nothing changed.
+-- The log was below its limit and grew into the new log; otherwise nothing changed.
 abbrev pub Grows : {X : Type 0} → Log → Log → Result X Refusal → Log → Type 0
 Grows old grown (Ok x) new = (new ≡ grown) × (length old.entries < old.limit)
 Grows old grown (Err e) new = (new ≡ old) × IsRefused old e
 
--- The volume after the entries, in their order. An entry that the volume refuses changes nothing as
--- a whole.
+-- The volume after the entries, in order. If the volume refuses an entry, the whole entry changes
+-- nothing.
 abbrev pub replay : List Entry → State
 replay entries = fold (λ s entry. state_after s entry.ops) empty entries
 
--- an entry has the outcomes that the volume gives
+-- the entry has the outcomes that the volume gives
 abbrev pub Agrees : State → Entry → Type 0
 Agrees s entry = (next : State) × (steps s entry.ops ≡ Ok (next, entry.dones))
 
@@ -74,10 +74,10 @@ abbrev pub IsEntry : Entry → Type 0
 IsEntry entry = (1 ≤ length entry.ops) × (length entry.ops ≤ 64)
     × (length entry.dones ≡ length entry.ops)
 
--- an entry has at most 64 operations, and their names and values are ones of the program
+-- an entry has at most 64 operations, with valid names and values
 abbrev pub HasOperations : Entry → Type 0
 HasOperations entry = (length entry.ops ≤ 64) × All IsOperation entry.ops
 
--- the entries of one pass, in their order
+-- one pass's entries, in order
 abbrev pub by_pass : ℕ → List Entry → List Entry
 by_pass pass entries = filter (λ entry. nat_eq entry.by pass) entries

@@ -1,4 +1,4 @@
-//! Reading the entries of one block in their order.
+//! Reads the entries of one block in order.
 ghost use Rattle.std.specs.Prelude.{◌≡◌, ◌<◌, ◌∷◌, length, drop, nat_eq, IfOk};
 ghost use Rattle.be_journal.specs.Blocks.{entries_at, AreEntries};
 ghost use Rattle.be_journal.specs.Journal.{IsEntry};
@@ -9,10 +9,10 @@ use be_entry_bytes::{read_entry, read_head, skip_entry};
 use std::alloc::{AllocError, Global};
 use std::marker::Model;
 
-/// A reader of a block's entries. A contract sees those that are still to be read.
+/// A reader of a block's entries. A contract sees the entries that are still to be read.
 #[derive(Drop)]
 pub(crate) struct BlockReader<'a> {
-    /// The bytes of the entries that are still to be read, and how many these are.
+    /// The bytes of the entries that are still to be read, and the number of these entries.
     bytes: &'a [u8],
     left: u64,
 }
@@ -34,7 +34,7 @@ impl<'a> Model for BlockReader<'a> {
 }
 
 impl<'a> BlockReader<'a> {
-    /// A reader of `left` entries, whose bytes these are.
+    /// A reader of the `left` entries that these bytes encode.
     pub(crate) fn new(bytes: &'a [u8], left: u64) -> BlockReader<'a>
         requires { AreEntries left bytes.now }
         ensures { result ≡ entries_at left bytes.now }
@@ -42,14 +42,14 @@ impl<'a> BlockReader<'a> {
         BlockReader { bytes, left }
     }
 
-    /// Whether all entries were read.
+    /// Whether all entries have been read.
     pub(crate) fn is_empty(&self) -> bool
         ensures { result ≡ nat_eq (length self.now) 0 }
     {
         self.left == 0
     }
 
-    /// Skips the next entry, of which there is one. It takes no memory.
+    /// Skips the next entry, which must exist. It allocates nothing.
     pub(crate) fn skip(&mut self)
         requires { 0 < length self.old }
         ensures { self.new ≡ drop 1 self.old }
@@ -61,7 +61,7 @@ impl<'a> BlockReader<'a> {
         self.left -= 1;
     }
 
-    /// A view of the next entry, of which there is one. It takes no memory.
+    /// A view of the next entry, which must exist. It allocates nothing.
     pub(crate) fn view(&self, alloc: Global) -> EntryView<'a>
         requires { 0 < length self.now }
         ensures { self.now ≡ result ∷ drop 1 self.now }
@@ -72,7 +72,7 @@ impl<'a> BlockReader<'a> {
         EntryView::new(alloc, by, count, bytes)
     }
 
-    /// The next entry, of which there is one. It takes memory for its two lists.
+    /// Reads the next entry, which must exist. It allocates the entry's two lists.
     pub(crate) fn next(&mut self, alloc: Global) -> Result<Entry, AllocError>
         requires { 0 < length self.old }
         ensures next { IfOk result (λ entry. self.old ≡ entry ∷ self.new) }

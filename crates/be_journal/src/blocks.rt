@@ -1,7 +1,6 @@
-//! Blocks of entries in bytes.
+//! Blocks of entries, stored as bytes.
 //!
-//! A block has its room from the start, so its content is never moved. An entry is in one block,
-//! whole.
+//! A block is allocated whole, so its content never moves. Each entry is in one block, unsplit.
 ghost use Rattle.std.specs.Prelude.{◌≡◌, ◌+◌, ◌≤◌, ◌<◌, ◌^◌, ◌++◌, ◌∷◌, [], true, false, length};
 ghost use Rattle.std.specs.Prelude.{get_or, nat_le, vec_len, vec_capacity, IfOk, OnOk, IsSome};
 ghost use Rattle.be_entry_bytes.specs.Encoding.{most_bytes as longest};
@@ -15,20 +14,20 @@ use be_volume::{Done, Op};
 use std::alloc::{AllocError, Global};
 use std::marker::Model;
 
-/// The bytes of a block: 256 KiB.
+/// The size of a block in bytes: 256 KiB.
 const ROOM: usize = 1 << 18;
 
-/// The most offsets of a block. It has one for each 16 entries, and an entry has four bytes or
-/// more.
+/// The most offsets that a block keeps: one for each 16 entries, each of which has at least four
+/// bytes.
 const PLACES: usize = ROOM / 64;
 
-/// Entries one after the other. A contract sees them, and how many bytes are free.
+/// Entries, one after another. A contract sees them, and how many bytes are free.
 #[derive(Drop)]
 pub(crate) struct Block {
     /// How many entries there are.
     count: u64,
     bytes: Vec<u8>,
-    /// The offset of the first entry, of the 16th after it, and so on.
+    /// The offsets of every 16th entry, from the first on.
     places: Vec<usize>,
 }
 
@@ -82,7 +81,7 @@ impl Block {
             && most_bytes(count) <= self.bytes.capacity() - self.bytes.len()
     }
 
-    /// Appends an entry, for which there is room. It takes no memory.
+    /// Appends an entry, for which there must be room. It allocates nothing.
     pub(crate) fn push(&mut self, by: u64, ops: &[Op], dones: &[Done])
         requires some { 1 ≤ length ops.now }
         requires few { length ops.now ≤ 64 }
@@ -104,7 +103,7 @@ impl Block {
         BlockReader::new(self.bytes.as_slice(), self.count)
     }
 
-    /// The entry with this index in the block, from 0. It skips up to 15 others to find it.
+    /// The entry with this index in the block, from 0. It skips at most 15 entries to find it.
     pub(crate) fn get(&self, alloc: Global, i: u64) -> EntryView<'_>
         requires { i < length self.now.entries }
         ensures { result ≡ get_or self.now.entries i result }
@@ -119,7 +118,7 @@ impl Block {
     }
 }
 
-/// Keeps the offset of the next entry, if the offsets before have 16 entries each.
+/// Keeps the offset of the next entry, if it begins a new group of 16.
 fn keep_place(places: &mut Vec<usize>, count: u64, place: usize)
     requires { vec_len places.old < vec_capacity places.old }
     ensures { places.new.items ≡ with_place places.old.items count place }
@@ -129,7 +128,7 @@ fn keep_place(places: &mut Vec<usize>, count: u64, place: usize)
     }
 }
 
-/// The block that has the entry with this index, from 0, and the entry's index there.
+/// The block that has the entry with this index, from 0, and the entry's index in that block.
 pub(crate) fn block_of(blocks: &[Block], i: u64) -> (&Block, u64)
     requires { i < length (entries_of blocks.now) }
     ensures within { result.1 < length result.0.now.entries }
@@ -146,7 +145,7 @@ pub(crate) fn block_of(blocks: &[Block], i: u64) -> (&Block, u64)
     unreachable!()
 }
 
-/// Whether the last of the blocks has room for any entry with this many operations.
+/// Whether the last block has room for any entry with this many operations.
 fn last_has_room(blocks: &[Block], count: usize) -> bool
     requires { count ≤ 64 }
     ensures { result ≡ has_room count blocks.now }
@@ -157,7 +156,7 @@ fn last_has_room(blocks: &[Block], count: usize) -> bool
     }
 }
 
-/// Makes room for any entry with this many operations, in the last of the blocks or in a spare one.
+/// Makes room for any entry with this many operations, in the last block or in a spare one.
 pub(crate) fn make_spare(
     alloc: Global,
     blocks: &[Block],
@@ -177,7 +176,7 @@ pub(crate) fn make_spare(
     Ok(())
 }
 
-/// Appends an entry to the last of the blocks, which has room for it.
+/// Appends an entry to the last block, which must have room for it.
 fn push_last(blocks: &mut [Block], by: u64, ops: &[Op], dones: &[Done])
     requires some { 1 ≤ length ops.now }
     requires few { length ops.now ≤ 64 }
@@ -192,8 +191,8 @@ fn push_last(blocks: &mut [Block], by: u64, ops: &[Op], dones: &[Done])
     blocks[last].push(by, ops, dones);
 }
 
-/// Appends an entry to the last of the blocks if it has room, and otherwise to the spare one, which
-/// is the last from then on. It takes no memory.
+/// Appends an entry to the last block if it has room, and otherwise to the spare one, which becomes
+/// the last. It allocates nothing.
 pub(crate) fn append(
     blocks: &mut Vec<Block>,
     spare: &mut Option<Block>,

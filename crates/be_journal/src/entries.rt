@@ -1,13 +1,13 @@
 //! Entries of a journal.
 //!
-//! The lists of an entry are of a small type of this crate over a `Vec`, which contracts see as a
-//! list. It is made from a `Vec` and returns it without memory.
+//! An entry's lists have a small type of this crate around a `Vec`, which contracts see as a list.
+//! Converting from a `Vec` and back allocates nothing.
 ghost use Rattle.std.specs.Prelude.{◌≡◌};
 
 use be_volume::{Done, Op};
 use std::marker::Model;
 
-/// Operations, or their outcomes, in their order. A contract sees the list.
+/// Operations or their outcomes, in order. A contract sees the list.
 #[derive(Drop)]
 pub struct Items<T> {
     items: Vec<T>,
@@ -25,14 +25,14 @@ impl<T> Model for Items<T> {
 }
 
 impl<T: Drop> Items<T> {
-    /// These items; it takes no memory.
+    /// Wraps these items. It allocates nothing.
     pub fn from_vec(items: Vec<T>) -> Items<T>
         ensures { result ≡ items.items }
     {
         Items { items }
     }
 
-    /// The items; it takes no memory.
+    /// Returns the items. It allocates nothing.
     pub fn into_vec(self) -> Vec<T>
         ensures { result.items ≡ self }
     {
@@ -55,6 +55,6 @@ pub struct Entry {
     pub by: u64,
     /// Its 1 to 64 operations.
     pub ops: Items<Op>,
-    /// The outcome of each.
+    /// The outcome of each operation.
     pub dones: Items<Done>,
 }

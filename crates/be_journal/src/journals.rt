@@ -1,8 +1,8 @@
-//! The journal, its replay, and the test whether it is legal.
+//! The journal, its replay, and the check that it is legal.
 //!
-//! An entry is appended in one of two ways. `push` takes the memory that it needs. A writer that
-//! must not fail after it has published takes the memory first, by `reserve`. It then appends by
-//! `push_reserved`, which takes none.
+//! An entry is appended in one of two ways. `push` allocates the memory that it needs. A writer
+//! that must not fail after it has published allocates the memory first, with `reserve`, and then
+//! appends with `push_reserved`, which allocates nothing.
 ghost use Rattle.std.specs.Prelude.{◌≡◌, ◌≤◌, ◌<◌, ◌^◌, ◌↔◌, ℕ, length, get_or, true, IfOk, IfErr};
 ghost use Rattle.std.specs.Prelude.{OnOk, Ok, [], ◌++◌, ◌+◌, vec_len, vec_capacity, All};
 ghost use Rattle.std.specs.String.{string_bytes};
@@ -23,21 +23,21 @@ use be_volume::{Done, Op, Volume};
 use std::alloc::{AllocError, Global};
 use std::marker::Model;
 
-/// The accepted writes in their order. A contract sees a `Log`: the limit, the entries, and the
-/// number of operations for which room is reserved.
+/// The accepted writes, in order. A contract sees a `Log`: the limit, the entries, and the number
+/// of operations for which room is reserved.
 ///
-/// The entries are in blocks of bytes, which are never moved.
+/// The entries are in blocks of bytes, which never move.
 #[derive(Drop)]
 pub struct Journal {
     alloc: Global,
     limit: u64,
     /// How many entries there are.
     len: u64,
-    /// The blocks, each with an entry. The last one may have room for more.
+    /// The blocks, each with at least one entry. The last one may have room for more.
     blocks: Vec<Block>,
-    /// An empty block for an entry, if the last one has no room for it.
+    /// An empty block for an entry that doesn't fit into the last one.
     spare: Option<Block>,
-    /// The number of operations for which there is room.
+    /// The number of operations for which there is room, or 0.
     reserved: usize,
 }
 
@@ -56,7 +56,8 @@ impl Model for Journal {
 }
 
 impl Journal {
-    /// A journal without entries, which takes up to `limit` of them. The limit is at most 2^32 - 1.
+    /// A journal without entries, which will take at most `limit` of them. The limit is at most
+    /// 2^32 - 1.
     pub fn new(alloc: Global, limit: u64) -> Journal
         requires { limit < 2 ^ 32 }
         ensures { result ≡ record { limit = limit; entries = []; reserved = 0 } }
@@ -86,8 +87,9 @@ impl Journal {
         Reader::new(self.alloc, &self.blocks)
     }
 
-    /// A view of the entry with this index, from 0; it takes no memory. It goes from block to
-    /// block, each of which has some 20,000 small entries, and then past up to 15 entries.
+    /// A view of the entry with this index, from 0. It allocates nothing. To find the entry, it
+    /// goes from block to block, each of which has about 20,000 small entries, and then skips at
+    /// most 15 entries.
     pub fn get(&self, i: u64) -> EntryView<'_>
         requires { i < length self.now.entries }
         ensures { result ≡ get_or self.now.entries i result }
@@ -96,9 +98,9 @@ impl Journal {
         block.get(self.alloc, place)
     }
 
-    /// Appends an entry, and gives up any reservation. CommitsSpent exactly if the journal is at
-    /// its limit, and OutOfMemory only below it: then the journal is as it was, and the entry is
-    /// dropped.
+    /// Appends an entry, and cancels any reservation. The error is `CommitsSpent` exactly if the
+    /// journal is at its limit; below the limit it can only be `OutOfMemory`. After an error the
+    /// journal is unchanged and the entry is dropped.
     pub fn push(&mut self, entry: Entry) -> Result<(), Refusal>
         requires { model.IsEntry entry }
         ensures { model.Grows self.old (model.extended self.old entry) result self.new }
@@ -109,9 +111,9 @@ impl Journal {
         Ok(())
     }
 
-    /// Makes room for one entry of `count` operations, 1 to 64, in place of any room made before.
-    /// CommitsSpent exactly if the journal is at its limit, and OutOfMemory only below it: then the
-    /// journal is as it was.
+    /// Reserves room for one entry of `count` operations, 1 to 64. It replaces any earlier
+    /// reservation. The error is `CommitsSpent` exactly if the journal is at its limit; below the
+    /// limit it can only be `OutOfMemory`. After an error the journal is unchanged.
     pub fn reserve(&mut self, count: usize) -> Result<(), Refusal>
         requires some { 1 ≤ count }
         requires few { count ≤ 64 }
@@ -126,8 +128,8 @@ impl Journal {
         Ok(())
     }
 
-    /// Appends an entry in the room that was reserved for it since the last entry. It takes no
-    /// memory and always succeeds.
+    /// Appends an entry in the room that was reserved for it since the last entry. It allocates
+    /// nothing and always succeeds.
     pub fn push_reserved(&mut self, by: u64, ops: &[Op], dones: &[Done])
         requires some { 1 ≤ length ops.now }
         requires few { length ops.now ≤ 64 }
@@ -141,8 +143,9 @@ impl Journal {
         self.reserved = 0;
     }
 
-    /// The volume after the entries, in their order. An entry that the volume refuses changes
-    /// nothing as a whole. OutOfMemory is the only error. It costs what the entries change.
+    /// The volume after all entries, in order. If the volume refuses an entry, the whole entry
+    /// changes nothing. The only error is `OutOfMemory`. The cost depends on how much the entries
+    /// change.
     pub fn replay(&self) -> Result<Volume, Refusal>
         ensures { Answers (λ volume. volume) result (Ok (model.replay self.now.entries)) }
     {
@@ -155,9 +158,9 @@ impl Journal {
         Ok(volume)
     }
 
-    /// The journal's text, a line for each entry, numbered from 1: the pass, the operations as
-    /// script lines with names quoted, and their outcomes, as in
-    /// `2 by 0 set 1 "size" LONG 5 -> ok`. OutOfMemory is the only error.
+    /// The journal's text. It has a line for each entry, numbered from 1. A line has the pass, the
+    /// operations as script lines with quoted names, and their outcomes. An example is `2 by 0 set
+    /// 1 "size" LONG 5 -> ok`. The only error is `OutOfMemory`.
     pub fn text(&self) -> Result<String, Refusal>
         ensures { Answers string_bytes result (Ok (lines_from 1 self.now.entries)) }
     {
@@ -172,8 +175,8 @@ impl Journal {
     }
 
     /// Whether the journal is legal: each entry has the outcomes that the volume gives after the
-    /// entries before it, and none is refused. OutOfMemory is the only error. It costs what the
-    /// entries change.
+    /// entries before it, and none is refused. The only error is `OutOfMemory`. The cost depends on
+    /// how much the entries change.
     pub fn check(&self) -> Result<bool, Refusal>
         ensures ok { IfOk result (λ legal. (legal ≡ true) ↔ model.IsLegal self.now.entries) }
         ensures err { IfErr result (λ e. e ≡ OutOfMemory) }
@@ -192,7 +195,7 @@ impl Journal {
     }
 }
 
-/// The volume after an entry; the same volume if it refuses the operations.
+/// The volume after an entry, or the same volume if it refuses the operations.
 fn enter(volume: Volume, entry: &Entry) -> Result<Volume, AllocError>
     requires entry { model.IsEntry entry.now }
     requires fits { volume.next + 64 < 2 ^ 64 }
@@ -222,9 +225,9 @@ fn enter_if_agreed(volume: Volume, entry: &Entry) -> Result<(Volume, bool), Allo
     }
 }
 
-/// The index of the first entry, from 0, whose outcomes aren't those that the volume gives after
-/// the entries before it. None if there is no such entry, and so the journal is legal. It costs
-/// what the entries change.
+/// The index, from 0, of the first entry whose outcomes aren't those that the volume gives after
+/// the entries before it. It is `None` exactly if the entries are a legal journal. The cost depends
+/// on how much the entries change.
 pub fn first_wrong(alloc: Global, entries: &[Entry]) -> Result<Option<u64>, AllocError>
     requires are { All model.IsEntry entries.now }
     requires few { length entries.now < 2 ^ 32 }
@@ -243,8 +246,8 @@ pub fn first_wrong(alloc: Global, entries: &[Entry]) -> Result<Option<u64>, Allo
     Ok(None)
 }
 
-/// The volume after these entries, in their order, as `Journal::replay` makes it: an entry that the
-/// volume refuses changes nothing as a whole. It costs what the entries change.
+/// The volume after these entries, in order, as by `Journal::replay`: if the volume refuses an
+/// entry, the whole entry changes nothing. The cost depends on how much the entries change.
 pub fn replay(alloc: Global, entries: &[Entry]) -> Result<Volume, AllocError>
     requires are { All model.IsEntry entries.now }
     requires few { length entries.now < 2 ^ 32 }

@@ -1,4 +1,4 @@
-//! Laws over journals, for the crates above.
+//! Laws about journals, for the crates above.
 //!
 //! Each is a function that does nothing; its contract is the law.
 ghost use Rattle.std.specs.Prelude.{◌≡◌, ◌<◌, ◌+◌, ◌*◌, ◌^◌, ◌++◌, ◌∷◌, [], ℕ, List, All, length};
@@ -7,13 +7,13 @@ ghost use Rattle.be_volume.specs.Sound.{IsSound};
 ghost use Rattle.be_journal.specs.Journal.{replay, by_pass, Agrees, IsLegal, HasOperations};
 ghost use Rattle.be_journal.specs.declared.entries.Entry.{Entry as AnyEntry};
 
-/// A law: one more entry is one more write after the entries before it.
+/// A law: replaying one more entry is one more write after the entries before it.
 pub fn replay_push()
     ensures { (entries : List AnyEntry) (entry : AnyEntry) → replay (entries ++ entry ∷ [])
         ≡ state_after (replay entries) entry.ops }
 {}
 
-/// A law: the volume after entries that have operations of the program is sound.
+/// A law: the volume after entries with valid operations is sound.
 pub fn replay_sound()
     ensures { (entries : List AnyEntry) → All HasOperations entries → 64 * length entries + 1
         < 2 ^ 64 → IsSound (replay entries) }
@@ -38,8 +38,7 @@ pub fn legal_front()
     ensures { (front rest : List AnyEntry) → IsLegal (front ++ rest) → IsLegal front }
 {}
 
-/// A law: the entries of a pass in two parts of a journal, put end to end, are its entries in the
-/// whole.
+/// A law: a pass's entries in two parts of a journal, joined, are its entries in the whole.
 pub fn by_pass_append()
     ensures { (pass : ℕ) (front rest : List AnyEntry) → by_pass pass (front ++ rest)
         ≡ by_pass pass front ++ by_pass pass rest }

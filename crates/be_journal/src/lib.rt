@@ -1,8 +1,8 @@
 //! The journal: which writes were accepted, by which pass, and with which outcomes.
 //!
-//! A journal is the history of a store, written as that of one thread. Replayed on a plain volume
-//! it gives the store's contents. It is legal if each outcome in it is the one that the volume
-//! gives at its place.
+//! A journal is a store's history, written as if by one thread. Replaying it on an empty volume
+//! gives the store's content. It is legal if every outcome in it is the one that the volume gives
+//! at that point.
 #![tactic(auto)]
 
 mod block_readers;

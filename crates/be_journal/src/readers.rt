@@ -1,4 +1,4 @@
-//! Reading the entries of blocks in their order.
+//! Reads the entries of blocks in order.
 ghost use Rattle.std.specs.Prelude.{◌≡◌, ◌<◌, ◌∷◌, length, IfOk};
 ghost use Rattle.be_journal.specs.Blocks.{entries_of, AreFilled};
 ghost use Rattle.be_journal.specs.Journal.{IsEntry};
@@ -9,13 +9,13 @@ use crate::blocks::Block;
 use std::alloc::{AllocError, Global};
 use std::marker::Model;
 
-/// A reader of blocks' entries. A contract sees those that are still to be read.
+/// A reader of blocks' entries. A contract sees the entries that are still to be read.
 #[derive(Drop)]
 pub(crate) struct Reader<'a> {
     alloc: Global,
-    /// What is still to be read of a block.
+    /// The rest of the block that is being read.
     front: BlockReader<'a>,
-    /// The blocks after it.
+    /// The blocks after that one.
     blocks: &'a [Block],
 }
 
@@ -36,7 +36,7 @@ impl<'a> Model for Reader<'a> {
 }
 
 impl<'a> Reader<'a> {
-    /// A reader of the entries of these blocks, each of which has one.
+    /// A reader of these blocks' entries. Each block must have at least one.
     pub(crate) fn new(alloc: Global, blocks: &'a [Block]) -> Reader<'a>
         requires { AreFilled blocks.now }
         ensures { result ≡ entries_of blocks.now }
@@ -48,7 +48,7 @@ impl<'a> Reader<'a> {
         }
     }
 
-    /// The next entry, of which there is one. It takes memory for its two lists.
+    /// Reads the next entry, which must exist. It allocates the entry's two lists.
     pub(crate) fn next(&mut self) -> Result<Entry, AllocError>
         requires { 0 < length self.old }
         ensures next { IfOk result (λ entry. self.old ≡ entry ∷ self.new) }

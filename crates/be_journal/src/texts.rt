@@ -1,7 +1,7 @@
 //! Texts of entries.
 //!
-//! Names and texts are quoted, with a backslash before `"` and `\`, and LF and CR written `\n` and
-//! `\r`; raw bytes are lower case hexadecimal in quotes.
+//! Names and texts are quoted, with a backslash before `"` and `\`, and LF and CR written as `\n`
+//! and `\r`. Raw bytes are quoted lower-case hexadecimal.
 ghost use Rattle.std.specs.Char.{encode_utf8};
 ghost use Rattle.std.specs.Fmt.{signed_decimal};
 ghost use Rattle.std.specs.List.{join_by};
@@ -15,13 +15,13 @@ use be_value::Value;
 use be_volume::{Done, Op};
 use std::alloc::{AllocError, Global};
 
-/// The line of the entry with this number.
+/// The entry's line, with this number.
 pub fn entry_line(alloc: Global, number: u64, entry: &Entry) -> Result<String, AllocError>
     ensures { IfOk result (λ text. string_bytes text ≡ spec.entry_line number entry.now) }
 {
     let by = entry.by;
     let ops = ops_text(alloc, entry.ops.as_slice())?;
-    let dones = dones_text(alloc, entry.dones.as_slice())?;
+    let dones = outcomes_text(alloc, entry.dones.as_slice())?;
     format!(in alloc; "{number} by {by} {ops} -> {dones}\n")
 }
 
@@ -47,7 +47,7 @@ fn push_ops(alloc: Global, text: &mut String, ops: &[Op]) -> Result<(), AllocErr
     Ok(())
 }
 
-fn dones_text(alloc: Global, dones: &[Done]) -> Result<String, AllocError>
+fn outcomes_text(alloc: Global, dones: &[Done]) -> Result<String, AllocError>
     ensures { IfOk result (λ text. string_bytes text
         ≡ join_by spec.done_text (codes "; ") dones.now) }
 {
@@ -55,11 +55,11 @@ fn dones_text(alloc: Global, dones: &[Done]) -> Result<String, AllocError>
         return Ok(String::new(alloc));
     };
     let mut text = done_text(alloc, first)?;
-    push_dones(alloc, &mut text, rest)?;
+    push_outcomes(alloc, &mut text, rest)?;
     Ok(text)
 }
 
-fn push_dones(alloc: Global, text: &mut String, dones: &[Done]) -> Result<(), AllocError>
+fn push_outcomes(alloc: Global, text: &mut String, dones: &[Done]) -> Result<(), AllocError>
     ensures { OnOk result (string_bytes text.new ≡ string_bytes text.old
         ++ flat_map (λ y. codes "; " ++ spec.done_text y) dones.now) }
 {
@@ -70,7 +70,7 @@ fn push_dones(alloc: Global, text: &mut String, dones: &[Done]) -> Result<(), Al
     Ok(())
 }
 
-/// The operation as a script's line, without its end.
+/// The operation as a script's line, without the line's end.
 pub fn op_text(alloc: Global, op: &Op) -> Result<String, AllocError>
     ensures { IfOk result (λ text. string_bytes text ≡ spec.op_text op.now) }
 {
@@ -123,7 +123,7 @@ pub fn value_text(alloc: Global, value: &Value) -> Result<String, AllocError>
     }
 }
 
-/// The text in quotes.
+/// The text in quotes, with its escapes.
 pub fn quoted(alloc: Global, text: &str) -> Result<String, AllocError>
     ensures { IfOk result (λ quoted. string_bytes quoted ≡ spec.quoted text.now) }
 {
@@ -147,7 +147,7 @@ fn push_escaped(text: &mut String, c: char) -> Result<(), AllocError>
     }
 }
 
-/// The bytes as hexadecimal digits in quotes.
+/// The bytes as quoted hexadecimal digits.
 fn quoted_hex(alloc: Global, bytes: &[u8]) -> Result<String, AllocError>
     ensures { IfOk result (λ text. string_bytes text ≡ 34 ∷ (spec.hex bytes.now ++ 34 ∷ [])) }
 {

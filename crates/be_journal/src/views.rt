@@ -1,8 +1,8 @@
 //! Views of entries in a journal.
 //!
-//! A journal stores an entry as bytes. A view reads them: its pass and the number of its operations
-//! at once, and each operation with its outcome when it is asked for, made in place. So none of it
-//! takes memory.
+//! A journal stores an entry as bytes. A view reads its pass and the number of its operations at
+//! once. It decodes each operation, with its outcome, when it is asked for. None of this allocates
+//! memory.
 ghost use Rattle.std.specs.Iterator.{YieldsFirst, item_count};
 ghost use Rattle.std.specs.Prelude.{◌≡◌, IfOk, IsSome, length, map};
 ghost use Rattle.be_entry_bytes.specs.Decoding.{steps_at};
@@ -14,7 +14,7 @@ use be_volume::{Done, Op};
 use std::alloc::{AllocError, Global};
 use std::marker::Model;
 
-/// A view of an entry in a journal's own bytes. A contract sees the entry.
+/// A view of an entry, which reads the journal's own bytes. A contract sees the entry.
 #[derive(Drop)]
 pub struct EntryView<'a> {
     alloc: Global,
@@ -46,7 +46,8 @@ impl<'a> Model for EntryView<'a> {
 }
 
 impl<'a> EntryView<'a> {
-    /// The entry of this pass with `count` operations. The bytes begin with the first of them.
+    /// A view of an entry by this pass with `count` operations. The bytes begin with the first of
+    /// them.
     pub(crate) fn new(alloc: Global, by: u64, count: u64, bytes: &'a [u8]) -> EntryView<'a>
         requires { IsSome (steps_at count bytes.now) }
         ensures { result ≡ record {
@@ -77,7 +78,7 @@ impl<'a> EntryView<'a> {
         self.count
     }
 
-    /// Its operations in their order, each with its outcome. Each is made when it is asked for.
+    /// Its operations in order, each with its outcome. Each is decoded when it is asked for.
     pub fn steps(&self) -> Steps<'a>
         ensures ops { map (λ s. s.0) result ≡ self.now.ops }
         ensures dones { map (λ s. s.1) result ≡ self.now.dones }
@@ -88,8 +89,7 @@ impl<'a> EntryView<'a> {
         }
     }
 
-    /// An entry of its own, equal to this one. Its two lists take memory from the journal's
-    /// allocator.
+    /// A separate copy of the entry. Its two lists are allocated by the journal's allocator.
     pub fn to_entry(&self) -> Result<Entry, AllocError>
         ensures { IfOk result (λ entry. entry ≡ self.now) }
     {
@@ -106,7 +106,7 @@ impl<'a> EntryView<'a> {
 }
 
 /// The operations of an entry that are still to come, each with its outcome. A contract sees the
-/// list of the pairs.
+/// list of pairs.
 #[derive(Drop)]
 pub struct Steps<'a> {
     left: u64,

@@ -7,5 +7,5 @@ pub mod OpLemmas
 pub mod PartLemmas
 pub mod ReadLemmas
 pub mod SameLemmas
-pub mod TellLemmas
+pub mod ReportLemmas
 pub mod ValueLemmas

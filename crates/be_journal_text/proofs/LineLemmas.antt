@@ -1,4 +1,4 @@
--- Lines as they are printed, and how they are taken apart.
+-- Printed lines, and how they are taken apart.
 use Rattle.std.proofs.Common.{◌≡◌, ℕ, suc, ◌+◌, ◌-◌, ◌^◌, ◌<◌, ◌/◌, ◌%◌, true, false, List, [], ◌∷◌, ◌++◌, length, length-append, take, drop, nat_eq, All, codes, refl, sym, ap, ◌∙◌, subst, arith, append_assoc, pos, negsuc}
 use Rattle.std.proofs.lemmas.Bool.Decides.{nat_tests}
 use Rattle.std.proofs.lemmas.Bool.{and_parts}
@@ -23,7 +23,7 @@ use Rattle.be_journal.specs.declared.entries.Entry.{Entry}
 use Rattle.be_journal.specs.Text.{done_text, entry_line, hex, hex_digit, op_text, quoted, value_text}
 use Rattle.be_journal_text.specs.History.{CanBeDone, CanBeOp, HasBytes, CanBeEntry}
 use Rattle.be_journal_text.specs.Parts.{IsLinePart}
-use Rattle.be_journal_text.proofs.Cuts.{after, before, after_by, after_line, after_number, by_part, done_in, dones_part, first_line, ops_part, without_last_two}
+use Rattle.be_journal_text.proofs.Cuts.{after, before, after_by, after_line, after_number, by_part, done_in, outcomes_part, first_line, ops_part, without_last_two}
 use Rattle.be_journal_text.proofs.NumberLemmas.{decimal_digits, word_of_decimal}
 use Rattle.be_journal_text.proofs.PartLemmas.{both_parts, bytes_part, hex_part, is_word_byte, no_part, part_before, part_whole, quoted_part, unlike, words_part}
 
@@ -49,11 +49,11 @@ hex_words (b ∷ bytes) h =
     ap (list_all is_word_byte) (flat_map-cons (λ b. hex_digit (b / 16) ∷ hex_digit (b % 16) ∷ []) b bytes)
     ∙ rw (hex_digit_word (b / 16) high) (rw (hex_digit_word (b % 16) low) more)
 
--- a digit is no other byte
+-- a digit differs from any byte that isn't a digit
 pub differs : (d end : ℕ) → is_ascii_digit d ≡ true → is_ascii_digit end ≡ false → nat_eq d end ≡ false
 differs d end h g = unlike is_ascii_digit d end h g
 
--- Parts of a line, for an end that is no byte of words and no quote.
+-- Parts of a line, for an `end` that is neither a byte of words nor a quote.
 module _ (end : ℕ) (g : is_word_byte end ≡ false) (other : nat_eq 34 end ≡ false) where
   decimal_part : (n : ℕ) → n < 2 ^ 64 → IsLinePart end (decimal n)
   decimal_part n h = words_part end (decimal n) g (digits_words (decimal n) (decimal_digits n h))
@@ -103,7 +103,7 @@ module _ (end : ℕ) (g : is_word_byte end ≡ false) (other : nat_eq 34 end ≡
   done_part (Node node) h = both_parts end (codes "node ") (decimal node) (words_part end (codes "node ") g refl) (decimal_part node h)
   done_part Nothing h = words_part end (codes "ok") g refl
 
-  -- What is joined by `; ` is a part of what ends otherwise.
+  -- Texts joined by `; ` are a part that ends with another byte.
   pub joined_part : {X : Type 0} (P : X → Type 0) (text_of : X → List ℕ) → ((x : X) → P x → IsLinePart end (text_of x)) → IsLinePart end (codes "; ") →
       (xs : List X) → All P xs →
       IsLinePart end (flat_map (λ y. codes "; " ++ text_of y) xs)
@@ -113,7 +113,7 @@ module _ (end : ℕ) (g : is_word_byte end ≡ false) (other : nat_eq 34 end ≡
       (both_parts end (codes "; " ++ text_of x) _ (both_parts end (codes "; ") (text_of x) parted (each x (All-head P x xs h)))
       (joined_part P text_of each parted xs (All-tail P x xs h)))
 
--- an answer is read as it was printed
+-- an outcome is read as it was printed
 pub done_read : (done : Done) → CanBeDone done → done_in (done_text done) ≡ done
 done_read (Node node) h = rw (word_of_decimal node h) refl
 done_read Nothing h = refl
@@ -150,21 +150,21 @@ drop_past (x ∷ xs) =
     let one : length (x ∷ xs) + 1 ≡ suc (length xs + 1) = omega arith in
     ap (λ n. drop n (x ∷ xs)) one ∙ drop_past xs
 
--- what stands before an end that follows a part, and after it
+-- the text before an end that follows a part, and the text after it
 pub before_end : (end : ℕ) (xs ys : List ℕ) → IsLinePart end xs → before end (xs ++ end ∷ ys) ≡ xs
 before_end end xs ys h = ap (λ n. take n (xs ++ end ∷ ys)) (part_before end xs ys h) ∙ take_front xs (end ∷ ys)
 
 pub after_end : (end : ℕ) (xs ys : List ℕ) → IsLinePart end xs → after end (xs ++ end ∷ ys) ≡ ys
 after_end end xs ys h = ap (λ n. drop (n + 1) (xs ++ end ∷ ys)) (part_before end xs ys h) ∙ drop_one_more xs ys end
 
--- and of a part alone
+-- the same for a part without an end after it
 pub before_none : (end : ℕ) (xs : List ℕ) → IsLinePart end xs → before end xs ≡ xs
 before_none end xs h = ap (λ n. take n xs) (part_whole end xs h) ∙ take_length xs
 
 pub after_none : (end : ℕ) (xs : List ℕ) → IsLinePart end xs → after end xs ≡ []
 after_none end xs h = ap (λ n. drop (n + 1) xs) (part_whole end xs h) ∙ drop_past xs
 
--- the first of what is joined by `; `
+-- the first of some texts joined by `; `
 pub first_joined : {X : Type 0} (text_of : X → List ℕ) (x : X) (xs : List X) → IsLinePart 59 (text_of x) →
     before 59 (join_by text_of (codes "; ") (x ∷ xs)) ≡ text_of x
 first_joined text_of x [] h = ap (before 59) (append-nil (text_of x)) ∙ before_none 59 (text_of x) h
@@ -172,7 +172,7 @@ first_joined text_of x (y ∷ ys) h =
     let more = flat_map (λ z. codes "; " ++ text_of z) ys in
     ap (λ l. before 59 (text_of x ++ l)) (flat_map-cons (λ z. codes "; " ++ text_of z) y ys) ∙ before_end 59 (text_of x) (32 ∷ (text_of y ++ more)) h
 
--- and the others
+-- the others
 pub rest_joined : {X : Type 0} (text_of : X → List ℕ) (x : X) (xs : List X) → IsLinePart 59 (text_of x) →
     drop 1 (after 59 (join_by text_of (codes "; ") (x ∷ xs))) ≡ join_by text_of (codes "; ") xs
 rest_joined text_of x [] h = ap (λ l. drop 1 (after 59 l)) (append-nil (text_of x)) ∙ ap (drop 1) (after_none 59 (text_of x) h)
@@ -181,7 +181,7 @@ rest_joined text_of x (y ∷ ys) h =
     ap (λ l. drop 1 (after 59 (text_of x ++ l))) (flat_map-cons (λ z. codes "; " ++ text_of z) y ys)
     ∙ ap (drop 1) (after_end 59 (text_of x) (32 ∷ (text_of y ++ more)) h)
 
--- what is joined by `; ` is a part of what ends otherwise
+-- texts joined by `; ` are a part that ends with another byte
 pub list_part : {X : Type 0} (end : ℕ) (P : X → Type 0) (text_of : X → List ℕ) → is_word_byte end ≡ false → nat_eq 34 end ≡ false →
     ((x : X) → P x → IsLinePart end (text_of x)) → IsLinePart end (codes "; ") → (xs : List X) → All P xs →
     IsLinePart end (join_by text_of (codes "; ") xs)
@@ -189,7 +189,7 @@ list_part end P text_of g other each parted [] h = no_part end
 list_part end P text_of g other each parted (x ∷ xs) h =
     both_parts end (text_of x) _ (each x (All-head P x xs h)) (joined_part end g other P text_of each parted xs (All-tail P x xs h))
 
--- digits alone end before a blank too
+-- digits are a part, also before a blank
 pub digits_part : (end : ℕ) (ds : List ℕ) → is_ascii_digit end ≡ false → all_ascii_digits ds ≡ true → IsLinePart end ds
 digits_part end [] g h = no_part end
 digits_part end (d ∷ ds) g h =
@@ -205,11 +205,11 @@ module _ (number : ℕ) (entry : Entry) (w : CanBeEntry entry) where
   abbrev pub ops_of : List ℕ
   ops_of = join_by op_text (codes "; ") entry.ops
 
-  abbrev pub dones_of : List ℕ
-  dones_of = join_by done_text (codes "; ") entry.dones
+  abbrev pub outcomes_of : List ℕ
+  outcomes_of = join_by done_text (codes "; ") entry.dones
 
   abbrev pub after_arrow : List ℕ
-  after_arrow = dones_of ++ codes "\n"
+  after_arrow = outcomes_of ++ codes "\n"
 
   abbrev pub after_pass : List ℕ
   after_pass = ops_of ++ (codes " -> " ++ after_arrow)
@@ -246,21 +246,21 @@ module _ (number : ℕ) (entry : Entry) (w : CanBeEntry entry) where
   ops_read = ap (λ l. without_last_two (before 62 l)) (by_taken ∙ arrow_split)
       ∙ (ap without_last_two (before_end 62 (ops_of ++ codes " -") (32 ∷ after_arrow) before_arrow) ∙ less_two ops_of)
 
-  pub answers_part : IsLinePart 10 dones_of
+  pub answers_part : IsLinePart 10 outcomes_of
   answers_part = list_part 10 CanBeDone done_text refl refl (λ done h. done_part 10 refl refl done h)
       (bytes_part 10 (codes "; ") refl) entry.dones w.dones
 
-  pub dones_read : dones_part number (entry_line number entry) ≡ join_by done_text (codes "; ") entry.dones
-  dones_read = ap (λ l. before 10 (drop 1 (after 62 l))) (by_taken ∙ arrow_split)
-      ∙ (ap (λ l. before 10 (drop 1 l)) (after_end 62 (ops_of ++ codes " -") (32 ∷ after_arrow) before_arrow) ∙ before_end 10 dones_of [] answers_part)
+  pub outcomes_read : outcomes_part number (entry_line number entry) ≡ join_by done_text (codes "; ") entry.dones
+  outcomes_read = ap (λ l. before 10 (drop 1 (after 62 l))) (by_taken ∙ arrow_split)
+      ∙ (ap (λ l. before 10 (drop 1 l)) (after_end 62 (ops_of ++ codes " -") (32 ∷ after_arrow) before_arrow) ∙ before_end 10 outcomes_of [] answers_part)
 
-  -- the line is a part, and the LF after it ends it
+  -- the line is a part that its LF ends
   abbrev pub body : List ℕ
-  body = decimal number ++ (codes " by " ++ (decimal entry.by ++ (codes " " ++ (ops_of ++ (codes " -> " ++ dones_of)))))
+  body = decimal number ++ (codes " by " ++ (decimal entry.by ++ (codes " " ++ (ops_of ++ (codes " -> " ++ outcomes_of)))))
 
   pub body_line : entry_line number entry ≡ body ++ 10 ∷ []
   body_line =
-      let a = append_assoc (codes " -> ") dones_of (10 ∷ []) in
+      let a = append_assoc (codes " -> ") outcomes_of (10 ∷ []) in
       sym (append_assoc (decimal number) _ (10 ∷ []) ∙ ap (λ l. decimal number ++ (codes " by " ++ l)) (append_assoc (decimal entry.by) _ (10 ∷ [])
       ∙ ap (λ l. decimal entry.by ++ (codes " " ++ l)) (append_assoc ops_of _ (10 ∷ []) ∙ ap (λ l. ops_of ++ l) a)))
 
@@ -273,9 +273,9 @@ module _ (number : ℕ) (entry : Entry) (w : CanBeEntry entry) where
       (both_parts 10 ops_of _
       (list_part 10 CanBeOp op_text refl refl (λ op k. op_part 10 refl refl op k) (bytes_part 10 (codes "; ") refl)
       entry.ops w.ops)
-      (both_parts 10 (codes " -> ") dones_of (bytes_part 10 (codes " -> ") refl) answers_part)))))
+      (both_parts 10 (codes " -> ") outcomes_of (bytes_part 10 (codes " -> ") refl) answers_part)))))
 
-  -- the first line of a text that begins with this one, and what follows it
+  -- the first line of a text that begins with this line, and the text after it
   pub line_first : number < 2 ^ 64 → (more : List ℕ) → first_line (entry_line number entry ++ more) ≡ entry_line number entry
   line_first h more =
       let whole : entry_line number entry ++ more ≡ body ++ 10 ∷ more = ap (λ l. l ++ more) body_line ∙ append_assoc body (10 ∷ []) more in

@@ -1,4 +1,4 @@
--- A printed operation is read as a script's line that asks for it.
+-- A printed operation, read as a script's line, requests that operation.
 use Rattle.std.proofs.Common.{◌≡◌, ℕ, suc, ◌-◌, ◌^◌, ◌<◌, ◌≤◌, Bool, true, false, ◌&&◌, ◌||◌, List, [], ◌∷◌, ◌++◌, length, length-append, get_or, take, drop, nat_eq, nat_lt, cond, Some, None, Ok, codes, if◌then◌else◌, refl, sym, ap, ◌∙◌, subst, append_assoc, arith, pos, negsuc}
 use Rattle.std.proofs.Math.Seq.{get_or-append_seam}
 use Rattle.std.proofs.lemmas.Bool.Decides.{nat_tests}
@@ -54,7 +54,7 @@ escaped_chars c =
 abbrev IsRead : List ℕ → ℕ → Type 0
 IsRead text d = quoted_in (escaped_chars d ++ text) ≡ beyond (encode_utf8 d) (quoted_in text)
 
--- one character is read on
+-- one more character is read
 char_read : (c : ℕ) (text : List ℕ) → quoted_in (escaped_chars c ++ text) ≡ beyond (encode_utf8 c) (quoted_in text)
 char_read c text = by34 (nat_eq c 34) refl
   where
@@ -112,74 +112,74 @@ bytes_chars : (text : List ℕ) → IsUtf8 text → bytes_of (chars text) ≡ te
 bytes_chars text u = bytes_encoded (chars text) ∙ encodes-chars text u
 
 -- the text has these characters
-record Spells (cs text : List ℕ) : Type 0 where
+record Encodes (cs text : List ℕ) : Type 0 where
   utf8 : IsUtf8 text
   are : chars text ≡ cs
 
-spelled_low : (xs : List ℕ) → list_all is_low xs ≡ true → Spells xs xs
-spelled_low xs h = let a = low_ascii xs h in record { utf8 = IsUtf8-from_ascii xs a; are = chars-IsAscii xs a }
+encoded_low : (xs : List ℕ) → list_all is_low xs ≡ true → Encodes xs xs
+encoded_low xs h = let a = low_ascii xs h in record { utf8 = IsUtf8-from_ascii xs a; are = chars-IsAscii xs a }
 
-spelled_both : (cs text ds more : List ℕ) → Spells cs text → Spells ds more → Spells (cs ++ ds) (text ++ more)
-spelled_both cs text ds more h g = record {
+encoded_both : (cs text ds more : List ℕ) → Encodes cs text → Encodes ds more → Encodes (cs ++ ds) (text ++ more)
+encoded_both cs text ds more h g = record {
   utf8 = IsUtf8-append text more h.utf8 g.utf8;
   are = chars-append text more h.utf8 ∙ (ap (λ l. l ++ chars more) h.are ∙ ap (λ l. cs ++ l) g.are);
 }
 
-spelled_char : (c : ℕ) → IsScalar c → Spells (c ∷ []) (encode_utf8 c)
-spelled_char c h =
+encoded_char : (c : ℕ) → IsScalar c → Encodes (c ∷ []) (encode_utf8 c)
+encoded_char c h =
     let u = IsUtf8-encode c h in
     record { utf8 = u; are = chars_past_char (encode_utf8 c) [] c u (sym (append-nil (encode_utf8 c))) ∙ ap (λ l. c ∷ l) chars-nil }
 
-spelled_escaped : (c : ℕ) → IsScalar c → Spells (escaped_chars c) (escaped c)
-spelled_escaped c h = by34 (nat_eq c 34) refl
+encoded_escaped : (c : ℕ) → IsScalar c → Encodes (escaped_chars c) (escaped c)
+encoded_escaped c h = by34 (nat_eq c 34) refl
   where
-    by13 : (b : Bool) → nat_eq c 13 ≡ b → nat_eq c 34 ≡ false → nat_eq c 92 ≡ false → nat_eq c 10 ≡ false → Spells (escaped_chars c) (escaped c)
-    by13 true e q s n = rw q (rw s (rw n (rw e (spelled_low (92 ∷ 114 ∷ []) refl))))
-    by13 false e q s n = rw q (rw s (rw n (rw e (spelled_char c h))))
+    by13 : (b : Bool) → nat_eq c 13 ≡ b → nat_eq c 34 ≡ false → nat_eq c 92 ≡ false → nat_eq c 10 ≡ false → Encodes (escaped_chars c) (escaped c)
+    by13 true e q s n = rw q (rw s (rw n (rw e (encoded_low (92 ∷ 114 ∷ []) refl))))
+    by13 false e q s n = rw q (rw s (rw n (rw e (encoded_char c h))))
 
-    by10 : (b : Bool) → nat_eq c 10 ≡ b → nat_eq c 34 ≡ false → nat_eq c 92 ≡ false → Spells (escaped_chars c) (escaped c)
-    by10 true e q s = rw q (rw s (rw e (spelled_low (92 ∷ 110 ∷ []) refl)))
+    by10 : (b : Bool) → nat_eq c 10 ≡ b → nat_eq c 34 ≡ false → nat_eq c 92 ≡ false → Encodes (escaped_chars c) (escaped c)
+    by10 true e q s = rw q (rw s (rw e (encoded_low (92 ∷ 110 ∷ []) refl)))
     by10 false e q s = by13 (nat_eq c 13) refl q s e
 
-    by92 : (b : Bool) → nat_eq c 92 ≡ b → nat_eq c 34 ≡ false → Spells (escaped_chars c) (escaped c)
-    by92 true e q = rw q (rw e (spelled_low (92 ∷ 92 ∷ []) refl))
+    by92 : (b : Bool) → nat_eq c 92 ≡ b → nat_eq c 34 ≡ false → Encodes (escaped_chars c) (escaped c)
+    by92 true e q = rw q (rw e (encoded_low (92 ∷ 92 ∷ []) refl))
     by92 false e q = by10 (nat_eq c 10) refl q e
 
-    by34 : (b : Bool) → nat_eq c 34 ≡ b → Spells (escaped_chars c) (escaped c)
-    by34 true e = rw e (spelled_low (92 ∷ 34 ∷ []) refl)
+    by34 : (b : Bool) → nat_eq c 34 ≡ b → Encodes (escaped_chars c) (escaped c)
+    by34 true e = rw e (encoded_low (92 ∷ 34 ∷ []) refl)
     by34 false e = by92 (nat_eq c 92) refl e
 
-spelled_inside : (cs : List ℕ) → all_scalars cs ≡ true → Spells (flat_map escaped_chars cs) (flat_map escaped cs)
-spelled_inside [] h = record { utf8 = IsUtf8-nil; are = chars-nil }
-spelled_inside (c ∷ cs) h =
+encoded_inside : (cs : List ℕ) → all_scalars cs ≡ true → Encodes (flat_map escaped_chars cs) (flat_map escaped cs)
+encoded_inside [] h = record { utf8 = IsUtf8-nil; are = chars-nil }
+encoded_inside (c ∷ cs) h =
     let p = and_parts (scalar c) (all_scalars cs) h in
-    spelled_both (escaped_chars c) (escaped c) (flat_map escaped_chars cs) (flat_map escaped cs) (spelled_escaped c p.0) (spelled_inside cs p.1)
+    encoded_both (escaped_chars c) (escaped c) (flat_map escaped_chars cs) (flat_map escaped cs) (encoded_escaped c p.0) (encoded_inside cs p.1)
 
 -- a text in quotes, as characters
 abbrev quoted_chars : List ℕ → List ℕ
 quoted_chars text = 34 ∷ (flat_map escaped_chars (chars text) ++ 34 ∷ [])
 
-spelled_in_quotes : (cs text : List ℕ) → Spells cs text → Spells (34 ∷ (cs ++ 34 ∷ [])) (34 ∷ (text ++ 34 ∷ []))
-spelled_in_quotes cs text h =
-    let quote = spelled_low (34 ∷ []) refl in
-    spelled_both (34 ∷ []) (34 ∷ []) (cs ++ 34 ∷ []) (text ++ 34 ∷ []) quote (spelled_both cs text (34 ∷ []) (34 ∷ []) h quote)
+encoded_in_quotes : (cs text : List ℕ) → Encodes cs text → Encodes (34 ∷ (cs ++ 34 ∷ [])) (34 ∷ (text ++ 34 ∷ []))
+encoded_in_quotes cs text h =
+    let quote = encoded_low (34 ∷ []) refl in
+    encoded_both (34 ∷ []) (34 ∷ []) (cs ++ 34 ∷ []) (text ++ 34 ∷ []) quote (encoded_both cs text (34 ∷ []) (34 ∷ []) h quote)
 
-spelled_quoted : (text : List ℕ) → IsUtf8 text → Spells (quoted_chars text) (quoted text)
-spelled_quoted text u = spelled_in_quotes (flat_map escaped_chars (chars text)) (flat_map escaped (chars text))
-    (spelled_inside (chars text) (scalars-chars text u))
+encoded_quoted : (text : List ℕ) → IsUtf8 text → Encodes (quoted_chars text) (quoted text)
+encoded_quoted text u = encoded_in_quotes (flat_map escaped_chars (chars text)) (flat_map escaped (chars text))
+    (encoded_inside (chars text) (scalars-chars text u))
 
 -- ASCII before other characters
-spelled_then : {cs text : List ℕ} (head : List ℕ) → list_all is_low head ≡ true → Spells cs text → Spells (head ++ cs) (head ++ text)
-spelled_then {cs} {text} head low h = spelled_both head head cs text (spelled_low head low) h
+encoded_then : {cs text : List ℕ} (head : List ℕ) → list_all is_low head ≡ true → Encodes cs text → Encodes (head ++ cs) (head ++ text)
+encoded_then {cs} {text} head low h = encoded_both head head cs text (encoded_low head low) h
 
--- the last byte is no CR
+-- the last byte isn't a CR
 abbrev Ends : List ℕ → Type 0
 Ends text = (front : List ℕ) × (c : ℕ) × (text ≡ front ++ c ∷ []) × (nat_eq c 13 ≡ false)
 
 ends_after : (xs ys : List ℕ) → Ends ys → Ends (xs ++ ys)
 ends_after xs ys h = (xs ++ h.0, h.1, ap (λ l. xs ++ l) h.2 ∙ sym (append_assoc xs h.0 (h.1 ∷ [])), h.3)
 
--- so it is kept
+-- so no CR is removed
 kept : (text : List ℕ) → Ends text → strip_carriage_return text ≡ text
 kept text h = by h.0 h.1 h.2 h.3
   where
@@ -190,8 +190,8 @@ kept text h = by h.0 h.1 h.2 h.3
         ap (λ l. get_or l (length l - 1) 0) is ∙ (ap (λ n. get_or (front ++ c ∷ []) n 0) place ∙ get_or-append_seam front c [] 0) in
         rw last (rw other refl)
 
--- what a line of these characters asks for
-asked_of : (text cs : List ℕ) → Spells cs text → Ends text → (list_all is_blank text || is_comment text) ≡ false → asked text ≡ command_of (skip cs)
+-- what a line of these characters requests
+asked_of : (text cs : List ℕ) → Encodes cs text → Ends text → (list_all is_blank text || is_comment text) ≡ false → asked text ≡ command_of (skip cs)
 asked_of text cs h ends some = ap request_in (kept text ends) ∙ rw (is_utf8-from_IsUtf8 text h.utf8) (rw some (ap (λ l. command_of (skip l)) h.are))
 
 -- A word without quotes.
@@ -305,7 +305,7 @@ last_name name u = ap (λ l. first_word (32 ∷ l)) (sym (append-nil (quoted_cha
 abbrev run : List ℕ → List ℕ → Request
 run word more = unwrap_or (option_and_then (λ command. command_in command more) (command_named word)) malformed
 
--- a command's word, and what follows it
+-- a command's word, and the text after it
 command_read : (w rest : List ℕ) (command : Command) → list_all is_plain w ≡ true → ends_word rest ≡ true → command_named w ≡ Some command →
     command_of (w ++ rest) ≡ unwrap_or (command_in command rest) malformed
 command_read w rest command h e named =
@@ -322,8 +322,8 @@ decimal_plain n h = digits_plain (decimal n) (decimal_digits n h)
 number_read : (n : ℕ) (rest : List ℕ) → n < 2 ^ 64 → ends_word rest ≡ true → first_word (32 ∷ (decimal n ++ rest)) ≡ Some (decimal n, rest)
 number_read n rest h e = plain_read (decimal n) rest (decimal_plain n h) (decimal_nonempty n h) e
 
-spelled_plain : (w : List ℕ) → list_all is_plain w ≡ true → Spells w w
-spelled_plain w h = spelled_low w (plain_low w h)
+encoded_plain : (w : List ℕ) → list_all is_plain w ≡ true → Encodes w w
+encoded_plain w h = encoded_low w (plain_low w h)
 
 kind_plain : (k : Kind) → list_all is_plain (kind_name k) ≡ true
 kind_plain kinds.Cstr = refl
@@ -343,23 +343,23 @@ kind_long kinds.Rawt = omega arith
 kind_long kinds.Ulng = omega arith
 kind_long kinds.Ullg = omega arith
 
--- A printed value: its characters, its end, and the word that is read of it.
+-- A printed value: its characters, its last byte, and the word that is read from it.
 record IsValueText (text word : List ℕ) : Type 0 where
   characters : List ℕ
-  spelled : Spells characters text
+  encoded : Encodes characters text
   ends : Ends text
   read : first_word (32 ∷ characters) ≡ Some (word, [])
 
 quoted_value : (text : List ℕ) → IsUtf8 text → IsValueText (quoted text) text
 quoted_value text u = record {
   characters = quoted_chars text;
-  spelled = spelled_quoted text u;
+  encoded = encoded_quoted text u;
   ends = (34 ∷ flat_map escaped (chars text), 34, refl, refl);
   read = last_name text u;
 }
 
 plain_value : (w : List ℕ) → list_all is_plain w ≡ true → 1 ≤ length w → IsValueText w w
-plain_value w h some = record { characters = w; spelled = spelled_plain w h; ends = ends_plain w h some; read = last_plain w h some }
+plain_value w h some = record { characters = w; encoded = encoded_plain w h; ends = ends_plain w h some; read = last_plain w h some }
 
 number_value : (n : ℕ) → n < 2 ^ 64 → IsValueText (decimal n) (decimal n)
 number_value n h = plain_value (decimal n) (decimal_plain n h) (decimal_nonempty n h)
@@ -367,7 +367,7 @@ number_value n h = plain_value (decimal n) (decimal_plain n h) (decimal_nonempty
 raw_value : (ws : List ℕ) → list_all is_word_byte ws ≡ true → IsValueText (34 ∷ (ws ++ 34 ∷ [])) ws
 raw_value ws h = record {
   characters = 34 ∷ (ws ++ 34 ∷ []);
-  spelled = spelled_in_quotes ws ws (spelled_low ws (words_low ws h));
+  encoded = encoded_in_quotes ws ws (encoded_low ws (words_low ws h));
   ends = (34 ∷ ws, 34, refl, refl);
   read = ap (λ l. first_word (32 ∷ l)) (sym (append-nil (34 ∷ (ws ++ 34 ∷ [])))) ∙ quotes_read ws ws [] (words_read ws [] h) refl;
 }
@@ -383,20 +383,20 @@ value_printed (Rawt raw) is bytes = raw_value (hex raw) (hex_words raw bytes)
 value_printed (Ulng n) is bytes = number_value n (omega (arith, is))
 value_printed (Ullg n) is bytes = number_value n is
 
--- The operation that each line asks for.
+-- The operation that each line requests.
 
 abbrev answer : Option Request → Request
 answer o = unwrap_or o malformed
 
 new_asked : asked (op_text New) ≡ write (Ok New)
-new_asked = asked_of (codes "new") (codes "new") (spelled_low (codes "new") refl) (ends_plain (codes "new") refl (omega arith)) refl
+new_asked = asked_of (codes "new") (codes "new") (encoded_low (codes "new") refl) (ends_plain (codes "new") refl (omega arith)) refl
     ∙ command_read (codes "new") [] commands.New refl refl refl
 
 drop_asked : (node : ℕ) → node < 2 ^ 64 → asked (op_text (Drop node)) ≡ write (Ok (Drop node))
 drop_asked node h =
     let number = number_value node h in
     asked_of (codes "drop " ++ decimal node) (codes "drop " ++ decimal node)
-    (spelled_then (codes "drop ") refl (spelled_plain (decimal node) (decimal_plain node h)))
+    (encoded_then (codes "drop ") refl (encoded_plain (decimal node) (decimal_plain node h)))
     (ends_after (codes "drop ") (decimal node) number.ends) refl
     ∙ (command_read (codes "drop") (32 ∷ decimal node) commands.Drop refl refl refl
     ∙ (ap (λ (o : Option (List ℕ)). answer (option_map (λ n. write (Ok (Drop n))) (option_and_then word_in o)))
@@ -410,8 +410,8 @@ unset_asked node name h is u =
     let text = codes " " ++ quoted name in
     let rest = codes " " ++ quoted_chars name in
     asked_of (codes "unset " ++ (decimal node ++ text)) (codes "unset " ++ (decimal node ++ rest))
-    (spelled_then (codes "unset ") refl
-    (spelled_then (decimal node) (plain_low (decimal node) (decimal_plain node h)) (spelled_then (codes " ") refl (spelled_quoted name u))))
+    (encoded_then (codes "unset ") refl
+    (encoded_then (decimal node) (plain_low (decimal node) (decimal_plain node h)) (encoded_then (codes " ") refl (encoded_quoted name u))))
     (ends_after (codes "unset ") (decimal node ++ text) (ends_after (decimal node) text (ends_after (codes " ") (quoted name) word.ends))) refl
     ∙ (command_read (codes "unset") (32 ∷ (decimal node ++ rest)) commands.Unset refl refl refl
     ∙ (ap (λ (o : Option (List ℕ × List ℕ)). answer
@@ -427,9 +427,9 @@ mkindex_asked name kind is u =
     let plain = kind_plain kind in
     let text = codes " " ++ kind_name kind in
     asked_of (codes "mkindex " ++ (quoted name ++ text)) (codes "mkindex " ++ (quoted_chars name ++ text))
-    (spelled_then (codes "mkindex ") refl
-    (spelled_both (quoted_chars name) (quoted name) text text (spelled_quoted name u)
-    (spelled_then (codes " ") refl (spelled_plain (kind_name kind) plain))))
+    (encoded_then (codes "mkindex ") refl
+    (encoded_both (quoted_chars name) (quoted name) text text (encoded_quoted name u)
+    (encoded_then (codes " ") refl (encoded_plain (kind_name kind) plain))))
     (ends_after (codes "mkindex ") (quoted name ++ text)
     (ends_after (quoted name) text (ends_after (codes " ") (kind_name kind) (ends_plain (kind_name kind) plain (kind_long kind))))) refl
     ∙ (command_read (codes "mkindex") (32 ∷ (quoted_chars name ++ text)) commands.MkIndex refl refl refl
@@ -442,13 +442,13 @@ mkindex_asked name kind is u =
 rmindex_asked : (name : List ℕ) → name_from name ≡ Ok name → IsUtf8 name → asked (op_text (RmIndex name)) ≡ write (Ok (RmIndex name))
 rmindex_asked name is u =
     let word = quoted_value name u in
-    asked_of (codes "rmindex " ++ quoted name) (codes "rmindex " ++ quoted_chars name) (spelled_then (codes "rmindex ") refl (spelled_quoted name u))
+    asked_of (codes "rmindex " ++ quoted name) (codes "rmindex " ++ quoted_chars name) (encoded_then (codes "rmindex ") refl (encoded_quoted name u))
     (ends_after (codes "rmindex ") (quoted name) word.ends) refl
     ∙ (command_read (codes "rmindex") (32 ∷ quoted_chars name) commands.RmIndex refl refl refl
     ∙ (ap (λ (o : Option (List ℕ)). answer (option_map (λ m. write (named RmIndex m)) o)) (one_read (32 ∷ quoted_chars name) name (last_name name u))
     ∙ ap (λ r. write (result_map_both RmIndex (λ e. e) r)) is))
 
--- what the words of `set` ask for
+-- what the words of `set` request
 set_made : (node : ℕ) (name : List ℕ) (v : Value) → node < 2 ^ 64 → name_from name ≡ Ok name → IsValue v → HasBytes v →
     answer (set_from (decimal node) name (kind_name (kind_of v)) (value_word v)) ≡ write (Ok (Set node name v))
 set_made node name v h named_is is bytes =
@@ -487,19 +487,19 @@ set_asked node name v h named_is u is bytes =
     let kind = codes " " ++ (k ++ value) in
     let words = codes " " ++ (quoted name ++ kind) in
     let rest = 32 ∷ (decimal node ++ 32 ∷ (quoted_chars name ++ 32 ∷ (k ++ 32 ∷ p.characters))) in
-    let spelled_kind : Spells (codes " " ++ (k ++ 32 ∷ p.characters)) kind =
-    spelled_then (codes " ") refl (spelled_then k low (spelled_then (codes " ") refl p.spelled)) in
-    let spelled_words : Spells (codes " " ++ (quoted_chars name ++ 32 ∷ (k ++ 32 ∷ p.characters))) words =
-    spelled_then (codes " ") refl (spelled_both (quoted_chars name) (quoted name) (32 ∷ (k ++ 32 ∷ p.characters)) kind (spelled_quoted name u) spelled_kind) in
+    let encoded_kind : Encodes (codes " " ++ (k ++ 32 ∷ p.characters)) kind =
+    encoded_then (codes " ") refl (encoded_then k low (encoded_then (codes " ") refl p.encoded)) in
+    let encoded_words : Encodes (codes " " ++ (quoted_chars name ++ 32 ∷ (k ++ 32 ∷ p.characters))) words =
+    encoded_then (codes " ") refl (encoded_both (quoted_chars name) (quoted name) (32 ∷ (k ++ 32 ∷ p.characters)) kind (encoded_quoted name u) encoded_kind) in
     let ends_kind : Ends kind = ends_after (codes " ") (k ++ value) (ends_after k value (ends_after (codes " ") (value_text v) p.ends)) in
     let ends_words : Ends words = ends_after (codes " ") (quoted name ++ kind) (ends_after (quoted name) kind ends_kind) in
     asked_of (codes "set " ++ (decimal node ++ words)) (codes "set" ++ rest)
-    (spelled_then (codes "set ") refl (spelled_then (decimal node) (plain_low (decimal node) (decimal_plain node h)) spelled_words))
+    (encoded_then (codes "set ") refl (encoded_then (decimal node) (plain_low (decimal node) (decimal_plain node h)) encoded_words))
     (ends_after (codes "set ") (decimal node ++ words) (ends_after (decimal node) words ends_words)) refl
     ∙ (command_read (codes "set") rest commands.Set refl refl refl
     ∙ (ap answer (set_read node name v p.characters h u p.read) ∙ set_made node name v h named_is is bytes))
 
--- what is printed of an operation is a script's line that asks for it
+-- a printed operation, read as a script's line, requests that operation
 pub op_asked : (op : Op) → CanBeOp op → asked (op_text op) ≡ write (Ok op)
 op_asked New h = new_asked
 op_asked (Drop node) h = drop_asked node h.1

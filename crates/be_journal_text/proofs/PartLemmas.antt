@@ -17,12 +17,12 @@ use Rattle.be_journal_text.specs.declared.parts.Quoting.{Quoting}
 use Rattle.be_journal_text.specs.declared.parts.Quoting.TheVariants.{Outside, Inside, Escaped}
 use Rattle.be_journal_text.proofs.Cuts.{beyond, is_end, length_to}
 
--- where one stands after these bytes
+-- whether the byte after these bytes is in quotes
 abbrev pub walk : Quoting → List ℕ → Quoting
 walk q [] = q
 walk q (c ∷ text) = walk (beyond q c) text
 
--- no end is among these bytes
+-- none of these bytes is an end
 abbrev pub IsQuiet : ℕ → Quoting → List ℕ → Type 0
 IsQuiet end q [] = Unit {0}
 IsQuiet end q (c ∷ text) = (is_end end q c ≡ false) × IsQuiet end (beyond q c) text
@@ -31,7 +31,7 @@ IsQuiet end q (c ∷ text) = (is_end end q c ≡ false) × IsQuiet end (beyond q
 abbrev pub in_line : ℕ → Bool
 in_line c = not (nat_eq c 10)
 
--- bytes with no end among them, and with whole quotes
+-- bytes without an end, in which each quote is closed
 record IsClosed (end : ℕ) (text : List ℕ) : Type 0 where
   pub quiet : IsQuiet end Outside text
   pub back : walk Outside text ≡ Outside
@@ -84,7 +84,7 @@ is_word_byte c =
     else if nat_le c 96 then false
     else nat_le c 122
 
--- bytes that a test tells apart
+-- two bytes differ if a test passes for only one of them
 pub unlike : (test : ℕ → Bool) (c d : ℕ) → test c ≡ true → test d ≡ false → nat_eq c d ≡ false
 unlike test c d h g = by (nat_eq c d) refl
   where
@@ -92,13 +92,13 @@ unlike test c d h g = by (nat_eq c d) refl
     by false e = refl
     by true e = absurd (true≢false (sym h ∙ (ap test (same_byte c d e) ∙ g)))
 
--- such a byte is no other
+-- a byte of words differs from one that isn't
 pub is_other : (c d : ℕ) → is_word_byte c ≡ true → is_word_byte d ≡ false → nat_eq c d ≡ false
 is_other c d h g = unlike is_word_byte c d h g
 
--- Inside quotes no part ends, and one stays there but after a `"` and a `\`.
+-- Inside quotes no part ends. Only a `"` ends the quotes, and a `\` escapes a byte.
 
--- Quotes are no end anywhere inside them: this is so of each byte that is escaped or stays inside.
+-- No byte inside quotes is an end: this holds for each escaped byte and each byte that stays inside.
 pub record IsInside (end : ℕ) (text : List ℕ) : Type 0 where
   pub quiet : IsQuiet end Inside text
   pub back : walk Inside text ≡ Inside
@@ -130,7 +130,7 @@ inner_inside end (c ∷ text) h =
       line = rw first.2 more.line;
     }
 
--- a byte below 128 of a character is that character
+-- if a character's UTF-8 has a byte below 128, the character is that byte
 ascii_byte : (c d k : ℕ) → d < 128 → k < length (encode_utf8 c) → nat_eq c d ≡ false → nat_eq (get_or (encode_utf8 c) k 0) d ≡ false
 ascii_byte c d k small l other = by (nat_eq (get_or (encode_utf8 c) k 0) d) refl
   where
@@ -141,7 +141,7 @@ ascii_byte c d k small l other = by (nat_eq (get_or (encode_utf8 c) k 0) d) refl
         let same = inside_one c [] (encode_utf8 c) k (sym (append-nil (encode_utf8 c))) l (omega (arith, is, small)) in
         absurd (true≢false (sym e ∙ (ap (λ b. nat_eq b d) (sym same) ∙ other)))
 
--- a character inside quotes, as it is printed
+-- a character as it is printed inside quotes
 inside_char : (end c : ℕ) → IsInside end (escaped c)
 inside_char end c = by34 (nat_eq c 34) refl
   where
@@ -169,7 +169,7 @@ inside_chars end (c ∷ cs) =
     subst (λ (l : List ℕ). IsInside end l) (sym (flat_map-cons escaped c cs))
     (both_inside end (escaped c) (flat_map escaped cs) (inside_char end c) (inside_chars end cs))
 
--- a quote, what is inside, and a quote
+-- a quote, the text inside, and a quote
 quotes_closed : (end : ℕ) (text : List ℕ) → nat_eq 34 end ≡ false → IsInside end text → IsClosed end (34 ∷ (text ++ 34 ∷ []))
 quotes_closed end text other h = record {
   quiet = (other, quiet_append end Inside text (34 ∷ []) h.quiet (subst (λ (q : Quoting). IsQuiet end q (34 ∷ [])) (sym h.back) (refl, tt)));
@@ -200,7 +200,7 @@ part_before end xs ys part =
     length_through end Outside xs (end ∷ ys) h.quiet ∙ (ap (λ (q : Quoting). length xs + length_to end q (end ∷ ys)) h.back
     ∙ (ap (λ n. length xs + n) stops ∙ sum))
 
--- and with the text
+-- a part without an end after it goes to the end of the text
 pub part_whole : (end : ℕ) (xs : List ℕ) → IsLinePart end xs → length_to end Outside xs ≡ length xs
 part_whole end xs part =
     let h = part_closed end xs part in
@@ -254,7 +254,7 @@ words_part end (x ∷ xs) g h =
 pub quoted_part : (end : ℕ) (text : List ℕ) → nat_eq 34 end ≡ false → IsLinePart end (quoted text)
 quoted_part end text other = one_piece end (in_quotes (chars text)) (other_byte 34 end other)
 
--- letters and digits are printed in quotes as they are
+-- letters and digits are printed in quotes unchanged
 ascii_word : (c : ℕ) → is_word_byte c ≡ true → c < 128
 ascii_word c h = grind (arith, nat_tests, h)
 
@@ -327,7 +327,7 @@ pub counted_on : (end : ℕ) (quoting : Quoting) (rest more : List ℕ) (c : ℕ
     length_to end quoting rest ≡ 1 + length_to end (beyond quoting c) more
 counted_on end quoting rest more c is here = ap (length_to end quoting) is ∙ rw here refl
 
--- the count of bytes before the first end
+-- the number of bytes before the first end
 pub counted_ends : (end count : ℕ) (text : List ℕ) → count ≡ length_to end Outside text → (part more : List ℕ) → IsLinePart end part → text ≡ part ++ end ∷ more →
     count ≡ length part
 counted_ends end count text is part more h e = is ∙ (ap (length_to end Outside) e ∙ part_before end part more h)

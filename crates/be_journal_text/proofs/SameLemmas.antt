@@ -1,4 +1,4 @@
--- What is printed as the same text is the same.
+-- Two things that are printed as the same text are equal.
 use Rattle.std.proofs.Common.{◌≡◌, ℕ, ◌+◌, ◌^◌, ◌<◌, ◌≤◌, List, [], ◌∷◌, ◌++◌, length, length-append, drop, All, Ok, codes, refl, sym, ap, ◌∙◌, arith}
 use Rattle.std.proofs.lemmas.Fmt.{decimal_injective}
 use Rattle.std.proofs.lemmas.List.Elements.{All-head, All-tail}
@@ -10,8 +10,8 @@ use Rattle.be_volume.specs.declared.ops.Done.{Done}
 use Rattle.be_volume.specs.declared.ops.Op.{Op}
 use Rattle.be_journal_text.specs.History.{CanBeDone, CanBeOp, CanBeEntry, entry_of}
 use Rattle.be_journal_text.specs.Parts.{IsLinePart}
-use Rattle.be_journal_text.proofs.Cuts.{after, before, after_line, by_part, done_in, dones_part, first_line, ops_part}
-use Rattle.be_journal_text.proofs.LineLemmas.{by_read, done_part, done_read, dones_read, first_joined, line_after, line_first, op_part, ops_read, rest_joined}
+use Rattle.be_journal_text.proofs.Cuts.{after, before, after_line, by_part, done_in, outcomes_part, first_line, ops_part}
+use Rattle.be_journal_text.proofs.LineLemmas.{by_read, done_part, done_read, outcomes_read, first_joined, line_after, line_first, op_part, ops_read, rest_joined}
 use Rattle.be_journal_text.proofs.OpLemmas.{op_asked}
 use Rattle.be_journal_text.proofs.ReadLemmas.{done_long, entry_line_long, entry_made, inside, op_long}
 
@@ -24,7 +24,7 @@ same_op x y h g e = written x y (sym (op_asked x h) ∙ (ap asked e ∙ op_asked
 same_done : (x y : Done) → CanBeDone x → CanBeDone y → done_text x ≡ done_text y → x ≡ y
 same_done x y h g e = sym (done_read x h) ∙ (ap done_in e ∙ done_read y g)
 
--- what is joined by `; `
+-- texts joined by `; `
 same_lists : {X : Type 0} (P : X → Type 0) (text_of : X → List ℕ) → ((x : X) → P x → IsLinePart 59 (text_of x)) → ((x : X) → P x → 1 ≤ length (text_of x)) →
     ((x y : X) → P x → P y → text_of x ≡ text_of y → x ≡ y) → (xs ys : List X) → All P xs → All P ys →
     join_by text_of (codes "; ") xs ≡ join_by text_of (codes "; ") ys → xs ≡ ys
@@ -50,7 +50,7 @@ same_entry n e o w v h =
     (sym (ops_read n e w) ∙ (ap (ops_part n) h ∙ ops_read n o v)) in
     let dones : e.dones ≡ o.dones =
     same_lists CanBeDone done_text (λ y k. done_part 59 refl refl y k) done_long same_done e.dones o.dones w.dones v.dones
-    (sym (dones_read n e w) ∙ (ap (dones_part n) h ∙ dones_read n o v)) in
+    (sym (outcomes_read n e w) ∙ (ap (outcomes_part n) h ∙ outcomes_read n o v)) in
     inside e o (sym (entry_made e w) ∙ (ap (λ b. entry_of b e.ops e.dones) by ∙ (ap (λ l. entry_of o.by l e.dones) ops
     ∙ (ap (λ l. entry_of o.by o.ops l) dones ∙ entry_made o v))))
 

@@ -32,7 +32,7 @@ kind_read kinds.Ullg = refl
 digits_read : (n : ℕ) → n < 2 ^ 64 → digits_in (decimal n) ≡ Some n
 digits_read n h = rw (are_decimal n h) (ap Some (decimal_valued n h))
 
--- digits alone have no sign
+-- a text of digits has no sign
 no_sign : (ds : List ℕ) → all_ascii_digits ds ≡ true → 1 ≤ length ds → (unsigned_part ds ≡ ds) × (number_in ds ≡ positive ds)
 no_sign [] h some = absurd (omega (arith, some))
 no_sign (d ∷ ds) h some =
@@ -90,7 +90,7 @@ hex_back (b ∷ bytes) h =
     let small : b < 256 = All-head (λ b. b < 2 ^ 8) b bytes h in
     rw (byte_back b small) (rw (hex_back bytes (All-tail (λ b. b < 2 ^ 8) b bytes h)) refl)
 
--- the word that spells a value
+-- the word that encodes a value
 abbrev pub value_word : Value → List ℕ
 value_word (Cstr text) = text
 value_word (Long (pos n)) = decimal n

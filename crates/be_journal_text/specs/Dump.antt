@@ -1,4 +1,4 @@
--- The scripts that make a journal's writes again, or its volume alone.
+-- The scripts that make a journal's writes again, or only its volume.
 use Rattle.std.specs.Prelude.{◌≡◌, ℕ, zero, suc, List, [], ◌∷◌, ◌++◌, All, codes, drop, flat_map}
 use Rattle.std.specs.Prelude.{length, nat_lt, take, if◌then◌else◌, Some, None}
 use Rattle.std.specs.declared.option.Option.{Option}
@@ -8,13 +8,13 @@ use Rattle.be_journal.specs.declared.entries.Entry.{Entry}
 use Rattle.be_volume_state.specs.Rebuilding.{state_ops}
 use Rattle.be_volume.specs.Volume.{State}
 use Rattle.be_volume.specs.declared.ops.Op.{Op}
-use Rattle.be_journal_text.specs.Finding.{TextTells}
+use Rattle.be_journal_text.specs.Finding.{TextReports}
 use Rattle.be_journal_text.specs.History.{CanBeJournal, CanBeOp}
 
 abbrev pub op_line : Op → List ℕ
 op_line op = op_text op ++ codes "\n"
 
--- the lines of one write: its operation, or a batch of several
+-- the lines of one write: its operation, or a batch if there are several
 abbrev pub write_lines : List Op → List ℕ
 write_lines ops =
     if nat_lt 1 (length ops) then codes "begin\n" ++ (flat_map op_line ops ++ codes "commit\n")
@@ -24,33 +24,33 @@ write_lines ops =
 abbrev pub dump : List Entry → List ℕ
 dump entries = flat_map (λ entry. write_lines entry.ops) entries
 
--- the entry as one of a store's only pass
+-- the entry, as if the store's only pass had written it
 abbrev pub by_only_pass : Entry → Entry
 by_only_pass entry = record { by = 0; ops = entry.ops; dones = entry.dones }
 
--- cut into lists of 64, the last of which may be shorter; up to so many lists
+-- operations cut into at most `most` lists of 64; the last list may be shorter
 abbrev pub cut_within : ℕ → List Op → List (List Op)
 cut_within zero ops = []
 cut_within (suc most) [] = []
 cut_within (suc most) (op ∷ ops) = take 64 (op ∷ ops) ∷ cut_within most (drop 64 (op ∷ ops))
 
--- cut into lists of 64, the last of which may be shorter
+-- operations cut into lists of 64; the last list may be shorter
 abbrev pub cut : List Op → List (List Op)
 cut ops = cut_within (length ops) ops
 
--- the lines of operations that are written in lists of 64
+-- the lines of operations that are written as lists of 64
 abbrev pub cut_lines : List Op → List ℕ
 cut_lines ops = flat_map write_lines (cut ops)
 
--- the lines that make a volume of the empty one
+-- the lines that make a volume from the empty one
 abbrev pub state_dump : State → List ℕ
 state_dump s = cut_lines (state_ops s)
 
--- The script of the volume that a text's journal makes, each of whose operations is one of the
--- program; none if the text has no journal.
+-- The script of the volume that a text's journal makes, if the program can make each of its
+-- operations; None if the text has no journal.
 abbrev pub IsStateDump : List ℕ → Option (List ℕ) → Type 0
-IsStateDump text None = (entries : List Entry) → CanBeJournal entries → TextTells text entries → ⊥
+IsStateDump text None = (entries : List Entry) → CanBeJournal entries → TextReports text entries → ⊥
 IsStateDump text (Some script) =
-    (entries : List Entry) × CanBeJournal entries × TextTells text entries
+    (entries : List Entry) × CanBeJournal entries × TextReports text entries
     × All CanBeOp (state_ops (replay entries))
     × (script ≡ state_dump (replay entries))

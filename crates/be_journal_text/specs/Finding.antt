@@ -1,4 +1,4 @@
--- Which journal a text has, and what the check of it finds.
+-- Which journal a text has, and what its check finds.
 use Rattle.std.specs.Prelude.{◌≡◌, ◌⊎◌, ℕ, ◌+◌, ◌<◌, ◌≤◌, ◌^◌, All, List, [], ◌∷◌, ◌++◌, length}
 use Rattle.std.specs.Prelude.{get_or, Some, None, codes}
 use Rattle.std.specs.Fmt.{decimal}
@@ -19,29 +19,29 @@ AreLines text = (text ≡ []) ⊎ ((front : List ℕ) × (text ≡ front ++ 10 �
 abbrev pub head : ℕ → List ℕ
 head count = codes "journal " ++ (decimal count ++ codes "\n")
 
--- A text has the journal whose text it is, or the one that follows the other lines of a race as its
--- result.
-abbrev pub TextTells : List ℕ → List Entry → Type 0
-TextTells text entries = (text ≡ lines_from 1 entries)
+-- A text has a journal if it is the journal's text, or if it ends with it as a race's result, after
+-- whole lines.
+abbrev pub TextReports : List ℕ → List Entry → Type 0
+TextReports text entries = (text ≡ lines_from 1 entries)
     ⊎ ((front : List ℕ) × AreLines front × (text ≡ front ++ result_text entries))
 
--- this is the rest of the text from a line on that begins with `j`
+-- `rest` is the text from some line on that begins with `j`
 abbrev pub IsFromJ : List ℕ → List ℕ → Type 0
 IsFromJ text rest = (front : List ℕ) × (more : List ℕ) × AreLines front × (text ≡ front ++ rest)
     × (rest ≡ 106 ∷ more)
 
--- the same of the last such line; none if no line begins so
+-- the same for the last such line; None if no line begins with `j`
 abbrev pub IsFromLastJ : List ℕ → Option (List ℕ) → Type 0
 IsFromLastJ text None = (rest : List ℕ) → IsFromJ text rest → ⊥
 IsFromLastJ text (Some last) = IsFromJ text last
     × ((rest : List ℕ) → IsFromJ text rest → length last ≤ length rest)
 
--- entries of which each has its operations and answers, and fewer than 2^32 of them
+-- each entry has its operations and outcomes, and there are fewer than 2^32 entries
 abbrev pub AreChecked : List Entry → Type 0
 AreChecked entries = All IsEntry entries × (length entries < 2 ^ 32)
 
--- what the check of a text finds: that it has no journal, that its journal of this many entries is
--- right, or how many entries it has and the line of the first wrong one
+-- what a check finds: no journal; a right journal and its number of entries; or the line of the
+-- first wrong entry, and the number of entries
 pub data Found : Type 0 where
   no_journal : Found
   right : ℕ → Found
@@ -62,9 +62,9 @@ IsFound entries (wrong count line) =
 
 -- what the check of a text finds
 abbrev pub IsFinding : List ℕ → Found → Type 0
-IsFinding text no_journal = (entries : List Entry) → CanBeJournal entries → TextTells text entries
+IsFinding text no_journal = (entries : List Entry) → CanBeJournal entries → TextReports text entries
     → ⊥
 IsFinding text (right count) = (entries : List Entry) × CanBeJournal entries
-    × TextTells text entries × IsFound entries (right count)
+    × TextReports text entries × IsFound entries (right count)
 IsFinding text (wrong count line) = (entries : List Entry) × CanBeJournal entries
-    × TextTells text entries × IsFound entries (wrong count line)
+    × TextReports text entries × IsFound entries (wrong count line)

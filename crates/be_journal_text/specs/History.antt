@@ -1,4 +1,4 @@
--- What a journal's text may tell.
+-- Which entries a journal's text can have.
 use Rattle.std.specs.Prelude.{ℕ, ◌<◌, ◌^◌, ⊤, All, List, length, nat_le, nat_eq, ◌&&◌}
 use Rattle.std.specs.Prelude.{if◌then◌else◌, Some, None}
 use Rattle.std.specs.declared.option.Option.{Option}
@@ -13,7 +13,7 @@ use Rattle.be_volume.specs.declared.ops.Done.TheVariants.{Node, Unit as Nothing}
 use Rattle.be_volume.specs.declared.ops.Op.{Op}
 use Rattle.be_volume.specs.declared.ops.Op.TheVariants.{New, Drop, Set, Unset, MkIndex, RmIndex}
 
--- raw bytes are bytes
+-- the raw bytes are below 256
 abbrev pub HasBytes : Value → Type 0
 HasBytes (Cstr text) = ⊤
 HasBytes (Long n) = ⊤
@@ -23,7 +23,7 @@ HasBytes (Rawt bytes) = All (λ b. b < 2 ^ 8) bytes
 HasBytes (Ulng n) = ⊤
 HasBytes (Ullg n) = ⊤
 
--- the node that an operation calls is a number of 64 bits, and what it sets has bytes
+-- the operation's node is a number of 64 bits, and the raw bytes that it sets are below 256
 abbrev pub HasNumber : Op → Type 0
 HasNumber New = ⊤
 HasNumber (Drop node) = node < 2 ^ 64
@@ -32,27 +32,27 @@ HasNumber (Unset node name) = node < 2 ^ 64
 HasNumber (MkIndex name kind) = ⊤
 HasNumber (RmIndex name) = ⊤
 
--- an operation of the program: its names, values and numbers are such
+-- an operation that the program can make: its names, values and numbers are in range
 abbrev pub CanBeOp : Op → Type 0
 CanBeOp op = IsOperation op × HasNumber op
 
--- an answer of the program
+-- an outcome that the program can make
 abbrev pub CanBeDone : Done → Type 0
 CanBeDone (Node node) = node < 2 ^ 64
 CanBeDone Nothing = ⊤
 
--- an entry of the program: 1 to 64 operations, an answer for each, and the number of a pass
+-- an entry that the program can make: 1 to 64 operations, an outcome for each, and a pass's number
 pub record CanBeEntry (entry : Entry) : Type 0 where
   pub by : entry.by < 2 ^ 64
   pub is : IsEntry entry
   pub ops : All CanBeOp entry.ops
   pub dones : All CanBeDone entry.dones
 
--- entries of a journal, which has fewer than 2^32
+-- the entries of a journal: fewer than 2^32
 abbrev pub CanBeJournal : List Entry → Type 0
 CanBeJournal entries = All CanBeEntry entries × (length entries < 2 ^ 32)
 
--- the entry of these lists, if they have 1 to 64 operations, and an answer for each
+-- the entry of these lists, if they have 1 to 64 operations and an outcome for each
 abbrev pub entry_of : ℕ → List Op → List Done → Option Entry
 entry_of by ops dones =
     if nat_le 1 (length ops) && (nat_le (length ops) 64 && nat_eq (length dones) (length ops))

@@ -15,18 +15,18 @@ abbrev pub piece_text : Piece → List ℕ
 piece_text (byte c) = c ∷ []
 piece_text (in_quotes characters) = 34 ∷ (flat_map escaped characters ++ 34 ∷ [])
 
--- this piece is no end outside quotes
+-- the piece has no `end` outside quotes
 abbrev pub IsApart : ℕ → Piece → Type 0
 IsApart end (byte c) = (c ≢ end) × (c ≢ 34)
 IsApart end (in_quotes characters) = 34 ≢ end
 
--- a part of a line: bytes and quotes, with no end outside quotes
+-- a part of a line: bytes and quotes, without `end` outside quotes
 pub record IsLinePart (end : ℕ) (text : List ℕ) : Type 0 where
   pub pieces : List Piece
   pub apart : All (IsApart end) pieces
   pub is : text ≡ flat_map piece_text pieces
 
--- the operation that a line asks for
+-- the operation that a line requests
 abbrev pub op_of : Request → Option Op
 op_of (write (Ok op)) = Some op
 op_of request = None

@@ -1,4 +1,4 @@
-//! A journal that is read back from its text.
+//! Reads a journal back from its text.
 ghost use Rattle.std.specs.Fmt.{decimal};
 ghost use Rattle.std.specs.List.{join_by};
 ghost use Rattle.std.specs.Option.{option_map};
@@ -10,18 +10,18 @@ ghost use Rattle.be_journal.specs.declared.entries.Entry.{Entry as AnyEntry};
 ghost use Rattle.be_journal_text.specs.History as history;
 ghost use Rattle.be_journal_text.specs.Parts as spec;
 
-use crate::lists::{read_dones, read_ops};
+use crate::lists::{read_ops, read_outcomes};
 use crate::parts::{skip, split_around, without_last_two};
-use crate::ranges::{dones_can_be, ops_can_be};
+use crate::ranges::{ops_can_be, outcomes_can_be};
 use be_journal::{Entry, Items, entry_line};
 use be_value::word_of;
 use be_volume::{Done, Op};
 use std::alloc::{AllocError, Global};
 
-/// The most entries of a journal.
+/// The maximum number of entries in a journal.
 const MAX_ENTRIES: usize = (1 << 32) - 1;
 
-/// An entry of these lists, if they fit each other and are no longer than those of a write.
+/// The entry of these lists, if they have the same length and it is that of a write: 1 to 64.
 fn entry_of(by: u64, ops: Vec<Op>, dones: Vec<Done>) -> Option<Entry>
     ensures { result ≡ history.entry_of by ops.items dones.items }
 {
@@ -36,7 +36,7 @@ fn entry_of(by: u64, ops: Vec<Op>, dones: Vec<Done>) -> Option<Entry>
     })
 }
 
-/// What follows `N by ` in the line of the entry N.
+/// What follows `N by ` in the line of entry N.
 fn after_number(alloc: Global, number: u64, line: &[u8]) -> Result<&[u8], AllocError>
     ensures { IfOk result (λ rest. (more : List ℕ) → line.now ≡ decimal number
         ++ (codes " by " ++ more) → rest.now ≡ more) }
@@ -45,7 +45,8 @@ fn after_number(alloc: Global, number: u64, line: &[u8]) -> Result<&[u8], AllocE
     Ok(skip(head.len(), line))
 }
 
-/// The texts of the pass, the operations and the answers in the line of the entry with this number.
+/// The texts of the pass, the operations and the outcomes in the line of the entry with this
+/// number.
 fn parts_of(alloc: Global, number: u64, line: &[u8]) -> Result<(&[u8], &[u8], &[u8]), AllocError>
     ensures { IfOk result (λ parts. (entry : AnyEntry) → history.CanBeEntry entry → line.now
         ≡ entry_line number entry →
@@ -59,7 +60,7 @@ fn parts_of(alloc: Global, number: u64, line: &[u8]) -> Result<(&[u8], &[u8], &[
     Ok((by, without_last_two(ops), dones))
 }
 
-/// The entry of a line with its LF, if the line is one that was printed; otherwise any entry or
+/// The entry of a line with its LF, if an entry was printed as this line; otherwise any entry or
 /// none.
 fn guess_entry(alloc: Global, number: u64, line: &[u8]) -> Result<Option<Entry>, AllocError>
     ensures whole { IfOk result (λ read. (entry : AnyEntry) → history.CanBeEntry entry → line.now
@@ -73,13 +74,13 @@ fn guess_entry(alloc: Global, number: u64, line: &[u8]) -> Result<Option<Entry>,
     let Some(ops) = read_ops(alloc, ops)? else {
         return Ok(None);
     };
-    let Some(dones) = read_dones(alloc, dones)? else {
+    let Some(dones) = read_outcomes(alloc, dones)? else {
         return Ok(None);
     };
     Ok(entry_of(by, ops, dones))
 }
 
-/// The entry that has this line, its LF included. None if no entry has it.
+/// The entry with this line, including its LF. `None` if no entry has it.
 fn read_entry(alloc: Global, number: u64, line: &[u8]) -> Result<Option<Entry>, AllocError>
     ensures reads { IfOk result (λ read. IfSome read
         (λ entry. history.CanBeEntry entry × (line.now ≡ entry_line number entry))) }
@@ -94,11 +95,11 @@ fn read_entry(alloc: Global, number: u64, line: &[u8]) -> Result<Option<Entry>, 
         return Ok(None);
     }
     ops_can_be(entry.ops.as_slice());
-    dones_can_be(entry.dones.as_slice());
+    outcomes_can_be(entry.dones.as_slice());
     Ok(Some(entry))
 }
 
-/// The first line with its LF, and what follows it. A last line may lack its LF.
+/// The first line with its LF, and the text after it. The last line may have no LF.
 pub(crate) fn first_line(text: &[u8]) -> (&[u8], &[u8])
     ensures whole { result.0.now ++ result.1.now ≡ text.now }
     ensures first { (line more : List ℕ) → spec.IsLinePart 10 line → text.now ≡ line ++ 10 ∷ more
@@ -113,11 +114,11 @@ pub(crate) fn first_line(text: &[u8]) -> (&[u8], &[u8])
     }
 }
 
-/// Reads a journal's text: its entries, or None if no journal has this text. The only error is out
-/// of memory.
+/// Reads a journal's text: its entries, or `None` if no journal has this text. The only error is
+/// out of memory.
 ///
-/// It is the exact inverse of the text: what it gives has this text, and if entries have this text
-/// it gives them.
+/// It is the exact inverse of printing: the entries it returns have this text, and if any entries
+/// have this text, it returns them.
 pub fn read_journal(alloc: Global, text: &[u8]) -> Result<Option<Vec<Entry>>, AllocError>
     ensures reads { IfOk result (λ read. IfSome read
         (λ entries. history.CanBeJournal entries.items × (text.now ≡ lines_from 1 entries.items))) }

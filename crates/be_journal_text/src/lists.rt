@@ -1,7 +1,7 @@
-//! The operations and the answers of an entry's line.
+//! The operations and the outcomes in an entry's line.
 //!
-//! What is read here is right if the text is one that was printed; otherwise it may be anything. An
-//! entry is printed again once it is read, and is taken only if that gives the line.
+//! The results are right if the text was printed from an entry; otherwise they may be anything. So
+//! once an entry is read, it is printed again, and accepted only if that gives the same line.
 ghost use Rattle.std.specs.List.{join_by};
 ghost use Rattle.std.specs.Option.{option_map};
 ghost use Rattle.std.specs.Prelude.{◌≡◌, List, All, Some, IfOk, codes};
@@ -18,7 +18,7 @@ use be_value::word_of;
 use be_volume::{Done, Op};
 use std::alloc::{AllocError, Global};
 
-/// The operation that a script's line asks for.
+/// The operation that a script's line requests.
 fn read_op(alloc: Global, text: &[u8]) -> Result<Option<Op>, AllocError>
     ensures { IfOk result (λ op. op ≡ spec.op_in text.now) }
 {
@@ -31,7 +31,7 @@ fn read_op(alloc: Global, text: &[u8]) -> Result<Option<Op>, AllocError>
     }
 }
 
-/// The outcome that a text is for: the number after `node `, if there is one.
+/// The outcome that a text encodes: the number after `node `, if there is one.
 fn read_done(text: &[u8]) -> Done
     ensures { (done : AnyDone) → history.CanBeDone done → text.now ≡ done_text done → result
         ≡ done }
@@ -42,7 +42,7 @@ fn read_done(text: &[u8]) -> Done
     }
 }
 
-/// The operations of a text, parted by `; `.
+/// The operations in a text, separated by `; `.
 pub fn read_ops(alloc: Global, text: &[u8]) -> Result<Option<Vec<Op>>, AllocError>
     ensures { IfOk result (λ read. (ops : List AnyOp) → All history.CanBeOp ops → text.now
         ≡ join_by op_text (codes "; ") ops →
@@ -65,8 +65,8 @@ pub fn read_ops(alloc: Global, text: &[u8]) -> Result<Option<Vec<Op>>, AllocErro
     Ok(Some(ops))
 }
 
-/// The answers of a text, parted by `; `.
-pub fn read_dones(alloc: Global, text: &[u8]) -> Result<Option<Vec<Done>>, AllocError>
+/// The outcomes in a text, separated by `; `.
+pub fn read_outcomes(alloc: Global, text: &[u8]) -> Result<Option<Vec<Done>>, AllocError>
     ensures { IfOk result (λ read. (dones : List AnyDone) → All history.CanBeDone dones → text.now
         ≡ join_by done_text (codes "; ") dones →
         option_map (λ v. v.items) read ≡ Some dones) }

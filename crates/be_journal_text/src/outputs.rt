@@ -1,7 +1,7 @@
-//! The journal that a race or a run printed.
+//! The journal in the output of a race or a run.
 //!
-//! It is the end of what was printed: the line `journal N`, the journal's text, and `replay ok`. No
-//! line of a journal's text begins with a `j`, so the last line that does is where it begins.
+//! It is at the end of the output: the line `journal N`, the journal's text, and `replay ok`. No
+//! line of a journal's text begins with `j`, so it begins at the last line that does.
 ghost use Rattle.std.specs.Option.{option_map};
 ghost use Rattle.std.specs.Prelude.{◌≡◌, ◌≢◌, ◌↔◌, ◌++◌, ℕ, true, List, Some, IfOk, IfSome};
 ghost use Rattle.std.specs.Prelude.{MatchOption, codes};
@@ -14,10 +14,10 @@ use crate::journals::{first_line, read_journal};
 use be_journal::Entry;
 use std::alloc::{AllocError, Global};
 
-/// The last line of what was printed.
+/// The last line of such an output.
 const LAST_LINE: &[u8] = b"replay ok\n";
 
-/// The text from its last line on that begins with `j`. None if no line does.
+/// The text from the last line on that begins with `j`. `None` if no line does.
 fn from_last_j(text: &[u8]) -> Option<&[u8]>
     ensures { spec.IsFromLastJ text.now (option_map (λ t. t.now) result) }
 {
@@ -34,7 +34,7 @@ fn from_last_j(text: &[u8]) -> Option<&[u8]>
     found
 }
 
-/// Whether the text is that of the line `journal N`, for this N, and its LF.
+/// Whether the text is the line `journal N` for this N, with its LF.
 fn is_head(alloc: Global, text: &[u8], count: usize) -> Result<bool, AllocError>
     ensures { IfOk result (λ is. (is ≡ true) ↔ (text.now ≡ spec.head count)) }
 {
@@ -42,7 +42,7 @@ fn is_head(alloc: Global, text: &[u8], count: usize) -> Result<bool, AllocError>
     Ok(head.as_bytes() == text)
 }
 
-/// The lines before the last one, if that says that the replay is right.
+/// The lines before the last one, if the last one is `replay ok`.
 fn before_last(text: &[u8]) -> Option<&[u8]>
     ensures { MatchOption result ((lines : List ℕ) → text.now ≢ lines ++ codes "replay ok\n")
         (λ lines. text.now ≡ lines.now ++ codes "replay ok\n") }
@@ -50,7 +50,8 @@ fn before_last(text: &[u8]) -> Option<&[u8]>
     text.strip_suffix(LAST_LINE)
 }
 
-/// The entries of a text that ends a race: `journal N`, the journal's text, and `replay ok`.
+/// The entries of the text that ends a race's output: `journal N`, the journal's text, and `replay
+/// ok`.
 fn read_result(alloc: Global, text: &[u8]) -> Result<Option<Vec<Entry>>, AllocError>
     ensures reads { IfOk result (λ read. IfSome read
         (λ entries. CanBeJournal entries.items × (text.now ≡ result_text entries.items))) }
@@ -72,16 +73,16 @@ fn read_result(alloc: Global, text: &[u8]) -> Result<Option<Vec<Entry>>, AllocEr
     }
 }
 
-/// The journal of a text: of what a race printed, or a run that prints its journal, or of the
-/// journal's text alone. None if the text has no journal. The only error is out of memory.
+/// The journal in a text. The text may be the output of a race or of a run that prints its journal,
+/// or just the journal's text. `None` if the text has no journal. The only error is out of memory.
 ///
-/// It is exact: the journal that it returns is the text's, and it returns each journal that a text
+/// It is exact: the journal that it returns is the text's, and it returns any journal that a text
 /// has. So no text has two journals.
-pub fn journal_told(alloc: Global, text: &[u8]) -> Result<Option<Vec<Entry>>, AllocError>
+pub fn reported_journal(alloc: Global, text: &[u8]) -> Result<Option<Vec<Entry>>, AllocError>
     ensures reads { IfOk result (λ read. IfSome read
-        (λ entries. CanBeJournal entries.items × spec.TextTells text.now entries.items)) }
+        (λ entries. CanBeJournal entries.items × spec.TextReports text.now entries.items)) }
     ensures whole { IfOk result (λ read. (entries : List AnyEntry) → CanBeJournal entries
-        → spec.TextTells text.now entries →
+        → spec.TextReports text.now entries →
         option_map (λ v. v.items) read ≡ Some entries) }
 {
     match from_last_j(text) {

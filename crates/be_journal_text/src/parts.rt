@@ -1,12 +1,12 @@
 //! Where a part of an entry's line ends.
 //!
-//! The parts of a line are parted by single bytes: a blank, `>`, `;` and the LF. A name or a text
-//! in quotes may have each of them too, so a part ends at the first such byte outside quotes.
+//! The parts of a line are separated by single bytes: a blank, `>`, `;` and LF. Names and texts in
+//! quotes may contain these bytes too, so a part ends at the first such byte outside quotes.
 ghost use Rattle.std.specs.Prelude.{◌≡◌, ◌≤◌, ◌<◌, ◌-◌, ◌↔◌, ◌++◌, ◌∷◌, [], ℕ, List, true, drop};
 ghost use Rattle.std.specs.Prelude.{take, length, nat_eq, if◌then◌else◌};
 ghost use Rattle.be_journal_text.specs.Parts as spec;
 
-/// Whether a byte is in quotes.
+/// Whether the next byte is in quotes.
 #[derive(Clone, Copy, Debug, PartialEq, Eq)]
 pub enum Quoting {
     Outside,
@@ -15,7 +15,7 @@ pub enum Quoting {
     Escaped,
 }
 
-/// Whether the byte after this one is in quotes.
+/// The state after this byte.
 fn beyond(quoting: Quoting, byte: u8) -> Quoting
     ensures outside { quoting ≡ Quoting.Outside → result
         ≡ (if nat_eq byte 34 then Quoting.Inside else Quoting.Outside) }
@@ -54,7 +54,7 @@ fn is_end(end: u8, quoting: Quoting, byte: u8) -> bool
     }
 }
 
-/// How many bytes come before the first `end` outside quotes; all if there is none.
+/// The number of bytes before the first `end` outside quotes, or of all bytes if there is none.
 fn length_to(end: u8, text: &[u8]) -> usize
     ensures ends { (part more : List ℕ) → spec.IsLinePart end part → text.now ≡ part ++ end ∷ more
         → result ≡ length part }
@@ -75,7 +75,7 @@ fn length_to(end: u8, text: &[u8]) -> usize
     count
 }
 
-/// The text without so many bytes at its front.
+/// The text without its first `count` bytes.
 pub fn skip(count: usize, text: &[u8]) -> &[u8]
     ensures { result.now ≡ drop count text.now }
 {
@@ -86,8 +86,8 @@ pub fn skip(count: usize, text: &[u8]) -> &[u8]
     }
 }
 
-/// What comes before the first `end` outside quotes, and what follows that `end`; all and nothing
-/// if there is none.
+/// The text before the first `end` outside quotes, and the text after that `end`. If there is none,
+/// the whole text and an empty one.
 pub fn split_around(end: u8, text: &[u8]) -> (&[u8], &[u8])
     ensures ends { (part more : List ℕ) → spec.IsLinePart end part → text.now ≡ part ++ end ∷ more
         → (result.0.now ≡ part) × (result.1.now ≡ more) }

@@ -1,5 +1,5 @@
-//! What is at hand is such of the program: a contract can't tell of a number or an operation that
-//! it is lent that it is in its type's range. Each function does nothing; its contract says so.
+//! Borrowed numbers and operations are in the range of their types, which a contract can't conclude
+//! by itself. Each function does nothing; its contract is the fact.
 ghost use Rattle.std.specs.Prelude.{◌<◌, ◌^◌, All};
 ghost use Rattle.be_journal_text.specs.History as history;
 
@@ -25,8 +25,8 @@ fn value_has_bytes(value: &Value)
     }
 }
 
-/// A law of one operation: it is one of the program, as a contract can't tell of an operation that
-/// it is lent. It does nothing.
+/// A law about a borrowed operation: it is one that the program can make. The function does
+/// nothing.
 fn op_can_be(op: &Op)
     ensures { history.CanBeOp op.now }
 {
@@ -43,7 +43,7 @@ fn op_can_be(op: &Op)
     }
 }
 
-/// The same of operations.
+/// The same for operations.
 pub fn ops_can_be(ops: &[Op])
     ensures { All history.CanBeOp ops.now }
 {
@@ -63,8 +63,8 @@ fn done_can_be(done: &Done)
     }
 }
 
-/// The same of answers.
-pub fn dones_can_be(dones: &[Done])
+/// The same for outcomes.
+pub fn outcomes_can_be(dones: &[Done])
     ensures { All history.CanBeDone dones.now }
 {
     for done in dones {

@@ -1,7 +1,7 @@
-//! The script that makes a journal's volume again, and not its history.
+//! The script that makes a journal's volume, but not its history.
 //!
 //! The journal is replayed on a plain volume, and the operations that make this volume are written
-//! list by list. Whatever the journal was, the script has no more writes than it.
+//! list by list. For any journal, the script has at most as many writes as the journal.
 ghost use Rattle.std.specs.Option.{option_map};
 ghost use Rattle.std.specs.Prelude.{◌≡◌, ◌<◌, ◌++◌, [], All, IfOk, OnOk, length, true, false};
 ghost use Rattle.std.specs.String.{string_bytes};
@@ -13,14 +13,14 @@ ghost use Rattle.be_journal_text.specs.Finding.{AreChecked};
 ghost use Rattle.be_journal_text.specs.History.{CanBeOp};
 
 use crate::dumps::write_text;
-use crate::outputs::journal_told;
+use crate::outputs::reported_journal;
 use crate::ranges::ops_can_be;
 use be_journal::{Entry, replay};
 use be_volume::{Op, Volume};
 use be_volume_state::{Place, WholeVolume, next_list, whole_volume};
 use std::alloc::{AllocError, Global};
 
-/// Appends the lines of one write, whose operations are such of the program.
+/// Appends the lines of one write, and proves that the program can make its operations.
 pub fn push_write(alloc: Global, text: &mut String, ops: &[Op]) -> Result<(), AllocError>
     ensures text { OnOk result (string_bytes text.new ≡ string_bytes text.old
         ++ spec.write_lines ops.now) }
@@ -30,7 +30,7 @@ pub fn push_write(alloc: Global, text: &mut String, ops: &[Op]) -> Result<(), Al
     text.push_str(write_text(alloc, ops)?.as_str())
 }
 
-/// Appends the lines of the next list of a volume's operations. False if none was left.
+/// Appends the lines of the next list of a volume's operations. False if none is left.
 fn push_next(
     alloc: Global,
     whole: &mut WholeVolume<'_>,
@@ -53,8 +53,8 @@ fn push_next(
     Ok(true)
 }
 
-/// The script that makes a volume, and not its history: what `dump_state` gives of a journal that
-/// makes this volume. The only error is out of memory.
+/// The script that makes a volume, but not its history: the one that `dump_state` returns for a
+/// journal of this volume. The only error is out of memory.
 pub fn volume_text(alloc: Global, volume: &Volume) -> Result<String, AllocError>
     ensures text { IfOk result (λ text. string_bytes text ≡ spec.state_dump volume.now) }
     ensures can { OnOk result (All CanBeOp (state_ops volume.now)) }
@@ -77,17 +77,17 @@ fn entries_text(alloc: Global, entries: &[Entry]) -> Result<String, AllocError>
     volume_text(alloc, &volume)
 }
 
-/// The script that makes the volume of a text's journal, and not its history: nodes with their
-/// numbers, attributes and indices with the pairs that they have, in batches of 64 operations. None
-/// if the text has no journal. The only error is out of memory.
+/// The script that makes the volume of a text's journal, but not its history. It makes nodes with
+/// their numbers, attributes, and indices with their pairs, in batches of 64 operations. `None` if
+/// the text has no journal. The only error is out of memory.
 ///
-/// An entry that the volume refuses, as only a wrong journal has one, changes nothing. What the
-/// script makes is be_script_runner's law `state_dump_makes_volume`. It costs what the entries
-/// change, and then what be_volume_state's `next_list` says.
+/// If the volume refuses an entry, which happens only in a wrong journal, that entry changes
+/// nothing. be_script_runner's law `state_dump_makes_volume` says what the script makes. It costs
+/// as much as the entries' changes, and then what be_volume_state's `next_list` says.
 pub fn dump_state(alloc: Global, text: &[u8]) -> Result<Option<String>, AllocError>
     ensures { IfOk result (λ script. spec.IsStateDump text.now (option_map string_bytes script)) }
 {
-    let Some(entries) = journal_told(alloc, text)? else {
+    let Some(entries) = reported_journal(alloc, text)? else {
         return Ok(None);
     };
     let script = entries_text(alloc, &entries)?;

@@ -1,6 +1,6 @@
-//! Worked examples of journals that are read back, by public calls.
+//! Worked examples of reading journals back, by public calls.
 //!
-//! They are in a crate of their own, so that be_journal_text isn't proved a second time with them.
+//! They have a crate of their own, so that be_journal_text isn't proved a second time with them.
 #![tactic(auto)]
 
 #[cfg(test)]

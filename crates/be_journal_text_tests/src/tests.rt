@@ -1,15 +1,15 @@
-//! Texts of journals, as docs/SCRIPTS.md shows them: what is read, what isn't, what a check finds,
+//! Texts of journals, as in docs/SCRIPTS.md: which are read and which aren't, what a check finds,
 //! and the script of a journal.
 //!
-//! Every test passes with any one request for memory refused: a call that ran out of memory is made
-//! again.
+//! Every test passes even if any one request for memory is refused: a call that runs out of memory
+//! is repeated.
 use be_journal::{Entry, entry_line};
-use be_journal_text::{Finding, check, dump, dump_state, journal_told, read_journal};
+use be_journal_text::{Finding, check, dump, dump_state, read_journal, reported_journal};
 use std::alloc::{AllocError, Global};
 use std::test::Fail;
 
-/// Entries of each operation and of each kind of value, with what looks like the end of a part in
-/// names and texts.
+/// Entries with each operation and each kind of value. Their names and texts contain what looks
+/// like the end of a part.
 const EACH: &str = "\
 1 by 0 new -> node 1\n\
 2 by 63 set 1 \"a -> b; c\\\"\\\\\\n\\r\" CSTR \"; > \\\" -> ok\" -> ok\n\
@@ -19,7 +19,7 @@ const EACH: &str = "\
 6 by 2 mkindex \"l\" LONG -> ok\n\
 7 by 2 unset 1 \"l\"; drop 2; rmindex \"l\" -> ok; ok; ok\n";
 
-/// What the dump of these entries is.
+/// The dump of these entries.
 const EACH_DUMPED: &str = "\
 new\n\
 set 1 \"a -> b; c\\\"\\\\\\n\\r\" CSTR \"; > \\\" -> ok\"\n\
@@ -29,7 +29,7 @@ begin\nset 1 \"é\" MIMS \"text/plain\"\nset 1 \"r\" RAWT \"00ff\"\nnew\ncommit\
 mkindex \"l\" LONG\n\
 begin\nunset 1 \"l\"\ndrop 2\nrmindex \"l\"\ncommit\n";
 
-/// What makes their last state: attributes by the bytes of their names, and no index.
+/// The script of their last state: attributes in order of their names' bytes, and no index.
 const EACH_STATE: &str = "\
 begin\n\
 new\n\
@@ -43,13 +43,13 @@ new\n\
 drop 2\n\
 commit\n";
 
-/// A journal with an attribute that is outside of its index, and one that isn't.
+/// A journal with an attribute that isn't in its index, and one that is.
 const OUTSIDE: &str = "\
 1 by 0 new; set 1 \"k\" LONG 5; mkindex \"k\" LONG -> node 1; ok; ok\n\
 2 by 1 mkindex \"j\" LONG -> ok\n\
 3 by 0 set 1 \"j\" LONG 6 -> ok\n";
 
-/// What makes its last state.
+/// The script of its last state.
 const OUTSIDE_STATE: &str = "\
 begin\n\
 new\n\
@@ -59,7 +59,7 @@ mkindex \"k\" LONG\n\
 set 1 \"j\" LONG 6\n\
 commit\n";
 
-/// The entries of a text; asked once more if memory ran out.
+/// The entries of a text. If memory ran out, it is read again.
 fn read(alloc: Global, text: &str) -> Result<Option<Vec<Entry>>, AllocError> {
     match read_journal(alloc, text.as_bytes()) {
         Ok(read) => Ok(read),
@@ -67,10 +67,10 @@ fn read(alloc: Global, text: &str) -> Result<Option<Vec<Entry>>, AllocError> {
     }
 }
 
-fn told(alloc: Global, text: &str) -> Result<Option<Vec<Entry>>, AllocError> {
-    match journal_told(alloc, text.as_bytes()) {
+fn reported(alloc: Global, text: &str) -> Result<Option<Vec<Entry>>, AllocError> {
+    match reported_journal(alloc, text.as_bytes()) {
         Ok(read) => Ok(read),
-        Err(_) => journal_told(alloc, text.as_bytes()),
+        Err(_) => reported_journal(alloc, text.as_bytes()),
     }
 }
 
@@ -124,7 +124,7 @@ fn texts_are_read(rt: HostRuntime) -> Result<(), Fail> {
     Ok(())
 }
 
-/// Texts that no journal has, each a small change of one.
+/// Texts that no journal has, each almost a journal's text.
 #[test]
 fn other_texts_are_not(rt: HostRuntime) -> Result<(), Fail> {
     let alloc = rt.alloc();
@@ -162,9 +162,9 @@ fn other_texts_are_not(rt: HostRuntime) -> Result<(), Fail> {
     Ok(())
 }
 
-/// What comes before the last `journal N` doesn't matter, and what comes after it does.
+/// The text before the last `journal N` doesn't matter, but the text after it does.
 #[test]
-fn results_are_told(rt: HostRuntime) -> Result<(), Fail> {
+fn results_are_reported(rt: HostRuntime) -> Result<(), Fail> {
     let alloc = rt.alloc();
     for (text, count) in [
         ("", Some(0)),
@@ -185,7 +185,7 @@ fn results_are_told(rt: HostRuntime) -> Result<(), Fail> {
         ("journal 0\n1 by 0 new -> node 1\nreplay ok\n", None),
         ("okjournal 0\nreplay ok\n", None),
     ] {
-        let read = told(alloc, text)?;
+        let read = reported(alloc, text)?;
         let found = match &read {
             Some(entries) => Some(entries.len()),
             None => None,
@@ -195,7 +195,7 @@ fn results_are_told(rt: HostRuntime) -> Result<(), Fail> {
     Ok(())
 }
 
-/// What a finding prints, and how many entries it counts.
+/// What a finding prints, and the number of entries in it.
 fn shown(found: &Finding) -> (&str, u64) {
     match found {
         Finding::NoJournal => ("no journal", 0),
@@ -204,7 +204,7 @@ fn shown(found: &Finding) -> (&str, u64) {
     }
 }
 
-/// Each text has this finding: no journal, right, or the first wrong line; and this number of
+/// Each text has this finding (no journal, right, or the first wrong line), and this number of
 /// entries.
 #[test]
 fn journals_are_checked(rt: HostRuntime) -> Result<(), Fail> {
@@ -226,8 +226,8 @@ fn journals_are_checked(rt: HostRuntime) -> Result<(), Fail> {
         ),
     ] {
         let found = checked(alloc, text)?;
-        let (told, counted) = shown(&found);
-        assert_eq!(rt; told, expected);
+        let (reported, counted) = shown(&found);
+        assert_eq!(rt; reported, expected);
         assert_eq!(rt; counted, count);
     }
     Ok(())
@@ -244,7 +244,7 @@ fn journals_are_dumped(rt: HostRuntime) -> Result<(), Fail> {
     Ok(())
 }
 
-/// Fails unless this is the script of a text's state, or none.
+/// Fails unless this is the script of a text's state, or there is none.
 fn check_state(alloc: Global, text: &str, expected: Option<&str>) -> Result<(), Fail> {
     let script = state_dumped(alloc, text)?;
     match (&script, expected) {
@@ -254,7 +254,7 @@ fn check_state(alloc: Global, text: &str, expected: Option<&str>) -> Result<(), 
     }
 }
 
-/// A refused entry changes nothing, and answers aren't looked at.
+/// A refused entry changes nothing, and outcomes aren't checked.
 #[test]
 fn states_are_dumped(rt: HostRuntime) -> Result<(), Fail> {
     let alloc = rt.alloc();
@@ -271,8 +271,8 @@ fn states_are_dumped(rt: HostRuntime) -> Result<(), Fail> {
     Ok(())
 }
 
-/// A journal of so many nodes.
-fn nodes_told(alloc: Global, count: u64) -> Result<String, AllocError> {
+/// The text of a journal with this many nodes.
+fn journal_of_nodes(alloc: Global, count: u64) -> Result<String, AllocError> {
     let mut text = String::new(alloc);
     for n in 1..=count {
         text.push_str(format!(in alloc; "{n} by 0 new -> node {n}\n")?.as_str())?;
@@ -280,7 +280,8 @@ fn nodes_told(alloc: Global, count: u64) -> Result<String, AllocError> {
     Ok(text)
 }
 
-/// The script of their state: a batch for each 64, and one for the rest if it is more than one.
+/// The script of their state: a batch for each 64 nodes, and one for the rest if that is more than
+/// one.
 fn nodes_dumped(alloc: Global, count: u64) -> Result<String, AllocError> {
     let mut text = String::new(alloc);
     for n in 1..=count {
@@ -296,19 +297,19 @@ fn nodes_dumped(alloc: Global, count: u64) -> Result<String, AllocError> {
 }
 
 fn texts_of_nodes(alloc: Global, count: u64) -> Result<(String, String), AllocError> {
-    Ok((nodes_told(alloc, count)?, nodes_dumped(alloc, count)?))
+    Ok((journal_of_nodes(alloc, count)?, nodes_dumped(alloc, count)?))
 }
 
-/// Lists at and beside their bound.
+/// Numbers of operations at and next to the maximum length of a list.
 #[test]
 fn states_of_many_lists(rt: HostRuntime) -> Result<(), Fail> {
     let alloc = rt.alloc();
     for count in [2, 63, 64, 65, 66, 128, 129] {
-        let (told, dumped) = match texts_of_nodes(alloc, count) {
+        let (reported, dumped) = match texts_of_nodes(alloc, count) {
             Ok(texts) => texts,
             Err(_) => texts_of_nodes(alloc, count)?,
         };
-        check_state(alloc, told.as_str(), Some(dumped.as_str()))?;
+        check_state(alloc, reported.as_str(), Some(dumped.as_str()))?;
     }
     Ok(())
 }

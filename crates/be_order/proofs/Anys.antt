@@ -1,4 +1,5 @@
--- Any few nodes of a query that a range decides, by a walk over as many keys; and nodes in the order of an index, each once.
+-- Any few nodes of a query that a range decides, by a walk over as many keys. Also: in the order of an index, each node comes
+-- once.
 use Rattle.std.proofs.Common.{◌≡◌, ◌≢◌, ◌<◌, ℕ, suc, Bool, true, false, ◌&&◌, List, [], ◌∷◌, refl, sym, ap, ◌∙◌, subst, arith, Some, None, take, length, get_or, min}
 use Rattle.std.specs.Prelude.{T, slice_index}
 use Rattle.std.proofs.lemmas.Cmp.{eq_by_cmp_equiv, nat_cmp_total}
@@ -59,13 +60,13 @@ less Greater p = absurd p
 later : {X : Type 0} (y : X) (xs : List X) (x : X) → Contains xs x → Contains (y ∷ xs) x
 later y xs x h = (suc h.0, omega (arith, h.1), h.2)
 
--- comparisons that are all on one name are all on no other
+-- comparisons that are all on one name aren't all on another
 pub one_name : (f : Formula) (a b : List ℕ) → AreAllOn f a → AreAllOn f b → a ≡ b
 one_name (Leaf own op literal) a b p q = sym p ∙ q
 one_name (And f g) a b p q = one_name f a b p.0 q.0
 one_name (Or f g) a b p q = absurd p
 
--- what is true of a node by comparisons on one name sees a value there
+-- if comparisons on one name are true of a node, it has a value there
 seen_true : (s : State) (f : Formula) (name : List ℕ) (n : ℕ) → AreAllOn f name → sat s f n ≡ true → (value : Value) × (sees s n name ≡ Some value)
 seen_true s (Leaf own op literal) name n on h = at (sees s n own) refl h
   where
@@ -83,13 +84,13 @@ below_no_other x (y ∷ ys) h = (by (same_node x y) refl, below_no_other x ys (�
     by true e = let same : x ≡ y = the_same x y e in let lt : x < y = h y (in_by_place (y ∷ ys) y (0, omega arith, refl)) in absurd (omega arith)
     by false e = e
 
--- numbers that rise are each there once
+-- numbers that ascend are each there once
 rises_once : (xs : List ℕ) → Rises xs → IsDistinct same_node xs
 unfolding IsDistinct
 rises_once [] r = tt
 rises_once (x ∷ xs) r = (below_no_other x xs r.0, rises_once xs r.1)
 
--- nodes with none twice are apart by their places
+-- nodes without repetition differ from place to place
 pub places_apart : (ns : List ℕ) → IsDistinct same_node ns → (i j : ℕ) → i < j → j < length ns → slice_index ns i ≢ slice_index ns j
 places_apart ns once i j less below same =
     let apart : same_node (get_or ns i 0) (get_or ns j 0) ≡ false = apart_from_distinct same_node ns i j 0 once less below in
@@ -97,7 +98,7 @@ places_apart ns once i j less below same =
     cc
 
 module _ (s : State) (by : List ℕ) (descending : Bool) where
-  -- the key is that of what is seen of the node
+  -- the key is that of the value seen at the node
   abbrev pub Keyed : List ℕ → ℕ → Type 0
   Keyed k n = (value : Value) × (sees s n by ≡ Some value) × (k ≡ key value n)
 
@@ -183,6 +184,6 @@ module _ (s : State) (sound : IsSound s) (f : Formula) (by : List ℕ) (kind : K
       count = nodes_length es ∙ ap length front ∙ length_take most rest ∙ ap (min most) as_many;
     }
 
-    -- the nodes that the walk found are any few of the scan
+    -- the nodes that the walk found are any few of the scan's
     pub any_walked : (found : List ℕ) → found ≡ nodes_of es → IsAnyOf (scan s f) most found
     any_walked found found_is = subst (IsAnyOf (scan s f) most) (sym found_is) few

@@ -1,4 +1,4 @@
--- What the filter of a list has.
+-- What a filtered list contains.
 use Rattle.std.proofs.Common.{◌≡◌, ℕ, zero, suc, Bool, true, false, ◌&&◌, cond, List, [], ◌∷◌, refl, sym, ap, ◌∙◌, subst, arith, filter}
 use Rattle.std.specs.Prelude.{T}
 use Rattle.std.specs.List.{Contains}
@@ -27,7 +27,7 @@ module _ {X : Type 0} (p : X → Bool) where
       by true r = (suc r.0, omega (arith, r.1), r.2)
       by false r = r
 
-  -- a test that passes all that another passes, after that other one, and before it
+  -- filtering first by a weaker test doesn't change the result
   pub filter_twice : (q : X → Bool) → ((x : X) → p x ≡ true → q x ≡ true) → (xs : List X) → filter p (filter q xs) ≡ filter p xs
   filter_twice q more [] = refl
   filter_twice q more (x ∷ xs) = by (p x) (q x) refl refl (filter_twice q more xs)

@@ -1,4 +1,4 @@
--- The first of a list in order: what comes before all others, and is there.
+-- The first entries of an ordered list: what comes before all others, and is in it.
 use Rattle.std.proofs.Common.{◌≡◌, ◌⊎◌, ◌≤◌, ℕ, zero, suc, Bool, true, false, ◌&&◌, cond, List, [], ◌∷◌, refl, sym, ap, ◌∙◌, arith, Some, None, inl, inr, take, length}
 use Rattle.std.specs.Prelude.{T}
 use Rattle.std.proofs.lemmas.Option.{same_Some}
@@ -60,7 +60,7 @@ module _ (descending : Bool) where
   at_first : (e : List ℕ × ℕ) (es : List (List ℕ × ℕ)) → at e.0 (e ∷ es) ≡ Some e.1
   at_first e es = ap (λ b. cond b (Some e.1) (at e.0 es)) (is_itself descending e.0)
 
-  -- what is found behind the first has another key
+  -- whatever is found after the first entry has another key
   apart : (q : List ℕ) (e : List ℕ × ℕ) (es : List (List ℕ × ℕ)) (n : ℕ) → T (below_all R e.0 es) → at q es ≡ Some n → eq_by_cmp R q e.0 ≡ false
   apart q e es n below found = by (eq_by_cmp R q e.0) refl
     where
@@ -80,7 +80,7 @@ module _ (descending : Bool) where
           (0, omega arith, pair)
       by false is f more = let later : Contains es (q, n) = more f in (suc later.0, omega (arith, later.1), later.2)
 
-  -- an entry behind others has a key above theirs
+  -- an entry after others has a key above theirs
   below_at : (x q : List ℕ) (n : ℕ) (es : List (List ℕ × ℕ)) → T (below_all R x es) → Contains es (q, n) → R x q ≡ Less
   below_at x q n [] h (k, below, is) = absurd (omega arith)
   below_at x q n (e ∷ es) h (zero, below, is) = let same : e.0 ≡ q = ap (λ (p : List ℕ × ℕ). p.0) is in ap (R x) (sym same) ∙ less _ (first _ _ h)
@@ -105,7 +105,7 @@ module _ (descending : Bool) where
   sorted_keys [] h = tt
   sorted_keys (e ∷ es) h = both _ _ (below_keys e.0 es h.0) (sorted_keys es h.1)
 
-  -- each of one list is in the other, and what is in the other alone comes after `most` of the first
+  -- each entry of one list is in the other; entries only in the other come after the first list's `most`
   abbrev Among : List (List ℕ × ℕ) → List (List ℕ × ℕ) → Type 0
   Among es ys = (q : List ℕ) (n : ℕ) → at q es ≡ Some n → at q ys ≡ Some n
 

@@ -1,4 +1,4 @@
--- An index in its order, and the nodes of it of which a query is true.
+-- An index in its order, and those of its nodes of which a query is true.
 use Rattle.std.proofs.Common.{◌≡◌, ◌⊎◌, ◌<◌, ◌+◌, ℕ, zero, suc, Bool, true, false, cond, List, [], ◌∷◌, ◌++◌, ◌&&◌, not, refl, sym, ap, ◌∙◌, subst, arith, Some, None, inl, inr, take, drop, length, filter, length-append, append-nil, append_assoc, nat_lt, min, if◌then◌else◌}
 use Rattle.std.specs.Prelude.{T}
 use Rattle.std.specs.List.{Contains, flat_map}
@@ -57,7 +57,7 @@ second_false a false e = refl
 second_false false true e = cc
 second_false true true e = cc
 
--- the two ways to say that a key lies in a range
+-- the two ways to say that a key lies in a range agree
 lies_within : (low : List ℕ) (high : Option (List ℕ)) (k : List ℕ) → Within low high k → is_within low high k ≡ true
 lies_within low high k w = both_false (is_lt (name_cmp k low)) (is_above high k) w.from_low w.to_high
 
@@ -135,7 +135,7 @@ module _ (s : State) (sound : IsSound s) (by : List ℕ) (kind : Kind) (is : ind
             ap (λ l. cursor_at cursor (keys_of l)) some.2 ∙ ap (cursor_at cursor) (keys_append init (e ∷ [])) ∙ cursor_last cursor (keys_of init) e.0
             ∙ ap (λ l. Some l) one.3 ∙ sym (ap (option_map (λ value. key value e.1)) one.2) ∙ sym (moves e.1 (nodes_of init) ends)
 
-  -- an entry of the answer is one of the index
+  -- an entry of the answer is an entry of the index
   of_answer : (cursor : Option (List ℕ)) (p : ℕ → Bool) (e : List ℕ × ℕ) → Contains (rest_of cursor (filter p nodes_all)) e → IsOneOf s sound by kind is descending nodes_all e.0 e.1
   of_answer cursor p e h =
       let one = (there_is cursor (filter p nodes_all) e.0 e.1 (at_contained descending e.0 e.1 (rest_of cursor (filter p nodes_all)) (sorted_rest cursor (filter p nodes_all)) h)).1 in
@@ -155,7 +155,7 @@ module _ (s : State) (sound : IsSound s) (by : List ℕ) (kind : Kind) (is : ind
     sorted_ahead cursor = is_sorted-where_key (key_cmp descending) (is_after descending cursor) held
         (sorted_filter descending in_range (in_order s by descending nodes_all) (fin.entries_sorted (fin.from_entries {R = key_cmp descending} (flat_map (keyed s by) nodes_all))))
 
-    -- the entries of the range after the cursor are pairs of the index, and all of them
+    -- the range's entries after the cursor are exactly the index's pairs there
     held_is : (cursor : Option (List ℕ)) (e : List ℕ × ℕ) → Contains (ahead_of cursor) e →
         (is_after descending cursor e.0 ≡ true) × (is_within low high e.0 ≡ true) × IsOneOf s sound by kind is descending nodes_all e.0 e.1
     held_is cursor e h =
@@ -172,7 +172,7 @@ module _ (s : State) (sound : IsSound s) (by : List ℕ) (kind : Kind) (is : ind
         let all = from_filter Passes (in_order s by descending nodes_all) (q, n) there in
         in_filter Passes held (q, n) (in_filter in_range (in_order s by descending nodes_all) (q, n) all.0 w) e
 
-    -- the two ways to say that an entry of the range comes after the cursor
+    -- the two ways to say that an entry of the range comes after the cursor agree
     entry_held : (cursor : Option (List ℕ)) (q : List ℕ) (n : ℕ) → IsEntry s by low high q n → is_after descending cursor q ≡ true → Contains (ahead_of cursor) (q, n)
     entry_held cursor q n e after =
         let k = e.is_key in
@@ -207,7 +207,7 @@ module _ (s : State) (sound : IsSound s) (by : List ℕ) (kind : Kind) (is : ind
       pub walked_index : es ≡ take most (ahead_of cursor)
       walked_index = first_are descending most es (ahead_of cursor) (sorted_keys descending es firsts.rising) (sorted_ahead cursor) among reaches firsts.few
 
-    -- a walk that tests its keys finds the front of those of which what is left is true
+    -- a walk that tests its keys finds the first nodes of which the rest of the query is true
     module _ (test : KeyTest) (left : Formula) (is_for : IsTestFor s by test left) (cursor : Option (List ℕ)) (most : ℕ) (got : List ℕ)
         (walked : HasWalked (IsPassing s by low high test) descending cursor (suc most) [] got) where
       abbrev is_true : List ℕ × ℕ → Bool
@@ -262,7 +262,7 @@ module _ (s : State) (sound : IsSound s) (by : List ℕ) (kind : Kind) (is : ind
         let k = key_of_seen s sound by kind is e.0.1 one.0 one.2 in
         (key one.0 e.0.1, k.0, k.1 ∙ e.2)
 
-    -- the entries of the range of whose nodes what is left is true are the whole answer
+    -- the range's entries of whose nodes the rest is true are the whole answer
     module _ (f left : Formula) (bounding : Bounding f by kind low high (Some left)) (cursor : Option (List ℕ)) where
       abbrev passes : List ℕ × ℕ → Bool
       passes e = sat s left e.1

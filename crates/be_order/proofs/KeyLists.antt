@@ -1,4 +1,4 @@
--- Keys in the order of an index: lists in that order with the same members are equal.
+-- Keys in the order of an index: ordered lists with the same members are equal.
 use Rattle.std.proofs.Common.{◌≡◌, ℕ, zero, suc, Bool, true, false, ◌&&◌, ◌||◌, cond, List, [], ◌∷◌, refl, sym, ap, ◌∙◌, arith, Some, None, is_some, map, unwrap_or}
 use Rattle.std.specs.Prelude.{T}
 use Rattle.std.specs.List.{Contains, list_any, AllByRecursion}
@@ -119,7 +119,7 @@ module _ (descending : Bool) where
         ∙ ap (λ (o : Option ℕ). cond (in_reach q) o None) (sym (fin.get-from_entries (key_total descending) es q) ∙ fin.get-entries ranked q)
         ∙ sym (find-where_key (key_cmp descending) in_reach q (alike q) (fin.entries ranked))
 
-    -- what is found of an answer in order after the cursor
+    -- what is found after the cursor in an ordered answer
     pub found_after : (q : List ℕ) → find (key_cmp descending) q (after descending cursor (fin.entries (fin.from_entries {R = key_cmp descending} es))) ≡
         cond (in_reach q) (find (key_cmp descending) q es) None
     found_after q = find-where_key (key_cmp descending) in_reach q (alike q) (fin.entries ranked)
@@ -131,7 +131,7 @@ module _ (descending : Bool) where
       found_in q (Some n) e = ap (λ b. cond b (Some (node_for left q)) None) (members q ∙ sym (is_some-find (key_cmp descending) q left) ∙ ap is_some e)
           ∙ ap (λ (o : Option ℕ). Some (unwrap_or o 0)) e ∙ sym e
 
-      -- keys in order, those of a list and no others, are its entries in order
+      -- ordered keys that are exactly those of a list are its entries in order
       pub in_order_is : IsStrictlySortedBy (key_cmp descending) ks →
           with_nodes (node_for left) ks ≡ after descending cursor (fin.entries (fin.from_entries {R = key_cmp descending} es))
       in_order_is sorted =

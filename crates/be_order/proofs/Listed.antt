@@ -1,4 +1,4 @@
--- A list of all nodes of which a formula is true, and a look into it.
+-- A list of all nodes of which a formula is true, and lookups in it.
 use Rattle.std.proofs.Common.{◌≡◌, ◌⊎◌, inl, inr, nat_cmp, ◌<◌, ◌≤◌, ◌+◌, ◌-◌, ℕ, zero, suc, Bool, true, false, List, [], refl, sym, ap, ◌∙◌, subst, arith, Some, None, Ok, Err, filter, is_ok, get_or, length, if◌then◌else◌}
 use Rattle.std.proofs.lemmas.List.Sorted.{searched}
 use Rattle.std.proofs.lemmas.List.{get_or_default}

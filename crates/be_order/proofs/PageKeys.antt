@@ -1,4 +1,4 @@
--- The keys of a page: what is made of the nodes of an answer.
+-- A page's keys: what becomes of an answer's nodes.
 use Rattle.std.proofs.Common.{◌≡◌, ◌<◌, ◌≤◌, ◌^◌, ℕ, zero, suc, Bool, true, false, cond, ◌||◌, List, [], ◌∷◌, ◌++◌, refl, sym, ap, ◌∙◌, subst, arith, Some, None, map, unwrap_or, take, length, length-append, nat_lt, nat_eq, append-nil}
 use Rattle.std.specs.List.{Contains, AllByRecursion, flat_map, dedup}
 use Rattle.std.specs.List.Retain.{IsFiltered, DiffersFromLast}
@@ -74,7 +74,7 @@ ties : (descending : Bool) (a b : ArrayVec ℕ) → same_bytes a b ≡ eq_by_cmp
 ties true a b = nat_list_eq_equiv.symm a.items b.items ∙ texts_ties b.items a.items
 ties false a b = texts_ties a.items b.items
 
--- what is sorted and then has each key once
+-- keys that are sorted and then freed of repetitions
 module _ (descending : Bool) (xs ys zs : List (ArrayVec ℕ)) (moved : IsPermutation xs ys)
     (up : IsSortedBy (λ (x : ArrayVec ℕ) (y : ArrayVec ℕ). is_lt (key_cmp descending x.items y.items)) ys) (left : IsFiltered (DiffersFromLast same_bytes) [] ys zs) where
   once : zs ≡ dedup same_bytes ys
@@ -98,7 +98,7 @@ module _ (descending : Bool) (xs ys zs : List (ArrayVec ℕ)) (moved : IsPermuta
       let there : Contains ys found.0 = Contains-from_dedup same_bytes ys found.0 (subst (λ l. Contains l found.0) once found.1) in
       subst (Contains (bytes_of xs)) found.2 (contains_mapped (λ (v : ArrayVec ℕ). v.items) xs found.0 (Contains-permutation ys xs found.0 (IsPermutation-sym xs ys moved) there))
 
--- a node that has no attribute of the name has no pair in its index
+-- a node without an attribute of this name has no pair in the name's index
 pub seen_nothing : (s : State) → IsSound s → (name : List ℕ) (node : ℕ) → attribute s node name ≡ None → None ≡ sees s node name
 seen_nothing s sound name node is = by (fin.get s.indices name) refl
   where
@@ -121,7 +121,7 @@ abbrev pub bytes_if : Option (ArrayVec ℕ) → Option (List ℕ)
 bytes_if = option_map (λ (k : ArrayVec ℕ). k.items)
 
 module _ (s : State) (by : List ℕ) where
-  -- a node's entry, from the key that was found for it
+  -- a node's entry, from the key found for it
   keyed_by : (node : ℕ) (found : Option (ArrayVec ℕ)) → bytes_if found ≡ option_map (λ value. key value node) (sees s node by) →
       keyed s by node ≡ option_map_or (entry node) (bytes_if found) []
   keyed_by node found e = at (sees s node by) ∙ ap (λ (o : Option (List ℕ)). option_map_or (entry node) o []) (sym e)
@@ -145,7 +145,7 @@ module _ (s : State) (by : List ℕ) where
         ∙ ap keys_of (filter-append (λ (e : List ℕ × ℕ). is_after descending cursor e.0) (flat_map (keyed s by) nodes) (keyed s by node))
         ∙ first_append (after descending cursor (flat_map (keyed s by) nodes)) (after descending cursor (keyed s by node))
 
-    -- the key of one node more
+    -- the key of one more node
     pub found_more : (nodes : List ℕ) (node : ℕ) (found : Option (ArrayVec ℕ)) → bytes_if found ≡ option_map (λ value. key value node) (sees s node by) →
         keys_for (nodes ++ node ∷ []) ≡ keys_for nodes ++ key_after descending cursor (bytes_if found)
     found_more nodes node found e =
@@ -248,7 +248,7 @@ contains_take (suc n) (x ∷ ks) k (suc i, below, is) =
     let later : Contains ks k = contains_take n ks k (i, omega arith, is) in
     (suc later.0, omega (arith, later.1), later.2)
 
--- the page that is made of the nodes of an answer, from the keys that they have after the cursor
+-- the page made from an answer's nodes, by the keys that they have after the cursor
 module _ (s : State) (sound : IsSound s) (by : List ℕ) (kind : Kind) (is : index_kind s by ≡ Some kind) (descending : Bool) (cursor : Option (List ℕ)) (nodes : List ℕ) (first last : List (ArrayVec ℕ))
     (keys : bytes_of first ≡ keys_of (after descending cursor (flat_map (keyed s by) nodes)))
     (keeps : (k : List ℕ) → Contains (bytes_of first) k → Contains (bytes_of last) k)
@@ -259,7 +259,7 @@ module _ (s : State) (sound : IsSound s) (by : List ℕ) (kind : Kind) (is : ind
   members : (k : List ℕ) → is_key_in descending k (bytes_of last) ≡ is_key_in descending k (keys_of left)
   members k = same_members descending (bytes_of last) (bytes_of first) only keeps k ∙ ap (is_key_in descending k) keys
 
-  -- each key ends with the node that it stands for
+  -- each key ends with the node that it belongs to
   pub last_ends : (k : List ℕ) → Contains (bytes_of last) k → EndsWith k (node_for descending left k)
   last_ends k h = node_ends descending left (ends_after descending cursor _ (ends_keyed s sound by kind is nodes)) k
       (sym (members k) ∙ is_in_contained descending (bytes_of last) k h)

@@ -1,4 +1,4 @@
--- A walk over an index in its order, whose range decides a query, finds the front of the answer.
+-- If an index's range decides a query, a walk over it in order finds the front of the answer.
 use Rattle.std.proofs.Common.{◌≡◌, ◌⊎◌, ◌<◌, ◌+◌, ◌^◌, ℕ, zero, suc, Bool, true, false, cond, List, [], ◌∷◌, ◌++◌, refl, sym, ap, ◌∙◌, subst, arith, Some, None, inl, inr, take, length, filter, IsTrue, if◌then◌else◌}
 use Rattle.std.specs.List.{Contains, flat_map}
 use Rattle.std.specs.Option.{option_map, option_map_or}
@@ -45,7 +45,7 @@ allowed s (And a b) name n value pick at on h seen = (
 )
 allowed s (Or a b) name n value pick at on h seen = absurd on
 
--- what a node has in an index is its attribute, of a kind that an index may have
+-- a node's value in an index is its attribute, which is of an indexable kind
 pub held_value : (s : State) → IsSound s → (by : List ℕ) (n : ℕ) → IsHeld s by n → (value : Value) × (attribute s n by ≡ Some value) × (sees s n by ≡ Some value) × IsTrue (is_indexable (kind_of value))
 held_value s sound by n held =
     let h = held.1 in
@@ -60,7 +60,7 @@ held_value s sound by n held =
     )
 
 module _ (s : State) (sound : IsSound s) (by : List ℕ) (kind : Kind) (is : index_kind s by ≡ Some kind) where
-  -- the key of what is seen of a node
+  -- the key of the value seen at a node
   pub key_of_seen : (n : ℕ) (value : Value) → sees s n by ≡ Some value → (h : IsKey s by (key value n)) × (h.node ≡ n) × IsPair kind value n
   key_of_seen n value seen = at (fin.get s.indices by) refl is seen
     where
@@ -75,7 +75,7 @@ module _ (s : State) (sound : IsSound s) (by : List ℕ) (kind : Kind) (is : ind
             record { is_value = p.is_value; kind_is = p.kind_is ∙ kinds; node_fits = p.node_fits },
           )
 
-  -- what is seen of the node of a key
+  -- the value seen at a key's node
   pub seen_of_key : (k : List ℕ) (h : IsKey s by k) → (sees s h.node by ≡ Some h.value) × (h.node < 2 ^ 64)
   seen_of_key k h =
       let p : IsPaired s by h.index.kind h.node h.value = sound.pairs by h.index h.node h.value h.there h.paired in
@@ -112,7 +112,7 @@ module _ (s : State) (sound : IsSound s) (by : List ℕ) (kind : Kind) (is : ind
     found_is [] q n h = cc
     found_is (m ∷ nodes) q n h = one_at m nodes q n (sees s m by) refl h (λ g. found_is nodes q n g)
 
-    -- and each of them is found
+    -- each of them is found
     module _ (n : ℕ) (value : Value) (seen : sees s n by ≡ Some value) where
       key_here : (m : ℕ) (w : Value) → sees s m by ≡ Some w → m ≡ n → eq_by_cmp R (key value n) (key w m) ≡ true
       key_here m w there same =
@@ -142,7 +142,7 @@ module _ (s : State) (sound : IsSound s) (by : List ℕ) (kind : Kind) (is : ind
       is_found (m ∷ nodes) (suc k, below, at) = found_seen m nodes (sees s m by) refl (inr (is_found nodes (k, omega arith, at)))
 
 module _ (s : State) (sound : IsSound s) (f : Formula) (by : List ℕ) (kind : Kind) (is : index_kind s by ≡ Some kind) (on : AreAllOn f by) (low : List ℕ) (high : Option (List ℕ)) (decides : Decides f kind low high) where
-  -- the nodes of the scan
+  -- the scan's nodes
   abbrev pub scanned : List ℕ
   scanned = filter (sat s f) (fin.keys s.nodes)
 

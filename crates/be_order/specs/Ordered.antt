@@ -1,8 +1,8 @@
 -- Answers in the order of an index, a page at a time.
 --
--- An index has a pair of a value and a node for each node that it holds. In its order pairs rise by
--- value, and those of one value by node. The bytes of their keys are in that order (`key_order` of
--- be_value), so keys stand for pairs here.
+-- An index has a pair (value, node) for each node that it holds. In its order, pairs ascend by
+-- value, and pairs of one value ascend by node. Their keys' bytes have the same order (`key_order`
+-- of be_value), so here keys stand for pairs.
 use Rattle.std.specs.Prelude.{◌≡◌, ℕ, ◌<◌, ◌^◌, Bool, true, List, [], ◌∷◌, ◌++◌, Some}
 use Rattle.std.specs.Prelude.{flat_map, filter, map as each, length, nat_lt, take, if◌then◌else◌}
 use Rattle.std.specs.FinMap as map
@@ -23,11 +23,11 @@ use Rattle.be_volume.specs.Maps.{name_cmp}
 use Rattle.be_volume.specs.Query.{has_index, scan, sees}
 use Rattle.be_volume.specs.Volume.{State}
 
--- keys by their bytes, or exactly the reverse
+-- compares keys by their bytes, or the reverse
 abbrev pub key_cmp : Bool → List ℕ → List ℕ → Ordering
 key_cmp descending a b = if descending then name_cmp b a else name_cmp a b
 
--- the node and the key of its pair in the index of that name; nothing if it has no pair there
+-- the node with the key of its pair in the name's index; nothing if it has no pair there
 abbrev pub keyed : State → List ℕ → ℕ → List (List ℕ × ℕ)
 keyed s by node = option_map_or (λ value. (key value node, node) ∷ []) (sees s node by) []
 
@@ -36,17 +36,17 @@ abbrev pub in_order : State → List ℕ → Bool → List ℕ → List (List �
 in_order s by descending nodes = map.entries
     (map.from_entries {R = key_cmp descending} (flat_map (keyed s by) nodes))
 
--- The whole answer: the nodes of the scan in the order of the index. Without an index of that name
--- there is none.
+-- The whole answer: the scan's nodes in the order of the index. If the name has no index, it is an
+-- error.
 abbrev pub ordered : State → Formula → List ℕ → Bool → Result (List (List ℕ × ℕ)) Refusal
 ordered s f by descending = if has_index s by
     then result_map_both (in_order s by descending) (λ e. e) (scan s f) else Err NoSuchIndex
 
--- the key comes strictly after the cursor; without a cursor each key does
+-- the key comes strictly after the cursor; without a cursor every key does
 abbrev pub is_after : Bool → Option (List ℕ) → List ℕ → Bool
 is_after descending cursor k = option_map_or (λ c. is_lt (key_cmp descending c k)) cursor true
 
--- A page of an answer: its nodes, whether others come after them, and the cursor to go on from.
+-- A page of an answer: its nodes, whether more come after them, and the cursor to continue from.
 pub record Page : Type 0 where
   pub nodes : List ℕ
   pub more : Bool
@@ -56,11 +56,11 @@ pub record Page : Type 0 where
 abbrev pub keys_of : List (List ℕ × ℕ) → List (List ℕ)
 keys_of es = each (λ e. e.0) es
 
--- and its nodes
+-- the nodes of an answer
 abbrev pub nodes_of : List (List ℕ × ℕ) → List ℕ
 nodes_of es = each (λ e. e.1) es
 
--- the last of the keys, and without one the cursor as it was
+-- the last of the keys, or the old cursor if there are none
 abbrev pub cursor_at : Option (List ℕ) → List (List ℕ) → Option (List ℕ)
 cursor_at cursor [] = cursor
 cursor_at cursor (k ∷ ks) = cursor_at (Some k) ks
@@ -69,7 +69,7 @@ cursor_at cursor (k ∷ ks) = cursor_at (Some k) ks
 abbrev pub after : Bool → Option (List ℕ) → List (List ℕ × ℕ) → List (List ℕ × ℕ)
 after descending cursor = filter (λ e. is_after descending cursor e.0)
 
--- the first of these, `most` at most
+-- the page of the first entries, at most `most`
 abbrev pub page_of : Option (List ℕ) → ℕ → List (List ℕ × ℕ) → Page
 page_of cursor most es = record {
   nodes = nodes_of (take most es);
@@ -82,7 +82,7 @@ abbrev pub page : State → Formula → List ℕ → Bool → Option (List ℕ) 
 page s f by descending cursor most = result_map_both
     (λ es. page_of cursor most (after descending cursor es)) (λ e. e) (ordered s f by descending)
 
--- a page with these nodes, that leaves this cursor
+-- a page with these nodes that leaves this cursor
 abbrev pub page_with : List ℕ → Option (List ℕ) → Bool → Page
 page_with nodes cursor more = record { nodes = nodes; more = more; cursor = cursor }
 

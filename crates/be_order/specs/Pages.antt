@@ -9,8 +9,8 @@ use Rattle.be_order.specs.Ordered.{Page, page}
 abbrev pub nodes_in : List Page → List ℕ
 nodes_in pages = flat_map (λ p. p.nodes) pages
 
--- The first is the page after this cursor, and each other the page after the cursor that the one
--- before it left. Each says that there are more, but for the last.
+-- The first page comes after this cursor, and each other page after the cursor that the previous
+-- one left. Every page except the last reports that there are more.
 abbrev pub ArePages : State → Formula → List ℕ → Bool → ℕ → Option (List ℕ) → List Page → Type 0
 ArePages s f by descending most cursor [] = ⊥
 ArePages s f by descending most cursor (p ∷ ps) = (page s f by descending cursor most ≡ Ok p)

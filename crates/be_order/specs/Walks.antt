@@ -11,14 +11,14 @@ use Rattle.be_plan.specs.Narrow.{Within}
 use Rattle.be_plan.specs.declared.keytests.KeyTest.{KeyTest}
 use Rattle.be_order.specs.Ordered.{is_after, key_cmp, keys_of, nodes_of}
 
--- the key is one of the index of that name, from `low` to `high`, and it is this node's
+-- the key is in the name's index, lies from `low` to `high`, and belongs to this node
 pub record IsEntry (s : State) (name low : List ℕ) (high : Option (List ℕ)) (k : List ℕ)
     (node : ℕ) : Type 0 where
   pub is_key : IsKey s name k
   pub within : Within low high k
   pub node_is : is_key.node ≡ node
 
--- These are the first of the entries that come after the cursor, `most` at most, in order.
+-- These are the first entries after the cursor, at most `most`, in order.
 pub record AreFirst (Is : List ℕ → ℕ → Type 0) (descending : Bool) (cursor : Option (List ℕ))
     (most : ℕ) (es : List (List ℕ × ℕ)) : Type 0 where
   pub rising : IsStrictlySortedBy (key_cmp descending) (keys_of es)
@@ -36,12 +36,12 @@ pub record HasWalked (Is : List ℕ → ℕ → Type 0) (descending : Bool) (cur
   pub first : AreFirst Is descending cursor most entries
   pub added : after ≡ before ++ nodes_of entries
 
--- and the node passes a test
+-- an entry whose node passes a test
 abbrev pub IsPassing : State → List ℕ → List ℕ → Option (List ℕ) → KeyTest → List ℕ → ℕ → Type 0
 IsPassing s name low high test k node = IsEntry s name low high k node
     × (passes_node s name test node ≡ true)
 
--- the index of that name has a pair of the node
+-- the name's index has a pair for the node
 abbrev pub IsHeld : State → List ℕ → ℕ → Type 0
 IsHeld s name node = (k : List ℕ) × (h : IsKey s name k) × (h.node ≡ node)
 

@@ -1,9 +1,11 @@
-//! Pages by a walk over the index, of whose nodes what is left of the query is asked.
+//! Pages found by walking the index and asking each node whether the rest of the query is true of
+//! it.
 //!
-//! The walk goes in parts. It ends when the page is full or the range has no more. Once it has
-//! passed as many keys as its limit says, it gives up, and another way is taken. What is left of
-//! the query is asked of the source, or looked up in a list of all nodes of which it is true. One
-//! comparison is made ready before it is asked of many nodes.
+//! The walk goes in parts. It ends when the page is full or the range has no more keys. Once it has
+//! passed as many keys as its limit, it gives up, and another way is taken.
+//!
+//! The walk asks the source about each node, or looks the node up in a list of all nodes of which
+//! the rest is true. A single comparison is prepared before it is asked of many nodes.
 ghost use Rattle.std.specs.Prelude.{◌≡◌, ◌++◌, ◌∷◌, [], None, OnErr, OnOk, IfErr, IfOk, IfSome};
 ghost use Rattle.std.specs.Prelude.{Some, filter, true};
 ghost use Rattle.std.specs.Option.{option_copied};
@@ -25,10 +27,10 @@ use be_query::Tree;
 use be_value::{Kind, Refusal};
 use std::alloc::{AllocError, Global};
 
-/// How many parts a walk has at most: 2^26 nodes and more.
+/// The most parts that a walk has. Parts of 64 keys suffice for 2^26 keys.
 const PARTS: usize = 1 << 20;
 
-/// The keys that a walk passes in an index of this kind, in one of both directions.
+/// The keys that a walk passes in an index of this kind, in either direction.
 #[derive(Clone, Copy)]
 pub(crate) struct Walk<'a> {
     pub(crate) keys: KeyRange<'a>,
@@ -36,8 +38,8 @@ pub(crate) struct Walk<'a> {
     pub(crate) descending: bool,
 }
 
-/// What is left to ask of nodes. If it is one comparison, the test may be that one, made ready; and
-/// there may be a list of all nodes of which it is true.
+/// The rest of the query, which is asked of each node. If it is one comparison, `test` may be that
+/// comparison, prepared. `listed` may be a list of all nodes of which it is true.
 #[derive(Clone, Copy)]
 pub(crate) struct Left<'t, 'r, 'n> {
     pub(crate) tree: &'t Tree,
@@ -45,9 +47,9 @@ pub(crate) struct Left<'t, 'r, 'n> {
     pub(crate) listed: Option<&'n [u64]>,
 }
 
-/// Puts the nodes of the next keys of a walk into a list, in place of what it had, and moves the
-/// cursor to the last of these keys. Returns whether there may be more, and None if the source
-/// doesn't walk so.
+/// Puts the nodes of a walk's next keys into a list, replacing what it had, and moves the cursor to
+/// the last of these keys. It returns whether there may be more, or `None` if the source can't walk
+/// in order.
 fn next_part<S: OrderedSource>(
     source: &mut S,
     walk: Walk<'_>,
@@ -79,8 +81,8 @@ fn next_part<S: OrderedSource>(
     Ok(Some(more))
 }
 
-/// Whether a part of a query is true of the node. If it is one comparison, the test may be that
-/// one, made ready.
+/// Whether a part of a query is true of the node. If the part is one comparison, `test` may be that
+/// comparison, prepared.
 fn is_part_true<S: Source>(
     source: &mut S,
     tree: &Tree,
@@ -103,7 +105,7 @@ fn is_part_true<S: Source>(
     }
 }
 
-/// Whether what is left is true of the node.
+/// Whether the rest of the query is true of the node.
 fn is_left_true<S: Source>(source: &mut S, left: Left<'_, '_, '_>, node: u64) -> bool
     ghost volume: { State }
     requires answers { S.answers_for source.old volume }
@@ -119,7 +121,7 @@ fn is_left_true<S: Source>(source: &mut S, left: Left<'_, '_, '_>, node: u64) ->
     }
 }
 
-/// Adds the node, if what is left is true of it.
+/// Adds the node, if the rest of the query is true of it.
 fn push_if_true<S: Source>(
     source: &mut S,
     left: Left<'_, '_, '_>,
@@ -141,7 +143,7 @@ fn push_if_true<S: Source>(
     Ok(())
 }
 
-/// Adds those of the nodes of which what is left is true.
+/// Adds those nodes of which the rest of the query is true.
 fn push_true<S: Source>(
     source: &mut S,
     left: Left<'_, '_, '_>,
@@ -163,8 +165,9 @@ fn push_true<S: Source>(
     Ok(())
 }
 
-/// Puts the nodes of a walk after a cursor of which what is left is true into a list, in place of
-/// what it had: the first of them, more than `most` or all. Returns false if it gave up.
+/// Walks on from a cursor, and puts the nodes of which the rest of the query is true into a list,
+/// replacing what it had. The list gets the first of these nodes: more than `most`, or all of them.
+/// It returns false if the walk gave up or the source can't walk in order.
 fn ask_parts<S: OrderedSource>(
     alloc: Global,
     left: Left<'_, '_, '_>,
@@ -226,8 +229,8 @@ fn copy_of(cursor: &Option<ArrayVec<u8, 264>>) -> Option<ArrayVec<u8, 264>>
     }
 }
 
-/// A page of a query that rests on an index, by a walk that asks what is left of it. None if the
-/// source doesn't walk so, or the walk gave up.
+/// A page of a query that an index covers, by a walk that asks each node about the rest. It
+/// returns `None` if the source can't walk in order, or if the walk gave up.
 pub(crate) fn ask_page<S: OrderedSource>(
     alloc: Global,
     left: Left<'_, '_, '_>,

@@ -1,8 +1,9 @@
-//! What a page costs by each way, where keys of the order's own index don't decide the query.
+//! Estimates what a page costs in each way, if the keys of the order's own index don't decide the
+//! query.
 //!
-//! A walk may ask each node what is left of the query. It may look each node up in a list of all
-//! nodes of which that is true. Or the whole answer is found and sorted. The numbers here decide
-//! only which way a page goes, so any of them is right.
+//! A walk may ask each node about the rest of the query. It may look each node up in a list of all
+//! nodes of which the rest is true. Or the whole answer is found and sorted. These numbers only
+//! decide which way is taken, so no number can make a page wrong.
 ghost use Rattle.std.specs.Prelude.{◌≡◌};
 ghost use Rattle.be_plan.specs.Sources.{StillAnswers};
 ghost use Rattle.be_volume.specs.Volume.{State};
@@ -11,39 +12,39 @@ use crate::OrderedSource;
 use be_plan::{KeyBounds, KeyRange};
 use be_query::{Cmp, Comparison, Literal, Tree};
 
-/// A question about a node takes as many instructions as a walk over so many keys.
+/// Asking about one node takes as many instructions as walking over this many keys.
 const KEYS_A_QUESTION: u64 = 32;
 
-/// The key of a node, which a sort needs, and its place take so many questions.
+/// A sort needs each node's key and its place, which costs as much as asking about this many nodes.
 const QUESTIONS_A_KEY: u64 = 4;
 
-/// A key whose text is tested takes as many instructions as so many others.
+/// Testing a key's text takes as many instructions as walking over this many other keys.
 const KEYS_A_TEXT: u64 = 4;
 
-/// How many keys a walk takes at a time at most that asks each node for a short page, and that
-/// looks each node up at least.
+/// The largest part, in keys, of a walk that asks each node for a short page. It is also the
+/// smallest part of a walk that looks each node up.
 const SHORT_PART: usize = 64;
 
-/// How many keys a walk takes at a time at most that looks each node up.
+/// The largest part, in keys, of a walk that looks each node up.
 const LONG_PART: usize = 4096;
 
-/// A pattern leaves about one in so many texts.
+/// A pattern is taken to match one in this many texts.
 const TEXTS_A_HIT: u64 = 8;
 
 /// What it costs to answer a part of a query.
 #[derive(Clone, Copy)]
 struct Cost {
-    /// About how many keys a walk passes that lists the nodes, or as many more as cost the same;
-    /// the greatest number without an index.
+    /// About how many keys a walk passes to list the nodes, or as many as would cost the same.
+    /// Without an index it is the largest number.
     keys: u64,
-    /// About how many nodes these are.
+    /// About how many nodes the list has.
     hits: u64,
-    /// What it costs to ask one node instead, in questions.
+    /// What it costs to ask about one node instead, in questions.
     asking: u64,
 }
 
 impl Cost {
-    /// Of two sides that are both needed.
+    /// The cost of two sides that are both needed.
     fn and(self, other: Cost) -> Cost {
         Cost {
             keys: self.keys.saturating_add(other.keys),
@@ -52,7 +53,7 @@ impl Cost {
         }
     }
 
-    /// Of two sides of which one is enough: the one whose walk is shorter.
+    /// The cost of two sides of which one suffices: that of the side with the shorter walk.
     fn or(self, other: Cost) -> Cost {
         let asking = self.asking.saturating_add(other.asking);
         let shorter = if other.keys < self.keys { other } else { self };
@@ -67,15 +68,15 @@ pub(crate) struct Pace {
     pub(crate) limit: u64,
 }
 
-/// The pace of a walk that asks each node, and of one that looks each node up in a list. A walk
-/// with the limit 0 isn't begun.
+/// The paces of a walk that asks each node, and of a walk that looks each node up in a list. A walk
+/// with limit 0 isn't begun.
 #[derive(Clone, Copy)]
 pub(crate) struct Paces {
     pub(crate) asking: Pace,
     pub(crate) looking_up: Pace,
 }
 
-/// Whether most texts that begin as the comparison wants fail it.
+/// Whether most texts that begin as the comparison requires are expected to fail it.
 fn is_loose(comparison: &Comparison) -> bool {
     match &comparison.literal {
         Literal::Pattern(pattern) => {
@@ -85,7 +86,7 @@ fn is_loose(comparison: &Comparison) -> bool {
     }
 }
 
-/// The cost of a comparison, whose part of the query is the whole under `&&`.
+/// The cost of a comparison. `whole` is the comparison with everything that `&&` joins to it.
 fn cost_of_comparison<S: OrderedSource>(
     source: &mut S,
     bounds: &mut KeyBounds,
@@ -120,7 +121,7 @@ fn cost_of_comparison<S: OrderedSource>(
     }
 }
 
-/// The cost of a part of a query, which is a side of the whole under `&&`.
+/// The cost of a part of a query. `whole` is the part with everything that `&&` joins to it.
 fn cost_of<S: OrderedSource>(
     source: &mut S,
     bounds: &mut KeyBounds,
@@ -147,7 +148,7 @@ fn cost_of<S: OrderedSource>(
     }
 }
 
-/// About how many of all keys a walk passes until it has found so many nodes.
+/// About how many of `all` keys a walk passes until it has found `most` nodes.
 fn passed_for(most: u64, all: u64, hits: u64) -> u64 {
     match most.saturating_mul(all).checked_div(hits) {
         Some(passed) => passed.min(all),
@@ -155,8 +156,8 @@ fn passed_for(most: u64, all: u64, hits: u64) -> u64 {
     }
 }
 
-/// The pace of a walk that asks each node. A part has one more than the page, so that a page whose
-/// nodes all pass takes one part.
+/// The pace of a walk that asks each node. A part has one key more than the page, so that a page
+/// whose nodes all pass takes one part.
 fn asking_pace(most: usize, limit: u64) -> Pace {
     Pace {
         part: most.saturating_add(1).min(SHORT_PART).max(most / 8),
@@ -164,7 +165,7 @@ fn asking_pace(most: usize, limit: u64) -> Pace {
     }
 }
 
-/// The pace of a walk over about so many keys that looks each node up.
+/// The pace of a walk over about `passed` keys that looks each node up.
 fn looking_up_pace(passed: u64, limit: u64) -> Pace {
     let part = match usize::try_from(passed / 4) {
         Ok(part) => part.max(SHORT_PART).min(LONG_PART),
@@ -173,7 +174,7 @@ fn looking_up_pace(passed: u64, limit: u64) -> Pace {
     Pace { part, limit }
 }
 
-/// The paces of walks over so many keys, for a page of so many nodes.
+/// The paces of walks over `all` keys, for a page of `most` nodes.
 fn paces_for(cost: Cost, all: u64, most: usize) -> Paces {
     let passed = passed_for(most as u64, all, cost.hits);
     let list = (cost.keys / KEYS_A_QUESTION).saturating_add(passed / KEYS_A_QUESTION);
@@ -192,8 +193,8 @@ fn paces_for(cost: Cost, all: u64, most: usize) -> Paces {
     }
 }
 
-/// The paces of walks over these keys for a page of a query of which this is left. Neither is begun
-/// if the whole answer fits into the page.
+/// The paces of walks over these keys, for a page of a query with this rest. Neither walk is begun
+/// if the rest's list is expected to fit into the page.
 pub(crate) fn paces_of<S: OrderedSource>(
     source: &mut S,
     keys: KeyRange<'_>,

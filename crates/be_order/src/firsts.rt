@@ -1,4 +1,4 @@
-//! The first of an answer by number, and any few of it.
+//! The first nodes of an answer by number, and any few of its nodes.
 ghost use Rattle.std.specs.Prelude.{◌≡◌, ℕ, List, IfErr, IfOk, IfSome, OnOk, Some};
 ghost use Rattle.std.specs.Prelude.{filter, nat_le, take, true};
 ghost use Rattle.std.specs.Option.{option_copied};
@@ -18,7 +18,7 @@ use be_query::Query;
 use be_value::{Kind, Refusal};
 use std::alloc::Global;
 
-/// Keeps the numbers from the first on, up to so many.
+/// Keeps the numbers from `first` on, and at most `most` of them.
 fn keep_from(numbers: &mut Vec<u64>, first: u64, most: usize)
     ensures { numbers.new.items ≡ take most (filter (nat_le first) numbers.old.items) }
 {
@@ -26,10 +26,13 @@ fn keep_from(numbers: &mut Vec<u64>, first: u64, most: usize)
     numbers.truncate(most);
 }
 
-/// Puts the nodes of which the query is true, from a number on and up to so many, into a list,
-/// ascending, in place of what it had. To go on, ask from the number after the last. A query that
-/// rests on no index is refused by `NotCovered`. After an error the source is still that of the
-/// volume, and the list has any numbers. It costs what the whole answer does.
+/// Finds the first `most` nodes from the number `first` on that satisfy the query, in ascending
+/// order. It puts them into a list, replacing what that had. To continue, ask from the number after
+/// the last.
+///
+/// If no index covers the query, the error is `NotCovered`. After an error the source still
+/// answers for the volume, and the list may have any numbers. The call costs as much as the whole
+/// answer.
 pub fn first_by_number<S: Source>(
     alloc: Global,
     query: &Query,
@@ -50,9 +53,9 @@ pub fn first_by_number<S: Source>(
     Ok(())
 }
 
-/// Puts nodes of which the query is true into a list, in place of what it had: any of them, none
-/// twice, `most` or as many as there are. Errors are as those of `first_by_number`, and so is what
-/// they leave.
+/// Puts nodes that satisfy the query into a list, replacing what that had. They may be any of the
+/// answer's nodes, none of them twice: `most`, or all if there are fewer. Errors, and what they
+/// leave, are those of `first_by_number`.
 pub fn any_into<S: Source>(
     alloc: Global,
     query: &Query,
@@ -73,7 +76,7 @@ pub fn any_into<S: Source>(
     Ok(())
 }
 
-/// The first of a prepared query by number, as `first_by_number` has them of a query.
+/// Does what `first_by_number` does, for a prepared query.
 pub fn first_prepared_into<S: Source>(
     alloc: Global,
     prepared: &mut PreparedQuery,
@@ -93,8 +96,8 @@ pub fn first_prepared_into<S: Source>(
     first_by_number(alloc, prepared.query(), source, first, most, found)
 }
 
-/// Makes the query's range for the index of the name that all its comparisons are on. Returns the
-/// kind of that index, if there is one.
+/// If all comparisons of the query are on one name, prepares its range for that name's index. It
+/// returns that index's kind, if there is such an index.
 fn meet_own<S: Source>(prepared: &mut PreparedQuery, source: &mut S) -> Option<Kind>
     ghost volume: { State }
     requires { S.answers_for source.old volume }
@@ -115,7 +118,8 @@ fn meet_own<S: Source>(prepared: &mut PreparedQuery, source: &mut S) -> Option<K
     Some(kind)
 }
 
-/// Any few nodes of the keys of a range that decides a query, by one walk, if the source walks so.
+/// Finds any few nodes of a range that decides a query, by one walk. It returns false if the source
+/// can't walk in order.
 fn walk_any<S: OrderedSource>(
     source: &mut S,
     keys: KeyRange<'_>,
@@ -145,10 +149,11 @@ fn walk_any<S: OrderedSource>(
     Ok(walked)
 }
 
-/// Any few of a prepared query's answer, as `any_into` has them of a query. If a range of one index
-/// decides the query and the source walks in order, they are the first of the range, by a walk over
-/// as many keys; then it takes no memory but for the list. Otherwise it costs what the whole answer
-/// does.
+/// Does what `any_into` does, for a prepared query.
+///
+/// If the range of one index decides the query and the source walks in order, it returns the
+/// range's first nodes. That costs a walk over as many keys, and allocates only for the list.
+/// Otherwise it costs as much as the whole answer.
 pub fn any_prepared_into<S: OrderedSource>(
     alloc: Global,
     prepared: &mut PreparedQuery,

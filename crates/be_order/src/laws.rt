@@ -12,8 +12,9 @@ ghost use Rattle.be_volume.specs.Volume.{State};
 ghost use Rattle.be_order.specs.Ordered.{Page, after, in_order, nodes_of, ordered, page_of};
 ghost use Rattle.be_order.specs.Pages.{ArePages, nodes_in};
 
-/// What comes after the cursor that a page leaves is what came after its own cursor, without the
-/// page. So at the same snapshot the next page begins with the node after its last one.
+/// What comes after the cursor that a page leaves is what came after the page's own cursor, without
+/// the page's nodes. So in the same snapshot, the next page begins with the node after this page's
+/// last.
 pub fn next_page_goes_on()
     ensures { (s : State) (by nodes : List ℕ) (descending : Bool) (cursor : Option (List ℕ))
         (most : ℕ) →
@@ -22,8 +23,9 @@ pub fn next_page_goes_on()
         after descending (page_of cursor most ahead).cursor list ≡ drop most ahead }
 {}
 
-/// The pages of one snapshot, each asked from the cursor that the one before it left, are the whole
-/// list in its order, and have each node once. With at least one node a page, they come to an end.
+/// Each page of one snapshot is asked for with the cursor that the previous page left. Together the
+/// pages are then the whole list in its order, and each node is in it once. If a page may have at
+/// least one node, the pages come to an end.
 pub fn pages_are_the_whole()
     ensures whole { (s : State) (f : Formula) (by : List ℕ) (descending : Bool) (most : ℕ)
         (list : List (List ℕ × ℕ)) (pages : List Page) → ordered s f by descending ≡ Ok list

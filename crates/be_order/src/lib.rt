@@ -1,9 +1,9 @@
 //! Answers in the order of an index, a page at a time.
 //!
-//! A plan finds the nodes of which a query is true, ascending by number. Here they come in the
-//! order of an index, rising or falling, from a cursor on and up to so many: the newest 50 of a
-//! folder, and then the next 50. The answer rests on no plan: it is what a scan of the volume
-//! gives, in order.
+//! A plan finds the nodes that satisfy a query, in ascending order of their numbers. Here they come
+//! in the order of an index, ascending or descending, from a cursor on. A page has a limited number
+//! of them: the newest 50 of a folder, and then the next 50. The answer doesn't depend on the plan:
+//! it is the scan of the volume, in this order.
 #![tactic(auto)]
 
 mod asked;

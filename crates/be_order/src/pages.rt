@@ -1,8 +1,8 @@
 //! Answers in the order of an index, a page at a time.
 //!
-//! A page is what comes after a cursor, up to so many nodes. The cursor is the key that the last
-//! page ended with. It is a place and no count, so a page that is asked of a later snapshot goes on
-//! from there, whatever was written in between.
+//! A page has the nodes after a cursor, at most `most` of them. The cursor is the last key of the
+//! previous page. It is a place, not a count, so a page of a later snapshot continues from there,
+//! whatever was written in between.
 ghost use Rattle.std.specs.Prelude.{◌≡◌, OnErr, IfOk};
 ghost use Rattle.be_value.specs.Refusal.{Answers};
 ghost use Rattle.be_volume.specs.Reading.{index_kind};
@@ -16,8 +16,8 @@ use be_query::Query;
 use be_value::{Name, Refusal};
 use std::alloc::{AllocError, Global};
 
-/// An order of nodes, and how many of them are wanted at most: by the index of a name, rising or
-/// exactly the reverse.
+/// An order of nodes, by the index of a name, ascending or exactly the reverse; and the most nodes
+/// that a page may have.
 #[derive(Clone, Copy)]
 pub struct Order<'a> {
     pub by: &'a Name,
@@ -25,8 +25,9 @@ pub struct Order<'a> {
     pub most: usize,
 }
 
-/// Puts those of the nodes that have a pair in the index into its order, from the cursor on, and
-/// keeps the first of them. Returns whether there are more. The cursor is then at the last.
+/// Puts those nodes that have a pair in the index into the index's order, and keeps the first of
+/// them after the cursor. It returns whether there are more, and leaves the cursor at the last node
+/// kept.
 fn keep_page<S: Source>(
     alloc: Global,
     source: &mut S,
@@ -57,17 +58,17 @@ fn keep_page<S: Source>(
     Ok(more)
 }
 
-/// Puts a page of the answer into a list, in place of what it had: of the nodes of which the query
-/// is true and that have a pair in the index of the order, the first `most` after the cursor.
-/// Returns whether others come after them. The cursor is then the key of the last one; if the page
-/// is empty, and after an error, it is as it was. The first page has no cursor.
+/// Puts a page of the answer into a list, replacing what that had. The page has the first `most`
+/// nodes after the cursor that satisfy the query and have a pair in the order's index. It returns
+/// whether more come after them. The cursor is then the last node's key. If the page is empty, or
+/// after an error, the cursor is unchanged. The first page has no cursor.
 ///
-/// Without an index of that name the call is refused by `NoSuchIndex`, and a query that rests on no
-/// index by `NotCovered`. After an error the source is still that of the volume, and the list has
-/// any numbers.
+/// If the name has no index, the error is `NoSuchIndex`. If no index covers the query, it is
+/// `NotCovered`. After an error the source still answers for the volume, and the list may have any
+/// numbers.
 ///
-/// It answers the whole query (`answer_into`), and then asks for the value of each node and whether
-/// the index has it. It takes memory for the keys that come after the cursor.
+/// The whole query is answered first (`answer_into`). Then each node's value is read, and the index
+/// is checked for it. Memory is allocated for the keys after the cursor.
 pub fn ordered_into<S: Source>(
     alloc: Global,
     query: &Query,

@@ -30,8 +30,8 @@ use be_query::{Query, Tree};
 use be_value::{Kind, Name, Refusal};
 use std::alloc::Global;
 
-/// Keeps the first of the nodes, all of which the index has, and moves the cursor to the last of
-/// these.
+/// Keeps the first `most` nodes, all of which the index has, and moves the cursor to the last of
+/// them.
 pub(crate) fn keep_first<S: OrderedSource>(
     source: &mut S,
     name: &Name,
@@ -57,7 +57,8 @@ pub(crate) fn keep_first<S: OrderedSource>(
     }
 }
 
-/// A page of a query that the keys of a range decide, by one walk, if the source walks so.
+/// A page of a query that the keys of a range decide, by one walk. It returns `None` if the source
+/// can't walk in order.
 fn walk_page<S: OrderedSource>(
     source: &mut S,
     keys: KeyRange<'_>,
@@ -95,8 +96,8 @@ fn walk_page<S: OrderedSource>(
     Ok(Some(more))
 }
 
-/// A list of all nodes of which a part of a query is true. None if the part rests on no index, or
-/// if memory runs out.
+/// A list of all nodes of which a part of a query is true. It returns `None` if no index covers
+/// the part, or if memory runs out.
 fn list_true<S: Source>(alloc: Global, tree: &Tree, source: &mut S) -> Option<Vec<u64>>
     ghost volume: { State }
     requires answers { S.answers_for source.old volume }
@@ -112,9 +113,9 @@ fn list_true<S: Source>(alloc: Global, tree: &Tree, source: &mut S) -> Option<Ve
     }
 }
 
-/// A page of a query that rests on an index, by a walk that looks each node up among all nodes of
-/// which what is left is true: by their marks, or in a list. None if these nodes can't be listed,
-/// or the walk gave up.
+/// A page of a query that an index covers, by a walk that looks up each node. It lists all nodes
+/// of which the rest of the query is true, and looks nodes up by their marks or in that list. It
+/// returns `None` if these nodes can't be listed, or if the walk gave up.
 fn look_up_page<S: OrderedSource>(
     alloc: Global,
     tree: &Tree,
@@ -158,8 +159,8 @@ fn look_up_page<S: OrderedSource>(
     ask_page(alloc, left, source, walk, most, pace, cursor, found)
 }
 
-/// The comparison that a part of a query is, made ready to be asked of many texts; none if the part
-/// has several.
+/// The comparison that a part of a query consists of, prepared for many texts. It returns `None` if
+/// the part has several.
 fn ready_test(alloc: Global, tree: &Tree) -> Result<Option<TextTest<'_>>, Refusal>
     ensures test { IfOk result (λ test. IfSome test (IsTestOf (formula tree.now))) }
     ensures memory { IfErr result (λ e. e ≡ OutOfMemory) }
@@ -170,7 +171,7 @@ fn ready_test(alloc: Global, tree: &Tree) -> Result<Option<TextTest<'_>>, Refusa
     }
 }
 
-/// The same by a walk that asks each node.
+/// The same page, by a walk that asks each node.
 fn asking_page<S: OrderedSource>(
     alloc: Global,
     tree: &Tree,
@@ -207,7 +208,7 @@ fn asking_page<S: OrderedSource>(
     ask_page(alloc, left, source, walk, most, pace, cursor, found)
 }
 
-/// Whether the query rests on an index, and there was memory to find out.
+/// Whether an index covers the query. It is also false if memory ran out.
 fn rests_on_index<S: Source>(alloc: Global, query: &Query, source: &mut S) -> bool
     ghost volume: { State }
     requires { S.answers_for source.old volume }
@@ -218,9 +219,9 @@ fn rests_on_index<S: Source>(alloc: Global, query: &Query, source: &mut S) -> bo
     choose_from(alloc, query, source).is_ok()
 }
 
-/// A page of a query of which something is left to ask, by a walk over the keys of the order's own
-/// index. None if another way is right: the source doesn't walk so, the query rests on no index, or
-/// it is cheaper to sort the whole answer.
+/// A page of a query with a rest, by a walk over the keys of the order's own index. It returns
+/// `None` if another way has to be taken. That is so if the source can't walk in order, no index
+/// covers the query, or sorting the whole answer is cheaper.
 fn find_page<S: OrderedSource>(
     alloc: Global,
     query: &Query,
@@ -271,8 +272,8 @@ fn find_page<S: OrderedSource>(
     )
 }
 
-/// A page of a query by the keys that it leaves in the order's own index, of that kind. None if
-/// another way is right.
+/// A page of a query, by the keys that the query leaves in the order's own index, which is of this
+/// kind. It returns `None` if another way has to be taken.
 fn page_beside<S: OrderedSource>(
     alloc: Global,
     query: &Query,
@@ -307,8 +308,8 @@ fn page_beside<S: OrderedSource>(
     find_page(alloc, query, source, walk, tree, order.most, cursor, found)
 }
 
-/// Makes the query's range for the index of a name, of that kind, if all its comparisons are on
-/// this name.
+/// Prepares the query's range for the order's index, of this kind, if all the query's comparisons
+/// are on that name.
 fn meet_by(prepared: &mut PreparedQuery, by: &Name, kind: Kind)
     ensures { prepared.new ≡ prepared.old }
 {
@@ -321,17 +322,22 @@ fn meet_by(prepared: &mut PreparedQuery, by: &Name, kind: Kind)
     }
 }
 
-/// Puts a page of a prepared query into a list, as `ordered_into` does of a query. If the range of
-/// the query on the order's own index decides it, and the source walks in order, the page costs one
-/// walk over as many keys as the page has nodes, and one more; then it takes no memory but for the
+/// Does what `ordered_into` does, for a prepared query.
+///
+/// If the query's range on the order's own index decides it, and the source walks in order, the
+/// page is one walk. It passes one key more than the page has nodes, and allocates only for the
 /// list.
 ///
-/// Otherwise there are three ways. A walk over the keys that the query leaves in that index asks
-/// each node for the rest of the query; or it looks the node up in a list of all nodes of which the
-/// rest is true; or the whole answer is found and sorted, as `ordered_into` does. Two descents for
-/// each comparison estimate which is the cheapest. A walk that asks ends once it has cost twice
-/// what the list was thought to cost, and one that looks up once it has cost what sorting would.
-/// Then the next of these ways answers.
+/// One comparison with texts on the order's name may be left. A source that tests keys in place
+/// then walks over the keys and tests their texts.
+///
+/// Otherwise there are three ways. A walk over the keys that the query leaves in the order's index
+/// asks each node about the rest of the query. Or it looks each node up in a list of all nodes of
+/// which the rest is true. Or the whole answer is found and sorted, as by `ordered_into`.
+///
+/// Two descents for each comparison estimate which way is the cheapest. A walk that asks gives up
+/// once it has cost twice the list's estimate. A walk that looks nodes up in the list gives up once
+/// it has cost as much as sorting. Then the next way is taken.
 pub fn ordered_prepared_into<S: OrderedSource>(
     alloc: Global,
     prepared: &mut PreparedQuery,

@@ -11,7 +11,7 @@ use arrayvec::ArrayVec;
 use be_plan::{KeyRange, KeyTest, Source};
 use be_value::Refusal;
 
-/// The keys of a range of an index, in one of both directions, strictly after a cursor.
+/// The keys of an index's range, in either direction, strictly after a cursor.
 #[derive(Clone, Copy)]
 pub struct OrderedKeys<'a> {
     pub keys: KeyRange<'a>,
@@ -19,10 +19,11 @@ pub struct OrderedKeys<'a> {
     pub cursor: &'a Option<ArrayVec<u8, 264>>,
 }
 
-/// A source that may walk an index in its order.
+/// A source that may be able to walk an index in its order.
 pub trait OrderedSource: Source {
-    /// Adds the nodes of the first of these keys, `most` at most, in their order, and returns true,
-    /// if the source walks so. Otherwise it adds nothing and returns false, and the caller sorts.
+    /// If the source can walk in order, adds the nodes of the first of these keys, at most `most`
+    /// and in order, and returns true. Otherwise it adds nothing and returns false, and the caller
+    /// sorts.
     fn first_nodes(
         &mut self,
         keys: OrderedKeys<'_>,
@@ -44,10 +45,11 @@ pub trait OrderedSource: Source {
         Ok(false)
     }
 
-    /// Puts the nodes of the first of these keys that pass a test into a list, in place of what it
-    /// had, `most` at most, in the order of the keys, and returns true. If the source doesn't test
-    /// keys where they are, or the test is of texts and the index has none, it returns false, and
-    /// the list has any numbers.
+    /// Finds the nodes of the first of these keys that pass a test, at most `most`, in the keys'
+    /// order. It puts them into a list, replacing what that had, and returns true.
+    ///
+    /// It returns false if the source doesn't test keys in place, or if the test is of texts and
+    /// the index has none. The list may then have any numbers.
     fn first_passing(
         &mut self,
         keys: OrderedKeys<'_>,
@@ -68,8 +70,8 @@ pub trait OrderedSource: Source {
         Ok(false)
     }
 
-    /// About how many keys the range has. It decides only which way a page goes, so any number is
-    /// right. A source with no body of its own gives the largest.
+    /// About how many keys the range has. This only decides which way a page is found, so no number
+    /// is wrong. The default is the largest number.
     fn about(&mut self, _keys: KeyRange<'_>) -> u64
         requires { (volume : State) × Self.answers_for self.old volume }
         ensures stays { Self.kept self.new ≡ Self.kept self.old }

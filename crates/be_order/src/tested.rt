@@ -1,8 +1,8 @@
-//! Pages by a walk over the index that tests its own keys.
+//! Pages found by walking the index and testing its own keys.
 //!
-//! If one comparison with texts is left of a query and is on the order's own name, as a pattern may
-//! be, the texts of the keys decide it. If all nodes are known of which the rest is true, marks of
-//! these nodes do. So the walk asks for no node.
+//! The rest of a query may be one comparison with texts on the order's own name, such as a pattern.
+//! Then the keys' texts decide it. If all nodes are known of which the rest is true, marks for
+//! these nodes decide it. So the walk reads no node.
 ghost use Rattle.std.specs.Prelude.{◌≡◌, IfErr, IfOk, IfSome, None, OnErr, Some};
 ghost use Rattle.std.specs.Option.{option_copied};
 ghost use Rattle.be_value.specs.declared.refusals.Refusal.TheVariants.{OutOfMemory};
@@ -22,9 +22,9 @@ use be_query::Tree;
 use be_value::Refusal;
 use std::alloc::Global;
 
-/// A page of a query that rests on an index, by a walk that tests each key for what is left of the
-/// query. It costs a test for each key that the walk passes until the page is full. None if the
-/// source doesn't test keys so.
+/// A page of a query that an index covers, by a walk that tests each key for the rest of the
+/// query. It costs one test for each key passed until the page is full. It returns `None` if the
+/// source doesn't test keys in place.
 fn test_page<S: OrderedSource>(
     source: &mut S,
     walk: Walk<'_>,
@@ -63,9 +63,9 @@ fn test_page<S: OrderedSource>(
     Ok(Some(more))
 }
 
-/// A page of a query that rests on an index and leaves one comparison with the texts of the order's
-/// own index, by a walk that tests these texts. None if something else is left, or the source
-/// doesn't test texts so.
+/// A page of a query that an index covers and whose rest is one comparison with the texts of the
+/// order's own index. The walk tests these texts. It returns `None` if the rest is something else,
+/// or if the source doesn't test texts in place.
 pub(crate) fn text_page<S: OrderedSource>(
     alloc: Global,
     tree: &Tree,
@@ -95,9 +95,9 @@ pub(crate) fn text_page<S: OrderedSource>(
     test_page(source, walk, KeyTest::Text(&test), most, cursor, found)
 }
 
-/// A page of a query that rests on an index, by a walk that looks each node up among these, which
-/// are all of which the rest is true. None if they are few or lie far apart, if memory runs out, or
-/// if the source doesn't test keys.
+/// A page of a query that an index covers, by a walk that looks each node up among `nodes`. These
+/// are all nodes of which the rest is true. It returns `None` if they are few or far apart, if
+/// memory runs out, or if the source doesn't test keys in place.
 pub(crate) fn marked_page<S: OrderedSource>(
     alloc: Global,
     nodes: &[u64],

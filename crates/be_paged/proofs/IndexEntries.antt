@@ -1,4 +1,4 @@
--- The indices of a version: their entries and keys, and how both change.
+-- A version's indices: their entries and keys, and how both change.
 pub mod Repairs
 pub mod EntryChange
 pub mod Making

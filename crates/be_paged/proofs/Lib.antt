@@ -1,4 +1,4 @@
-pub mod Standing
+pub mod StayingVersion
 pub mod Stored
 pub mod IndexEntries
 pub mod Applying

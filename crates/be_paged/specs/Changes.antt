@@ -1,4 +1,4 @@
--- What a write does to the contents in hand, and to the version that it began with.
+-- What a write does to the contents in hand, and to the version it began with.
 use Rattle.std.specs.Prelude.{◌≡◌, ◌⊎◌, ℕ, ◌+◌, ◌^◌, ◌<◌, ◌≤◌, List, [], All, Some, IsTrue, IsOk}
 use Rattle.std.specs.Prelude.{Ok, Err, true}
 use Rattle.std.specs.FinMap as map
@@ -8,8 +8,8 @@ use Rattle.be_value.specs.Value.{kind_of, is_indexable}
 use Rattle.be_value.specs.declared.refusals.Refusal.{Refusal}
 use Rattle.be_value.specs.declared.values.Kind.{Kind}
 use Rattle.be_value.specs.declared.values.Value.{Value}
-use Rattle.be_pages.specs.declared.room.Standing.{Standing}
-use Rattle.be_pages.specs.declared.room.Standing.TheVariants.{Filled}
+use Rattle.be_pages.specs.declared.room.PageState.{PageState}
+use Rattle.be_pages.specs.declared.room.PageState.TheVariants.{Filled}
 use Rattle.be_pages.specs.Pages.{Swaps, KeepsStart, IsUnchanged}
 use Rattle.be_pages.specs.Refusal.{IsFullOf}
 use Rattle.be_tree_reading.specs.Forest.{pages_of}
@@ -29,19 +29,19 @@ use Rattle.be_volume.specs.declared.ops.Op.TheVariants.{New, Set, MkIndex, Drop,
 use Rattle.be_paged.specs.declared.changes.Turn.{Turn}
 use Rattle.be_paged.specs.declared.changes.Turn.TheVariants as turns
 use Rattle.be_paged_reading.specs.Page.{Contents, contents_of, roots, reach}
-use Rattle.be_paged_reading.specs.Version.{IsInHand, IsVersion, Spells}
+use Rattle.be_paged_reading.specs.Version.{IsInHand, IsVersion, Encodes}
 
--- an index after the node got the value there, or lost the one that it had
+-- an index without the node's pair, or with the pair of the node and a value
 abbrev pub repaired : Index → ℕ → Option Value → Index
 repaired index node options.None = unpaired index node
 repaired index node (options.Some value) = paired index node value
 
--- the indices after that at a name
+-- the indices after that change to the index of a name
 abbrev pub with_change : Indices → List ℕ → ℕ → Option Value → Indices
 with_change indices name node options.None = without_pair indices name node
 with_change indices name node (options.Some value) = with_pair indices name node value
 
--- the volume after that: its nodes are as they were
+-- the volume after that change to its indices; its nodes stay
 abbrev pub with_indices : State → List ℕ → ℕ → Option Value → State
 with_indices s name node value = record {
   next = s.next;
@@ -49,22 +49,22 @@ with_indices s name node value = record {
   indices = with_change s.indices name node value;
 }
 
--- a list of pairs without a key, if there is one to take
+-- a list of pairs without a key, if there is one to remove
 abbrev pub key_taken : Option (List ℕ) → List Pair → List Pair
 key_taken options.None pairs = pairs
 key_taken (options.Some k) pairs = without k pairs
 
--- and with a key that has no payload, if there is one to put
+-- a list of pairs with a key that has no payload, if there is one to insert
 abbrev pub key_put : Option (List ℕ) → List Pair → List Pair
 key_put options.None pairs = pairs
 key_put (options.Some k) pairs = put (record { key = k; payload = [] }) pairs
 
--- as one or the other becomes of the key
+-- a list of pairs after a key is removed or inserted
 abbrev pub key_turned : Turn → Option (List ℕ) → List Pair → List Pair
 key_turned turns.Leaves key pairs = key_taken key pairs
 key_turned turns.Enters key pairs = key_put key pairs
 
--- what is left to drop of a volume: it is the same volume once the node has left
+-- `left` is the volume without some of the node's attributes: without the node, both are the same
 pub record Leaves (volume left : State) (node : ℕ) : Type 0 where
   pub sound : IsSound left
   pub there : map.contains_key left.nodes node ≡ true
@@ -72,8 +72,8 @@ pub record Leaves (volume left : State) (node : ℕ) : Type 0 where
   pub nodes : map.remove left.nodes node ≡ map.remove volume.nodes node
   pub indices : without_node left.indices node ≡ without_node volume.indices node
 
--- what is known of an index before its node's pair changes: the pair, if there is one, is of the
--- old value
+-- what is known about an index before a node's pair changes: if the node has a pair, it is the old
+-- value's
 pub record IsReady (index : Index) (kind : Kind) (node : ℕ) (old : Option Value) : Type 0 where
   pub kind_is : index.kind ≡ kind
   pub indexable : IsTrue (is_indexable kind)
@@ -82,85 +82,86 @@ pub record IsReady (index : Index) (kind : Kind) (node : ℕ) (old : Option Valu
       × (kind_of value ≡ kind)
   pub own : (value : Value) → map.get index.pairs node ≡ Some value → old ≡ Some value
 
--- contents in hand, with numbers left for so many nodes
-abbrev pub IsInHandFor : (standing : ℕ → Standing) (words : ℕ → ℕ → ℕ) (more : ℕ) → Contents
+-- contents in hand, with enough numbers left for `more` nodes
+abbrev pub IsInHandFor : (page_state : ℕ → PageState) (words : ℕ → ℕ → ℕ) (more : ℕ) → Contents
     → Type 0
-IsInHandFor standing words more c = IsInHand standing words c × (c.next + more < 2 ^ 64)
+IsInHandFor page_state words more c = IsInHand page_state words c × (c.next + more < 2 ^ 64)
 
--- the contents in hand have become others, and the pages of their trees those of the others' trees
-pub record Changes {S K : Type 0} (kept_of : S → K) (standing_of : S → ℕ → Standing)
+-- a write has changed the contents in hand, and exchanged the pages of their trees for those of the
+-- new ones
+pub record Changes {S K : Type 0} (kept_of : S → K) (page_state_of : S → ℕ → PageState)
     (words_of : S → ℕ → ℕ → ℕ)
     (before after : Contents) (old new : S) : Type 0 where
-  pub in_hand : IsInHand (standing_of new) (words_of new) after
-  pub swaps : Swaps kept_of standing_of words_of (pages_of (words_of old) (roots before))
+  pub in_hand : IsInHand (page_state_of new) (words_of new) after
+  pub swaps : Swaps kept_of page_state_of words_of (pages_of (words_of old) (roots before))
       (pages_of (words_of new) (roots after)) old new
 
--- an accepted operation on contents in hand: they encode what the step makes of the volume
+-- an accepted operation on contents in hand: they encode the volume after the step
 pub record Steps (words : ℕ → ℕ → ℕ) (after : Contents) (volume : State) (op : Op) (done : Done) :
     Type 0 where
   pub made : State
   pub stepped : step volume op ≡ Ok (made, done)
-  pub spells : Spells words after made
+  pub encodes : Encodes words after made
 
--- the same of a list of them; the volume that is reached is sound
+-- the same for a list of operations; the resulting volume is sound
 pub record Reaches (words : ℕ → ℕ → ℕ) (after : Contents) (volume : State) (ops : List Op)
     (dones : List Done) : Type 0 where
   pub made : State
   pub stepped : steps volume ops ≡ Ok (made, dones)
-  pub spells : Spells words after made
+  pub encodes : Encodes words after made
   pub sound : IsSound made
 
--- the contents encode a volume that differs from another only in what a node has: so many of its
--- attributes are gone
+-- the contents encode the volume without some of a node's attributes, of which at most 64 - `gone`
+-- remain
 pub record IsThinned (words : ℕ → ℕ → ℕ) (c : Contents) (volume : State) (node gone : ℕ) : Type 0
   where
     pub left : State
-    pub spells : Spells words c left
+    pub encodes : Encodes words c left
     pub leaves : Leaves volume left node
     pub counted : map.len (attributes_of left.nodes node) + gone ≤ 64
 
--- the contents encode a volume that differs from another only in what a node has, which is bare:
--- without attributes
+-- the contents encode the volume without any of a node's attributes; the node is still there
 pub record IsBare (words : ℕ → ℕ → ℕ) (c : Contents) (volume : State) (node : ℕ) : Type 0 where
   pub left : State
-  pub spells : Spells words c left
+  pub encodes : Encodes words c left
   pub leaves : Leaves volume left node
   pub bare : map.len (attributes_of left.nodes node) ≡ 0
 
--- the operation sets what is there already: a Set that leaves the volume as it is, its indices too
-abbrev pub SetsWhatStands : State → Op → Type 0
-SetsWhatStands volume New = ⊥
-SetsWhatStands volume (Set node name value) = step volume (Set node name value)
+-- the operation sets what is already set: a Set that leaves the volume as it is, including its
+-- indices
+abbrev pub SetsSameValue : State → Op → Type 0
+SetsSameValue volume New = ⊥
+SetsSameValue volume (Set node name value) = step volume (Set node name value)
     ≡ Ok (volume, Nothing)
-SetsWhatStands volume (MkIndex name kind) = ⊥
-SetsWhatStands volume (Drop node) = ⊥
-SetsWhatStands volume (Unset node name) = ⊥
-SetsWhatStands volume (RmIndex name) = ⊥
+SetsSameValue volume (MkIndex name kind) = ⊥
+SetsSameValue volume (Drop node) = ⊥
+SetsSameValue volume (Unset node name) = ⊥
+SetsSameValue volume (RmIndex name) = ⊥
 
--- A list of operations on a version: the new version page encodes what the steps make of the
--- volume. The pages of the old version have become exactly those of the new one, each of which is
--- old or filled. The new version page is one that this write has taken. If all of them set what is
--- there already, each index has the root that it had.
-pub record Applies {S K : Type 0} (kept_of : S → K) (standing_of : S → ℕ → Standing)
+-- The result of a list of operations on a version. The new version page encodes the volume after
+-- the steps. The pages of the old version are exchanged for exactly those of the new one, each of
+-- which is old or filled. This write has taken the new version page. If all operations set what is
+-- already set, each index keeps its root.
+pub record Applies {S K : Type 0} (kept_of : S → K) (page_state_of : S → ℕ → PageState)
     (words_of : S → ℕ → ℕ → ℕ)
     (page new_page : ℕ) (volume : State) (ops : List Op) (dones : List Done) (old new : S) : Type 0
   where
     pub made : State
     pub stepped : steps volume ops ≡ Ok (made, dones)
-    pub version : IsVersion (standing_of new) (words_of new) new_page made
-    pub swaps : Swaps kept_of standing_of words_of (reach (words_of old) page)
+    pub version : IsVersion (page_state_of new) (words_of new) new_page made
+    pub swaps : Swaps kept_of page_state_of words_of (reach (words_of old) page)
         (reach (words_of new) new_page) old new
-    pub taken : standing_of new new_page ≡ Filled
-    pub stays : All (SetsWhatStands volume) ops → (contents_of (words_of new new_page)).entries
+    pub taken : page_state_of new new_page ≡ Filled
+    pub stays : All (SetsSameValue volume) ops → (contents_of (words_of new new_page)).entries
         ≡ (contents_of (words_of old page)).entries
 
--- A refused list: the steps refuse it so, and no page was taken, filled or given up; or the steps
--- accept it and no page was left, and what was there when the write began is there again once it is
--- undone.
-abbrev pub IsRefusedList : {S K : Type 0} (kept_of : S → K) (standing_of : S → ℕ → Standing)
+-- A list is refused in one of two ways. Either the steps refuse it with this error, and nothing has
+-- changed. Or the steps accept it but no page was free, and undoing the write restores what was
+-- there when it began.
+abbrev pub IsRefusedList : {S K : Type 0} (kept_of : S → K) (page_state_of : S → ℕ → PageState)
     (words_of : S → ℕ → ℕ → ℕ) (full_of : S → ℕ → Type 0)
     (volume : State) (ops : List Op) (e : Refusal) (old new : S) → Type 0
-IsRefusedList kept_of standing_of words_of full_of volume ops e old new =
-    ((steps volume ops ≡ Err e) × IsUnchanged kept_of standing_of words_of old new)
+IsRefusedList kept_of page_state_of words_of full_of volume ops e old new =
+    ((steps volume ops ≡ Err e) × IsUnchanged kept_of page_state_of words_of old new)
     ⊎ (IsFullOf (full_of new) e × IsOk (steps volume ops)
-    × KeepsStart kept_of standing_of words_of old new)
+    × KeepsStart kept_of page_state_of words_of old new)

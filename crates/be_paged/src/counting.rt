@@ -1,16 +1,16 @@
 //! How many pages a version has.
 ghost use Rattle.std.specs.FinMap as map;
 ghost use Rattle.std.specs.Prelude.{ℕ, ◌+◌, ◌*◌, ◌≤◌, length};
-ghost use Rattle.be_pages.specs.declared.room.Standing.{Standing as Stands};
+ghost use Rattle.be_pages.specs.declared.room.PageState.{PageState as AnyPageState};
 ghost use Rattle.be_volume.specs.Items.{items};
 ghost use Rattle.be_volume.specs.Volume.{State};
 ghost use Rattle.be_paged_reading.specs.Page.{reach};
 ghost use Rattle.be_paged_reading.specs.Version.{IsVersion};
 
-/// A version has its page, and for each tree a page for each five of the tree's items and one more
-/// for those that are left over, at most.
+/// A law: a version has at most its version page and, for each tree, one page per five items and
+/// one for the rest.
 pub fn version_pages()
-    ensures { (standing : ℕ → Stands) (words : ℕ → ℕ → ℕ) (page : ℕ) (volume : State)
-        → IsVersion standing words page volume
+    ensures { (page_state : ℕ → AnyPageState) (words : ℕ → ℕ → ℕ) (page : ℕ) (volume : State)
+        → IsVersion page_state words page volume
         → 5 * length (reach words page) ≤ items volume + 4 * map.len volume.indices + 9 }
 {}

@@ -1,19 +1,19 @@
-//! Operations on a version in hand.
+//! Operations on a version that is being written.
 //!
-//! Refusals are found before, so each operation only does its work, and the one error is that no
-//! page is free. The write is undone after that, so the contracts don't say what it leaves, but for
-//! the pages that it has in hand, which are few (`Stops`).
+//! The volume's refusals have been found beforehand. So each operation only does its work, and the
+//! only error is that no page is free. The write is then undone, so the contracts say only one
+//! thing about what such an error leaves: few pages are in hand (`Stops`).
 ghost use Rattle.std.specs.Prelude.{◌≡◌, [], ◌+◌, ◌≤◌, ◌<◌, ◌^◌, All, length, IsTrue, IfOk};
 ghost use Rattle.std.specs.Prelude.{OnOk, IsOk};
 ghost use Rattle.be_volume.specs.Sound.{IsSound};
 ghost use Rattle.be_volume.specs.Volume.{State, step, steps};
 ghost use Rattle.be_volume.specs.declared.ops.Op.TheVariants as ops;
 ghost use Rattle.be_paged.specs.Changes.{Changes, IsBare, IsInHandFor, Reaches};
-ghost use Rattle.be_paged.specs.Changes.{SetsWhatStands, Steps};
+ghost use Rattle.be_paged.specs.Changes.{SetsSameValue, Steps};
 ghost use Rattle.be_paged_reading.specs.Page.{contents};
 ghost use Rattle.be_paged_reading.specs.Place.{IsAsked, IsKnownIn};
 ghost use Rattle.be_paged.specs.Stops.{Grows, RefusesAt, RefusesNear, StopsList};
-ghost use Rattle.be_paged_reading.specs.Version.{IsInHand, Spells};
+ghost use Rattle.be_paged_reading.specs.Version.{IsInHand, Encodes};
 
 use crate::changes::change_entry;
 use arrayvec::ArrayVec;
@@ -25,18 +25,18 @@ use be_tree::{clear, insert, remove};
 use be_value::{Kind, Name, Refusal, Value};
 use be_volume::{Done, MAX_ATTRIBUTES, MAX_INDICES, Op};
 
-/// A new node: its mark enters the catalog.
+/// Makes a node: its mark is inserted into the catalog.
 fn add_node<R: Room>(room: &mut R, version: &mut Version) -> Result<Done, Refusal>
-    requires in_hand { IsInHandFor (R.standing room.old) (R.words room.old) 1
+    requires in_hand { IsInHandFor (R.page_state room.old) (R.words room.old) 1
         (contents version.old) }
     requires open { IsTrue (R.is_open (R.kept room.old)) }
-    ensures changes { OnOk result (Changes R.kept R.standing R.words (contents version.old)
+    ensures changes { OnOk result (Changes R.kept R.page_state R.words (contents version.old)
         (contents version.new) room.old room.new) }
     ensures steps { IfOk result (λ done. (volume : State)
-        → Spells (R.words room.old) (contents version.old) volume → IsSound volume →
+        → Encodes (R.words room.old) (contents version.old) volume → IsSound volume →
         Steps (R.words room.new) (contents version.new) volume ops.New done) }
     ensures next { OnOk result (version.new.next ≡ version.old.next + 1) }
-    ensures refused { RefusesNear R.kept R.standing R.words R.full 0 (contents version.old) result
+    ensures refused { RefusesNear R.kept R.page_state R.words R.full 0 (contents version.old) result
         room.old room.new }
 {
     let node = version.next;
@@ -45,7 +45,7 @@ fn add_node<R: Room>(room: &mut R, version: &mut Version) -> Result<Done, Refusa
     Ok(Done::Node(node))
 }
 
-/// Sets an attribute: its pair changes first, and then what the catalog has.
+/// Sets an attribute: first its pair in an index changes, then the catalog.
 fn set_value<R: Room>(
     room: &mut R,
     version: &mut Version,
@@ -54,22 +54,22 @@ fn set_value<R: Room>(
     value: &Value,
     known: Option<Option<(u64, usize)>>,
 ) -> Result<Done, Refusal>
-    requires in_hand { IsInHand (R.standing room.old) (R.words room.old) (contents version.old) }
-    requires known { IsKnownIn R.standing R.words room.old version.old node name.now known }
+    requires in_hand { IsInHand (R.page_state room.old) (R.words room.old) (contents version.old) }
+    requires known { IsKnownIn R.page_state R.words room.old version.old node name.now known }
     requires open { IsTrue (R.is_open (R.kept room.old)) }
-    ensures changes { OnOk result (Changes R.kept R.standing R.words (contents version.old)
+    ensures changes { OnOk result (Changes R.kept R.page_state R.words (contents version.old)
         (contents version.new) room.old room.new) }
     ensures steps { IfOk result (λ done. (volume : State)
-        → Spells (R.words room.old) (contents version.old) volume → IsSound volume →
+        → Encodes (R.words room.old) (contents version.old) volume → IsSound volume →
         IsOk (step volume (ops.Set node name.now value.now))
         → Steps (R.words room.new) (contents version.new) volume (ops.Set node name.now value.now)
         done) }
     ensures stays { IfOk result (λ done. (volume : State)
-        → Spells (R.words room.old) (contents version.old) volume → IsSound volume →
-        SetsWhatStands volume (ops.Set node name.now value.now) → version.new.entries.items
+        → Encodes (R.words room.old) (contents version.old) volume → IsSound volume →
+        SetsSameValue volume (ops.Set node name.now value.now) → version.new.entries.items
         ≡ version.old.entries.items) }
     ensures next { OnOk result (version.new.next ≡ version.old.next) }
-    ensures refused { RefusesNear R.kept R.standing R.words R.full 1 (contents version.old) result
+    ensures refused { RefusesNear R.kept R.page_state R.words R.full 1 (contents version.old) result
         room.old room.new }
 {
     change_entry(room, version, node, name, known, Some(value))?;
@@ -78,7 +78,7 @@ fn set_value<R: Room>(
     Ok(Done::Unit)
 }
 
-/// Takes an attribute away, and its pair before it.
+/// Removes an attribute, and its pair in an index first.
 fn unset_value<R: Room>(
     room: &mut R,
     version: &mut Version,
@@ -86,17 +86,17 @@ fn unset_value<R: Room>(
     name: &Name,
     known: Option<Option<(u64, usize)>>,
 ) -> Result<Done, Refusal>
-    requires in_hand { IsInHand (R.standing room.old) (R.words room.old) (contents version.old) }
-    requires known { IsKnownIn R.standing R.words room.old version.old node name.now known }
+    requires in_hand { IsInHand (R.page_state room.old) (R.words room.old) (contents version.old) }
+    requires known { IsKnownIn R.page_state R.words room.old version.old node name.now known }
     requires open { IsTrue (R.is_open (R.kept room.old)) }
-    ensures changes { OnOk result (Grows R.kept R.standing R.words 0 (contents version.old)
+    ensures changes { OnOk result (Grows R.kept R.page_state R.words 0 (contents version.old)
         (contents version.new) room.old room.new) }
     ensures steps { IfOk result (λ done. (volume : State)
-        → Spells (R.words room.old) (contents version.old) volume → IsSound volume →
+        → Encodes (R.words room.old) (contents version.old) volume → IsSound volume →
         IsOk (step volume (ops.Unset node name.now))
         → Steps (R.words room.new) (contents version.new) volume (ops.Unset node name.now) done) }
     ensures next { OnOk result (version.new.next ≡ version.old.next) }
-    ensures refused { RefusesNear R.kept R.standing R.words R.full 0 (contents version.old) result
+    ensures refused { RefusesNear R.kept R.page_state R.words R.full 0 (contents version.old) result
         room.old room.new }
 {
     change_entry(room, version, node, name, known, None)?;
@@ -105,13 +105,13 @@ fn unset_value<R: Room>(
     Ok(Done::Unit)
 }
 
-/// A new index, which is empty whatever the nodes have: it takes no page.
+/// Makes an index. It is empty, whatever the nodes have, and takes no page.
 fn make_index<R: Room>(room: &mut R, version: &mut Version, name: &Name, kind: Kind) -> Done
-    requires in_hand { IsInHand (R.standing room.old) (R.words room.old) (contents version.old) }
+    requires in_hand { IsInHand (R.page_state room.old) (R.words room.old) (contents version.old) }
     ensures room { room.new ≡ room.old }
-    ensures changes { Changes R.kept R.standing R.words (contents version.old)
+    ensures changes { Changes R.kept R.page_state R.words (contents version.old)
         (contents version.new) room.old room.old }
-    ensures steps { (volume : State) → Spells (R.words room.old) (contents version.old) volume →
+    ensures steps { (volume : State) → Encodes (R.words room.old) (contents version.old) volume →
         IsOk (step volume (ops.MkIndex name.now kind))
         → Steps (R.words room.old) (contents version.new) volume (ops.MkIndex name.now kind)
         result }
@@ -127,11 +127,11 @@ fn make_index<R: Room>(room: &mut R, version: &mut Version, name: &Name, kind: K
 
 /// Removes an index, and gives up every page of its tree.
 fn remove_index<R: Room>(room: &mut R, version: &mut Version, name: &Name) -> Done
-    requires in_hand { IsInHand (R.standing room.old) (R.words room.old) (contents version.old) }
+    requires in_hand { IsInHand (R.page_state room.old) (R.words room.old) (contents version.old) }
     requires open { IsTrue (R.is_open (R.kept room.old)) }
-    ensures changes { Changes R.kept R.standing R.words (contents version.old)
+    ensures changes { Changes R.kept R.page_state R.words (contents version.old)
         (contents version.new) room.old room.new }
-    ensures steps { (volume : State) → Spells (R.words room.old) (contents version.old) volume →
+    ensures steps { (volume : State) → Encodes (R.words room.old) (contents version.old) volume →
         IsOk (step volume (ops.RmIndex name.now))
         → Steps (R.words room.new) (contents version.new) volume (ops.RmIndex name.now) result }
     ensures next { version.new.next ≡ version.old.next }
@@ -143,19 +143,19 @@ fn remove_index<R: Room>(room: &mut R, version: &mut Version, name: &Name) -> Do
     Done::Unit
 }
 
-/// Takes all attributes of a node away, each with its pair. Of an attribute the name is read, and
-/// its value only if the name has an index.
+/// Removes all attributes of a node, each with its pair. It reads each attribute's name, and its
+/// value only if the name has an index.
 fn unset_all<R: Room>(room: &mut R, version: &mut Version, node: u64) -> Result<(), Refusal>
-    requires in_hand { IsInHand (R.standing room.old) (R.words room.old) (contents version.old) }
+    requires in_hand { IsInHand (R.page_state room.old) (R.words room.old) (contents version.old) }
     requires open { IsTrue (R.is_open (R.kept room.old)) }
-    ensures changes { OnOk result (Grows R.kept R.standing R.words 0 (contents version.old)
+    ensures changes { OnOk result (Grows R.kept R.page_state R.words 0 (contents version.old)
         (contents version.new) room.old room.new) }
     ensures bare { OnOk result ((volume : State)
-        → Spells (R.words room.old) (contents version.old) volume → IsSound volume →
+        → Encodes (R.words room.old) (contents version.old) volume → IsSound volume →
         volume.next + 1 < 2 ^ 64 → IsOk (step volume (ops.Drop node))
         → IsBare (R.words room.new) (contents version.new) volume node) }
     ensures next { OnOk result (version.new.next ≡ version.old.next) }
-    ensures refused { RefusesNear R.kept R.standing R.words R.full 0 (contents version.old) result
+    ensures refused { RefusesNear R.kept R.page_state R.words R.full 0 (contents version.old) result
         room.old room.new }
 {
     for _ in 0..MAX_ATTRIBUTES {
@@ -167,18 +167,18 @@ fn unset_all<R: Room>(room: &mut R, version: &mut Version, node: u64) -> Result<
     Ok(())
 }
 
-/// Drops a node: each of its attributes with its pair, and then its mark.
+/// Drops a node: first each attribute with its pair, then the node's mark.
 fn drop_node<R: Room>(room: &mut R, version: &mut Version, node: u64) -> Result<Done, Refusal>
-    requires in_hand { IsInHand (R.standing room.old) (R.words room.old) (contents version.old) }
+    requires in_hand { IsInHand (R.page_state room.old) (R.words room.old) (contents version.old) }
     requires open { IsTrue (R.is_open (R.kept room.old)) }
-    ensures changes { OnOk result (Changes R.kept R.standing R.words (contents version.old)
+    ensures changes { OnOk result (Changes R.kept R.page_state R.words (contents version.old)
         (contents version.new) room.old room.new) }
     ensures steps { IfOk result (λ done. (volume : State)
-        → Spells (R.words room.old) (contents version.old) volume → IsSound volume →
+        → Encodes (R.words room.old) (contents version.old) volume → IsSound volume →
         volume.next + 1 < 2 ^ 64 → IsOk (step volume (ops.Drop node))
         → Steps (R.words room.new) (contents version.new) volume (ops.Drop node) done) }
     ensures next { OnOk result (version.new.next ≡ version.old.next) }
-    ensures refused { RefusesNear R.kept R.standing R.words R.full 0 (contents version.old) result
+    ensures refused { RefusesNear R.kept R.page_state R.words R.full 0 (contents version.old) result
         room.old room.new }
 {
     unset_all(room, version, node)?;
@@ -186,29 +186,29 @@ fn drop_node<R: Room>(room: &mut R, version: &mut Version, node: u64) -> Result<
     Ok(Done::Unit)
 }
 
-/// One operation, with what is remembered of an attribute, which may be another one.
+/// Performs one operation. `asked` is what is known about some attribute, perhaps not its own.
 fn edit<R: Room>(
     room: &mut R,
     version: &mut Version,
     op: &Op,
     asked: &Option<Asked>,
 ) -> Result<Done, Refusal>
-    requires in_hand { IsInHandFor (R.standing room.old) (R.words room.old) 1
+    requires in_hand { IsInHandFor (R.page_state room.old) (R.words room.old) 1
         (contents version.old) }
-    requires asked { IsAsked (R.standing room.old) (R.words room.old) version.old.catalog
+    requires asked { IsAsked (R.page_state room.old) (R.words room.old) version.old.catalog
         asked.now }
     requires open { IsTrue (R.is_open (R.kept room.old)) }
-    ensures changes { OnOk result (Changes R.kept R.standing R.words (contents version.old)
+    ensures changes { OnOk result (Changes R.kept R.page_state R.words (contents version.old)
         (contents version.new) room.old room.new) }
     ensures steps { IfOk result (λ done. (volume : State)
-        → Spells (R.words room.old) (contents version.old) volume → IsSound volume →
+        → Encodes (R.words room.old) (contents version.old) volume → IsSound volume →
         volume.next + 1 < 2 ^ 64 → IsOk (step volume op.now)
         → Steps (R.words room.new) (contents version.new) volume op.now done) }
     ensures stays { IfOk result (λ done. (volume : State)
-        → Spells (R.words room.old) (contents version.old) volume → IsSound volume →
-        SetsWhatStands volume op.now → version.new.entries.items ≡ version.old.entries.items) }
+        → Encodes (R.words room.old) (contents version.old) volume → IsSound volume →
+        SetsSameValue volume op.now → version.new.entries.items ≡ version.old.entries.items) }
     ensures next { OnOk result (version.new.next ≤ version.old.next + 1) }
-    ensures refused { RefusesNear R.kept R.standing R.words R.full 1 (contents version.old) result
+    ensures refused { RefusesNear R.kept R.page_state R.words R.full 1 (contents version.old) result
         room.old room.new }
 {
     match op {
@@ -227,10 +227,10 @@ fn edit<R: Room>(
     }
 }
 
-/// Does a list of operations that are accepted, one after the other. Their outcomes enter an empty
-/// list, which is filled in place, since a list that is passed by value costs its whole capacity.
-/// What is remembered of an attribute serves the first operation, since the trees have changed
-/// after it.
+/// Performs a list of operations that the volume accepts, one after the other. Their outcomes are
+/// added to an empty list. The list is filled in place, since passing it by value costs its whole
+/// capacity. What `asked` knows about an attribute serves only the first operation, since the trees
+/// change after it.
 pub(crate) fn edit_all<R: Room>(
     room: &mut R,
     version: &mut Version,
@@ -239,22 +239,22 @@ pub(crate) fn edit_all<R: Room>(
     dones: &mut ArrayVec<Done, 64>,
 ) -> Result<(), Refusal>
     requires lists { (length ops.now ≤ 64) × (dones.old.items ≡ []) }
-    requires in_hand { IsInHandFor (R.standing room.old) (R.words room.old) 64
+    requires in_hand { IsInHandFor (R.page_state room.old) (R.words room.old) 64
         (contents version.old) }
-    requires asked { IsAsked (R.standing room.old) (R.words room.old) version.old.catalog asked }
+    requires asked { IsAsked (R.page_state room.old) (R.words room.old) version.old.catalog asked }
     requires open { IsTrue (R.is_open (R.kept room.old)) }
-    ensures changes { OnOk result (Changes R.kept R.standing R.words (contents version.old)
+    ensures changes { OnOk result (Changes R.kept R.page_state R.words (contents version.old)
         (contents version.new) room.old room.new) }
     ensures steps { OnOk result ((volume : State)
-        → Spells (R.words room.old) (contents version.old) volume → IsSound volume →
+        → Encodes (R.words room.old) (contents version.old) volume → IsSound volume →
         IsOk (steps volume ops.now) → Reaches (R.words room.new) (contents version.new) volume
         ops.now dones.new.items) }
     ensures stays { OnOk result ((volume : State)
-        → Spells (R.words room.old) (contents version.old) volume → IsSound volume →
-        All (SetsWhatStands volume) ops.now → version.new.entries.items
+        → Encodes (R.words room.old) (contents version.old) volume → IsSound volume →
+        All (SetsSameValue volume) ops.now → version.new.entries.items
         ≡ version.old.entries.items) }
-    ensures refused { RefusesAt R.kept R.standing R.words R.full
-        (StopsList R.kept R.standing R.words ops.now (contents version.old)) result room.old
+    ensures refused { RefusesAt R.kept R.page_state R.words R.full
+        (StopsList R.kept R.page_state R.words ops.now (contents version.old)) result room.old
         room.new }
 {
     let mut first = asked;

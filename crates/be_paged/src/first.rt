@@ -1,19 +1,19 @@
-//! The version page with which a table begins.
+//! The version page of an empty volume.
 ghost use Rattle.std.specs.Prelude.{◌≡◌, ℕ, ◌<◌, IsTrue, slice_index};
-ghost use Rattle.be_pages.specs.declared.room.Standing.{Standing};
+ghost use Rattle.be_pages.specs.declared.room.PageState.{PageState};
 ghost use Rattle.be_pages.specs.Pages.{is_kept};
 ghost use Rattle.be_volume.specs.Volume.{empty};
 ghost use Rattle.be_paged_reading.specs.Version.{IsVersion};
 
 use be_pages::PAGE_WORDS;
 
-/// The words of a version page that encodes the empty volume, on whichever page. It reaches no
-/// other page.
+/// The words of a version page that encodes the empty volume, on any page. It reaches no other
+/// page.
 pub fn first_page() -> [u64; PAGE_WORDS]
-    ensures { (standing : ℕ → Standing) (words : ℕ → ℕ → ℕ) (page : ℕ)
-        → IsTrue (is_kept (standing page)) →
+    ensures { (page_state : ℕ → PageState) (words : ℕ → ℕ → ℕ) (page : ℕ)
+        → IsTrue (is_kept (page_state page)) →
         ((i : ℕ) → i < 512 → words page i ≡ slice_index result i)
-        → IsVersion standing words page empty }
+        → IsVersion page_state words page empty }
 {
     let mut words = [0; PAGE_WORDS];
     words[0] = 255;

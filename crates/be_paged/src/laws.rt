@@ -1,35 +1,35 @@
-//! What becomes of versions when a write is undone or kept, and that a page determines the volume
-//! that it encodes.
+//! Laws: what happens to versions when a write is undone or kept, and that a page encodes only one
+//! volume.
 //!
-//! Each law is a function that does nothing and whose contract is the law, so a caller gets it by a
-//! call.
+//! Each law is a function that does nothing and whose contract is the law. A caller gets the law by
+//! calling it.
 ghost use Rattle.std.specs.Prelude.{◌≡◌, ℕ};
-ghost use Rattle.be_pages.specs.declared.room.Standing.{Standing as Stands};
+ghost use Rattle.be_pages.specs.declared.room.PageState.{PageState as AnyPageState};
 ghost use Rattle.be_pages.specs.Pages.{after_keep};
 ghost use Rattle.be_tree_reading.specs.Forest.{IsUndone, IsWriteStart};
 ghost use Rattle.be_volume.specs.Volume.{State};
 ghost use Rattle.be_paged_reading.specs.Version.{IsVersion};
 
-/// A version that was there when the write began encodes the same volume once the write is undone.
-#[tactic(auto, using(crate::proofs::Standing::version_stands))]
+/// A version that existed when the write began encodes the same volume once the write is undone.
+#[tactic(auto, using(crate::proofs::StayingVersion::version_stays))]
 pub fn version_undone()
-    ensures { (start undone : ℕ → Stands) (before words : ℕ → ℕ → ℕ) (page : ℕ) (volume : State)
-        → IsWriteStart start
+    ensures { (start undone : ℕ → AnyPageState) (before words : ℕ → ℕ → ℕ) (page : ℕ)
+        (volume : State) → IsWriteStart start
         → IsUndone start undone before words → IsVersion start before page volume
         → IsVersion undone words page volume }
 {}
 
-/// A version encodes the same volume when its write is kept.
-#[tactic(auto, using(crate::proofs::Standing::version_kept))]
+/// A version encodes the same volume once its write is kept.
+#[tactic(auto, using(crate::proofs::StayingVersion::version_kept))]
 pub fn version_kept()
-    ensures { (standing kept : ℕ → Stands) (words : ℕ → ℕ → ℕ) (page : ℕ) (volume : State)
-        → ((q : ℕ) → kept q ≡ after_keep (standing q))
-        → IsVersion standing words page volume → IsVersion kept words page volume }
+    ensures { (page_state kept : ℕ → AnyPageState) (words : ℕ → ℕ → ℕ) (page : ℕ) (volume : State)
+        → ((q : ℕ) → kept q ≡ after_keep (page_state q))
+        → IsVersion page_state words page volume → IsVersion kept words page volume }
 {}
 
-/// One page encodes one volume: a reader of its words can find no other.
+/// A page encodes only one volume: a reader of its words can't find another.
 #[tactic(auto, using(crate::proofs::Stored::OneVolume::one_volume))]
 pub fn one_volume()
-    ensures { (standing other : ℕ → Stands) (words : ℕ → ℕ → ℕ) (page : ℕ) (a b : State)
-        → IsVersion standing words page a → IsVersion other words page b → a ≡ b }
+    ensures { (page_state other : ℕ → AnyPageState) (words : ℕ → ℕ → ℕ) (page : ℕ) (a b : State)
+        → IsVersion page_state words page a → IsVersion other words page b → a ≡ b }
 {}

@@ -1,18 +1,18 @@
-//! A volume over pages, written.
+//! Writes to a volume that is stored in pages.
 //!
 //! be_paged_reading says what a version of a volume is, and which volume a page encodes
-//! (`IsVersion`). A write goes through a `Room`, so it serves a pool in memory and a shared table
-//! alike. The trees are copied on write, page by page, and the version page is written once, at the
-//! end. What a write gives up and takes are exactly the pages that the old version has and the new
-//! one lacks, and the other way round.
+//! (`IsVersion`). Writes go through a `Room`, a page writer, so they serve both a pool in memory
+//! and a shared table. The trees are copied on write, page by page, and the version page is written
+//! once, at the end. A write gives up exactly the pages that only the old version has, and takes
+//! exactly those that only the new one has.
 #![tactic(auto)]
 
 mod changes;
 mod counting;
 mod edits;
+mod encoding;
 mod first;
 pub mod laws;
-mod spelling;
 mod writes;
 
 pub use be_paged_reading::{
@@ -20,6 +20,6 @@ pub use be_paged_reading::{
     get_into, indices, next, nodes, source, whole,
 };
 pub use counting::version_pages;
+pub use encoding::one_encoding;
 pub use first::first_page;
-pub use spelling::one_spelling;
 pub use writes::{apply, apply_into};

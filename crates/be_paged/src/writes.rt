@@ -3,7 +3,7 @@ ghost use Rattle.std.specs.Prelude.{◌≡◌, ◌+◌, ◌≤◌, ◌<◌, ◌^
 ghost use Rattle.std.specs.Prelude.{IfErr, OnErr};
 ghost use Rattle.std.specs.Result.{result_err};
 ghost use Rattle.be_pages.specs.Pages.{is_kept, IsUnchanged, Swaps};
-ghost use Rattle.be_pages.specs.declared.room.Standing.TheVariants.{Filled};
+ghost use Rattle.be_pages.specs.declared.room.PageState.TheVariants.{Filled};
 ghost use Rattle.be_tree.specs.Counting.{TakesFewer};
 ghost use Rattle.be_volume.specs.Sound.{IsName};
 ghost use Rattle.be_volume.specs.Volume.{State, steps};
@@ -21,9 +21,9 @@ use be_pages::{Look, Room};
 use be_value::Refusal;
 use be_volume::{Done, Op, first_refusal};
 
-/// The refusal, from NoNode to NotIndexable, that the list meets, if it meets one. It is found from
-/// the list and the old version, and nothing changes. `asked` gets the attribute that was looked
-/// for first, unless it has one.
+/// The error, from NoNode to NotIndexable, with which the volume refuses the list, if it does. It
+/// depends only on the list and the old version, and nothing changes. `asked` gets the first
+/// attribute that was looked up, unless it already has one.
 fn refusal<L: Look>(
     look: &mut L,
     version: &Version,
@@ -31,14 +31,15 @@ fn refusal<L: Look>(
     asked: &mut Option<Asked>,
 ) -> Option<Refusal>
     ghost volume: { State }
-    requires answers { AnswersFor (L.standing look.old) (L.words look.old) (contents version.now)
+    requires answers { AnswersFor (L.page_state look.old) (L.words look.old) (contents version.now)
         volume }
-    requires asked { IsAsked (L.standing look.old) (L.words look.old) version.now.catalog
+    requires asked { IsAsked (L.page_state look.old) (L.words look.old) version.now.catalog
         asked.old }
     requires fits { volume.next + length ops.now < 2 ^ 64 }
     ensures answer { result ≡ result_err (steps volume ops.now) }
-    ensures asked { IsAsked (L.standing look.new) (L.words look.new) version.now.catalog asked.new }
-    ensures unchanged { IsUnchanged L.kept L.standing L.words look.old look.new }
+    ensures asked { IsAsked (L.page_state look.new) (L.words look.new) version.now.catalog
+        asked.new }
+    ensures unchanged { IsUnchanged L.kept L.page_state L.words look.old look.new }
 {
     let mut facts = PageFacts {
         look,
@@ -49,51 +50,51 @@ fn refusal<L: Look>(
     first_refusal(&mut facts, ops)
 }
 
-/// Writes a version to a page that is taken for it, as a copy of the old version page.
+/// Writes a version to a new page, which it takes as a copy of the old version page.
 fn write_version<R: Room>(room: &mut R, old_page: u64, version: &Version) -> Result<u64, Refusal>
     requires named { All (λ e. IsName e.name) version.now.entries.items }
     requires open { IsTrue (R.is_open (R.kept room.old)) }
     ensures contents { IfOk result (λ p. contents_of (R.words room.new p) ≡ contents version.now) }
     ensures page { IfOk result (λ page. IsVersionPage (R.words room.new page)) }
-    ensures taken { IfOk result (λ page. R.standing room.new page ≡ Filled) }
-    ensures swaps { IfOk result (λ page. Swaps R.kept R.standing R.words [] (page ∷ []) room.old
+    ensures taken { IfOk result (λ page. R.page_state room.new page ≡ Filled) }
+    ensures swaps { IfOk result (λ page. Swaps R.kept R.page_state R.words [] (page ∷ []) room.old
         room.new) }
-    ensures refused { RefusesAt R.kept R.standing R.words R.full
-        (λ old new. TakesFewer 1 (R.standing old) (R.standing new)) result room.old room.new }
+    ensures refused { RefusesAt R.kept R.page_state R.words R.full
+        (λ old new. TakesFewer 1 (R.page_state old) (R.page_state new)) result room.old room.new }
 {
     let page = room.take_like(old_page)?;
     store_version(room, page, version);
     Ok(page)
 }
 
-/// Gives the old version page up, and writes the new one.
+/// Gives up the old version page, and writes the new one.
 fn replace_version<R: Room>(room: &mut R, old_page: u64, version: &Version) -> Result<u64, Refusal>
-    requires in_use { IsTrue (is_kept (R.standing room.old old_page)) }
+    requires in_use { IsTrue (is_kept (R.page_state room.old old_page)) }
     requires named { All (λ e. IsName e.name) version.now.entries.items }
     requires open { IsTrue (R.is_open (R.kept room.old)) }
     ensures contents { IfOk result (λ p. contents_of (R.words room.new p) ≡ contents version.now) }
     ensures page { IfOk result (λ page. IsVersionPage (R.words room.new page)) }
-    ensures taken { IfOk result (λ page. R.standing room.new page ≡ Filled) }
-    ensures swaps { IfOk result (λ page. Swaps R.kept R.standing R.words (old_page ∷ []) (page ∷ [])
-        room.old room.new) }
-    ensures refused { RefusesAt R.kept R.standing R.words R.full
-        (λ old new. TakesFewer 1 (R.standing old) (R.standing new)) result room.old room.new }
+    ensures taken { IfOk result (λ page. R.page_state room.new page ≡ Filled) }
+    ensures swaps { IfOk result (λ page. Swaps R.kept R.page_state R.words (old_page ∷ [])
+        (page ∷ []) room.old room.new) }
+    ensures refused { RefusesAt R.kept R.page_state R.words R.full
+        (λ old new. TakesFewer 1 (R.page_state old) (R.page_state new)) result room.old room.new }
 {
     room.give_up(old_page);
     let page = write_version(room, old_page, version)?;
     Ok(page)
 }
 
-/// Applies 1 to 64 operations to the version of a page, all or none, and returns the new version
-/// page; an outcome for each operation enters an empty list. The new page is one that this write
-/// has taken, even if nothing changed. The list is filled in place, since one that is passed by
-/// value costs its whole capacity.
+/// Applies 1 to 64 operations to the version on a page, all or none, and returns the new version
+/// page. It adds an outcome for each operation to an empty list. The new page is one that this
+/// write has taken, even if nothing changed. The list is filled in place, since passing it by value
+/// costs its whole capacity.
 ///
-/// The errors are those of the plain volume, NoNode to NotIndexable: they come before a page is
-/// taken, and the room is unchanged. If no page is left, the error is Full, and what was there when
-/// the write began is there again once it is undone. Until then it has few pages in hand, if it had
-/// none before: about as many as trees of all items have. It takes no memory: `version` is a place
-/// for the version's contents, and what it has before and after means nothing.
+/// The errors from NoNode to NotIndexable are the volume's: they come before a page is taken, and
+/// leave the page writer unchanged. If no page is free, the error is Full, and undoing the write
+/// restores what was there when it began. Until then it has few pages in hand, if it had none
+/// before: about as many as the trees of all items have. It takes no memory. `version` is scratch
+/// space for the version's contents: its value before and after means nothing.
 pub fn apply_into<R: Room>(
     room: &mut R,
     version: &mut Version,
@@ -102,17 +103,17 @@ pub fn apply_into<R: Room>(
     dones: &mut ArrayVec<Done, 64>,
 ) -> Result<u64, Refusal>
     ghost volume: { State }
-    requires version { IsVersion (R.standing room.old) (R.words room.old) version_page volume }
+    requires version { IsVersion (R.page_state room.old) (R.words room.old) version_page volume }
     requires count { (1 ≤ length ops.now) × (length ops.now ≤ 64) }
     requires fits { volume.next + 64 < 2 ^ 64 }
     requires open { IsTrue (R.is_open (R.kept room.old)) }
     requires empty { dones.old.items ≡ [] }
-    ensures ok { IfOk result (λ page. Applies R.kept R.standing R.words version_page page volume
+    ensures ok { IfOk result (λ page. Applies R.kept R.page_state R.words version_page page volume
         ops.now dones.new.items room.old room.new) }
-    ensures err { IfErr result (λ e. IsRefusedList R.kept R.standing R.words R.full volume ops.now e
-        room.old room.new) }
-    ensures few { OnErr result (TakesFew volume ops.now (R.standing room.old)
-        (R.standing room.new)) }
+    ensures err { IfErr result (λ e. IsRefusedList R.kept R.page_state R.words R.full volume ops.now
+        e room.old room.new) }
+    ensures few { OnErr result (TakesFew volume ops.now (R.page_state room.old)
+        (R.page_state room.new)) }
 {
     fill_version(room, version_page, version);
     let mut asked = None;
@@ -124,23 +125,23 @@ pub fn apply_into<R: Room>(
     Ok(page)
 }
 
-/// The same, with the outcomes in a list of their own, and a place of its own for the contents.
+/// The same as `apply_into`, with a list of its own for the outcomes and scratch space of its own.
 pub fn apply<R: Room>(
     room: &mut R,
     version_page: u64,
     ops: &[Op],
 ) -> Result<(u64, ArrayVec<Done, 64>), Refusal>
     ghost volume: { State }
-    requires version { IsVersion (R.standing room.old) (R.words room.old) version_page volume }
+    requires version { IsVersion (R.page_state room.old) (R.words room.old) version_page volume }
     requires count { (1 ≤ length ops.now) × (length ops.now ≤ 64) }
     requires fits { volume.next + 64 < 2 ^ 64 }
     requires open { IsTrue (R.is_open (R.kept room.old)) }
-    ensures ok { IfOk result (λ r. Applies R.kept R.standing R.words version_page r.0 volume ops.now
-        r.1.items room.old room.new) }
-    ensures err { IfErr result (λ e. IsRefusedList R.kept R.standing R.words R.full volume ops.now e
-        room.old room.new) }
-    ensures few { OnErr result (TakesFew volume ops.now (R.standing room.old)
-        (R.standing room.new)) }
+    ensures ok { IfOk result (λ r. Applies R.kept R.page_state R.words version_page r.0 volume
+        ops.now r.1.items room.old room.new) }
+    ensures err { IfErr result (λ e. IsRefusedList R.kept R.page_state R.words R.full volume ops.now
+        e room.old room.new) }
+    ensures few { OnErr result (TakesFew volume ops.now (R.page_state room.old)
+        (R.page_state room.new)) }
 {
     let mut version = Version::new();
     let mut dones = ArrayVec::new();

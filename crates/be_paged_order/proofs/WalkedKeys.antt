@@ -1,4 +1,4 @@
--- The entries of an index that a walk over its tree passes.
+-- Which entries of an index a walk over its tree passes.
 use Rattle.std.proofs.Common.{◌≡◌, ◌⊎◌, ◌≤◌, ℕ, zero, suc, Bool, true, false, cond, ◌&&◌, IfNone, IfSome, List, [], ◌∷◌, ◌++◌, None, Some, refl, sym, ap, ◌∙◌, subst, arith, inl, inr, take, length, map, get_or, if◌then◌else◌}
 use Rattle.std.specs.FinMap as fin
 use Rattle.std.specs.List.{Contains, filter}
@@ -7,7 +7,7 @@ use Rattle.std.specs.declared.option.Option.{Option}
 use Rattle.std.specs.declared.cmp.Ordering.TheVariants.{Less}
 use Rattle.std.proofs.lemmas.List.{append-nil}
 use Rattle.std.proofs.lemmas.List.Elements.{All-contains, All-contains_itself}
-use Rattle.be_pages.specs.declared.room.Standing.{Standing}
+use Rattle.be_pages.specs.declared.room.PageState.{PageState}
 use Rattle.be_value.specs.declared.values.Kind.TheVariants as kinds
 use Rattle.be_order.proofs.PageKeys.{contains_mapped, mapped_contains}
 use Rattle.be_order.specs.Ordered.{is_after, key_cmp, nodes_of}
@@ -17,7 +17,7 @@ use Rattle.be_paged_reading.specs.Entry.{Entry}
 use Rattle.be_paged_reading.specs.Page.{Contents, contents_of, IsNamedAt}
 use Rattle.be_paged_reading.specs.Source.{HasNumbers, HasPassing, IsFound}
 use Rattle.be_paged_reading.specs.KeyTests.{nodes_passing}
-use Rattle.be_paged_reading.specs.Version.{IsVersion, Spells}
+use Rattle.be_paged_reading.specs.Version.{IsVersion, Encodes}
 use Rattle.be_paged_reading.specs.declared.on_page.FoundIndex.{FoundIndex}
 use Rattle.be_paged_reading.proofs.Asking.Picking.{passes_as_node}
 use Rattle.be_paged_reading.proofs.Asking.RangeNodes.{node_of_key}
@@ -71,7 +71,7 @@ numbers_passing test [] = refl
 numbers_passing test (x ∷ xs) =
     one_passing x (filter (λ y. passes_key test y.key (number_of y.key)) xs) (nodes_passing test xs) (passes_key test x.key (number_of x.key)) (numbers_passing test xs)
 
--- a walk over no index
+-- a walk when there is no index
 none_walked : (Is : List ℕ → ℕ → Type 0) (descending : Bool) (cursor : Option (List ℕ)) (most : ℕ) (before : List ℕ) → ((k : List ℕ) (n : ℕ) → Is k n → ⊥) → HasWalked Is descending cursor most before before
 none_walked Is descending cursor most before none = record {
   entries = [];
@@ -108,14 +108,14 @@ module _ (strict : Bool) (low : List ℕ) (high : Option (List ℕ)) (ps : List 
       in_turned (pairs_from (pairs_until ps high strict) low false) x
       (in_filter (λ (y : Pair). is_from low false y.key) (pairs_until ps high strict) x (in_filter (λ (y : Pair). is_until high strict y.key) ps x there (and_first _ _ h)) (and_second _ _ h))
 
-module _ (w : ℕ → ℕ → ℕ) (c : Contents) (s : State) (name : List ℕ) (i : ℕ) (e : Entry) (spells : Spells w c s) (at : IsNamedAt c.entries name i) (sound : IsSound s)
+module _ (w : ℕ → ℕ → ℕ) (c : Contents) (s : State) (name : List ℕ) (i : ℕ) (e : Entry) (encodes : Encodes w c s) (at : IsNamedAt c.entries name i) (sound : IsSound s)
     (rising : IsRising (pairs w (get_or c.entries i e).root)) (low : List ℕ) (high : Option (List ℕ)) where
   abbrev all : List Pair
   all = pairs w (get_or c.entries i e).root
 
   is_entry : (x : Pair) → Contains all x → Within low high x.key → IsEntry s name low high x.key (number_of x.key)
   is_entry x there within =
-      let found = named_found w c.entries (fin.entries s.indices) name i spells.indices at in
+      let found = named_found w c.entries (fin.entries s.indices) name i encodes.indices at in
       let p : IsPairOf found.index x = All-contains (IsPairOf found.index) all x (found.entry e).keys.only there in
       let in_map = fin.get-entries s.indices name ∙ found.found in
       let fits = (sound.pairs name found.index p.node p.value in_map p.there).node_fits in
@@ -128,11 +128,11 @@ module _ (w : ℕ → ℕ → ℕ) (c : Contents) (s : State) (name : List ℕ) 
   has_entry : (k : List ℕ) (n : ℕ) → IsEntry s name low high k n → (x : Pair) × Contains all x × (x.key ≡ k) × (number_of k ≡ n)
   has_entry k n h =
       let q = h.is_key in
-      let x = found_pair (Contains all) k all (All-contains_itself all) (key_finds w c s name i spells e at k q) in
+      let x = found_pair (Contains all) k all (All-contains_itself all) (key_finds w c s name i encodes e at k q) in
       let fits = (sound.pairs name q.index q.node q.value q.there q.paired).node_fits in
       (x.0, x.1, x.2, ap number_of q.is ∙ node_of_key q.value q.node fits ∙ h.node_is)
 
-  -- the pairs on a way that pass a test are the entries that are wanted
+  -- the pairs on a way that pass a test are the wanted entries
   module _ (Is : List ℕ → ℕ → Type 0) (test : Pair → Bool) (wanted : (x : Pair) → IsEntry s name low high x.key (number_of x.key) → test x ≡ true → Is x.key (number_of x.key))
       (entry_of : (k : List ℕ) (n : ℕ) → Is k n → IsEntry s name low high k n) (tested : (k : List ℕ) (n : ℕ) → Is k n → (x : Pair) → x.key ≡ k → number_of k ≡ n → test x ≡ true)
       (descending : Bool) (cursor : Option (List ℕ)) (way : Way) (is : IsWayOf low high descending cursor way) (most : ℕ) where
@@ -189,7 +189,7 @@ nowhere : Entry
 nowhere = record { name = []; kind = kinds.Cstr; root = 0 }
 
 -- the numbers of the keys on a way over an index, if there is one
-module _ (standing : ℕ → Standing) (w : ℕ → ℕ → ℕ) (page : ℕ) (s : State) (version : IsVersion standing w page s) (name low : List ℕ) (high : Option (List ℕ)) (descending : Bool) (cursor : Option (List ℕ))
+module _ (page_state : ℕ → PageState) (w : ℕ → ℕ → ℕ) (page : ℕ) (s : State) (version : IsVersion page_state w page s) (name low : List ℕ) (high : Option (List ℕ)) (descending : Bool) (cursor : Option (List ℕ))
     (way : Way) (is : IsWayOf low high descending cursor way) (most : ℕ) (before after : List ℕ) where
   abbrev contents : Contents
   contents = contents_of (w page)
@@ -201,11 +201,11 @@ module _ (standing : ℕ → Standing) (w : ℕ → ℕ → ℕ) (page : ℕ) (s
       IfNone index (after ≡ before) → Walked
   walked_by None found added same =
       subst (HasWalked (IsEntry s name low high) descending cursor most before) (sym same)
-      (none_walked (IsEntry s name low high) descending cursor most before (λ k n e. no_key w contents s name found.absent.0 version.spells found.absent.1 k e.is_key))
+      (none_walked (IsEntry s name low high) descending cursor most before (λ k n e. no_key w contents s name found.absent.0 version.encodes found.absent.1 k e.is_key))
   walked_by (Some index) found added same =
-      let tree = entry_tree standing w contents index.place nowhere version.in_hand found.named.in_range in
+      let tree = entry_tree page_state w contents index.place nowhere version.in_hand found.named.in_range in
       let own = pairs w (get_or contents.entries index.place nowhere).root in
-      has_walked w contents s name index.place nowhere version.spells found.named version.sound (tree_rising standing w (get_or contents.entries index.place nowhere).root tree) low high
+      has_walked w contents s name index.place nowhere version.encodes found.named version.sound (tree_rising page_state w (get_or contents.entries index.place nowhere).root tree) low high
       (IsEntry s name low high) (λ x. true) (λ x e t. e) (λ k n e. e) (λ k n e x same node. refl) descending cursor way is most before after
       (added ∙ ap (λ (r : ℕ). before ++ numbers_in (take most (walk_of way (pairs w r)))) (found.root nowhere) ∙ ap (λ (xs : List Pair). before ++ numbers_in (take most xs)) (sym (all_pass (walk_of way own))))
 
@@ -213,7 +213,7 @@ module _ (standing : ℕ → Standing) (w : ℕ → ℕ → ℕ) (page : ℕ) (s
   numbers_walked h = walked_by h.index h.found h.added h.same
 
 -- the nodes of the keys on a way over an index that pass a test
-module _ (standing : ℕ → Standing) (w : ℕ → ℕ → ℕ) (page : ℕ) (s : State) (version : IsVersion standing w page s) (name low : List ℕ) (high : Option (List ℕ)) (test : KeyTest) (descending : Bool)
+module _ (page_state : ℕ → PageState) (w : ℕ → ℕ → ℕ) (page : ℕ) (s : State) (version : IsVersion page_state w page s) (name low : List ℕ) (high : Option (List ℕ)) (test : KeyTest) (descending : Bool)
     (cursor : Option (List ℕ)) (way : Way) (is : IsWayOf low high descending cursor way) (most : ℕ) (nodes : List ℕ) where
   pub passing_walked : HasPassing w (contents_of (w page)).entries name way test most nodes → HasWalked (IsPassing s name low high test) descending cursor most [] nodes
   passing_walked h =
@@ -223,8 +223,8 @@ module _ (standing : ℕ → Standing) (w : ℕ → ℕ → ℕ) (page : ℕ) (s
       let own = get_or contents.entries place nowhere in
       let walk_own = walk_of way (pairs w own.root) in
       let of_texts : reads_texts test ≡ true → own.kind ≡ kinds.Cstr = λ e. sym (h.found.kind nowhere) ∙ h.has_texts e in
-      let says = passes_as_node w contents s name place nowhere version.spells named version.sound test of_texts low high in
-      has_walked w contents s name place nowhere version.spells named version.sound (tree_rising standing w own.root (entry_tree standing w contents place nowhere version.in_hand named.in_range)) low high
+      let says = passes_as_node w contents s name place nowhere version.encodes named version.sound test of_texts low high in
+      has_walked w contents s name place nowhere version.encodes named version.sound (tree_rising page_state w own.root (entry_tree page_state w contents place nowhere version.in_hand named.in_range)) low high
       (IsPassing s name low high test) (λ x. passes_key test x.key (number_of x.key))
       (λ x e t. (e, sym (says x.key (number_of x.key) e.is_key e.node_is) ∙ t))
       (λ k n e. e.0)

@@ -1,4 +1,4 @@
--- The way of a walk over the keys of a range that come after a cursor.
+-- Ways: walks over the keys of a range that come after a cursor.
 use Rattle.std.specs.Prelude.{◌≡◌, ℕ, Bool, true, false, ◌&&◌, List}
 use Rattle.std.specs.Option.{option_copied, option_map_or}
 use Rattle.std.specs.Ordering.{is_ge}
@@ -16,7 +16,7 @@ abbrev pub lies_on : (back strict : Bool) → (low : List ℕ) → (high : Optio
 lies_on false strict low high k = is_from low strict k && is_until high false k
 lies_on true strict low high k = is_until high strict k && is_from low false k
 
--- the key is at most the bound, if there is one
+-- the key is at most the bound, if there is a bound
 abbrev pub is_up_to : Option (List ℕ) → List ℕ → Bool
 is_up_to high k = option_map_or (λ h. is_ge (name_cmp h k)) high true
 

@@ -1,8 +1,8 @@
-//! Answers in the order of an index, from pages.
+//! Answers in an index's order, read from pages.
 //!
-//! be_paged_reading's source reads a version in pages, and walks an index either way. Here a source
-//! has the same calls and those of be_order besides: a page in order is a walk over a range of
-//! keys, from a cursor on.
+//! be_paged_reading's source reads a version in pages, and walks an index in either direction. The
+//! source in this crate has the same calls and also be_order's. A page in order is a walk over a
+//! range of keys, starting after a cursor.
 #![tactic(auto)]
 
 mod pages;

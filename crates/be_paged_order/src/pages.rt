@@ -1,4 +1,4 @@
-//! A version as a source that walks in order.
+//! A version as a source that walks indices in their order.
 ghost use Rattle.std.specs.Prelude.{◌≡◌};
 ghost use Rattle.be_volume.specs.Volume.{State};
 ghost use Rattle.be_paged_reading.specs.Version.{HasVersion, IsVersion};
@@ -12,22 +12,22 @@ use be_plan::{KeyRange, KeyTest, Source, TextTest};
 use be_query::Comparison;
 use be_value::{Kind, Name, Refusal, Value};
 
-/// A reader of one version that also walks its indices in their order, by its page and its look. It
-/// takes no memory besides its own.
+/// Reads one version, and also walks its indices in their order. It has the version's page and a
+/// page reader, and takes no other memory.
 #[derive(Drop)]
 pub struct OrderedPages<L> {
     reader: PagedSource<L>,
 }
 
-/// The version of a page as a source that walks in order. It reads nothing yet, and keeps the look
-/// until `into_look`.
+/// The version on a page, as a source that walks in order. It reads nothing yet, and keeps the page
+/// reader until `into_look`.
 pub fn ordered_source<L: Look>(look: L, version_page: u64) -> OrderedPages<L>
-    requires version { HasVersion L.standing L.words look version_page }
+    requires version { HasVersion L.page_state L.words look version_page }
     ensures answers { (volume : State)
-        → IsVersion (L.standing look) (L.words look) version_page volume
+        → IsVersion (L.page_state look) (L.words look) version_page volume
         → ⟦<OrderedPages<L> as Source>⟧.answers_for result volume }
     ensures look { ⟦<OrderedPages<L> as Source>⟧.kept result
-        ≡ (L.kept look, (L.standing look, L.words look)) }
+        ≡ (L.kept look, (L.page_state look, L.words look)) }
 {
     OrderedPages {
         reader: source(look, version_page),
@@ -35,9 +35,9 @@ pub fn ordered_source<L: Look>(look: L, version_page: u64) -> OrderedPages<L>
 }
 
 impl<L: Look> OrderedPages<L> {
-    /// The look back, with the facts that it had.
+    /// Returns the page reader, with the facts that it had.
     pub fn into_look(self) -> L
-        ensures look { (L.kept result, (L.standing result, L.words result))
+        ensures look { (L.kept result, (L.page_state result, L.words result))
             ≡ ⟦<OrderedPages<L> as Source>⟧.kept self }
     {
         self.reader.into_look()
@@ -46,9 +46,9 @@ impl<L: Look> OrderedPages<L> {
 
 impl<L: Look> Source for OrderedPages<L> {
     ghost use Rattle.std.specs.Prelude.{ℕ};
-    ghost use Rattle.be_pages.specs.declared.room.Standing.{Standing as Stands};
+    ghost use Rattle.be_pages.specs.declared.room.PageState.{PageState as AnyPageState};
 
-    ghost Kept = { L.Kept × ((ℕ → Stands) × (ℕ → ℕ → ℕ)) };
+    ghost Kept = { L.Kept × ((ℕ → AnyPageState) × (ℕ → ℕ → ℕ)) };
 
     ghost kept = { λ s. ⟦<PagedSource<L> as Source>⟧.kept s.reader };
 

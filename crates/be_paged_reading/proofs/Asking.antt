@@ -1,4 +1,4 @@
--- What a query reads of a version.
+-- What a query reads from a version.
 pub mod Walks
 pub mod SourceKeys
 pub mod RangeNodes

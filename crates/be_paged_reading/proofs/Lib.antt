@@ -3,4 +3,4 @@ pub mod Stored
 pub mod CatalogPairs
 pub mod IndexEntries
 pub mod Asking
-pub mod Told
+pub mod Reported

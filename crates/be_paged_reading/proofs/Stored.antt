@@ -1,4 +1,4 @@
--- A version as its page stores it, and what the page tells.
+-- A version as its page stores it, and what the page encodes.
 pub mod Codec
 pub mod UsedWords
 pub mod PageIndices

@@ -1,4 +1,4 @@
--- What is written of nodes at names: a cell for each, and the bytes of texts one after the other.
+-- What is written for nodes at names: a cell for each, and the bytes of texts one after another.
 use Rattle.std.specs.Prelude.{◌≡◌, ◌≢◌, ◌≤◌, ◌⊎◌, ◌+◌, ◌*◌, ℕ, Bool, List, [], ◌∷◌, ◌++◌, None}
 use Rattle.std.specs.Prelude.{Some, Ok, Err, IfNone, IfSome, length, take, drop, map as each}
 use Rattle.std.specs.Prelude.{if◌then◌else◌}
@@ -7,7 +7,7 @@ use Rattle.std.specs.Int.{cast_unsigned, w64}
 use Rattle.std.specs.Option.{option_map_or}
 use Rattle.std.specs.declared.option.Option.{Option}
 use Rattle.std.specs.declared.result.Result.{Result}
-use Rattle.be_pages.specs.declared.room.Standing.{Standing}
+use Rattle.be_pages.specs.declared.room.PageState.{PageState}
 use Rattle.be_tree_reading.specs.Cursor.{IsCursor, remaining}
 use Rattle.be_tree_reading.specs.Page.{item_at}
 use Rattle.be_tree_reading.specs.Pair.{Pair}
@@ -31,30 +31,30 @@ use Rattle.be_paged_reading.specs.declared.cells.Filled.{Filled}
 use Rattle.be_paged_reading.specs.declared.cells.HeldName.{HeldName}
 use Rattle.be_paged_reading.specs.declared.rows.Row.{Row}
 
--- The first places, as many as there are places, have these; the others are as they were.
+-- The first places have these, as many as fit; the others are as they were.
 abbrev pub over : {X : Type 0} → List X → List X → List X
 over xs places = take (length places) xs ++ drop (length xs) places
 
--- the name that is held: as many of the bytes as its length says
+-- the name that a caller holds: as many of the bytes as its length says
 abbrev pub name_in : HeldName → List ℕ
 name_in held = take held.length held.bytes
 
--- why a node that has no attribute of a name has none: the node isn't there, or it is
+-- why a node doesn't have an attribute: the node doesn't exist, or it exists without it
 abbrev pub why_none : Bool → Refusal
 why_none there = if there then NoAttr else NoNode
 
--- the value of the node's attribute, or why there is none
+-- the node's value at the name, or why there is none
 abbrev pub found_at : Nodes → ℕ → List ℕ → Result Value Refusal
 found_at nodes node name = option_map_or (λ value. Ok value) (value_at nodes node name)
     (Err (why_none (map.contains_key nodes node)))
 
--- the same of each node at each name: the names of the first node, then those of the second, and so
--- on
+-- the same for each node at each name: the names of the first node, then those of the second, and
+-- so on
 abbrev pub found_in : Nodes → List ℕ → List (List ℕ) → List (Result Value Refusal)
 found_in nodes [] names = []
 found_in nodes (node ∷ rest) names = each (found_at nodes node) names ++ found_in nodes rest names
 
--- the bytes of a text or of raw bytes; a number has none
+-- a text's bytes or raw bytes; a number has none
 abbrev pub data_of : Value → List ℕ
 data_of (Cstr text) = text
 data_of (Long n) = []
@@ -64,7 +64,7 @@ data_of (Rawt bytes) = bytes
 data_of (Ulng n) = []
 data_of (Ullg n) = []
 
--- the number, with a sign as two's complement; a text has 0
+-- a number, in two's complement if it is signed; a text has 0
 abbrev pub number_of : Value → ℕ
 number_of (Cstr text) = 0
 number_of (Long n) = cast_unsigned w64 n
@@ -78,8 +78,8 @@ abbrev pub data_in : Result Value Refusal → List ℕ
 data_in (Ok value) = data_of value
 data_in (Err why) = []
 
--- The cell of what was found, whose bytes begin at an offset. It has the number of the refusal if
--- there is no value.
+-- The cell of a result whose bytes begin at an offset. If there is no value, it has the error's
+-- number.
 abbrev pub cell_of : ℕ → Result Value Refusal → Cell
 cell_of offset (Ok value) = record {
   error = 0;
@@ -96,101 +96,102 @@ cell_of offset (Err why) = record {
   length = 0;
 }
 
--- the bytes of all that was found, end to end
+-- the bytes of all results, one after another
 abbrev pub all_data : List (Result Value Refusal) → List ℕ
 all_data [] = []
 all_data (x ∷ xs) = data_in x ++ all_data xs
 
--- the cells of all that was found: the bytes of each begin after those of the one before
+-- the cells of all results; each result's bytes begin after those of the one before
 abbrev pub cells_from : ℕ → List (Result Value Refusal) → List Cell
 cells_from offset [] = []
 cells_from offset (x ∷ xs) = cell_of offset x ∷ cells_from (offset + length (data_in x)) xs
 
--- The cells and bytes that were found are written: how many of each, and as many of both as there
--- are places.
-pub record AreTold (found : List (Result Value Refusal)) (cell_places cells : List Cell)
+-- The results' cells and bytes are written: how many of each there are, and as many of both as
+-- there are places.
+pub record AreReported (found : List (Result Value Refusal)) (cell_places cells : List Cell)
     (byte_places bytes : List ℕ) (filled : Filled) : Type 0 where
   pub cells_are : cells ≡ over (cells_from 0 found) cell_places
   pub bytes_are : bytes ≡ over (all_data found) byte_places
   pub cell_count : filled.cells ≡ length found
   pub byte_count : filled.bytes ≡ length (all_data found)
 
--- the counts are such that no sum of them is out of range
+-- the counts are small enough that no sum of them overflows
 pub record IsFew (filled : Filled) : Type 0 where
   pub few : filled.bytes ≤ 512 * filled.cells
 
--- a cursor that is past all pairs, or before those from some key on
+-- the cursor is past all pairs, or before those from some key on
 abbrev pub IsAmong : (words : ℕ → ℕ → ℕ) (root : ℕ) → Cursor → Type 0
 IsAmong words root cursor =
     (remaining words cursor ≡ []) ⊎ ((from : List ℕ) × (after : Bool)
     × (remaining words cursor ≡ pairs_from (pairs words root) from after))
 
--- the first pair, if there is one, has another key
+-- if there is a first pair, it has another key
 abbrev pub StartsElsewhere : List ℕ → List Pair → Type 0
 StartsElsewhere key [] = Unit {0}
 StartsElsewhere key (x ∷ xs) = x.key ≢ key
 
--- the cursor can go on, and it is there
-pub record WalksIn (standing : ℕ → Standing) (words : ℕ → ℕ → ℕ) (root : ℕ) (cursor : Cursor) :
+-- the cursor can continue, and is in this tree
+pub record WalksIn (page_state : ℕ → PageState) (words : ℕ → ℕ → ℕ) (root : ℕ) (cursor : Cursor) :
     Type 0 where
-  pub walks : IsCursor standing words cursor
+  pub walks : IsCursor page_state words cursor
   pub among : IsAmong words root cursor
 
--- What is known in a row of the catalog's tree: where the cursor is, and whether the node is there,
--- if that was asked.
-pub record IsInRow (standing : ℕ → Standing) (words : ℕ → ℕ → ℕ) (row : Row) : Type 0 where
-  pub tree : IsTree standing words row.catalog
-  pub cursor : WalksIn standing words row.catalog row.cursor
+-- What is known about a row of the catalog's tree: where the cursor is, and whether the node
+-- exists, if that was asked.
+pub record IsInRow (page_state : ℕ → PageState) (words : ℕ → ℕ → ℕ) (row : Row) : Type 0 where
+  pub tree : IsTree page_state words row.catalog
+  pub cursor : WalksIn page_state words row.catalog row.cursor
   pub is_known : (nodes : Nodes) → IsCatalog (pairs words row.catalog) nodes → AreValid nodes
       → IfSome row.known (λ there. there ≡ map.contains_key nodes row.node)
 
--- a row goes on: it is of the same node
-pub record GoesOn (standing : ℕ → Standing) (words : ℕ → ℕ → ℕ) (old new : Row) : Type 0 where
-  pub in_row : IsInRow standing words new
+-- the row continues with the same node
+pub record GoesOn (page_state : ℕ → PageState) (words : ℕ → ℕ → ℕ) (old new : Row) : Type 0 where
+  pub in_row : IsInRow page_state words new
   pub same_catalog : new.catalog ≡ old.catalog
   pub same_node : new.node ≡ old.node
 
 -- The cells of nodes at names in a volume are written, one for each node and name, and the bytes of
--- all texts: of both as many as there are places, and how many bytes these are.
-pub record TellsColumns (volume : State) (nodes : List ℕ) (names : List (List ℕ))
+-- all texts: as many of both as there are places. `needed` is how many bytes the texts take.
+pub record ReportsColumns (volume : State) (nodes : List ℕ) (names : List (List ℕ))
     (cell_places cells : List Cell) (byte_places bytes : List ℕ) (needed : ℕ) : Type 0 where
   pub cells_are : cells ≡ over (cells_from 0 (found_in volume.nodes nodes names)) cell_places
   pub bytes_are : bytes ≡ over (all_data (found_in volume.nodes nodes names)) byte_places
   pub needed_is : needed ≡ length (all_data (found_in volume.nodes nodes names))
 
--- What a read of an attribute writes: its cell, and as many of its bytes as there are places. It
--- writes nothing of an attribute that isn't there.
+-- What a read of an attribute writes: its cell, and as many of its bytes as there are places. For a
+-- missing attribute it writes nothing.
 abbrev pub IsReadInto : Option Value → Option Cell → List ℕ → List ℕ → Type 0
-IsReadInto None told places bytes = (told ≡ None) × (bytes ≡ places)
-IsReadInto (Some value) told places bytes = IsValue value × (told ≡ Some (cell_of 0 (Ok value)))
+IsReadInto None reported places bytes = (reported ≡ None) × (bytes ≡ places)
+IsReadInto (Some value) reported places bytes = IsValue value
+    × (reported ≡ Some (cell_of 0 (Ok value)))
     × (bytes ≡ over (data_of value) places)
 
--- the node has an attribute of this name, whose value has this payload
+-- the node has an attribute with this name, whose value has this payload
 pub record HasPayload (nodes : Nodes) (node : ℕ) (name payload : List ℕ) : Type 0 where
   pub value : Value
   pub there : value_at nodes node name ≡ Some value
   pub is_value : IsValue value
   pub is : payload ≡ payload_of value
 
--- a look-up of a node's attribute found an item that has its payload
+-- if a look-up of a node's attribute found an item, its payload is the attribute's
 abbrev pub IsValuePlace : (old new : ℕ → ℕ → ℕ) (catalog node : ℕ) (name : List ℕ)
     → Option (ℕ × ℕ) → Type 0
 IsValuePlace old new catalog node name place = (nodes : Nodes) → IsCatalog (pairs old catalog) nodes
     → AreValid nodes
     → IfSome place (λ at. HasPayload nodes node name (item_at (new at.0) at.1).payload)
 
--- and if it found none, the node has no such attribute
+-- if it found none, the node has no such attribute
 abbrev pub IsValueAbsent : (words : ℕ → ℕ → ℕ) (catalog node : ℕ) (name : List ℕ)
     → Option (ℕ × ℕ) → Type 0
 IsValueAbsent words catalog node name place = (nodes : Nodes)
     → IsCatalog (pairs words catalog) nodes → AreValid nodes
     → IfNone place (value_at nodes node name ≡ None)
 
--- after what was written before come these answers, which the nodes of the catalog give
-abbrev pub Tells : (words : ℕ → ℕ → ℕ) (catalog : ℕ) → (Nodes → List (Result Value Refusal))
+-- the call writes these answers, from the nodes of the catalog, after what was written before
+abbrev pub Reports : (words : ℕ → ℕ → ℕ) (catalog : ℕ) → (Nodes → List (Result Value Refusal))
     → (old_cells new_cells : List Cell) (old_bytes new_bytes : List ℕ) (old new : Filled) → Type 0
-Tells words catalog answers old_cells new_cells old_bytes new_bytes old new = (nodes : Nodes)
+Reports words catalog answers old_cells new_cells old_bytes new_bytes old new = (nodes : Nodes)
     → IsCatalog (pairs words catalog) nodes → AreValid nodes
     → (found : List (Result Value Refusal)) (cell_places : List Cell) (byte_places : List ℕ)
-    → AreTold found cell_places old_cells byte_places old_bytes old
-    → AreTold (found ++ answers nodes) cell_places new_cells byte_places new_bytes new
+    → AreReported found cell_places old_cells byte_places old_bytes old
+    → AreReported (found ++ answers nodes) cell_places new_cells byte_places new_bytes new

@@ -9,8 +9,8 @@ pub record Entry : Type 0 where
   pub kind : Kind
   pub root : ℕ
 
--- The eight words have the bytes of a text, the first byte as the most significant of the first
--- word, and zeros after the last.
+-- The eight words hold a text's bytes, with the first byte as the most significant of the first
+-- word, and zeros after the last byte.
 pub record HaveText (words : ℕ → ℕ) (text : List ℕ) : Type 0 where
   pub small : (j : ℕ) → j < 8 → words j < 2 ^ 64
   pub bytes : (j : ℕ) → j < 8 → to_be_bytes w64 (words j)

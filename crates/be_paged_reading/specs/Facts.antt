@@ -1,35 +1,35 @@
--- What a version in hand says about a volume.
+-- What a loaded version says about a volume.
 use Rattle.std.specs.Prelude.{◌≡◌, ℕ, IfSome}
 use Rattle.std.specs.Option.{option_map}
 use Rattle.std.specs.FinMap as map
 use Rattle.std.specs.declared.option.Option.{Option}
-use Rattle.be_pages.specs.declared.room.Standing.{Standing}
+use Rattle.be_pages.specs.declared.room.PageState.{PageState}
 use Rattle.be_volume.specs.Maps.{Nodes}
 use Rattle.be_volume.specs.Sound.{IsSound}
 use Rattle.be_volume.specs.Volume.{State}
 use Rattle.be_paged_reading.specs.Page.{Contents}
 use Rattle.be_paged_reading.specs.Place.{IsAsked}
 use Rattle.be_paged_reading.specs.declared.asked.Asked.{Asked}
-use Rattle.be_paged_reading.specs.Version.{IsInHand, Spells}
+use Rattle.be_paged_reading.specs.Version.{IsInHand, Encodes}
 
--- the contents in hand encode this volume, which is sound
-pub record AnswersFor (standing : ℕ → Standing) (words : ℕ → ℕ → ℕ) (c : Contents) (volume : State)
-    : Type 0 where
-  pub in_hand : IsInHand standing words c
-  pub spells : Spells words c volume
+-- the loaded contents encode this volume, which is sound
+pub record AnswersFor (page_state : ℕ → PageState) (words : ℕ → ℕ → ℕ) (c : Contents)
+    (volume : State) : Type 0 where
+  pub in_hand : IsInHand page_state words c
+  pub encodes : Encodes words c volume
   pub sound : IsSound volume
 
--- how many attributes a node has, if it is there
+-- how many attributes a node has, if it exists
 abbrev pub count_of : Nodes → ℕ → Option ℕ
 count_of nodes node = option_map (λ attributes. map.len attributes) (map.get nodes node)
 
--- what is remembered of a node is so
+-- what is remembered about the last node is true
 abbrev pub IsCounted : Option (ℕ × Option ℕ) → State → Type 0
 IsCounted counted volume = IfSome counted (λ last. last.1 ≡ count_of volume.nodes last.0)
 
 -- a reader of the contents, with what it remembers
-pub record FactsOf (standing : ℕ → Standing) (words : ℕ → ℕ → ℕ) (c : Contents)
+pub record FactsOf (page_state : ℕ → PageState) (words : ℕ → ℕ → ℕ) (c : Contents)
     (counted : Option (ℕ × Option ℕ)) (asked : Option Asked) (volume : State) : Type 0 where
-  pub told : AnswersFor standing words c volume
+  pub reported : AnswersFor page_state words c volume
   pub counted_is : IsCounted counted volume
-  pub asked_is : IsAsked standing words c.catalog asked
+  pub asked_is : IsAsked page_state words c.catalog asked

@@ -1,4 +1,4 @@
--- Tests of the keys of an index, and the nodes of those that pass.
+-- Tests of an index's keys, and the nodes of the keys that pass.
 use Rattle.std.specs.Prelude.{ℕ, ◌≤◌, List, [], ◌∷◌, All, length, if◌then◌else◌}
 use Rattle.std.specs.List.{flat_map}
 use Rattle.be_plan.specs.KeyTests.{passes_key}
@@ -18,7 +18,7 @@ IsTestable (Marked marks) key = 8 ≤ length key
 abbrev pub AreTestable : KeyTest → List Pair → Type 0
 AreTestable test xs = All (λ x. IsTestable test x.key) xs
 
--- the node of a key that passes
+-- the key's node, if the key passes
 abbrev pub node_if : KeyTest → Pair → List ℕ
 node_if test x = if passes_key test x.key (number_of x.key) then number_of x.key ∷ [] else []
 
@@ -26,6 +26,6 @@ node_if test x = if passes_key test x.key (number_of x.key) then number_of x.key
 abbrev pub nodes_passing : KeyTest → List Pair → List ℕ
 nodes_passing test xs = flat_map (node_if test) xs
 
--- the same up to the end of a way
+-- the same, up to the end of a way
 abbrev pub passing_on : KeyTest → Way → List Pair → List ℕ
 passing_on test way xs = nodes_passing test (on_way way xs)

@@ -12,17 +12,17 @@ use Rattle.be_tree_reading.specs.Forest.{pages_of}
 use Rattle.be_paged_reading.specs.Entry.{Entry, HaveText}
 use Rattle.be_paged_reading.specs.declared.version.Version.{Version}
 
--- the kind that pages call by a number from 1 to 7
+-- the kind with this number on pages, from 1 to 7
 abbrev pub kind_numbered : ℕ → Kind
 kind_numbered n = kind_at (n - 1)
 
--- the contents of a version page
+-- a version page's contents
 pub record Contents : Type 0 where
   pub next : ℕ
   pub catalog : ℕ
   pub entries : List Entry
 
--- a version in hand has the same contents
+-- the contents of a loaded version
 abbrev pub contents : Version → Contents
 contents version = record {
   next = version.next;
@@ -34,7 +34,7 @@ contents version = record {
 abbrev pub entry_place : ℕ → ℕ
 entry_place i = 4 + 11 * i
 
--- the index that the words from a place on tell: the name's length, its bytes in eight words, the
+-- the index in the eleven words from a place on: the name's length, its bytes in eight words, the
 -- kind's number, the root
 unfoldable pub entry_at : (words : ℕ → ℕ) (at : ℕ) → Entry
 entry_at words at = record {
@@ -50,35 +50,35 @@ contents_of words = record {
   entries = map (λ i. entry_at words (entry_place i)) (range_with_len 0 (words 1));
 }
 
--- eleven words tell an index
+-- these eleven words encode an index
 pub record IsEntry (words : ℕ → ℕ) (at : ℕ) : Type 0 where
   pub short : words at ≤ 63
   pub named : IsName (entry_at words at).name
   pub text : HaveText (λ j. words (at + 1 + j)) (entry_at words at).name
   pub kind : (1 ≤ words (at + 9)) × (words (at + 9) ≤ 7)
 
--- the words make a version page
+-- the words encode a version page
 pub record IsVersionPage (words : ℕ → ℕ) : Type 0 where
   pub tag : words 0 ≡ 255
   pub few : words 1 ≤ 32
   pub fits : words 2 < 2 ^ 64
   pub each : (i : ℕ) → i < words 1 → IsEntry words (entry_place i)
 
--- all roots: that of the catalog, and then one for each index
+-- all roots: the catalog's, and then one for each index
 abbrev pub roots : Contents → List ℕ
 roots c = c.catalog ∷ map (λ e. e.root) c.entries
 
--- the pages that a version reaches: its own, and those of its trees
+-- the pages of a version: its own, and those of its trees
 abbrev pub reach : (words : ℕ → ℕ → ℕ) (page : ℕ) → List ℕ
 reach words page = page ∷ pages_of words (roots (contents_of (words page)))
 
--- the entry at place i has the name, and those before it have lesser ones
+-- the entry at place i has the name, and those before it have lower ones
 pub record IsNamedAt (entries : List Entry) (name : List ℕ) (i : ℕ) : Type 0 where
   pub in_range : i < length entries
   pub below : (j : ℕ) (d : Entry) → j < i → name_cmp (slice_index_or entries j d).name name ≡ Less
   pub here : (d : Entry) → (slice_index_or entries i d).name ≡ name
 
--- the entries before place i have lesser names, and the one there, if any, has a greater one
+-- the entries before place i have lower names, and the one there, if any, has a higher one
 pub record IsGapAt (entries : List Entry) (name : List ℕ) (i : ℕ) : Type 0 where
   pub in_range : i ≤ length entries
   pub below : (j : ℕ) (d : Entry) → j < i → name_cmp (slice_index_or entries j d).name name ≡ Less

@@ -10,7 +10,7 @@ use Rattle.be_volume.specs.Maps.{Attributes, Nodes}
 use Rattle.be_volume.specs.Sound.{IsName}
 use Rattle.be_paged_reading.specs.Catalog.{catalog_key, payload_of, value_at}
 
--- each attribute has a name and a value of the program
+-- each attribute has a valid name and a valid value
 abbrev pub AreValid : Nodes → Type 0
 AreValid nodes = (node : ℕ) (name : List ℕ) (value : Value) → value_at nodes node name ≡ Some value
     → IsName name × IsValue value
@@ -19,15 +19,15 @@ AreValid nodes = (node : ℕ) (name : List ℕ) (value : Value) → value_at nod
 abbrev pub is_of : ℕ → List ℕ → Bool
 is_of node k = starts_with nat_eq k (to_be_bytes w64 node)
 
--- the pairs at the front whose keys begin with the node
+-- the pairs at the beginning whose keys begin with the node
 abbrev pub front_of_node : ℕ → List Pair → List Pair
 front_of_node node [] = []
 front_of_node node (x ∷ xs) = if is_of node x.key then x ∷ front_of_node node xs else []
 
--- the pair of an attribute
+-- the catalog's pair of an attribute
 abbrev pub attribute_pair : ℕ → List ℕ × Value → Pair
 attribute_pair node e = record { key = catalog_key node e.0; payload = payload_of e.1 }
 
--- the pairs of a node's attributes, by ascending names
+-- the pairs of a node's attributes, in ascending order of their names
 abbrev pub attribute_pairs : ℕ → Attributes → List Pair
 attribute_pairs node attributes = each (attribute_pair node) (map.entries attributes)

@@ -1,8 +1,8 @@
--- What a source over a version has in hand.
+-- What an index reader of a version knows and keeps.
 use Rattle.std.specs.Prelude.{◌≡◌, ℕ, ◌<◌, ◌&&◌, Bool, IfSome, IfNone, List, Some, true}
 use Rattle.std.specs.Prelude.{◌++◌, is_some, length, slice_index_or, take}
 use Rattle.std.specs.declared.option.Option.{Option}
-use Rattle.be_pages.specs.declared.room.Standing.{Standing}
+use Rattle.be_pages.specs.declared.room.PageState.{PageState}
 use Rattle.be_tree_reading.specs.Page.{IsReadableAt, item_at}
 use Rattle.be_tree_reading.specs.Cursor.{IsCursor, remaining}
 use Rattle.be_tree_reading.specs.Key.{payload_at}
@@ -26,21 +26,21 @@ use Rattle.be_paged_reading.specs.KeyTests.{nodes_passing}
 use Rattle.be_paged_reading.specs.Version.{IsVersion}
 use Rattle.be_paged_reading.specs.declared.on_page.FoundIndex.{FoundIndex}
 
--- an item lies where a look-up found one
-abbrev pub HasItem : (standing : ℕ → Standing) (words : ℕ → ℕ → ℕ) → Option (ℕ × ℕ) → Type 0
-HasItem standing words place = IfSome place (λ at. IsReadableAt standing words at.0 at.1)
+-- if a look-up found a place, there is a readable item
+abbrev pub HasItem : (page_state : ℕ → PageState) (words : ℕ → ℕ → ℕ) → Option (ℕ × ℕ) → Type 0
+HasItem page_state words place = IfSome place (λ at. IsReadableAt page_state words at.0 at.1)
 
--- the cursor is in the tree of the index at a place, after the key of the item at a place of a
--- page; at a place past the indices it is in no tree
-pub record StandsAfter (standing : ℕ → Standing) (words : ℕ → ℕ → ℕ) (entries : List Entry)
+-- the cursor is in the tree of the index at this place, just past the key of the last item; if the
+-- place is past the indices, the cursor is in no tree
+pub record LiesAfter (page_state : ℕ → PageState) (words : ℕ → ℕ → ℕ) (entries : List Entry)
     (cursor : Cursor) (place : ℕ) (last_page last_at : ℕ) : Type 0 where
-  pub can_go_on : place < length entries → IsCursor standing words cursor
-  pub last : place < length entries → IsReadableAt standing words last_page last_at
+  pub can_go_on : place < length entries → IsCursor page_state words cursor
+  pub last : place < length entries → IsReadableAt page_state words last_page last_at
   pub rest : (d : Entry) → place < length entries → remaining words cursor
       ≡ pairs_from (pairs words (slice_index_or entries place d).root)
       (item_at (words last_page) last_at).key true
 
--- the index of a name among the entries, or that there is none
+-- the index with this name among the entries, or that there is none
 pub record IsFound (entries : List Entry) (name : List ℕ) (found : Option FoundIndex) : Type 0 where
   pub named : IfSome found (λ index. IsNamedAt entries name index.place)
   pub kind : IfSome found (λ index. (d : Entry) → index.kind
@@ -49,14 +49,14 @@ pub record IsFound (entries : List Entry) (name : List ℕ) (found : Option Foun
       ≡ (slice_index_or entries index.place d).root)
   pub absent : IfNone found ((i : ℕ) × IsGapAt entries name i)
 
--- what is remembered of an index is what the entries say
+-- what is remembered about an index is what the entries say
 pub record IsIndexOf (entries : List Entry) (index : FoundIndex) : Type 0 where
   pub in_range : index.place < length entries
   pub kind : (d : Entry) → index.kind ≡ (slice_index_or entries index.place d).kind
   pub root : (d : Entry) → index.root ≡ (slice_index_or entries index.place d).root
 
--- The list has gained the numbers of the keys on a way over the index of a name, in the way's
--- order, up to `most` of them; without an index it is as before.
+-- The list has gained the numbers of the keys on a way over the index with this name, in the way's
+-- order, up to `most`; without an index it is as before.
 pub record HasNumbers (words : ℕ → ℕ → ℕ) (entries : List Entry) (name : List ℕ) (way : Way)
     (most : ℕ) (before after : List ℕ) : Type 0 where
   pub index : Option FoundIndex
@@ -68,27 +68,28 @@ pub record HasNumbers (words : ℕ → ℕ → ℕ) (entries : List Entry) (name
 abbrev pub IsKnown : List Entry → Option FoundIndex → Type 0
 IsKnown entries known = IfSome known (λ last. IsIndexOf entries last)
 
--- whether the pairs of an index have the key of the value and the node
+-- whether the index's pairs have the key of the value and the node
 abbrev pub has_pair : List Pair → ℕ → Value → Bool
 has_pair items node v = is_indexable (kind_of v) && is_some (payload_at items (key v node))
 
--- whether an index has the pair of a node and of the value that an item encodes
+-- whether an index has the pair of a node and the value that an item encodes
 abbrev pub DecidesPair : (words : ℕ → ℕ → ℕ) (index node page at : ℕ) → Bool → Type 0
 DecidesPair words index node page at has = (v : Value) → IsValue v
     → (item_at (words page) at).payload ≡ payload_of v
     → has ≡ has_pair (pairs words index) node v
 
--- the page encodes the volume, what is remembered is of that page, and the cursor is where it says
-pub record SourceOf (standing : ℕ → Standing) (words : ℕ → ℕ → ℕ) (page : ℕ)
+-- the page encodes the volume, what is remembered is about that page, and the cursor is where it
+-- says
+pub record SourceOf (page_state : ℕ → PageState) (words : ℕ → ℕ → ℕ) (page : ℕ)
     (known : Option FoundIndex)
     (cursor : Cursor) (place : ℕ) (last_page last_at : ℕ) (volume : State) : Type 0 where
-  pub version : IsVersion standing words page volume
+  pub version : IsVersion page_state words page volume
   pub known_is : IsKnown (contents_of (words page)).entries known
-  pub beyond : StandsAfter standing words (contents_of (words page)).entries cursor place last_page
+  pub beyond : LiesAfter page_state words (contents_of (words page)).entries cursor place last_page
       last_at
 
--- The list has the nodes of the first keys on a way over the index of a name that pass a test, in
--- the way's order, `most` at most. If the test reads texts, the index is one of texts.
+-- A walk over the index with this name tests its keys. The list has the nodes of the first keys
+-- that pass, in the way's order, up to `most`. If the test reads texts, the index has texts.
 pub record HasPassing (words : ℕ → ℕ → ℕ) (entries : List Entry) (name : List ℕ) (way : Way)
     (test : KeyTest) (most : ℕ) (nodes : List ℕ) : Type 0 where
   pub index : FoundIndex

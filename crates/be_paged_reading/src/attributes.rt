@@ -1,7 +1,7 @@
-//! Walks over the attributes of a node.
+//! Walks over a node's attributes.
 //!
-//! In the catalog a node's mark comes first and its attributes follow by ascending names. So a walk
-//! begins after the mark and ends at the first key of another node. A node has at most 64
+//! In the catalog a node's attributes follow its mark, in ascending order of their names. So a walk
+//! begins after the mark, and ends at the first key of another node. A node has at most 64
 //! attributes, which bounds the walk.
 ghost use Rattle.std.specs.Prelude.{◌≡◌, ◌+◌, ◌≤◌, ◌<◌, ℕ, IsTrue, IfOk, IfSome, IfNone, length};
 ghost use Rattle.std.specs.Prelude.{option_map, drop, slice_get, is_some, true, Some, None, List};
@@ -28,13 +28,13 @@ use be_volume::MAX_ATTRIBUTES;
 use std::alloc::{AllocError, Global};
 use std::str;
 
-/// Whether the key of the item at a place begins with the node. Its first word decides.
+/// Whether the key of the item at this place begins with this node. The key's first word decides.
 fn is_of_node<L: Look>(look: &mut L, page: u64, at: usize, node: u64) -> bool
-    requires readable { IsTrue (is_readable (L.standing look.old page)) }
+    requires readable { IsTrue (is_readable (L.page_state look.old page)) }
     requires in_page { at + 42 ≤ 512 }
     requires item { IsItem (L.words look.old page) at }
     ensures of_node { result ≡ is_of node (item_at (L.words look.old page) at).key }
-    ensures unchanged { IsUnchanged L.kept L.standing L.words look.old look.new }
+    ensures unchanged { IsUnchanged L.kept L.page_state L.words look.old look.new }
 {
     let key_len = look.word(page, at) >> LENGTH_BITS;
     if key_len < 8 {
@@ -43,20 +43,20 @@ fn is_of_node<L: Look>(look: &mut L, page: u64, at: usize, node: u64) -> bool
     look.word(page, at + 1) == node
 }
 
-/// The page and the place of the node's next attribute, and a step past it; none once all were
-/// given.
+/// The page and place of the node's next attribute; the cursor steps past it. None after the node's
+/// last attribute.
 fn next_attribute<L: Look>(look: &mut L, cursor: &mut Cursor, node: u64) -> Option<(u64, usize)>
-    requires cursor { IsCursor (L.standing look.old) (L.words look.old) cursor.old }
+    requires cursor { IsCursor (L.page_state look.old) (L.words look.old) cursor.old }
     ensures none { IfNone result (slice_get
         (front_of_node node (remaining (L.words look.old) cursor.old)) 0 ≡ None) }
     ensures item { IfSome result (λ at. slice_get
         (front_of_node node (remaining (L.words look.old) cursor.old)) 0
         ≡ Some (item_at (L.words look.old at.0) at.1)) }
-    ensures fits { HasItem (L.standing look.old) (L.words look.old) result }
-    ensures cursor { IsCursor (L.standing look.old) (L.words look.old) cursor.new }
+    ensures fits { HasItem (L.page_state look.old) (L.words look.old) result }
+    ensures cursor { IsCursor (L.page_state look.old) (L.words look.old) cursor.new }
     ensures rest { IfSome result (λ _. front_of_node node (remaining (L.words look.old) cursor.new)
         ≡ drop 1 (front_of_node node (remaining (L.words look.old) cursor.old))) }
-    ensures unchanged { IsUnchanged L.kept L.standing L.words look.old look.new }
+    ensures unchanged { IsUnchanged L.kept L.page_state L.words look.old look.new }
 {
     let (page, at) = cursor.step(look)?;
     if !is_of_node(look, page, at, node) {
@@ -65,25 +65,26 @@ fn next_attribute<L: Look>(look: &mut L, cursor: &mut Cursor, node: u64) -> Opti
     Some((page, at))
 }
 
-/// Whether the node has a next attribute, and a step past it. Nothing of it is copied.
+/// Whether the node has a next attribute; the cursor steps past it. Copies nothing.
 fn pass_attribute<L: Look>(look: &mut L, cursor: &mut Cursor, node: u64) -> bool
-    requires cursor { IsCursor (L.standing look.old) (L.words look.old) cursor.old }
+    requires cursor { IsCursor (L.page_state look.old) (L.words look.old) cursor.old }
     ensures found { result ≡ is_some (slice_get
         (front_of_node node (remaining (L.words look.old) cursor.old)) 0) }
-    ensures cursor { IsCursor (L.standing look.old) (L.words look.old) cursor.new }
+    ensures cursor { IsCursor (L.page_state look.old) (L.words look.old) cursor.new }
     ensures rest { result ≡ true → front_of_node node (remaining (L.words look.old) cursor.new)
         ≡ drop 1 (front_of_node node (remaining (L.words look.old) cursor.old)) }
-    ensures unchanged { IsUnchanged L.kept L.standing L.words look.old look.new }
+    ensures unchanged { IsUnchanged L.kept L.page_state L.words look.old look.new }
 {
     next_attribute(look, cursor, node).is_some()
 }
 
-/// How many of the node's attributes come next. It goes no further than the most that a node has.
+/// How many of the node's attributes the cursor has ahead. Stops at the largest number that a node
+/// may have.
 fn count_rest<L: Look>(look: &mut L, cursor: &mut Cursor, node: u64) -> usize
-    requires cursor { IsCursor (L.standing look.old) (L.words look.old) cursor.old }
+    requires cursor { IsCursor (L.page_state look.old) (L.words look.old) cursor.old }
     ensures count { length (front_of_node node (remaining (L.words look.old) cursor.old)) ≤ 64 →
         result ≡ length (front_of_node node (remaining (L.words look.old) cursor.old)) }
-    ensures unchanged { IsUnchanged L.kept L.standing L.words look.old look.new }
+    ensures unchanged { IsUnchanged L.kept L.page_state L.words look.old look.new }
 {
     for count in 0..MAX_ATTRIBUTES {
         if !pass_attribute(look, cursor, node) {
@@ -93,14 +94,14 @@ fn count_rest<L: Look>(look: &mut L, cursor: &mut Cursor, node: u64) -> usize
     MAX_ATTRIBUTES
 }
 
-/// How many attributes the node has, if it is there. One descent leads to its mark, and from there
-/// a walk goes over the first words of the keys.
+/// How many attributes the node has, if it exists. It descends once to the node's mark, and from
+/// there reads the first words of the keys.
 pub(crate) fn attribute_count<L: Look>(look: &mut L, catalog: u64, node: u64) -> Option<usize>
-    requires tree { IsTree (L.standing look.old) (L.words look.old) catalog }
+    requires tree { IsTree (L.page_state look.old) (L.words look.old) catalog }
     ensures count { (nodes : AllNodes) → IsCatalog (pairs (L.words look.old) catalog) nodes
         → AreValid nodes →
         map.len (attributes_of nodes node) ≤ 64 → result ≡ count_of nodes node }
-    ensures unchanged { IsUnchanged L.kept L.standing L.words look.old look.new }
+    ensures unchanged { IsUnchanged L.kept L.page_state L.words look.old look.new }
 {
     let mark = node.to_be_bytes();
     let mut cursor = Cursor::new();
@@ -112,40 +113,40 @@ pub(crate) fn attribute_count<L: Look>(look: &mut L, catalog: u64, node: u64) ->
     Some(count_rest(look, &mut cursor, node))
 }
 
-/// The name in the key of the item at a place of the catalog, after its node.
+/// The name in the key of the catalog's item at this place, after the node.
 fn name_at<L: Look>(look: &mut L, page: u64, at: usize) -> Option<Name>
-    requires readable { IsTrue (is_readable (L.standing look.old page)) }
+    requires readable { IsTrue (is_readable (L.page_state look.old page)) }
     requires in_page { at + 42 ≤ 512 }
     requires item { IsItem (L.words look.old page) at }
     ensures name { (node : ℕ) (name : List ℕ) → IsName name
         → (item_at (L.words look.old page) at).key ≡ catalog_key node name → result ≡ Some name }
     ensures beyond { IfSome result (λ name. name
         ≡ drop 8 (item_at (L.words look.old page) at).key) }
-    ensures unchanged { IsUnchanged L.kept L.standing L.words look.old look.new }
+    ensures unchanged { IsUnchanged L.kept L.page_state L.words look.old look.new }
 {
     let key = key_at(look, page, at);
     Name::new(str::from_utf8(key.get(8..)?).ok()?).ok()
 }
 
-/// The attribute that the item at a place of the catalog encodes.
+/// The attribute that the catalog's item at this place encodes.
 fn read_attribute<L: Look>(look: &mut L, page: u64, at: usize) -> Option<(Name, Value)>
-    requires readable { IsTrue (is_readable (L.standing look.old page)) }
+    requires readable { IsTrue (is_readable (L.page_state look.old page)) }
     requires in_page { at + 42 ≤ 512 }
     requires item { IsItem (L.words look.old page) at }
     ensures attribute { (node : ℕ) (name : List ℕ) (value : AnyValue) → IsName name → IsValue value
         →
         item_at (L.words look.old page) at ≡ attribute_pair node (name, value) → result
         ≡ Some (name, value) }
-    ensures unchanged { IsUnchanged L.kept L.standing L.words look.old look.new }
+    ensures unchanged { IsUnchanged L.kept L.page_state L.words look.old look.new }
 {
     let name = name_at(look, page, at)?;
     let value = value_at(look, page, at)?;
     Some((name, value))
 }
 
-/// The node's next attribute, and a step past it; none once all were given.
+/// The node's next attribute; the cursor steps past it. None after the node's last attribute.
 fn next_value<L: Look>(look: &mut L, cursor: &mut Cursor, node: u64) -> Option<(Name, Value)>
-    requires cursor { IsCursor (L.standing look.old) (L.words look.old) cursor.old }
+    requires cursor { IsCursor (L.page_state look.old) (L.words look.old) cursor.old }
     ensures value { (name : List ℕ) (value : AnyValue) → IsName name → IsValue value →
         slice_get (front_of_node node (remaining (L.words look.old) cursor.old)) 0
         ≡ Some (attribute_pair node (name, value)) → result ≡ Some (name, value) }
@@ -153,28 +154,28 @@ fn next_value<L: Look>(look: &mut L, cursor: &mut Cursor, node: u64) -> Option<(
         → result ≡ None }
     ensures more { IfSome result (λ _. 0
         < length (front_of_node node (remaining (L.words look.old) cursor.old))) }
-    ensures cursor { IsCursor (L.standing look.old) (L.words look.old) cursor.new }
+    ensures cursor { IsCursor (L.page_state look.old) (L.words look.old) cursor.new }
     ensures rest { IfSome result (λ _. front_of_node node (remaining (L.words look.old) cursor.new)
         ≡ drop 1 (front_of_node node (remaining (L.words look.old) cursor.old))) }
-    ensures unchanged { IsUnchanged L.kept L.standing L.words look.old look.new }
+    ensures unchanged { IsUnchanged L.kept L.page_state L.words look.old look.new }
 {
     let (page, at) = next_attribute(look, cursor, node)?;
     read_attribute(look, page, at)
 }
 
-/// The node's attributes by ascending names, in a vector.
+/// Lists the node's attributes in ascending order of their names.
 pub(crate) fn list_attributes<L: Look>(
     alloc: Global,
     look: &mut L,
     catalog: u64,
     node: u64,
 ) -> Result<Vec<(Name, Value)>, AllocError>
-    requires tree { IsTree (L.standing look.old) (L.words look.old) catalog }
+    requires tree { IsTree (L.page_state look.old) (L.words look.old) catalog }
     ensures list { (nodes : AllNodes) → IsCatalog (pairs (L.words look.old) catalog) nodes
         → AreValid nodes →
         map.len (attributes_of nodes node) ≤ 64
         → IfOk result (λ list. list.items ≡ map.entries (attributes_of nodes node)) }
-    ensures unchanged { IsUnchanged L.kept L.standing L.words look.old look.new }
+    ensures unchanged { IsUnchanged L.kept L.page_state L.words look.old look.new }
 {
     let mut list = Vec::new(alloc);
     let mut cursor = Cursor::new();
@@ -188,10 +189,10 @@ pub(crate) fn list_attributes<L: Look>(
     Ok(list)
 }
 
-/// The name and the place of the node's next attribute, and a step past it; none once all were
-/// given. Its value isn't read.
+/// The name and place of the node's next attribute; the cursor steps past it. None after the node's
+/// last attribute. Doesn't read the value.
 fn next_name<L: Look>(look: &mut L, cursor: &mut Cursor, node: u64) -> Option<(Name, (u64, usize))>
-    requires cursor { IsCursor (L.standing look.old) (L.words look.old) cursor.old }
+    requires cursor { IsCursor (L.page_state look.old) (L.words look.old) cursor.old }
     ensures name { (name : List ℕ) (value : AnyValue) → IsName name →
         slice_get (front_of_node node (remaining (L.words look.old) cursor.old)) 0
         ≡ Some (attribute_pair node (name, value)) → option_map (λ found. found.0) result
@@ -201,11 +202,11 @@ fn next_name<L: Look>(look: &mut L, cursor: &mut Cursor, node: u64) -> Option<(N
     ensures item { IfSome result (λ found. slice_get
         (front_of_node node (remaining (L.words look.old) cursor.old)) 0
         ≡ Some (item_at (L.words look.old found.1.0) found.1.1)) }
-    ensures fits { IfSome result (λ found. IsReadableAt (L.standing look.old) (L.words look.old)
+    ensures fits { IfSome result (λ found. IsReadableAt (L.page_state look.old) (L.words look.old)
         found.1.0 found.1.1) }
     ensures beyond { IfSome result (λ found. found.0
         ≡ drop 8 (item_at (L.words look.old found.1.0) found.1.1).key) }
-    ensures unchanged { IsUnchanged L.kept L.standing L.words look.old look.new }
+    ensures unchanged { IsUnchanged L.kept L.page_state L.words look.old look.new }
 {
     let (page, at) = next_attribute(look, cursor, node)?;
     let name = name_at(look, page, at)?;
@@ -213,20 +214,20 @@ fn next_name<L: Look>(look: &mut L, cursor: &mut Cursor, node: u64) -> Option<(N
 }
 
 /// The name of the node's first attribute, and its place in the catalog's tree, if the node has
-/// one.
+/// any.
 pub fn first_attribute<L: Look>(
     look: &mut L,
     catalog: u64,
     node: u64,
 ) -> Option<(Name, (u64, usize))>
-    requires tree { IsTree (L.standing look.old) (L.words look.old) catalog }
+    requires tree { IsTree (L.page_state look.old) (L.words look.old) catalog }
     ensures name { (nodes : AllNodes) → IsCatalog (pairs (L.words look.old) catalog) nodes
         → AreValid nodes →
         option_map (λ found. found.0) result
         ≡ option_map (λ e. e.0) (slice_get (map.entries (attributes_of nodes node)) 0) }
-    ensures place { IfSome result (λ found. IsPlaceOf (L.standing look.new) (L.words look.new)
+    ensures place { IfSome result (λ found. IsPlaceOf (L.page_state look.new) (L.words look.new)
         catalog (catalog_key node found.0) found.1.0 found.1.1) }
-    ensures unchanged { IsUnchanged L.kept L.standing L.words look.old look.new }
+    ensures unchanged { IsUnchanged L.kept L.page_state L.words look.old look.new }
 {
     let mut cursor = Cursor::new();
     cursor.seek(look, catalog, &node.to_be_bytes(), true);

@@ -1,4 +1,4 @@
-//! Keys and payloads of the catalog.
+//! The catalog's keys and payloads.
 ghost use Rattle.std.specs.Prelude.{◌≡◌, ◌+◌, ◌≤◌, ◌<◌, ◌^◌, ℕ, List, ◌∷◌, length, Ok, Some};
 ghost use Rattle.std.specs.Prelude.{IsTrue, IsUtf8};
 ghost use Rattle.std.specs.Int.{to_be_bytes, w32, w64};
@@ -31,18 +31,18 @@ pub fn catalog_key(node: u64, name: &Name) -> ArrayVec<u8, 72>
     key
 }
 
-/// The value that the payload of the item at a place encodes, if it encodes one. It is read in
-/// place: an integer from its one or two words, and a text is filled once before the value has it.
-/// A caller that asks for a value gets it in place, and texts are read by functions of their own.
-/// So room for a text is cleared for texts alone, and a value isn't moved from call to call.
+/// The value that the payload of the item at this place encodes, if it encodes one. An integer is
+/// read from its one or two words; a text's bytes are copied once before the value gets them. This
+/// function is inlined, so the value isn't moved from call to call. Texts have functions of their
+/// own, so only a text costs clearing the room for one.
 #[inline(always)]
 pub(crate) fn value_at<L: Look>(look: &mut L, page: u64, at: usize) -> Option<Value>
-    requires readable { IsTrue (is_readable (L.standing look.old page)) }
+    requires readable { IsTrue (is_readable (L.page_state look.old page)) }
     requires in_page { at + 42 ≤ 512 }
     requires item { IsItem (L.words look.old page) at }
     ensures value { (v : AnyValue) → IsValue v → (item_at (L.words look.old page) at).payload
         ≡ payload v → result ≡ Some v }
-    ensures unchanged { IsUnchanged L.kept L.standing L.words look.old look.new }
+    ensures unchanged { IsUnchanged L.kept L.page_state L.words look.old look.new }
 {
     let kind = kind_at(look, page, at)?;
     match kind {
@@ -56,54 +56,54 @@ pub(crate) fn value_at<L: Look>(look: &mut L, page: u64, at: usize) -> Option<Va
     }
 }
 
-/// The text after a payload's first byte, as a value of one kind.
+/// The text after a payload's first byte, as a `Cstr`.
 #[inline(never)]
 fn cstr_at<L: Look>(look: &mut L, page: u64, at: usize) -> Option<Value>
-    requires readable { IsTrue (is_readable (L.standing look.old page)) }
+    requires readable { IsTrue (is_readable (L.page_state look.old page)) }
     requires in_page { at + 42 ≤ 512 }
     requires item { IsItem (L.words look.old page) at }
     ensures value { (k : ℕ) (t : List ℕ) → text_from t ≡ Ok t → IsUtf8 t
         → (item_at (L.words look.old page) at).payload ≡ k ∷ t → result ≡ Some (AnyValue.Cstr t) }
-    ensures unchanged { IsUnchanged L.kept L.standing L.words look.old look.new }
+    ensures unchanged { IsUnchanged L.kept L.page_state L.words look.old look.new }
 {
     Some(Value::Cstr(text_at(look, page, at)?))
 }
 
-/// The same as a value of the other kind of text.
+/// The same, as a `Mims`.
 #[inline(never)]
 fn mims_at<L: Look>(look: &mut L, page: u64, at: usize) -> Option<Value>
-    requires readable { IsTrue (is_readable (L.standing look.old page)) }
+    requires readable { IsTrue (is_readable (L.page_state look.old page)) }
     requires in_page { at + 42 ≤ 512 }
     requires item { IsItem (L.words look.old page) at }
     ensures value { (k : ℕ) (t : List ℕ) → text_from t ≡ Ok t → IsUtf8 t
         → (item_at (L.words look.old page) at).payload ≡ k ∷ t → result ≡ Some (AnyValue.Mims t) }
-    ensures unchanged { IsUnchanged L.kept L.standing L.words look.old look.new }
+    ensures unchanged { IsUnchanged L.kept L.page_state L.words look.old look.new }
 {
     Some(Value::Mims(text_at(look, page, at)?))
 }
 
-/// The bytes after a payload's first byte as a value.
+/// The bytes after a payload's first byte, as a `Rawt`.
 #[inline(never)]
 fn rawt_at<L: Look>(look: &mut L, page: u64, at: usize) -> Option<Value>
-    requires readable { IsTrue (is_readable (L.standing look.old page)) }
+    requires readable { IsTrue (is_readable (L.page_state look.old page)) }
     requires in_page { at + 42 ≤ 512 }
     requires item { IsItem (L.words look.old page) at }
     ensures value { (k : ℕ) (bytes : List ℕ) → length bytes ≤ 255
         → (item_at (L.words look.old page) at).payload ≡ k ∷ bytes → result
         ≡ Some (AnyValue.Rawt bytes) }
-    ensures unchanged { IsUnchanged L.kept L.standing L.words look.old look.new }
+    ensures unchanged { IsUnchanged L.kept L.page_state L.words look.old look.new }
 {
     Some(Value::Rawt(bytes_at(look, page, at)?))
 }
 
-/// The kind that a payload's first byte numbers, if it numbers one.
+/// The kind whose number is the payload's first byte, if there is one.
 pub(crate) fn kind_at<L: Look>(look: &mut L, page: u64, at: usize) -> Option<Kind>
-    requires readable { IsTrue (is_readable (L.standing look.old page)) }
+    requires readable { IsTrue (is_readable (L.page_state look.old page)) }
     requires in_page { at + 42 ≤ 512 }
     requires item { IsItem (L.words look.old page) at }
     ensures kind { (v : AnyValue) → (item_at (L.words look.old page) at).payload ≡ payload v
         → result ≡ Some (kind_of v) }
-    ensures unchanged { IsUnchanged L.kept L.standing L.words look.old look.new }
+    ensures unchanged { IsUnchanged L.kept L.page_state L.words look.old look.new }
 {
     let len = payload_len_at(look, page, at);
     if len == 0 {
@@ -113,14 +113,14 @@ pub(crate) fn kind_at<L: Look>(look: &mut L, page: u64, at: usize) -> Option<Kin
     Kind::numbered(number)
 }
 
-/// The number after a payload's first byte, if it has four bytes.
+/// The number after a payload's first byte, if it takes four bytes.
 pub(crate) fn number32_at<L: Look>(look: &mut L, page: u64, at: usize) -> Option<u32>
-    requires readable { IsTrue (is_readable (L.standing look.old page)) }
+    requires readable { IsTrue (is_readable (L.page_state look.old page)) }
     requires in_page { at + 42 ≤ 512 }
     requires item { IsItem (L.words look.old page) at }
     ensures number { (k n : ℕ) → n < 2 ^ 32 → (item_at (L.words look.old page) at).payload ≡ k
         ∷ to_be_bytes w32 n → result ≡ Some n }
-    ensures unchanged { IsUnchanged L.kept L.standing L.words look.old look.new }
+    ensures unchanged { IsUnchanged L.kept L.page_state L.words look.old look.new }
 {
     let len = payload_len_at(look, page, at);
     if len != 5 {
@@ -129,14 +129,14 @@ pub(crate) fn number32_at<L: Look>(look: &mut L, page: u64, at: usize) -> Option
     Some(payload_number32_at(look, page, at, 1))
 }
 
-/// The number after a payload's first byte, if it has eight bytes.
+/// The number after a payload's first byte, if it takes eight bytes.
 pub(crate) fn number64_at<L: Look>(look: &mut L, page: u64, at: usize) -> Option<u64>
-    requires readable { IsTrue (is_readable (L.standing look.old page)) }
+    requires readable { IsTrue (is_readable (L.page_state look.old page)) }
     requires in_page { at + 42 ≤ 512 }
     requires item { IsItem (L.words look.old page) at }
     ensures number { (k n : ℕ) → n < 2 ^ 64 → (item_at (L.words look.old page) at).payload ≡ k
         ∷ to_be_bytes w64 n → result ≡ Some n }
-    ensures unchanged { IsUnchanged L.kept L.standing L.words look.old look.new }
+    ensures unchanged { IsUnchanged L.kept L.page_state L.words look.old look.new }
 {
     let len = payload_len_at(look, page, at);
     if len != 9 {
@@ -145,14 +145,14 @@ pub(crate) fn number64_at<L: Look>(look: &mut L, page: u64, at: usize) -> Option
     Some(payload_number_at(look, page, at, 1))
 }
 
-/// The text after a payload's first byte, if it is one of a value.
+/// The text after a payload's first byte, if it is a value's text.
 fn text_at<L: Look>(look: &mut L, page: u64, at: usize) -> Option<Text>
-    requires readable { IsTrue (is_readable (L.standing look.old page)) }
+    requires readable { IsTrue (is_readable (L.page_state look.old page)) }
     requires in_page { at + 42 ≤ 512 }
     requires item { IsItem (L.words look.old page) at }
     ensures text { (k : ℕ) (t : List ℕ) → text_from t ≡ Ok t → IsUtf8 t
         → (item_at (L.words look.old page) at).payload ≡ k ∷ t → result ≡ Some t }
-    ensures unchanged { IsUnchanged L.kept L.standing L.words look.old look.new }
+    ensures unchanged { IsUnchanged L.kept L.page_state L.words look.old look.new }
 {
     let mut payload = ArrayVec::new();
     fill_payload(look, page, at, &mut payload);
@@ -167,14 +167,14 @@ fn text_of(payload: &[u8]) -> Option<Text>
     Text::new(str::from_utf8(text).ok()?).ok()
 }
 
-/// The bytes after a payload's first byte, if they are few enough for a value.
+/// The bytes after a payload's first byte, if a value may have that many.
 fn bytes_at<L: Look>(look: &mut L, page: u64, at: usize) -> Option<Bytes>
-    requires readable { IsTrue (is_readable (L.standing look.old page)) }
+    requires readable { IsTrue (is_readable (L.page_state look.old page)) }
     requires in_page { at + 42 ≤ 512 }
     requires item { IsItem (L.words look.old page) at }
     ensures bytes { (k : ℕ) (bytes : List ℕ) → length bytes ≤ 255
         → (item_at (L.words look.old page) at).payload ≡ k ∷ bytes → result ≡ Some bytes }
-    ensures unchanged { IsUnchanged L.kept L.standing L.words look.old look.new }
+    ensures unchanged { IsUnchanged L.kept L.page_state L.words look.old look.new }
 {
     let mut payload = ArrayVec::new();
     fill_payload(look, page, at, &mut payload);
@@ -189,7 +189,7 @@ fn bytes_of(payload: &[u8]) -> Option<Bytes>
     Bytes::new(bytes).ok()
 }
 
-/// The payload of a value.
+/// The payload that encodes a value.
 pub fn payload_of(value: &Value) -> ArrayVec<u8, 264>
     ensures payload { result.items ≡ payload value.now }
     ensures short { length result.items ≤ 256 }

@@ -1,5 +1,4 @@
-//! Values written into a caller's room: a cell for each, and the bytes of texts one after the
-//! other.
+//! Writes values to a caller's places: a cell for each, and the bytes of texts one after another.
 ghost use Rattle.std.specs.Prelude.{◌≡◌, ◌+◌, ◌-◌, ◌*◌, ◌^◌, ◌<◌, ◌≤◌, ℕ, ℤ, List, [], ◌∷◌, ◌++◌};
 ghost use Rattle.std.specs.Prelude.{Ok, Err, Some, drop, length};
 ghost use Rattle.std.specs.Int.{cast_unsigned, w32, w64};
@@ -13,7 +12,7 @@ ghost use Rattle.be_value.specs.declared.refusals.Refusal.{Refusal as AnyRefusal
 ghost use Rattle.be_value.specs.declared.values.Value.{Value as AnyValue};
 ghost use Rattle.be_paged_reading.specs.Catalog.{catalog_key as key_in_catalog};
 ghost use Rattle.be_paged_reading.specs.Catalog.{payload_of as payload};
-ghost use Rattle.be_paged_reading.specs.Cells.{AreTold, IsFew, cell_of, data_in};
+ghost use Rattle.be_paged_reading.specs.Cells.{AreReported, IsFew, cell_of, data_in};
 ghost use Rattle.be_paged_reading.specs.Cells.{data_of, name_in, over};
 ghost use Rattle.be_paged_reading.specs.declared.cells.Cell.{Cell as AnyCell};
 
@@ -23,8 +22,8 @@ use be_pages::Look;
 use be_tree_reading::{fill_payload, payload_len_at};
 use be_value::{Kind, Name, Refusal};
 
-/// A name as a caller holds it: its length, and its bytes at the front of the others. Nothing else
-/// is required of it: bytes that are no name are no attribute's.
+/// A name as a caller holds it: its length, and its bytes at the beginning of `bytes`. Nothing else
+/// is required: bytes that aren't a valid name are simply no attribute's name.
 #[repr(C)]
 #[derive(Clone, Copy)]
 pub struct HeldName {
@@ -32,8 +31,8 @@ pub struct HeldName {
     pub bytes: [u8; 64],
 }
 
-/// The cell of a node's attribute: error 0 and the value's type code, its number, and where its
-/// bytes begin and how many they are; or the number of the refusal. A signed number is in two's
+/// The cell of a node's attribute. It has error 0, the value's type code, its number, and the
+/// offset and length of its bytes; or it has the error's number. A signed number is in two's
 /// complement.
 #[repr(C)]
 #[derive(Clone, Copy)]
@@ -53,7 +52,7 @@ pub struct Filled {
 }
 
 impl HeldName {
-    /// A name that is held.
+    /// The name, as a caller holds it.
     pub fn new(name: &Name) -> HeldName
         ensures { name_in result ≡ name.now }
     {
@@ -67,7 +66,7 @@ impl HeldName {
     }
 }
 
-/// The key of a node's attribute whose name is held.
+/// The catalog's key of the node's attribute with this name.
 pub(crate) fn held_key(node: u64, name: &HeldName) -> ArrayVec<u8, 72>
     ensures key { result.items ≡ key_in_catalog node (name_in name.now) }
 {
@@ -78,7 +77,7 @@ pub(crate) fn held_key(node: u64, name: &HeldName) -> ArrayVec<u8, 72>
     key
 }
 
-/// Puts items at a place after those that were put, as many as there are places.
+/// Writes items after those that were written before, as many as there are places.
 fn put_at<T: Copy>(places: &mut [T], at: usize, items: &[T])
     ensures { (before all : List T) → length before ≡ at → places.old ≡ over before all → places.new
         ≡ over (before ++ items.now) all }
@@ -94,8 +93,8 @@ fn put_at<T: Copy>(places: &mut [T], at: usize, items: &[T])
     }
 }
 
-/// Tells one thing more that was found, by its cell and its bytes.
-pub(crate) fn tell(
+/// Writes one more result: its cell and its bytes.
+pub(crate) fn report(
     cells: &mut [Cell],
     bytes: &mut [u8],
     filled: &mut Filled,
@@ -105,12 +104,12 @@ pub(crate) fn tell(
     requires cells { filled.old.cells < 2 ^ 32 }
     requires few { IsFew filled.old }
     requires short { length content.now ≤ 512 }
-    ensures told { (x : AnyResult AnyValue AnyRefusal)
+    ensures reported { (x : AnyResult AnyValue AnyRefusal)
         (found : List (AnyResult AnyValue AnyRefusal)) (cell_places : List AnyCell)
         (byte_places : List ℕ)
         → cell ≡ cell_of filled.old.bytes x → content.now ≡ data_in x
-        → AreTold found cell_places cells.old byte_places bytes.old filled.old
-        → AreTold (found ++ x ∷ []) cell_places cells.new byte_places bytes.new filled.new }
+        → AreReported found cell_places cells.old byte_places bytes.old filled.old
+        → AreReported (found ++ x ∷ []) cell_places cells.new byte_places bytes.new filled.new }
     ensures one { filled.new.cells ≡ filled.old.cells + 1 }
     ensures few { IsFew filled.new }
 {
@@ -122,7 +121,7 @@ pub(crate) fn tell(
     };
 }
 
-/// The cell of an attribute that isn't there.
+/// The cell of an attribute that is missing.
 pub(crate) fn empty_cell(why: &Refusal, offset: usize) -> Cell
     ensures { result ≡ cell_of offset (Err why.now) }
 {
@@ -154,7 +153,7 @@ fn number_cell(kind: Kind, number: u64, offset: usize) -> Cell
     }
 }
 
-/// The cell of a text, of whose payload the first byte is the kind.
+/// The cell of a text, whose payload begins with the kind's byte.
 fn data_cell(kind: Kind, payload_len: usize, offset: usize) -> Cell
     requires { 1 ≤ payload_len }
     ensures { result ≡ record {
@@ -174,7 +173,7 @@ fn data_cell(kind: Kind, payload_len: usize, offset: usize) -> Cell
     }
 }
 
-/// A signed number of four bytes as one of eight.
+/// A signed number of four bytes, extended to eight.
 fn widened(number: u32) -> u64
     ensures { (n : ℤ) → FitsSigned w32 n → number ≡ cast_unsigned w32 n → result
         ≡ cast_unsigned w64 n }
@@ -182,13 +181,13 @@ fn widened(number: u32) -> u64
     (number.cast_signed() as i64).cast_unsigned()
 }
 
-/// The cell of the value at a place of the catalog, if its payload encodes a value. The value's
+/// The cell of the value at this place of the catalog, if its payload encodes a value. The value's
 /// bytes begin at this offset.
 fn value_cell<L: Look>(look: &mut L, page: u64, at: usize, offset: usize) -> Option<Cell>
-    requires item { IsReadableAt (L.standing look.old) (L.words look.old) page at }
+    requires item { IsReadableAt (L.page_state look.old) (L.words look.old) page at }
     ensures cell { (v : AnyValue) → IsValue v → (item_at (L.words look.old page) at).payload
         ≡ payload v → result ≡ Some (cell_of offset (Ok v)) }
-    ensures unchanged { IsUnchanged L.kept L.standing L.words look.old look.new }
+    ensures unchanged { IsUnchanged L.kept L.page_state L.words look.old look.new }
 {
     let kind = kind_at(look, page, at)?;
     let payload_len = payload_len_at(look, page, at);
@@ -219,8 +218,8 @@ fn after_first(payload: &[u8]) -> &[u8]
     }
 }
 
-/// Tells the bytes of the text at a place of the catalog, by its cell.
-fn tell_data<L: Look>(
+/// Writes a text's cell, and the text's bytes from this place of the catalog.
+fn report_data<L: Look>(
     look: &mut L,
     item: (u64, usize),
     cell: Cell,
@@ -228,30 +227,30 @@ fn tell_data<L: Look>(
     bytes: &mut [u8],
     filled: &mut Filled,
 )
-    requires item { IsReadableAt (L.standing look.old) (L.words look.old) item.0 item.1 }
+    requires item { IsReadableAt (L.page_state look.old) (L.words look.old) item.0 item.1 }
     requires cells { filled.old.cells < 2 ^ 32 }
     requires few { IsFew filled.old }
-    ensures told { (x : AnyResult AnyValue AnyRefusal)
+    ensures reported { (x : AnyResult AnyValue AnyRefusal)
         (found : List (AnyResult AnyValue AnyRefusal)) (cell_places : List AnyCell)
         (byte_places : List ℕ)
         → cell ≡ cell_of filled.old.bytes x
         → drop 1 (item_at (L.words look.old item.0) item.1).payload ≡ data_in x
-        → AreTold found cell_places cells.old byte_places bytes.old filled.old
-        → AreTold (found ++ x ∷ []) cell_places cells.new byte_places bytes.new filled.new }
+        → AreReported found cell_places cells.old byte_places bytes.old filled.old
+        → AreReported (found ++ x ∷ []) cell_places cells.new byte_places bytes.new filled.new }
     ensures one { filled.new.cells ≡ filled.old.cells + 1 }
     ensures few { IsFew filled.new }
-    ensures unchanged { IsUnchanged L.kept L.standing L.words look.old look.new }
+    ensures unchanged { IsUnchanged L.kept L.page_state L.words look.old look.new }
 {
     let (page, at) = item;
     let mut payload = ArrayVec::new();
     fill_payload(look, page, at, &mut payload);
     let content = after_first(payload.as_slice());
-    tell(cells, bytes, filled, cell, content);
+    report(cells, bytes, filled, cell, content);
 }
 
-/// Tells the value of the item at a place of the catalog: a text's bytes go from the page to the
-/// caller.
-pub(crate) fn tell_value<L: Look>(
+/// Writes the value of the item at this place of the catalog. A text's bytes go from the page to
+/// the caller.
+pub(crate) fn report_value<L: Look>(
     look: &mut L,
     page: u64,
     at: usize,
@@ -259,21 +258,21 @@ pub(crate) fn tell_value<L: Look>(
     bytes: &mut [u8],
     filled: &mut Filled,
 )
-    requires item { IsReadableAt (L.standing look.old) (L.words look.old) page at }
+    requires item { IsReadableAt (L.page_state look.old) (L.words look.old) page at }
     requires cells { filled.old.cells < 2 ^ 32 }
     requires few { IsFew filled.old }
-    ensures told { (v : AnyValue) (found : List (AnyResult AnyValue AnyRefusal))
+    ensures reported { (v : AnyValue) (found : List (AnyResult AnyValue AnyRefusal))
         (cell_places : List AnyCell) (byte_places : List ℕ)
         → IsValue v → (item_at (L.words look.old page) at).payload ≡ payload v
-        → AreTold found cell_places cells.old byte_places bytes.old filled.old
-        → AreTold (found ++ Ok v ∷ []) cell_places cells.new byte_places bytes.new filled.new }
+        → AreReported found cell_places cells.old byte_places bytes.old filled.old
+        → AreReported (found ++ Ok v ∷ []) cell_places cells.new byte_places bytes.new filled.new }
     ensures one { filled.new.cells ≡ filled.old.cells + 1 }
     ensures few { IsFew filled.new }
-    ensures unchanged { IsUnchanged L.kept L.standing L.words look.old look.new }
+    ensures unchanged { IsUnchanged L.kept L.page_state L.words look.old look.new }
 {
     let Some(cell) = value_cell(look, page, at, filled.bytes) else {
         let offset = filled.bytes;
-        tell(
+        report(
             cells,
             bytes,
             filled,
@@ -283,26 +282,26 @@ pub(crate) fn tell_value<L: Look>(
         return;
     };
     if cell.length == 0 {
-        tell(cells, bytes, filled, cell, b"");
+        report(cells, bytes, filled, cell, b"");
         return;
     }
-    tell_data(look, (page, at), cell, cells, bytes, filled);
+    report_data(look, (page, at), cell, cells, bytes, filled);
 }
 
-/// The cell of the value at a place of the catalog, if its payload encodes one. The value's bytes
-/// are written to the front of the places.
+/// The cell of the value at this place of the catalog, if its payload encodes one. Writes the
+/// value's bytes to the first places.
 pub(crate) fn read_into<L: Look>(
     look: &mut L,
     page: u64,
     at: usize,
     bytes: &mut [u8],
 ) -> Option<Cell>
-    requires item { IsReadableAt (L.standing look.old) (L.words look.old) page at }
+    requires item { IsReadableAt (L.page_state look.old) (L.words look.old) page at }
     ensures cell { (v : AnyValue) → IsValue v → (item_at (L.words look.old page) at).payload
         ≡ payload v → result ≡ Some (cell_of 0 (Ok v)) }
     ensures bytes { (v : AnyValue) → IsValue v → (item_at (L.words look.old page) at).payload
         ≡ payload v → bytes.new ≡ over (data_of v) bytes.old }
-    ensures unchanged { IsUnchanged L.kept L.standing L.words look.old look.new }
+    ensures unchanged { IsUnchanged L.kept L.page_state L.words look.old look.new }
 {
     let cell = value_cell(look, page, at, 0)?;
     if cell.length > 0 {
@@ -311,12 +310,12 @@ pub(crate) fn read_into<L: Look>(
     Some(cell)
 }
 
-/// Puts the bytes of the text at a place of the catalog to the front of the places.
+/// Writes the text's bytes at this place of the catalog to the first places.
 fn put_payload<L: Look>(look: &mut L, page: u64, at: usize, bytes: &mut [u8])
-    requires item { IsReadableAt (L.standing look.old) (L.words look.old) page at }
+    requires item { IsReadableAt (L.page_state look.old) (L.words look.old) page at }
     ensures bytes { bytes.new ≡ over (drop 1 (item_at (L.words look.old page) at).payload)
         bytes.old }
-    ensures unchanged { IsUnchanged L.kept L.standing L.words look.old look.new }
+    ensures unchanged { IsUnchanged L.kept L.page_state L.words look.old look.new }
 {
     let mut payload = ArrayVec::new();
     fill_payload(look, page, at, &mut payload);

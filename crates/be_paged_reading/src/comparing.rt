@@ -1,9 +1,9 @@
-//! Comparisons with values in place.
+//! Compares values without decoding them.
 //!
-//! A value in hand has room for the longest text, and costs that room at each move, whatever it is.
-//! So a comparison is asked of the item: an integer is read as a number, and of a text no more than
-//! its bytes is filled. A caller that asks one comparison of many items makes it ready first, and
-//! then no text is decoded.
+//! A decoded value has room for the longest text, whatever its kind, and each move costs that room.
+//! So a comparison reads the item itself: an integer as a number, and only a text's bytes are
+//! copied. If the caller makes a comparison ready before it tests many items, the text isn't
+//! decoded either.
 ghost use Rattle.std.specs.Prelude.{◌≡◌, ◌+◌, ◌≤◌, ℕ, List, ◌∷◌, IfSome, Ok, IsTrue, IsUtf8};
 ghost use Rattle.std.specs.Option.{option_copied};
 ghost use Rattle.be_pages.specs.Pages.{IsUnchanged, is_readable};
@@ -25,8 +25,8 @@ use be_value::Kind;
 use be_volume::{is_true_of, literal_number};
 use std::str;
 
-/// Whether a comparison is true of the value that the payload of the item at a place encodes. The
-/// test is the same comparison, if the caller has made it ready.
+/// Whether a comparison is true of the value that the payload of the item at this place encodes.
+/// `test` is the same comparison, made ready, if the caller has it.
 pub(crate) fn holds_at<L: Look>(
     look: &mut L,
     page: u64,
@@ -34,7 +34,7 @@ pub(crate) fn holds_at<L: Look>(
     comparison: &Comparison,
     test: Option<&TextTest<'_>>,
 ) -> bool
-    requires readable { IsTrue (is_readable (L.standing look.old page)) }
+    requires readable { IsTrue (is_readable (L.page_state look.old page)) }
     requires in_page { at + 42 ≤ 512 }
     requires item { IsItem (L.words look.old page) at }
     requires test { IfSome (option_copied test) (λ t. t
@@ -42,7 +42,7 @@ pub(crate) fn holds_at<L: Look>(
     ensures holds { (v : AnyValue) → IsValue v → (item_at (L.words look.old page) at).payload
         ≡ payload v →
         result ≡ holds comparison.now.op v (literal_of comparison.now.literal) }
-    ensures unchanged { IsUnchanged L.kept L.standing L.words look.old look.new }
+    ensures unchanged { IsUnchanged L.kept L.page_state L.words look.old look.new }
 {
     let Some(kind) = kind_at(look, page, at) else {
         return false;
@@ -77,7 +77,7 @@ fn text_holds_at<L: Look>(
     comparison: &Comparison,
     test: Option<&TextTest<'_>>,
 ) -> bool
-    requires readable { IsTrue (is_readable (L.standing look.old page)) }
+    requires readable { IsTrue (is_readable (L.page_state look.old page)) }
     requires in_page { at + 42 ≤ 512 }
     requires item { IsItem (L.words look.old page) at }
     requires test { IfSome (option_copied test) (λ t. t
@@ -85,14 +85,14 @@ fn text_holds_at<L: Look>(
     ensures holds { (k : ℕ) (t : List ℕ) → text_from t ≡ Ok t → IsUtf8 t
         → (item_at (L.words look.old page) at).payload ≡ k ∷ t →
         result ≡ holds_of_text comparison.now.op t (literal_of comparison.now.literal) }
-    ensures unchanged { IsUnchanged L.kept L.standing L.words look.old look.new }
+    ensures unchanged { IsUnchanged L.kept L.page_state L.words look.old look.new }
 {
     let mut payload = ArrayVec::new();
     fill_payload(look, page, at, &mut payload);
     payload_holds(comparison, test, &payload)
 }
 
-/// Whether a comparison is true of the text after the first byte of a payload in hand.
+/// Whether a comparison is true of the text after the first byte of these payload bytes.
 fn payload_holds(comparison: &Comparison, test: Option<&TextTest<'_>>, payload: &[u8]) -> bool
     requires test { IfSome (option_copied test) (λ t. t
         ≡ (comparison.now.op, literal_of comparison.now.literal)) }
@@ -108,7 +108,7 @@ fn payload_holds(comparison: &Comparison, test: Option<&TextTest<'_>>, payload: 
     }
 }
 
-/// Whether a comparison is true of a text, given by its bytes.
+/// Whether a comparison is true of the text with these bytes.
 fn text_holds(comparison: &Comparison, text: &[u8]) -> bool
     ensures { IsUtf8 text.now → result
         ≡ holds_of_text comparison.now.op text.now (literal_of comparison.now.literal) }

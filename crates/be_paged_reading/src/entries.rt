@@ -1,4 +1,4 @@
-//! The indices of a version in hand, ascending by name.
+//! The indices of a loaded version, in ascending order of their names.
 ghost use Rattle.std.specs.Prelude.{◌≡◌, All, ◌<◌, ◌≤◌, IfOk, IfErr, map, length, slice_index_or};
 ghost use Rattle.be_paged_reading.specs.Entries.{with_root};
 ghost use Rattle.be_paged_reading.specs.Entry.{Entry as AnyEntry};
@@ -11,8 +11,8 @@ use be_value::{Kind, Name};
 use std::alloc::{AllocError, Global};
 use std::cmp::Ordering;
 
-/// The place of the index of a name among the entries; the error is the place where it would be
-/// inserted.
+/// The place of the index with this name among the entries; the error is the place where it would
+/// be inserted.
 pub fn search(entries: &[Entry], name: &Name) -> Result<usize, usize>
     ensures found { IfOk result (IsNamedAt entries.now name.now) }
     ensures absent { IfErr result (IsGapAt entries.now name.now) }
@@ -37,7 +37,7 @@ pub fn index_at(entries: &[Entry], at: usize) -> (Kind, u64)
     (entry.kind(), entry.root())
 }
 
-/// Gives the index at a place another root.
+/// Changes the root of the index at a place.
 pub fn set_root(entries: &mut ArrayVec<Entry, 32>, at: usize, root: u64)
     requires { at < length entries.old.items }
     ensures { (d : AnyEntry) → entries.new.items
@@ -46,7 +46,7 @@ pub fn set_root(entries: &mut ArrayVec<Entry, 32>, at: usize, root: u64)
     entries[at].set_root(root);
 }
 
-/// The names and kinds of the indices, in a vector.
+/// Lists the indices' names and kinds.
 pub(crate) fn kinds(alloc: Global, entries: &[Entry]) -> Result<Vec<(Name, Kind)>, AllocError>
     requires named { All (λ e. IsName e.name) entries.now }
     ensures { IfOk result (λ list. list.items ≡ map (λ e. (e.name, e.kind)) entries.now) }

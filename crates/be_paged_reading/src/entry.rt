@@ -1,7 +1,7 @@
 //! An index as a version page has it.
 ghost use Rattle.std.specs.Prelude.{◌≡◌, ℕ, ◌+◌, ◌<◌, ◌≤◌, IsTrue, slice_index};
 ghost use Rattle.be_pages.specs.Pages.{IsUnchanged, is_readable, OnlyWrites};
-ghost use Rattle.be_pages.specs.declared.room.Standing.TheVariants.{Filled};
+ghost use Rattle.be_pages.specs.declared.room.PageState.TheVariants.{Filled};
 ghost use Rattle.be_volume.specs.Maps.{name_cmp};
 ghost use Rattle.be_volume.specs.Sound.{IsName};
 ghost use Rattle.be_paged_reading.specs.Entry.{Entry as AnyEntry};
@@ -15,7 +15,7 @@ use std::cmp::Ordering;
 use std::marker::Model;
 use std::str;
 
-/// An index of a version. Its name lies in eight words, as on the page. A contract sees the name's
+/// An index of a version. Its name is kept in eight words, as on the page. Contracts see the name's
 /// bytes, the kind and the root.
 #[derive(Drop)]
 pub struct Entry {
@@ -53,7 +53,7 @@ impl Default for Entry {
     }
 }
 
-/// The kind that pages call by a number.
+/// The kind with this number on pages.
 pub fn kind_numbered(number: u64) -> Kind
     requires { (1 ≤ number) × (number ≤ 7) }
     ensures { result ≡ kind_of_number number }
@@ -69,7 +69,7 @@ pub fn kind_numbered(number: u64) -> Kind
     }
 }
 
-/// The number by which pages call a kind.
+/// A kind's number on pages.
 fn kind_number(kind: Kind) -> u64
     ensures number { (1 ≤ result) × (result ≤ 7) }
     ensures back { kind_of_number result ≡ kind }
@@ -77,12 +77,12 @@ fn kind_number(kind: Kind) -> u64
     u64::from(kind.number())
 }
 
-/// The eight words from a place of a page on.
+/// The eight words from this place of a page on.
 fn load_words<L: Look>(look: &mut L, page: u64, at: usize) -> [u64; 8]
-    requires readable { IsTrue (is_readable (L.standing look.old page)) }
+    requires readable { IsTrue (is_readable (L.page_state look.old page)) }
     requires in_page { at + 8 ≤ 512 }
     ensures words { (j : ℕ) → j < 8 → slice_index result j ≡ L.words look.old page (at + j) }
-    ensures unchanged { IsUnchanged L.kept L.standing L.words look.old look.new }
+    ensures unchanged { IsUnchanged L.kept L.page_state L.words look.old look.new }
 {
     let mut words = [0; 8];
     for j in 0..8 {
@@ -91,13 +91,13 @@ fn load_words<L: Look>(look: &mut L, page: u64, at: usize) -> [u64; 8]
     words
 }
 
-/// Writes eight words from a place on, of a page that has a word filled.
+/// Writes eight words from this place on, to a page that has a filled word.
 fn store_words<R: Room>(room: &mut R, page: u64, at: usize, words: &[u64; 8])
-    requires filled { R.standing room.old page ≡ Filled }
+    requires filled { R.page_state room.old page ≡ Filled }
     requires in_page { at + 8 ≤ 512 }
     requires open { IsTrue (R.is_open (R.kept room.old)) }
     ensures stored { (j : ℕ) → j < 8 → R.words room.new page (at + j) ≡ slice_index words.now j }
-    ensures only { OnlyWrites R.kept R.standing R.words page at (at + 8) room.old room.new }
+    ensures only { OnlyWrites R.kept R.page_state R.words page at (at + 8) room.old room.new }
 {
     for j in 0..8 {
         room.refill(page, at + j, words[j]);
@@ -105,7 +105,7 @@ fn store_words<R: Room>(room: &mut R, page: u64, at: usize, words: &[u64; 8])
 }
 
 impl Entry {
-    /// The index of a name and a kind, without a pair.
+    /// A new index with this name and kind, without pairs.
     pub fn new(name: &Name, kind: Kind) -> Entry
         ensures entry { result ≡ record { name = name.now; kind = kind; root = 0 } }
         ensures named { IsName name.now }
@@ -143,7 +143,7 @@ impl Entry {
         self.root
     }
 
-    /// Gives the index another root.
+    /// Changes the root of the index's tree.
     pub fn set_root(&mut self, root: u64)
         ensures { self.new ≡ record { name = self.old.name; kind = self.old.kind; root = root } }
     {
@@ -163,7 +163,7 @@ impl Entry {
     }
 
     /// How the index's name compares with a name. The words after a name are zeros, so the first
-    /// word that differs decides; if none differs, the lengths do.
+    /// word that differs decides. If none differs, the lengths decide.
     pub fn compare(&self, name: &Name) -> Ordering
         ensures { result ≡ name_cmp self.now.name name.now }
     {
@@ -178,7 +178,7 @@ impl Entry {
         self.len.cmp(&text.len())
     }
 
-    /// The name.
+    /// The index's name.
     pub fn name(&self) -> Name
         requires { IsName self.now.name }
         ensures { result ≡ self.now.name }
@@ -186,14 +186,14 @@ impl Entry {
         Name::new(str::from_utf8(&self.bytes()).unwrap()).unwrap()
     }
 
-    /// The index that a place of a version page encodes.
+    /// The index at this place of a version page.
     #[tactic(auto, unfolding(crate::specs::Page::entry_at))]
     pub fn load<L: Look>(look: &mut L, page: u64, at: usize) -> Entry
-        requires readable { IsTrue (is_readable (L.standing look.old page)) }
+        requires readable { IsTrue (is_readable (L.page_state look.old page)) }
         requires in_page { at + 11 ≤ 512 }
         requires entry { IsEntry (L.words look.old page) at }
         ensures entry { result ≡ entry_at (L.words look.old page) at }
-        ensures unchanged { IsUnchanged L.kept L.standing L.words look.old look.new }
+        ensures unchanged { IsUnchanged L.kept L.page_state L.words look.old look.new }
     {
         let len = look.word(page, at) as usize;
         let words = load_words(look, page, at + 1);
@@ -207,16 +207,16 @@ impl Entry {
         }
     }
 
-    /// Writes the index at a place, of a page that has a word filled: eleven words.
+    /// Writes the index to this place of a page that has a filled word. It takes eleven words.
     #[tactic(auto, unfolding(crate::specs::Page::entry_at))]
     pub fn store<R: Room>(&self, room: &mut R, page: u64, at: usize)
-        requires filled { R.standing room.old page ≡ Filled }
+        requires filled { R.page_state room.old page ≡ Filled }
         requires in_page { at + 11 ≤ 512 }
         requires named { IsName self.now.name }
         requires open { IsTrue (R.is_open (R.kept room.old)) }
         ensures stored { entry_at (R.words room.new page) at ≡ self.now }
         ensures entry { IsEntry (R.words room.new page) at }
-        ensures only { OnlyWrites R.kept R.standing R.words page at (at + 11) room.old room.new }
+        ensures only { OnlyWrites R.kept R.page_state R.words page at (at + 11) room.old room.new }
     {
         room.refill(page, at, self.len as u64);
         store_words(room, page, at + 1, &self.words);

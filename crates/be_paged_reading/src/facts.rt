@@ -1,8 +1,8 @@
-//! The facts of a version in hand on which refusals rest.
+//! The facts about a loaded version that decide whether an operation is refused.
 //!
-//! A list of operations asks for the same node again and again, so a reader remembers what it found
-//! of the node last. It remembers too the first attribute that it looked for, so that a caller that
-//! changes this one next needn't look for it again.
+//! A list of operations asks for the same node again and again, so the reader remembers what it
+//! found about the last node. It also remembers the first attribute that it looked up: a caller
+//! that changes this attribute next doesn't have to look it up again.
 ghost use Rattle.std.specs.Prelude.{◌≡◌, true};
 ghost use Rattle.std.specs.FinMap as map;
 ghost use Rattle.be_pages.specs.Pages.{IsUnchanged};
@@ -22,8 +22,8 @@ use be_pages::Look;
 use be_value::Name;
 use be_volume::Facts;
 
-/// A reader of these facts. It keeps the node that it counted last, with how many attributes that
-/// has, if it is there, and the first attribute that it looked for.
+/// A reader of these facts. It remembers the node that it counted last, with the number of its
+/// attributes if it exists, and the first attribute that it looked up.
 #[derive(Drop)]
 pub struct PageFacts<'a, L: Look> {
     pub look: &'a mut L,
@@ -32,13 +32,12 @@ pub struct PageFacts<'a, L: Look> {
     pub asked: &'a mut Option<Asked>,
 }
 
-/// How many attributes a node has, if it is there, by a look. A node that has no number yet isn't
-/// looked for.
+/// How many attributes a node has, if it exists. A number that no node has had yet isn't looked up.
 fn count_anew<L: Look>(look: &mut L, version: &Version, node: u64) -> Option<usize>
-    requires tree { IsTree (L.standing look.old) (L.words look.old) version.now.catalog }
-    ensures count { (volume : State) → AnswersFor (L.standing look.old) (L.words look.old)
+    requires tree { IsTree (L.page_state look.old) (L.words look.old) version.now.catalog }
+    ensures count { (volume : State) → AnswersFor (L.page_state look.old) (L.words look.old)
         (contents version.now) volume → result ≡ count_in volume.nodes node }
-    ensures unchanged { IsUnchanged L.kept L.standing L.words look.old look.new }
+    ensures unchanged { IsUnchanged L.kept L.page_state L.words look.old look.new }
 {
     if node >= version.next {
         return None;
@@ -46,23 +45,23 @@ fn count_anew<L: Look>(look: &mut L, version: &Version, node: u64) -> Option<usi
     attribute_count(look, version.catalog, node)
 }
 
-/// The same. If the node was counted last, the count is the remembered one; otherwise it is looked
-/// up, and remembered.
+/// The same. If this node was counted last, it returns the remembered count; otherwise it counts
+/// and remembers.
 fn count_of<L: Look>(
     look: &mut L,
     version: &Version,
     counted: &mut Option<(u64, Option<usize>)>,
     node: u64,
 ) -> Option<usize>
-    requires tree { IsTree (L.standing look.old) (L.words look.old) version.now.catalog }
-    ensures count { (volume : State) → AnswersFor (L.standing look.old) (L.words look.old)
+    requires tree { IsTree (L.page_state look.old) (L.words look.old) version.now.catalog }
+    ensures count { (volume : State) → AnswersFor (L.page_state look.old) (L.words look.old)
         (contents version.now) volume → IsCounted counted.old volume →
         result ≡ count_in volume.nodes node }
     ensures counted { (volume : State)
-        → AnswersFor (L.standing look.old) (L.words look.old) (contents version.now) volume
+        → AnswersFor (L.page_state look.old) (L.words look.old) (contents version.now) volume
         → IsCounted counted.old volume →
         IsCounted counted.new volume }
-    ensures unchanged { IsUnchanged L.kept L.standing L.words look.old look.new }
+    ensures unchanged { IsUnchanged L.kept L.page_state L.words look.old look.new }
 {
     if let Some((last, count)) = *counted {
         if last == node {
@@ -74,8 +73,8 @@ fn count_of<L: Look>(
     count
 }
 
-/// Whether it is known without a look that a node has no attribute: it has no number yet, or none
-/// was counted.
+/// Whether a node is known to have no attribute without reading pages: no node has had its number
+/// yet, or it was counted as having none.
 fn is_bare(version: &Version, counted: Option<(u64, Option<usize>)>, node: u64) -> bool
     ensures { result ≡ true → (volume : State) → IsSound volume → version.now.next ≡ volume.next
         → IsCounted counted volume →
@@ -93,24 +92,24 @@ fn is_bare(version: &Version, counted: Option<(u64, Option<usize>)>, node: u64) 
 impl<L: Look> Facts for PageFacts<'_, L> {
     ghost use Rattle.std.specs.Prelude.{ℕ};
     ghost use base.Fml.{GName};
-    ghost use Rattle.be_pages.specs.declared.room.Standing.{Standing as Stands};
+    ghost use Rattle.be_pages.specs.declared.room.PageState.{PageState as AnyPageState};
     ghost use Rattle.be_paged_reading.specs.Page.{contents};
     ghost use Rattle.be_paged_reading.specs.Facts.{FactsOf};
 
-    ghost Kept = { (GName × GName) × (L.Kept × ((ℕ → Stands) × ((ℕ → ℕ → ℕ) × ℕ))) };
+    ghost Kept = { (GName × GName) × (L.Kept × ((ℕ → AnyPageState) × ((ℕ → ℕ → ℕ) × ℕ))) };
 
     ghost kept = { λ f. (
       (f.look.ghost_name, f.asked.ghost_name),
       (
         L.kept f.look.now,
         (
-          L.standing f.look.now,
+          L.page_state f.look.now,
           (L.words f.look.now, f.version.now.catalog),
         ),
       ),
     ) };
 
-    ghost answers_for = { λ f volume. FactsOf (L.standing f.look.now) (L.words f.look.now)
+    ghost answers_for = { λ f volume. FactsOf (L.page_state f.look.now) (L.words f.look.now)
         (contents f.version.now) f.counted f.asked.now volume };
 
     fn next(&mut self) -> u64 {

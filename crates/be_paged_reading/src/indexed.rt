@@ -1,8 +1,8 @@
-//! Values of the catalog in the trees of indices.
+//! Whether an index's tree has a value of the catalog.
 //!
 //! An index has a node's attribute exactly if its tree has the attribute's key. The key of a signed
-//! 64-bit number, as sizes and times are, is made from the words that hold the number; any other
-//! value is first taken in hand.
+//! 64-bit number, such as a size or a time, is made directly from the number's words. Any other
+//! value is decoded first.
 ghost use Rattle.std.specs.Prelude.{◌≡◌, ◌≤◌, ◌++◌, is_some, length};
 ghost use Rattle.std.specs.Int.{to_be_bytes, w64};
 ghost use Rattle.be_pages.specs.Pages.{IsUnchanged};
@@ -17,13 +17,13 @@ use be_pages::Look;
 use be_tree_reading::has_key;
 use be_value::{Kind, counted64, key_of};
 
-/// Whether the index of a tree has a number, by its bytes in a key, with a node.
+/// Whether an index's tree has a number, given by its bytes in a key, with a node.
 fn has_number<L: Look>(look: &mut L, index: u64, number: &[u8], node: u64) -> bool
-    requires tree { IsTree (L.standing look.old) (L.words look.old) index }
+    requires tree { IsTree (L.page_state look.old) (L.words look.old) index }
     requires short { length number.now ≤ 8 }
     ensures has { result ≡ is_some (payload_at (pairs (L.words look.old) index)
         (number.now ++ to_be_bytes w64 node)) }
-    ensures unchanged { IsUnchanged L.kept L.standing L.words look.old look.new }
+    ensures unchanged { IsUnchanged L.kept L.page_state L.words look.old look.new }
 {
     let mut key: ArrayVec<u8, 16> = ArrayVec::new();
     key.try_extend_from_slice(number).unwrap();
@@ -31,15 +31,15 @@ fn has_number<L: Look>(look: &mut L, index: u64, number: &[u8], node: u64) -> bo
     has_key(look, index, &key)
 }
 
-/// Whether the index of a tree has the value that the item at a place encodes, with its node, by
-/// the value in hand. It is a function of its own, since it needs room for the value and for its
+/// Whether an index's tree has the value that the item at this place encodes, with its node. It
+/// decodes the value. It is a function of its own, since it needs room for the value and for its
 /// key.
 #[inline(never)]
 fn any_is_indexed_at<L: Look>(look: &mut L, index: u64, page: u64, at: usize, node: u64) -> bool
-    requires tree { IsTree (L.standing look.old) (L.words look.old) index }
-    requires item { IsReadableAt (L.standing look.old) (L.words look.old) page at }
+    requires tree { IsTree (L.page_state look.old) (L.words look.old) index }
+    requires item { IsReadableAt (L.page_state look.old) (L.words look.old) page at }
     ensures has { DecidesPair (L.words look.old) index node page at result }
-    ensures unchanged { IsUnchanged L.kept L.standing L.words look.old look.new }
+    ensures unchanged { IsUnchanged L.kept L.page_state L.words look.old look.new }
 {
     match value_at(look, page, at) {
         Some(value) => {
@@ -49,7 +49,7 @@ fn any_is_indexed_at<L: Look>(look: &mut L, index: u64, page: u64, at: usize, no
     }
 }
 
-/// Whether the index of a tree has the value that the item at a place encodes, with its node.
+/// Whether an index's tree has the value that the item at this place encodes, with its node.
 pub(crate) fn is_indexed_at<L: Look>(
     look: &mut L,
     index: u64,
@@ -57,10 +57,10 @@ pub(crate) fn is_indexed_at<L: Look>(
     at: usize,
     node: u64,
 ) -> bool
-    requires tree { IsTree (L.standing look.old) (L.words look.old) index }
-    requires item { IsReadableAt (L.standing look.old) (L.words look.old) page at }
+    requires tree { IsTree (L.page_state look.old) (L.words look.old) index }
+    requires item { IsReadableAt (L.page_state look.old) (L.words look.old) page at }
     ensures has { DecidesPair (L.words look.old) index node page at result }
-    ensures unchanged { IsUnchanged L.kept L.standing L.words look.old look.new }
+    ensures unchanged { IsUnchanged L.kept L.page_state L.words look.old look.new }
 {
     let Some(kind) = kind_at(look, page, at) else {
         return false;

@@ -1,15 +1,15 @@
-//! Reading of a volume in pages.
+//! Reads a volume that is stored in pages.
 //!
 //! # Versions
-//! A version of a volume is one page: the next node number, the root of the catalog's tree, and for
-//! each index its name, its kind and the root of its tree. The catalog has a pair for each node and
-//! one for each attribute; an index has a pair for each node that is in it. All calls read through
-//! `Look`, so they serve a pool in memory and a shared table alike.
+//! A version of a volume is one page. It has the next node number and the root of the catalog's
+//! tree, and for each index its name, its kind and its tree's root. The catalog has a pair for each
+//! node and one for each attribute; an index has a pair for each node that is in it. All calls read
+//! through `Look`, so they work on a pool in memory and on a shared table alike.
 //!
 //! # What a page says
-//! That a page encodes a volume is a relation, `IsVersion`: its pairs are exactly the volume's
-//! nodes, attributes and index keys. A reader can't compute that volume, so a contract speaks of
-//! every volume that the page encodes. be_paged writes versions.
+//! The relation `IsVersion` says that a page encodes a volume: the pairs in its trees are exactly
+//! the volume's nodes, attributes and index keys. A reader can't compute that volume, so a contract
+//! speaks of every volume that the page encodes. be_paged writes versions.
 #![tactic(auto)]
 
 mod asked;

@@ -1,9 +1,9 @@
-//! Walks over the nodes of the catalog.
+//! Walks over the catalog's nodes.
 //!
-//! A node's mark is the key of its eight bytes alone, and its attributes follow with longer keys.
-//! So a walk from a node's key on comes to marks and to attributes, and the first word of an item
-//! says which it is. The walk steps over the attributes, since a step reads two words and a descent
-//! to the next mark some dozens; a node has at most 64 attributes to step over.
+//! A node's mark is a key of only its eight bytes, and its attributes follow with longer keys. So a
+//! walk from a node's key on meets marks and attributes, and an item's first word says which it is.
+//! The walk steps over attributes: a step reads two words, a descent to the next mark several
+//! dozen. A node has at most 64 attributes to step over.
 ghost use Rattle.std.specs.Prelude.{◌≡◌, ◌∷◌, ◌+◌, ◌≤◌, [], IsTrue, IfNone, IfOk, IfSome, false};
 ghost use Rattle.std.specs.Prelude.{take, true};
 ghost use Rattle.std.specs.Int.{from_be_bytes, to_be_bytes, w64};
@@ -18,17 +18,17 @@ use be_pages::Look;
 use be_tree_reading::{Cursor, LENGTH_BITS};
 use std::alloc::{AllocError, Global};
 
-/// The node whose mark the item at a place of the catalog is, if it is one. Its first word decides,
-/// and the second is the node.
+/// The node whose mark is the item at this place of the catalog, if it is a mark. The first word
+/// decides that, and the second is the node.
 fn mark_at<L: Look>(look: &mut L, page: u64, at: usize) -> Option<u64>
-    requires readable { IsTrue (is_readable (L.standing look.old page)) }
+    requires readable { IsTrue (is_readable (L.page_state look.old page)) }
     requires in_page { at + 42 ≤ 512 }
     requires item { IsItem (L.words look.old page) at }
     ensures mark { IfSome result (λ _. is_mark (item_at (L.words look.old page) at).key ≡ true) }
     ensures node { IfSome result (λ node. node
         ≡ from_be_bytes w64 (item_at (L.words look.old page) at).key) }
     ensures none { IfNone result (is_mark (item_at (L.words look.old page) at).key ≡ false) }
-    ensures unchanged { IsUnchanged L.kept L.standing L.words look.old look.new }
+    ensures unchanged { IsUnchanged L.kept L.page_state L.words look.old look.new }
 {
     let key_len = look.word(page, at) >> LENGTH_BITS;
     if key_len != 8 {
@@ -37,14 +37,14 @@ fn mark_at<L: Look>(look: &mut L, page: u64, at: usize) -> Option<u64>
     Some(look.word(page, at + 1))
 }
 
-/// The node of the next mark, and a step past it; None if no mark is left.
+/// The node of the next mark; the cursor steps past it. None if no mark is left.
 fn next_mark<L: Look>(look: &mut L, cursor: &mut Cursor) -> Option<u64>
-    requires cursor { IsCursor (L.standing look.old) (L.words look.old) cursor.old }
+    requires cursor { IsCursor (L.page_state look.old) (L.words look.old) cursor.old }
     ensures none { IfNone result (marked (remaining (L.words look.old) cursor.old) ≡ []) }
     ensures node { IfSome result (λ node. marked (remaining (L.words look.old) cursor.old)
         ≡ node ∷ marked (remaining (L.words look.old) cursor.new)) }
-    ensures cursor { IsCursor (L.standing look.old) (L.words look.old) cursor.new }
-    ensures unchanged { IsUnchanged L.kept L.standing L.words look.old look.new }
+    ensures cursor { IsCursor (L.page_state look.old) (L.words look.old) cursor.new }
+    ensures unchanged { IsUnchanged L.kept L.page_state L.words look.old look.new }
 {
     'steps: while let Some((page, at)) = cursor.step(look) {
         if let Some(node) = mark_at(look, page, at) {
@@ -54,7 +54,7 @@ fn next_mark<L: Look>(look: &mut L, cursor: &mut Cursor) -> Option<u64>
     None
 }
 
-/// The nodes of up to `most` marks, from that of a node on, in a vector.
+/// Lists the nodes of up to `most` marks, from this node's mark on.
 pub(crate) fn list_nodes<L: Look>(
     alloc: Global,
     look: &mut L,
@@ -62,11 +62,11 @@ pub(crate) fn list_nodes<L: Look>(
     from: u64,
     most: usize,
 ) -> Result<Vec<u64>, AllocError>
-    requires tree { IsTree (L.standing look.old) (L.words look.old) catalog }
+    requires tree { IsTree (L.page_state look.old) (L.words look.old) catalog }
     ensures list { IfOk result (λ list. list.items
         ≡ take most (marked (pairs_from (pairs (L.words look.old) catalog) (to_be_bytes w64 from)
         false))) }
-    ensures unchanged { IsUnchanged L.kept L.standing L.words look.old look.new }
+    ensures unchanged { IsUnchanged L.kept L.page_state L.words look.old look.new }
 {
     let mut list = Vec::new(alloc);
     let mut cursor = Cursor::new();

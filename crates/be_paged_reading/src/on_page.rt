@@ -1,9 +1,9 @@
-//! Indices in place on a version page.
+//! Finds indices directly on a version page.
 //!
-//! A caller that asks for one or two indices by name needs no version in hand, which has room for
-//! all 32 of them. Names are compared in place, and mostly their first words differ already. They
-//! ascend, so a search among 32 indices looks at no more than six. Mostly the same name is asked
-//! for again, so the index that was found last is kept, and its name is compared first.
+//! A caller that needs one or two indices by name doesn't load a whole version, which has room for
+//! all 32. Names are compared on the page, and usually their first words already differ. They
+//! ascend, so a search among 32 indices looks at no more than six. Most callers ask for the same
+//! name again, so the last index found is kept, and its name is compared first.
 ghost use Rattle.std.specs.Prelude.{◌≡◌, ◌+◌, ◌<◌, ◌≤◌, IsTrue, length, map, slice_index};
 ghost use Rattle.std.specs.Prelude.{slice_index_or, true};
 ghost use Rattle.std.specs.Int.{to_be_bytes, w64};
@@ -22,7 +22,7 @@ use be_tree_reading::word_from;
 use be_value::{Kind, Name};
 use std::cmp::Ordering;
 
-/// An index of a version page: its number among them, its kind and the root of its tree.
+/// An index on a version page: its number among the indices, its kind and its tree's root.
 #[derive(Clone, Copy)]
 pub(crate) struct FoundIndex {
     pub(crate) place: usize,
@@ -30,18 +30,18 @@ pub(crate) struct FoundIndex {
     pub(crate) root: u64,
 }
 
-/// The index that was found, if one was.
+/// The last index found, if there is one.
 pub(crate) type Known = Option<FoundIndex>;
 
-/// The index of a name on a version page, if there is one. The index that was found last is looked
-/// at first.
+/// The index with this name on a version page, if there is one. Compares the name of the last index
+/// found first.
 #[inline(always)]
 pub(crate) fn known_index<L: Look>(look: &mut L, page: u64, name: &Name, known: &mut Known) -> Known
-    requires version { HasVersion L.standing L.words look.old page }
+    requires version { HasVersion L.page_state L.words look.old page }
     requires known { IsKnown (contents_of (L.words look.old page)).entries known.old }
     ensures found { IsFound (contents_of (L.words look.new page)).entries name.now result }
     ensures known { IsKnown (contents_of (L.words look.new page)).entries known.new }
-    ensures unchanged { IsUnchanged L.kept L.standing L.words look.old look.new }
+    ensures unchanged { IsUnchanged L.kept L.page_state L.words look.old look.new }
 {
     let Some(last) = *known else {
         return find_to_know(look, page, name, known);
@@ -52,11 +52,11 @@ pub(crate) fn known_index<L: Look>(look: &mut L, page: u64, name: &Name, known: 
     find_to_know(look, page, name, known)
 }
 
-/// The index at a place of a version page, if there is one.
+/// The index at this number on a version page, if there is one.
 pub(crate) fn index_there<L: Look>(look: &mut L, page: u64, place: usize) -> Option<FoundIndex>
-    requires version { HasVersion L.standing L.words look.old page }
+    requires version { HasVersion L.page_state L.words look.old page }
     ensures known { IsKnown (contents_of (L.words look.new page)).entries result }
-    ensures unchanged { IsUnchanged L.kept L.standing L.words look.old look.new }
+    ensures unchanged { IsUnchanged L.kept L.page_state L.words look.old look.new }
 {
     let count = look.word(page, 1);
     if place as u64 >= count {
@@ -65,26 +65,26 @@ pub(crate) fn index_there<L: Look>(look: &mut L, page: u64, place: usize) -> Opt
     Some(index_at(look, page, place))
 }
 
-/// Finds the index of a name, and keeps it for the next time.
+/// Finds the index with this name, and keeps it for the next call.
 #[inline(never)]
 fn find_to_know<L: Look>(look: &mut L, page: u64, name: &Name, known: &mut Known) -> Known
-    requires version { HasVersion L.standing L.words look.old page }
+    requires version { HasVersion L.page_state L.words look.old page }
     ensures found { IsFound (contents_of (L.words look.new page)).entries name.now result }
     ensures known { IsKnown (contents_of (L.words look.new page)).entries known.new }
-    ensures unchanged { IsUnchanged L.kept L.standing L.words look.old look.new }
+    ensures unchanged { IsUnchanged L.kept L.page_state L.words look.old look.new }
 {
     let index = find_index(look, page, name);
     *known = index;
     index
 }
 
-/// Whether the index at a number of a version page has this name.
+/// Whether the index at this number on a version page has this name.
 fn is_named<L: Look>(look: &mut L, page: u64, i: usize, name: &Name) -> bool
-    requires version { HasVersion L.standing L.words look.old page }
+    requires version { HasVersion L.page_state L.words look.old page }
     requires in_range { i < length (contents_of (L.words look.old page)).entries }
     ensures named { result ≡ true → IsNamedAt (contents_of (L.words look.old page)).entries name.now
         i }
-    ensures unchanged { IsUnchanged L.kept L.standing L.words look.old look.new }
+    ensures unchanged { IsUnchanged L.kept L.page_state L.words look.old look.new }
 {
     let text = name.as_str().as_bytes();
     let first = word_from(text, 0);
@@ -94,12 +94,12 @@ fn is_named<L: Look>(look: &mut L, page: u64, i: usize, name: &Name) -> bool
     }
 }
 
-/// The index of a name on a version page, if there is one. Of most indices on the way it reads one
-/// word.
+/// The index with this name on a version page, if there is one. For most indices that the search
+/// passes it reads one word.
 pub(crate) fn find_index<L: Look>(look: &mut L, page: u64, name: &Name) -> Option<FoundIndex>
-    requires version { HasVersion L.standing L.words look.old page }
+    requires version { HasVersion L.page_state L.words look.old page }
     ensures found { IsFound (contents_of (L.words look.new page)).entries name.now result }
-    ensures unchanged { IsUnchanged L.kept L.standing L.words look.old look.new }
+    ensures unchanged { IsUnchanged L.kept L.page_state L.words look.old look.new }
 {
     let text = name.as_str().as_bytes();
     let first = word_from(text, 0);
@@ -116,7 +116,7 @@ pub(crate) fn find_index<L: Look>(look: &mut L, page: u64, name: &Name) -> Optio
     None
 }
 
-/// The place in the middle of those from `low` on and before `high`.
+/// The middle of the places from `low` on and before `high`.
 fn middle(low: usize, high: usize) -> usize
     requires { low < high }
     ensures { (low ≤ result) × (result < high) }
@@ -124,18 +124,18 @@ fn middle(low: usize, high: usize) -> usize
     low + (high - low) / 2
 }
 
-/// How the name of the index at a place of a page compares with a name whose first word is at hand.
-/// The words after a name are zeros, so the first word that differs decides; if none differs, the
-/// lengths do.
+/// How the name of the index at this place of a page compares with a name whose first word is
+/// `first`. The words after a name are zeros, so the first word that differs decides. If none
+/// differs, the lengths decide.
 fn compare_at<L: Look>(look: &mut L, page: u64, at: usize, name: &[u8], first: u64) -> Ordering
-    requires readable { IsTrue (is_readable (L.standing look.old page)) }
+    requires readable { IsTrue (is_readable (L.page_state look.old page)) }
     requires in_page { at + 11 ≤ 512 }
     requires entry { IsEntry (L.words look.old page) at }
     requires short { length name.now ≤ 63 }
     requires first { to_be_bytes w64 first
         ≡ map (λ k. slice_index name.now k) (range_with_len 0 8) }
     ensures order { result ≡ name_cmp (entry_at (L.words look.old page) at).name name.now }
-    ensures unchanged { IsUnchanged L.kept L.standing L.words look.old look.new }
+    ensures unchanged { IsUnchanged L.kept L.page_state L.words look.old look.new }
 {
     let mine = look.word(page, at + 1);
     if mine != first {
@@ -152,9 +152,9 @@ fn compare_at<L: Look>(look: &mut L, page: u64, at: usize, name: &[u8], first: u
     len.cmp(&name.len())
 }
 
-/// The index at a number of a version page.
+/// The index at this number on a version page.
 fn index_at<L: Look>(look: &mut L, page: u64, i: usize) -> FoundIndex
-    requires readable { IsTrue (is_readable (L.standing look.old page)) }
+    requires readable { IsTrue (is_readable (L.page_state look.old page)) }
     requires page { IsVersionPage (L.words look.old page) }
     requires in_range { i < L.words look.old page 1 }
     ensures place { result.place ≡ i }
@@ -162,7 +162,7 @@ fn index_at<L: Look>(look: &mut L, page: u64, i: usize) -> FoundIndex
         ≡ (slice_index_or (contents_of (L.words look.old page)).entries i d).kind }
     ensures root { (d : AnyEntry) → result.root
         ≡ (slice_index_or (contents_of (L.words look.old page)).entries i d).root }
-    ensures unchanged { IsUnchanged L.kept L.standing L.words look.old look.new }
+    ensures unchanged { IsUnchanged L.kept L.page_state L.words look.old look.new }
 {
     let kind = kind_numbered(look.word(page, 13 + 11 * i));
     let root = look.word(page, 14 + 11 * i);

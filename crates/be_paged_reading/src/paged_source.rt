@@ -1,10 +1,10 @@
-//! A version as a source of queries.
+//! A version as an index reader for queries.
 //!
-//! A walk over an index asks for one key after the other. So the source keeps a cursor of the tree
-//! that it walked last, and the place of the item whose key it gave last: where the next key is
-//! asked from that very key, it goes on from there and makes no descent. The nodes of a range are
-//! read leaf by leaf, and texts are tested so: no key is unpacked. A query asks for the same index
-//! again and again, so the source keeps what it found last.
+//! A walk over an index asks for one key after another. So the reader keeps a cursor in the tree
+//! that it walked last, and the place of the last key that it returned. If the next key is asked
+//! for from that very key, it continues there, without a descent. It reads the nodes in a range
+//! leaf by leaf, and tests texts there too, without unpacking keys. A query asks for the same index
+//! again and again, so the reader keeps the last index found.
 ghost use Rattle.std.specs.Prelude.{◌≡◌, true, IfErr, IfOk, OnOk};
 ghost use Rattle.be_pages.specs.Pages.{IsUnchanged};
 ghost use Rattle.be_plan.specs.KeyTests.{reads_texts};
@@ -16,7 +16,7 @@ ghost use Rattle.be_value.specs.declared.refusals.Refusal.TheVariants.{OutOfMemo
 ghost use Rattle.be_value.specs.declared.values.Kind.TheVariants.{Cstr};
 ghost use Rattle.be_volume.specs.Volume.{State};
 ghost use Rattle.be_paged_reading.specs.Page.{contents_of};
-ghost use Rattle.be_paged_reading.specs.Source.{HasNumbers, HasPassing, IsIndexOf, StandsAfter};
+ghost use Rattle.be_paged_reading.specs.Source.{HasNumbers, HasPassing, IsIndexOf, LiesAfter};
 ghost use Rattle.be_paged_reading.specs.Version.{HasVersion, IsVersion};
 
 use crate::on_page::{FoundIndex, known_index};
@@ -35,7 +35,8 @@ use be_value::{Kind, Name, Refusal, Value};
 /// A place that no index has.
 const NOWHERE: usize = 32;
 
-/// A reader of one version, by its page, and its look. It takes no memory besides its own.
+/// An index reader of one version, by its page and a page reader. It takes no memory beyond its
+/// own.
 #[derive(Drop)]
 pub struct PagedSource<L> {
     look: L,
@@ -46,14 +47,14 @@ pub struct PagedSource<L> {
     last: (u64, usize),
 }
 
-/// Whether the keys of an index of a kind have texts.
+/// Whether the keys of an index of this kind have texts.
 fn has_texts(kind: Kind) -> bool
     ensures { result ≡ true → kind ≡ Cstr }
 {
     kind == Kind::Cstr
 }
 
-/// Whether the keys of an index of a kind have what the test reads.
+/// Whether the keys of an index of this kind have what the test reads.
 fn is_testable(kind: Kind, test: KeyTest<'_, '_>) -> bool
     ensures { result ≡ true → reads_texts test.entry ≡ true → kind ≡ Cstr }
 {
@@ -63,11 +64,11 @@ fn is_testable(kind: Kind, test: KeyTest<'_, '_>) -> bool
     }
 }
 
-/// About how many keys a tree has. A page has 6 to 12 items, so it takes eight for each page below
-/// the root.
+/// About how many keys a tree has. A page has 6 to 12 items; the estimate is eight for each page
+/// below the root.
 fn about_keys<L: Look>(look: &mut L, root: u64) -> u64
-    requires tree { IsTree (L.standing look.old) (L.words look.old) root }
-    ensures unchanged { IsUnchanged L.kept L.standing L.words look.old look.new }
+    requires tree { IsTree (L.page_state look.old) (L.words look.old) root }
+    ensures unchanged { IsUnchanged L.kept L.page_state L.words look.old look.new }
 {
     if root == 0 {
         return 0;
@@ -77,14 +78,15 @@ fn about_keys<L: Look>(look: &mut L, root: u64) -> u64
     count.saturating_mul(8u64.saturating_pow(level.min(32) as u32))
 }
 
-/// The version of a page as a source. It reads nothing yet, and keeps the look until `into_look`.
+/// An index reader for the version at this page. It reads nothing yet, and keeps the page reader
+/// until `into_look`.
 pub fn source<L: Look>(look: L, version_page: u64) -> PagedSource<L>
-    requires version { HasVersion L.standing L.words look version_page }
+    requires version { HasVersion L.page_state L.words look version_page }
     ensures answers { (volume : State)
-        → IsVersion (L.standing look) (L.words look) version_page volume
+        → IsVersion (L.page_state look) (L.words look) version_page volume
         → ⟦<PagedSource<L> as Source>⟧.answers_for result volume }
     ensures look { ⟦<PagedSource<L> as Source>⟧.kept result
-        ≡ (L.kept look, (L.standing look, L.words look)) }
+        ≡ (L.kept look, (L.page_state look, L.words look)) }
 {
     PagedSource {
         look,
@@ -97,30 +99,30 @@ pub fn source<L: Look>(look: L, version_page: u64) -> PagedSource<L>
 }
 
 impl<L: Look> PagedSource<L> {
-    /// The look back, with the facts that it had.
+    /// Gives the page reader back, with the facts that it had.
     pub fn into_look(self) -> L
-        ensures look { (L.kept result, (L.standing result, L.words result))
+        ensures look { (L.kept result, (L.page_state result, L.words result))
             ≡ ⟦<PagedSource<L> as Source>⟧.kept self }
     {
         self.look
     }
 
-    /// Brings the cursor before the least key of an index at `from` or after it, or strictly after
-    /// it. If it is just after that very key, nothing moves.
+    /// Moves the cursor to before the lowest key of an index at `from` or after it, or strictly
+    /// after it. If the cursor is just past that very key, it stays.
     fn walk_to(&mut self, index: FoundIndex, from: &[u8], after: bool)
         requires index { IsIndexOf (contents_of (L.words self.old.look self.old.page)).entries
             index }
-        requires tree { IsTree (L.standing self.old.look) (L.words self.old.look) index.root }
-        requires beyond { StandsAfter (L.standing self.old.look) (L.words self.old.look)
+        requires tree { IsTree (L.page_state self.old.look) (L.words self.old.look) index.root }
+        requires beyond { LiesAfter (L.page_state self.old.look) (L.words self.old.look)
             (contents_of (L.words self.old.look self.old.page)).entries self.old.cursor
             self.old.place self.old.last.0 self.old.last.1 }
-        ensures cursor { IsCursor (L.standing self.new.look) (L.words self.new.look)
+        ensures cursor { IsCursor (L.page_state self.new.look) (L.words self.new.look)
             self.new.cursor }
         ensures rest { remaining (L.words self.new.look) self.new.cursor
             ≡ pairs_from (pairs (L.words self.new.look) index.root) from.now after }
         ensures page { self.new.page ≡ self.old.page }
         ensures known { self.new.known ≡ self.old.known }
-        ensures unchanged { IsUnchanged L.kept L.standing L.words self.old.look self.new.look }
+        ensures unchanged { IsUnchanged L.kept L.page_state L.words self.old.look self.new.look }
     {
         if after && index.place == self.place {
             let (page, at) = self.last;
@@ -131,8 +133,8 @@ impl<L: Look> PagedSource<L> {
         self.cursor.seek(&mut self.look, index.root, from, after);
     }
 
-    /// Adds the number that each key on a way over the index of a name ends with, in the order of
-    /// the way, `most` at most. Without an index it adds nothing.
+    /// Walks the index with this name along a way, and adds the number at the end of each key, in
+    /// that order, up to `most`. Without an index it adds nothing.
     pub fn numbers_in_order(
         &mut self,
         name: &Name,
@@ -156,10 +158,10 @@ impl<L: Look> PagedSource<L> {
         Ok(())
     }
 
-    /// Puts the nodes of the first keys on a way over the index of a name that pass a test into a
-    /// list, in place of what it had, in the order of the way, `most` at most, and returns true. It
-    /// returns false without an index, and if the test is of texts and the index isn't; the list
-    /// then stays.
+    /// Walks the index with this name along a way, and tests its keys. It replaces the list by the
+    /// nodes of the first keys that pass, in that order, up to `most`, and returns true. It returns
+    /// false if there is no index, or if the test reads texts and the index has none; the list then
+    /// stays as it was.
     pub fn passing_in_order(
         &mut self,
         name: &Name,
@@ -187,8 +189,8 @@ impl<L: Look> PagedSource<L> {
         Ok(true)
     }
 
-    /// About how many keys the index of a name has in a range. It costs two descents, and is exact
-    /// for a range within one leaf.
+    /// About how many keys the index with this name has in a range. It costs two descents, and is
+    /// exact for a range within one leaf.
     pub fn about_within(&mut self, keys: KeyRange<'_>) -> u64
         requires { (volume : State) × ⟦<PagedSource<L> as Source>⟧.answers_for self.old volume }
         ensures stays { ⟦<PagedSource<L> as Source>⟧.kept self.new
@@ -204,14 +206,14 @@ impl<L: Look> PagedSource<L> {
 
 impl<L: Look> Source for PagedSource<L> {
     ghost use Rattle.std.specs.Prelude.{ℕ};
-    ghost use Rattle.be_pages.specs.declared.room.Standing.{Standing as Stands};
+    ghost use Rattle.be_pages.specs.declared.room.PageState.{PageState as AnyPageState};
     ghost use Rattle.be_paged_reading.specs.Source.{SourceOf};
 
-    ghost Kept = { L.Kept × ((ℕ → Stands) × (ℕ → ℕ → ℕ)) };
+    ghost Kept = { L.Kept × ((ℕ → AnyPageState) × (ℕ → ℕ → ℕ)) };
 
-    ghost kept = { λ s. (L.kept s.look, (L.standing s.look, L.words s.look)) };
+    ghost kept = { λ s. (L.kept s.look, (L.page_state s.look, L.words s.look)) };
 
-    ghost answers_for = { λ s volume. SourceOf (L.standing s.look) (L.words s.look) s.page s.known
+    ghost answers_for = { λ s volume. SourceOf (L.page_state s.look) (L.words s.look) s.page s.known
         s.cursor s.place s.last.0 s.last.1 volume };
 
     ghost sound = { λ s volume is. is.version.sound };
@@ -266,7 +268,7 @@ impl<L: Look> Source for PagedSource<L> {
         }
     }
 
-    // It is a function of its own, so that a caller that asks for values alone has room for one.
+    // Not inlined, so that a caller that only asks for values has room for only one.
     #[inline(never)]
     fn value(&mut self, node: u64, name: &Name) -> Option<Value> {
         get(&mut self.look, self.page, node, name)

@@ -1,7 +1,8 @@
-//! A version, read whole: what be_volume_state makes a volume again of.
+//! Reads a whole version, from which be_volume_state rebuilds a volume.
 //!
-//! It keeps nothing of what it read. To find whether an index has a node, it looks for the key of
-//! the node's attribute in the index's tree. A pair of an index is always its node's attribute.
+//! It remembers nothing that it read. To learn whether an index has a node, it looks up the key of
+//! the node's attribute in the index's tree. A pair of an index is always that of its node's
+//! attribute.
 ghost use Rattle.std.specs.Prelude.{◌≡◌, IfOk, None, true};
 ghost use Rattle.std.specs.FinMap as map;
 ghost use Rattle.std.specs.Option.{option_map};
@@ -21,7 +22,7 @@ use be_value::{Kind, Name, Refusal, Value, key_of};
 use be_volume_state::Whole;
 use std::alloc::{AllocError, Global};
 
-/// A reader of one whole version, by its page, and its look.
+/// A reader of one whole version, by its page and a page reader.
 #[derive(Drop)]
 pub struct PagedWhole<L> {
     alloc: Global,
@@ -29,15 +30,15 @@ pub struct PagedWhole<L> {
     page: u64,
 }
 
-/// The version of a page, to be read whole. It reads nothing yet, and keeps the look until
-/// `into_look`.
+/// A reader of the whole version at this page. It reads nothing yet, and keeps the page reader
+/// until `into_look`.
 pub fn whole<L: Look>(alloc: Global, look: L, version_page: u64) -> PagedWhole<L>
-    requires version { HasVersion L.standing L.words look version_page }
+    requires version { HasVersion L.page_state L.words look version_page }
     ensures answers { (volume : State)
-        → IsVersion (L.standing look) (L.words look) version_page volume
+        → IsVersion (L.page_state look) (L.words look) version_page volume
         → ⟦<PagedWhole<L> as Whole>⟧.answers_for result volume }
     ensures look { ⟦<PagedWhole<L> as Whole>⟧.kept result
-        ≡ (L.kept look, (L.standing look, L.words look)) }
+        ≡ (L.kept look, (L.page_state look, L.words look)) }
 {
     PagedWhole {
         alloc,
@@ -47,9 +48,9 @@ pub fn whole<L: Look>(alloc: Global, look: L, version_page: u64) -> PagedWhole<L
 }
 
 impl<L: Look> PagedWhole<L> {
-    /// The look back, with the facts that it had.
+    /// Gives the page reader back, with the facts that it had.
     pub fn into_look(self) -> L
-        ensures look { (L.kept result, (L.standing result, L.words result))
+        ensures look { (L.kept result, (L.page_state result, L.words result))
             ≡ ⟦<PagedWhole<L> as Whole>⟧.kept self }
     {
         self.look
@@ -58,14 +59,14 @@ impl<L: Look> PagedWhole<L> {
 
 impl<L: Look> Whole for PagedWhole<L> {
     ghost use Rattle.std.specs.Prelude.{ℕ};
-    ghost use Rattle.be_pages.specs.declared.room.Standing.{Standing as Stands};
+    ghost use Rattle.be_pages.specs.declared.room.PageState.{PageState as AnyPageState};
     ghost use Rattle.be_paged_reading.specs.Version.{HasVersion, IsVersion};
 
-    ghost Kept = { L.Kept × ((ℕ → Stands) × (ℕ → ℕ → ℕ)) };
+    ghost Kept = { L.Kept × ((ℕ → AnyPageState) × (ℕ → ℕ → ℕ)) };
 
-    ghost kept = { λ w. (L.kept w.look, (L.standing w.look, L.words w.look)) };
+    ghost kept = { λ w. (L.kept w.look, (L.page_state w.look, L.words w.look)) };
 
-    ghost answers_for = { λ w volume. IsVersion (L.standing w.look) (L.words w.look) w.page
+    ghost answers_for = { λ w volume. IsVersion (L.page_state w.look) (L.words w.look) w.page
         volume };
 
     fn next(&mut self) -> u64 {
@@ -85,19 +86,20 @@ impl<L: Look> Whole for PagedWhole<L> {
     }
 }
 
-/// The attributes of a node, by ascending bytes of their names, and None if the node isn't there.
+/// A node's attributes, in ascending order of their names' bytes, or None if the node doesn't
+/// exist.
 fn attrs_of<L: Look>(
     alloc: Global,
     look: &mut L,
     version_page: u64,
     node: u64,
 ) -> Result<Option<Vec<(Name, Value)>>, AllocError>
-    requires version { HasVersion L.standing L.words look.old version_page }
-    ensures attrs { (volume : State) → IsVersion (L.standing look.old) (L.words look.old)
+    requires version { HasVersion L.page_state L.words look.old version_page }
+    ensures attrs { (volume : State) → IsVersion (L.page_state look.old) (L.words look.old)
         version_page volume →
         IfOk result (λ list. option_map (λ l. l.items) list
         ≡ option_map map.entries (map.get volume.nodes node)) }
-    ensures unchanged { IsUnchanged L.kept L.standing L.words look.old look.new }
+    ensures unchanged { IsUnchanged L.kept L.page_state L.words look.old look.new }
 {
     match attrs(alloc, look, version_page, node) {
         Ok(list) => Ok(Some(list)),
@@ -105,7 +107,7 @@ fn attrs_of<L: Look>(
     }
 }
 
-/// None if there is no node; every other refusal is OutOfMemory.
+/// None if the node doesn't exist; every other error is OutOfMemory.
 fn none_for(refusal: Refusal) -> Result<Option<Vec<(Name, Value)>>, AllocError>
     ensures { IfOk result (λ list. (option_map (λ l. l.items) list ≡ None) × (refusal ≡ NoNode)) }
 {
@@ -115,17 +117,17 @@ fn none_for(refusal: Refusal) -> Result<Option<Vec<(Name, Value)>>, AllocError>
     }
 }
 
-/// The names and kinds of the indices, by ascending bytes of the names.
+/// The indices' names and kinds, in ascending order of the names' bytes.
 fn kinds_of<L: Look>(
     alloc: Global,
     look: &mut L,
     version_page: u64,
 ) -> Result<Vec<(Name, Kind)>, AllocError>
-    requires version { HasVersion L.standing L.words look.old version_page }
+    requires version { HasVersion L.page_state L.words look.old version_page }
     ensures indices { (volume : State)
-        → IsVersion (L.standing look.old) (L.words look.old) version_page volume →
+        → IsVersion (L.page_state look.old) (L.words look.old) version_page volume →
         IfOk result (λ list. list.items ≡ index_kinds volume) }
-    ensures unchanged { IsUnchanged L.kept L.standing L.words look.old look.new }
+    ensures unchanged { IsUnchanged L.kept L.page_state L.words look.old look.new }
 {
     match indices(alloc, look, version_page) {
         Ok(list) => Ok(list),
@@ -133,16 +135,16 @@ fn kinds_of<L: Look>(
     }
 }
 
-/// Whether the index of a name has a key; false without an index.
+/// Whether the index with this name has a key; false if there is no index.
 fn has_pair<L: Look>(look: &mut L, version_page: u64, name: &Name, key: &[u8]) -> bool
-    requires version { HasVersion L.standing L.words look.old version_page }
-    ensures found { (volume : State) → IsVersion (L.standing look.old) (L.words look.old)
+    requires version { HasVersion L.page_state L.words look.old version_page }
+    ensures found { (volume : State) → IsVersion (L.page_state look.old) (L.words look.old)
         version_page volume →
         result ≡ true → IsKey volume name.now key.now }
-    ensures finds { (volume : State) → IsVersion (L.standing look.old) (L.words look.old)
+    ensures finds { (volume : State) → IsVersion (L.page_state look.old) (L.words look.old)
         version_page volume →
         IsKey volume name.now key.now → result ≡ true }
-    ensures unchanged { IsUnchanged L.kept L.standing L.words look.old look.new }
+    ensures unchanged { IsUnchanged L.kept L.page_state L.words look.old look.new }
 {
     match find_index(look, version_page, name) {
         Some(index) => has_key(look, index.root, key),
@@ -150,13 +152,13 @@ fn has_pair<L: Look>(look: &mut L, version_page: u64, name: &Name, key: &[u8]) -
     }
 }
 
-/// Whether the index of a name has a node: it has the key of the node's attribute.
+/// Whether the index with this name has a node, that is, the key of the node's attribute.
 fn index_has<L: Look>(look: &mut L, version_page: u64, node: u64, name: &Name) -> bool
-    requires version { HasVersion L.standing L.words look.old version_page }
-    ensures held { (volume : State) → IsVersion (L.standing look.old) (L.words look.old)
+    requires version { HasVersion L.page_state L.words look.old version_page }
+    ensures held { (volume : State) → IsVersion (L.page_state look.old) (L.words look.old)
         version_page volume →
         result ≡ is_held volume node name.now }
-    ensures unchanged { IsUnchanged L.kept L.standing L.words look.old look.new }
+    ensures unchanged { IsUnchanged L.kept L.page_state L.words look.old look.new }
 {
     let Some(value) = get(look, version_page, node, name) else {
         return false;

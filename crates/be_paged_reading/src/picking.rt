@@ -1,7 +1,7 @@
-//! Keys of an index, tested on a walk in their order or in the reverse order.
+//! Tests an index's keys on a walk in their order or in reverse.
 //!
-//! The walk goes leaf by leaf. Each key is compared with the end of the way, and tested where it
-//! is, until enough have passed or the way ends.
+//! The walk goes leaf by leaf. It compares each key with the end of the way, and tests it on its
+//! page, until enough keys have passed or the way ends.
 ghost use Rattle.std.specs.Prelude.{◌≡◌, ◌+◌, ◌≤◌, ◌++◌, ℕ, List, [], IfOk, IsTrue, OnOk};
 ghost use Rattle.std.specs.Prelude.{false, length, take, true};
 ghost use Rattle.be_pages.specs.Pages.{IsUnchanged, is_readable};
@@ -21,7 +21,7 @@ use be_plan::KeyTest;
 use be_tree_reading::{Leaf, Walk, Way, first_of_end, is_within, number_at};
 use std::alloc::AllocError;
 
-/// Adds the node of the key at a place of a page, if the key passes the test.
+/// Adds the node of the key at this place of a page, if the key passes the test.
 #[inline(always)]
 fn pick_item<L: Look>(
     look: &mut L,
@@ -31,14 +31,14 @@ fn pick_item<L: Look>(
     room: &mut [u8],
     found: &mut Vec<u64>,
 ) -> Result<(), AllocError>
-    requires readable { IsTrue (is_readable (L.standing look.old page)) }
+    requires readable { IsTrue (is_readable (L.page_state look.old page)) }
     requires in_page { at + 42 ≤ 512 }
     requires item { IsItem (L.words look.old page) at }
     requires testable { IsTestable test (item_at (L.words look.old page) at).key }
     requires fits { length room.old ≡ 256 }
     ensures added { OnOk result (found.new.items ≡ found.old.items
         ++ node_if test.entry (item_at (L.words look.old page) at)) }
-    ensures unchanged { IsUnchanged L.kept L.standing L.words look.old look.new }
+    ensures unchanged { IsUnchanged L.kept L.page_state L.words look.old look.new }
 {
     match test {
         KeyTest::Text(test) => test_item(look, page, at, test, room, found),
@@ -52,7 +52,7 @@ fn pick_item<L: Look>(
     }
 }
 
-/// Whether no key of a tree is past the end of a way.
+/// Whether no key can be past the end of a way.
 fn is_endless(way: Way<'_>) -> bool
     ensures { result ≡ true → (key : List ℕ) → is_on_way way.entry key ≡ true }
 {
@@ -65,8 +65,8 @@ fn is_endless(way: Way<'_>) -> bool
     }
 }
 
-/// Whether the key of the item at a place isn't past the end of a way, whose first word is at hand.
-/// Of an endless way no key is compared.
+/// Whether the key of the item at this place isn't past the end of a way. `first` is the first word
+/// of that end. If the way is endless, it compares no key.
 #[inline(always)]
 fn is_ahead<L: Look>(
     look: &mut L,
@@ -76,20 +76,20 @@ fn is_ahead<L: Look>(
     first: u64,
     endless: bool,
 ) -> bool
-    requires readable { IsTrue (is_readable (L.standing look.old page)) }
+    requires readable { IsTrue (is_readable (L.page_state look.old page)) }
     requires in_page { at + 42 ≤ 512 }
     requires item { IsItem (L.words look.old page) at }
     requires first { IsFirstOf (end_of_way way) first }
     requires endless { endless ≡ true → (key : List ℕ) → is_on_way way key ≡ true }
     ensures within { result ≡ is_on_way way.entry (item_at (L.words look.old page) at).key }
-    ensures unchanged { IsUnchanged L.kept L.standing L.words look.old look.new }
+    ensures unchanged { IsUnchanged L.kept L.page_state L.words look.old look.new }
 {
     endless || is_within(look, page, at, way, first)
 }
 
-/// Adds the nodes of the items that a walk has ahead in a leaf that pass the test, in its order,
-/// until the list has `most`. Returns whether the walk ends in this leaf: the list is full,
-/// or a key is past the end of the way.
+/// Tests the keys that a walk has ahead in a leaf, in the walk's order. Adds the nodes of those
+/// that pass, until the list has `most`. Returns whether the walk ends in this leaf: the list is
+/// full, or a key is past the end of the way.
 fn pick_ahead<L: Look>(
     look: &mut L,
     leaf: Leaf,
@@ -99,7 +99,7 @@ fn pick_ahead<L: Look>(
     most: usize,
     found: &mut Vec<u64>,
 ) -> Result<bool, AllocError>
-    requires leaf { IsLeaf (L.standing look.old) (L.words look.old) leaf }
+    requires leaf { IsLeaf (L.page_state look.old) (L.words look.old) leaf }
     requires back { leaf.back ≡ way.back }
     requires testable { AreTestable test (items_ahead (L.words look.old) leaf) }
     requires fits { length room.old ≡ 256 }
@@ -112,7 +112,7 @@ fn pick_ahead<L: Look>(
     ensures goes_on { IfOk result (λ ended. ended ≡ false → found.new.items
         ≡ found.old.items ++ passing_on test.entry way.entry
         (items_ahead (L.words look.old) leaf)) }
-    ensures unchanged { IsUnchanged L.kept L.standing L.words look.old look.new }
+    ensures unchanged { IsUnchanged L.kept L.page_state L.words look.old look.new }
 {
     let first = first_of_end(way);
     let endless = is_endless(way);
@@ -130,8 +130,8 @@ fn pick_ahead<L: Look>(
     Ok(false)
 }
 
-/// Puts the nodes of the keys that a walk has ahead and that pass the test into an empty list, up
-/// to the end of the way and up to `most` of them.
+/// Tests the keys that a walk has ahead, up to the end of the way. Fills an empty list with the
+/// nodes of those that pass, up to `most`.
 fn pick_all<L: Look>(
     look: &mut L,
     walk: &mut Walk,
@@ -140,14 +140,14 @@ fn pick_all<L: Look>(
     most: usize,
     found: &mut Vec<u64>,
 ) -> Result<(), AllocError>
-    requires walk { IsWalk (L.standing look.old) (L.words look.old) walk.old }
+    requires walk { IsWalk (L.page_state look.old) (L.words look.old) walk.old }
     requires back { walk.old.back ≡ way.back }
     requires testable { AreTestable test (ahead (L.words look.old) walk.old) }
     requires ends { StaysFalse (is_on_way way) (ahead (L.words look.old) walk.old) }
     requires empty { found.old.items ≡ [] }
     ensures found { OnOk result (found.new.items ≡ take most (passing_on test.entry
         way.entry (ahead (L.words look.old) walk.old))) }
-    ensures unchanged { IsUnchanged L.kept L.standing L.words look.old look.new }
+    ensures unchanged { IsUnchanged L.kept L.page_state L.words look.old look.new }
 {
     let mut room = [0u8; ROOM];
     'leaves: while let Some(leaf) = walk.step_leaf(look) {
@@ -159,9 +159,9 @@ fn pick_all<L: Look>(
     Ok(())
 }
 
-/// Puts the nodes of the first keys on a way over an index that pass the test into a list, in place
-/// of what it had, in the order of the way, `most` at most. It costs one descent, and reads of each
-/// key that the walk passes what the test asks for.
+/// Walks an index along a way, and tests its keys. It replaces the list by the nodes of the first
+/// keys that pass, in that order, up to `most`. It costs one descent. For each key that the walk
+/// passes, it reads what the test needs.
 pub(crate) fn passing_in_order<L: Look>(
     look: &mut L,
     root: u64,
@@ -170,11 +170,11 @@ pub(crate) fn passing_in_order<L: Look>(
     most: usize,
     found: &mut Vec<u64>,
 ) -> Result<(), AllocError>
-    requires tree { IsTree (L.standing look.old) (L.words look.old) root }
+    requires tree { IsTree (L.page_state look.old) (L.words look.old) root }
     requires testable { AreTestable test (pairs (L.words look.old) root) }
     ensures found { OnOk result (found.new.items ≡ take most (nodes_passing test.entry
         (walk_of way.entry (pairs (L.words look.old) root)))) }
-    ensures unchanged { IsUnchanged L.kept L.standing L.words look.old look.new }
+    ensures unchanged { IsUnchanged L.kept L.page_state L.words look.old look.new }
 {
     found.clear();
     let mut walk = Walk::begin(look, root, way);

@@ -1,8 +1,8 @@
-//! Prepared queries on a version.
+//! Runs prepared queries on a version.
 //!
-//! The index of a prepared query is mostly where it was at the last call, so its name is compared
-//! there first. Its range is at hand, and the nodes of its keys are the answer: no plan is made,
-//! and no source.
+//! A prepared query's index is usually where it was at the last call, so its name is compared there
+//! first. Its range is ready, and the nodes of the keys in it are the answer. So it needs neither a
+//! plan nor an index reader.
 ghost use Rattle.std.specs.Prelude.{◌≡◌, ◌<◌, List, ℕ, true, Ok, Some, IfOk, IfErr, IfSome, OnOk};
 ghost use Rattle.std.specs.Option.{option_copied};
 ghost use Rattle.std.specs.List.Sorted.{IsStrictlyIncreasing};
@@ -22,19 +22,19 @@ use be_tree_reading::numbers_within;
 use be_value::Refusal;
 use std::alloc::Global;
 
-/// The index of the name that all comparisons of the query are on, if there is such a name and it
-/// has an index. The range of the query is then that for the index's kind.
+/// The index of the one name that all the query's comparisons are on, if there is such a name and
+/// it has an index. Prepares the query's range for that index's kind.
 #[inline(always)]
 fn meet_index<L: Look>(
     look: &mut L,
     version_page: u64,
     prepared: &mut PreparedQuery,
 ) -> Option<FoundIndex>
-    requires version { HasVersion L.standing L.words look.old version_page }
+    requires version { HasVersion L.page_state L.words look.old version_page }
     ensures found { IfSome result (λ index. (name : List ℕ) → AreAllOn prepared.old name →
         IsFound (contents_of (L.words look.new version_page)).entries name (Some index)) }
     ensures same { prepared.new ≡ prepared.old }
-    ensures unchanged { IsUnchanged L.kept L.standing L.words look.old look.new }
+    ensures unchanged { IsUnchanged L.kept L.page_state L.words look.old look.new }
 {
     let mut known = index_there(look, version_page, prepared.place());
     let Some(name) = prepared.name() else {
@@ -47,7 +47,7 @@ fn meet_index<L: Look>(
     Some(index)
 }
 
-/// Adds the node of each of these keys of an index that was found by their name.
+/// Adds the node of each key in the range. The index was found by the range's name.
 fn nodes_of<L: Look>(
     look: &mut L,
     version_page: u64,
@@ -55,28 +55,28 @@ fn nodes_of<L: Look>(
     keys: KeyRange<'_>,
     found: &mut Vec<u64>,
 ) -> Result<(), Refusal>
-    requires version { HasVersion L.standing L.words look.old version_page }
+    requires version { HasVersion L.page_state L.words look.old version_page }
     requires index { IsFound (contents_of (L.words look.old version_page)).entries keys.name.now
         (Some index) }
     ensures memory { IfErr result (λ e. e ≡ OutOfMemory) }
-    ensures only { (volume : State) → IsVersion (L.standing look.old) (L.words look.old)
+    ensures only { (volume : State) → IsVersion (L.page_state look.old) (L.words look.old)
         version_page volume →
         HasOnly volume keys.entry.name.now keys.entry.low.now (option_copied keys.entry.high)
         found.old.items found.new.items }
     ensures has { OnOk result ((volume : State)
-        → IsVersion (L.standing look.old) (L.words look.old) version_page volume →
+        → IsVersion (L.page_state look.old) (L.words look.old) version_page volume →
         HasNodes volume keys.entry.name.now keys.entry.low.now (option_copied keys.entry.high)
         found.new.items) }
-    ensures unchanged { IsUnchanged L.kept L.standing L.words look.old look.new }
+    ensures unchanged { IsUnchanged L.kept L.page_state L.words look.old look.new }
 {
     numbers_within(look, index.root, keys.low, keys.high, found)?;
     Ok(())
 }
 
-/// If a range of one index decides a prepared query, this writes the nodes of which it is true into
-/// a list, ascending, in place of what the list had. Otherwise it returns false, and the caller
-/// runs the query by a plan. It compares the index's name where the index was last, and makes one
-/// descent. After false or `OutOfMemory` the list has any numbers.
+/// If a range of one index decides a prepared query, this replaces the list by the nodes that
+/// satisfy the query, ascending, and returns true. Otherwise it returns false, and the caller runs
+/// the query with a plan. It compares the index's name where the index was last, and makes one
+/// descent. After false or `OutOfMemory` the list may have any numbers.
 #[inline(always)]
 pub fn answer_decided<L: Look>(
     alloc: Global,
@@ -85,15 +85,15 @@ pub fn answer_decided<L: Look>(
     prepared: &mut PreparedQuery,
     found: &mut Vec<u64>,
 ) -> Result<bool, Refusal>
-    requires version { HasVersion L.standing L.words look.old version_page }
+    requires version { HasVersion L.page_state L.words look.old version_page }
     ensures answer { IfOk result (λ decided. decided ≡ true → (volume : State) →
-        IsVersion (L.standing look.old) (L.words look.old) version_page volume
+        IsVersion (L.page_state look.old) (L.words look.old) version_page volume
         → scan volume prepared.old ≡ Ok found.new.items) }
     ensures rising { IfOk result (λ decided. decided ≡ true
         → IsStrictlyIncreasing found.new.items) }
     ensures memory { IfErr result (λ e. e ≡ OutOfMemory) }
     ensures same { prepared.new ≡ prepared.old }
-    ensures unchanged { IsUnchanged L.kept L.standing L.words look.old look.new }
+    ensures unchanged { IsUnchanged L.kept L.page_state L.words look.old look.new }
 {
     found.clear();
     let Some(index) = meet_index(look, version_page, prepared) else {

@@ -1,4 +1,4 @@
-//! Reading a volume from its version page.
+//! Reads a volume from its version page.
 ghost use Rattle.std.specs.Prelude.{◌≡◌, IsOk, IfErr, IfSome, Ok, is_some};
 ghost use Rattle.std.specs.FinMap as map;
 ghost use Rattle.std.specs.Option.{option_copied};
@@ -36,25 +36,25 @@ use be_tree_reading::{find_place, has_key};
 use be_value::{Kind, Name, Refusal, Value};
 use std::alloc::Global;
 
-/// The page and the place of a node's attribute in the catalog's tree, if the node has it. It costs
-/// one descent.
+/// The page and place of a node's attribute in the catalog's tree, if the node has it. It costs one
+/// descent.
 pub(crate) fn attribute_place<L: Look>(
     look: &mut L,
     catalog: u64,
     node: u64,
     name: &Name,
 ) -> Option<(u64, usize)>
-    requires tree { IsTree (L.standing look.old) (L.words look.old) catalog }
+    requires tree { IsTree (L.page_state look.old) (L.words look.old) catalog }
     ensures there { (nodes : AllNodes) → IsCatalog (pairs (L.words look.old) catalog) nodes
         → is_some result ≡ map.contains_key (attributes_of nodes node) name.now }
-    ensures found { IsFoundAt (L.standing look.new) (L.words look.new) catalog
+    ensures found { IsFoundAt (L.page_state look.new) (L.words look.new) catalog
         (key_in_catalog node name.now) result }
-    ensures unchanged { IsUnchanged L.kept L.standing L.words look.old look.new }
+    ensures unchanged { IsUnchanged L.kept L.page_state L.words look.old look.new }
 {
     find_place(look, catalog, &catalog_key(node, name))
 }
 
-/// The place of the item of a key, which is known or looked up.
+/// The place of the item with this key: the known place, or the one that a look-up finds.
 #[inline(always)]
 fn place_of<L: Look>(
     look: &mut L,
@@ -62,11 +62,11 @@ fn place_of<L: Look>(
     key: &[u8],
     known: Option<Option<(u64, usize)>>,
 ) -> Option<(u64, usize)>
-    requires tree { IsTree (L.standing look.old) (L.words look.old) catalog }
-    requires known { IfSome known (IsFoundAt (L.standing look.old) (L.words look.old) catalog
+    requires tree { IsTree (L.page_state look.old) (L.words look.old) catalog }
+    requires known { IfSome known (IsFoundAt (L.page_state look.old) (L.words look.old) catalog
         key.now) }
-    ensures found { IsFoundAt (L.standing look.new) (L.words look.new) catalog key.now result }
-    ensures unchanged { IsUnchanged L.kept L.standing L.words look.old look.new }
+    ensures found { IsFoundAt (L.page_state look.new) (L.words look.new) catalog key.now result }
+    ensures unchanged { IsUnchanged L.kept L.page_state L.words look.old look.new }
 {
     match known {
         Some(found) => found,
@@ -74,8 +74,8 @@ fn place_of<L: Look>(
     }
 }
 
-/// A node's value at a name, from the catalog's tree. If the caller knows whether the attribute is
-/// there, and its place, it makes no descent.
+/// A node's value at a name, from the catalog's tree. It makes no descent if the caller knows
+/// whether the attribute exists, and its place.
 #[inline(always)]
 pub fn value_in<L: Look>(
     look: &mut L,
@@ -84,21 +84,21 @@ pub fn value_in<L: Look>(
     name: &Name,
     known: Option<Option<(u64, usize)>>,
 ) -> Option<Value>
-    requires tree { IsTree (L.standing look.old) (L.words look.old) catalog }
-    requires known { IsKnownOf (L.standing look.old) (L.words look.old) catalog node name.now
+    requires tree { IsTree (L.page_state look.old) (L.words look.old) catalog }
+    requires known { IsKnownOf (L.page_state look.old) (L.words look.old) catalog node name.now
         known }
     ensures value { (nodes : AllNodes) → IsCatalog (pairs (L.words look.old) catalog) nodes
         → AreValid nodes → result ≡ value_at nodes node name.now }
-    ensures unchanged { IsUnchanged L.kept L.standing L.words look.old look.new }
+    ensures unchanged { IsUnchanged L.kept L.page_state L.words look.old look.new }
 {
     let key = catalog_key(node, name);
     let (page, at) = place_of(look, catalog, &key, known)?;
     value_at(look, page, at)
 }
 
-/// Whether a comparison is true of what it sees of a node: of the node's value at its name, if no
-/// index has that name or its index has the value. The value is compared in place, by the test if
-/// the caller has made the comparison ready. The index that was found last is looked at first.
+/// Whether a comparison is true of what it sees of a node. It sees the node's value at its name if
+/// no index has that name, or if its index has the value. The value is compared on its page, with
+/// `test` if the caller has made the comparison ready. The last index found is tried first.
 pub(crate) fn holds_in<L: Look>(
     look: &mut L,
     version_page: u64,
@@ -107,16 +107,16 @@ pub(crate) fn holds_in<L: Look>(
     test: Option<&TextTest<'_>>,
     known: &mut Option<FoundIndex>,
 ) -> bool
-    requires version { HasVersion L.standing L.words look.old version_page }
+    requires version { HasVersion L.page_state L.words look.old version_page }
     requires test { IfSome (option_copied test) (λ t. t
         ≡ (comparison.now.op, literal comparison.now.literal)) }
     requires known { IsKnown (contents_of (L.words look.old version_page)).entries known.old }
-    ensures answer { (volume : State) → IsVersion (L.standing look.old) (L.words look.old)
+    ensures answer { (volume : State) → IsVersion (L.page_state look.old) (L.words look.old)
         version_page volume →
         result ≡ sat volume (Leaf comparison.now.name comparison.now.op
         (literal comparison.now.literal)) node }
     ensures known { IsKnown (contents_of (L.words look.new version_page)).entries known.new }
-    ensures unchanged { IsUnchanged L.kept L.standing L.words look.old look.new }
+    ensures unchanged { IsUnchanged L.kept L.page_state L.words look.old look.new }
 {
     let catalog = look.word(version_page, 3);
     let key = catalog_key(node, &comparison.name);
@@ -132,31 +132,31 @@ pub(crate) fn holds_in<L: Look>(
     }
 }
 
-/// The number that the next node gets. It costs one load.
+/// The number of the next new node. It costs one load.
 pub fn next<L: Look>(look: &mut L, version_page: u64) -> u64
-    requires version { HasVersion L.standing L.words look.old version_page }
-    ensures next { (volume : State) → IsVersion (L.standing look.old) (L.words look.old)
+    requires version { HasVersion L.page_state L.words look.old version_page }
+    ensures next { (volume : State) → IsVersion (L.page_state look.old) (L.words look.old)
         version_page volume → result ≡ volume.next }
-    ensures unchanged { IsUnchanged L.kept L.standing L.words look.old look.new }
+    ensures unchanged { IsUnchanged L.kept L.page_state L.words look.old look.new }
 {
     look.word(version_page, 2)
 }
 
-/// The value of an attribute, if the node is there and has it. It costs one descent of the
-/// catalog's tree, and takes no memory.
+/// An attribute's value, if the node exists and has it. It costs one descent of the catalog's tree,
+/// and takes no memory.
 #[inline(always)]
 pub fn get<L: Look>(look: &mut L, version_page: u64, node: u64, name: &Name) -> Option<Value>
-    requires version { HasVersion L.standing L.words look.old version_page }
-    ensures value { (volume : State) → IsVersion (L.standing look.old) (L.words look.old)
+    requires version { HasVersion L.page_state L.words look.old version_page }
+    ensures value { (volume : State) → IsVersion (L.page_state look.old) (L.words look.old)
         version_page volume → result ≡ attribute volume node name.now }
-    ensures unchanged { IsUnchanged L.kept L.standing L.words look.old look.new }
+    ensures unchanged { IsUnchanged L.kept L.page_state L.words look.old look.new }
 {
     let catalog = look.word(version_page, 3);
     value_in(look, catalog, node, name, None)
 }
 
-/// The attributes of a node, by ascending bytes of their names. The errors are NoNode if the node
-/// isn't there, and OutOfMemory only if it is. It walks over the node's pairs in the catalog's
+/// A node's attributes, in ascending order of their names' bytes. It returns NoNode if the node
+/// doesn't exist, and OutOfMemory only if it does. It walks over the node's pairs in the catalog's
 /// tree.
 pub fn attrs<L: Look>(
     alloc: Global,
@@ -164,14 +164,14 @@ pub fn attrs<L: Look>(
     version_page: u64,
     node: u64,
 ) -> Result<Vec<(Name, Value)>, Refusal>
-    requires version { HasVersion L.standing L.words look.old version_page }
-    ensures answer { (volume : State) → IsVersion (L.standing look.old) (L.words look.old)
+    requires version { HasVersion L.page_state L.words look.old version_page }
+    ensures answer { (volume : State) → IsVersion (L.page_state look.old) (L.words look.old)
         version_page volume →
         Answers (λ list. list.items) result (attributes_at volume node) }
-    ensures wanted { (volume : State) → IsVersion (L.standing look.old) (L.words look.old)
+    ensures wanted { (volume : State) → IsVersion (L.page_state look.old) (L.words look.old)
         version_page volume →
         IfErr result (λ e. e ≡ OutOfMemory → IsOk (attributes_at volume node)) }
-    ensures unchanged { IsUnchanged L.kept L.standing L.words look.old look.new }
+    ensures unchanged { IsUnchanged L.kept L.page_state L.words look.old look.new }
 {
     let catalog = look.word(version_page, 3);
     if !has_key(look, catalog, &node.to_be_bytes()) {
@@ -180,27 +180,27 @@ pub fn attrs<L: Look>(
     Ok(list_attributes(alloc, look, catalog, node)?)
 }
 
-/// The names and kinds of the indices, by ascending bytes of the names; refused with OutOfMemory
-/// alone. It reads the version page and no other.
+/// The indices' names and kinds, in ascending order of the names' bytes. The only error is
+/// OutOfMemory. It reads only the version page.
 pub fn indices<L: Look>(
     alloc: Global,
     look: &mut L,
     version_page: u64,
 ) -> Result<Vec<(Name, Kind)>, Refusal>
-    requires version { HasVersion L.standing L.words look.old version_page }
-    ensures answer { (volume : State) → IsVersion (L.standing look.old) (L.words look.old)
+    requires version { HasVersion L.page_state L.words look.old version_page }
+    ensures answer { (volume : State) → IsVersion (L.page_state look.old) (L.words look.old)
         version_page volume →
         Answers (λ list. list.items) result (Ok (index_kinds volume)) }
-    ensures unchanged { IsUnchanged L.kept L.standing L.words look.old look.new }
+    ensures unchanged { IsUnchanged L.kept L.page_state L.words look.old look.new }
 {
     let mut version = Version::new();
     fill_version(look, version_page, &mut version);
     Ok(kinds(alloc, &version.entries)?)
 }
 
-/// Up to `most` nodes from a number on, ascending. The only error is OutOfMemory. It costs one
-/// descent of the catalog's tree, and a step for each node that it returns and for each of their
-/// attributes.
+/// Up to `most` nodes from a number on, in ascending order. The only error is OutOfMemory. It costs
+/// one descent of the catalog's tree, and a step for each node that it returns and for each of
+/// their attributes.
 pub fn nodes<L: Look>(
     alloc: Global,
     look: &mut L,
@@ -208,11 +208,11 @@ pub fn nodes<L: Look>(
     from: u64,
     most: usize,
 ) -> Result<Vec<u64>, Refusal>
-    requires version { HasVersion L.standing L.words look.old version_page }
-    ensures answer { (volume : State) → IsVersion (L.standing look.old) (L.words look.old)
+    requires version { HasVersion L.page_state L.words look.old version_page }
+    ensures answer { (volume : State) → IsVersion (L.page_state look.old) (L.words look.old)
         version_page volume →
         Answers (λ list. list.items) result (Ok (nodes_from volume from most)) }
-    ensures unchanged { IsUnchanged L.kept L.standing L.words look.old look.new }
+    ensures unchanged { IsUnchanged L.kept L.page_state L.words look.old look.new }
 {
     let catalog = look.word(version_page, 3);
     Ok(list_nodes(alloc, look, catalog, from, most)?)

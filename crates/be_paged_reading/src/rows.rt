@@ -1,14 +1,15 @@
-//! Many attributes in one call: the values of nodes at names.
+//! Reads many attributes in one call: the values of several nodes at several names.
 //!
 //! A row is what one node has at the names. One descent leads to the first of its attributes. A
-//! cursor steps to the next name's as long as the names lie side by side, by ascending bytes. Any
-//! other name costs a descent. If a node has none of the names, the node itself is looked up.
+//! cursor steps to the next name's attribute as long as the names are neighbours, in ascending
+//! order of their bytes. Any other name costs a descent. If a node has none of the names, the node
+//! itself is looked up.
 ghost use Rattle.std.specs.Prelude.{◌≡◌, ◌+◌, ◌*◌, ◌^◌, ◌<◌, ◌≤◌, ℕ, [], ◌∷◌, Err};
 ghost use Rattle.std.specs.Prelude.{None, Some, IfSome, IfNone, drop, length, map as each};
 ghost use Rattle.std.specs.Prelude.{slice_get};
 ghost use Rattle.std.specs.FinMap as map;
 ghost use Rattle.be_pages.specs.Pages.{IsUnchanged};
-ghost use Rattle.be_pages.specs.declared.room.Standing.{Standing as Stands};
+ghost use Rattle.be_pages.specs.declared.room.PageState.{PageState as AnyPageState};
 ghost use Rattle.be_tree_reading.specs.Cursor.{IsCursor, remaining};
 ghost use Rattle.be_tree_reading.specs.Page.{IsReadableAt, item_at};
 ghost use Rattle.be_tree_reading.specs.Tree.{IsTree, pairs};
@@ -17,23 +18,24 @@ ghost use Rattle.be_volume.specs.Reading.{attribute};
 ghost use Rattle.be_volume.specs.Volume.{State};
 ghost use Rattle.be_paged_reading.specs.Catalog.{IsCatalog};
 ghost use Rattle.be_paged_reading.specs.Cells.{GoesOn, IsFew, IsInRow, IsReadInto, IsValueAbsent};
-ghost use Rattle.be_paged_reading.specs.Cells.{IsValuePlace, StartsElsewhere, Tells, TellsColumns};
+ghost use Rattle.be_paged_reading.specs.Cells.{IsValuePlace, StartsElsewhere, Reports};
+ghost use Rattle.be_paged_reading.specs.Cells.{ReportsColumns};
 ghost use Rattle.be_paged_reading.specs.Cells.{WalksIn, cell_of, found_at, name_in, why_none};
 ghost use Rattle.be_paged_reading.specs.Place.{IsFoundAt};
 ghost use Rattle.be_paged_reading.specs.Reading.{AreValid};
 ghost use Rattle.be_paged_reading.specs.Source.{HasItem};
 ghost use Rattle.be_paged_reading.specs.Version.{HasVersion, IsVersion};
 
-use crate::cells::{Cell, Filled, HeldName, empty_cell, held_key, read_into, tell, tell_value};
+use crate::cells::{Cell, Filled, HeldName, empty_cell, held_key, read_into, report, report_value};
 use be_pages::Look;
 use be_tree_reading::{Cursor, find_place, has_key, is_key_at};
 use be_value::Refusal;
 
-/// The page and the place of an item, if there is one.
+/// An item's page and place, if there is one.
 type FoundItem = Option<(u64, usize)>;
 
-/// A node of the catalog whose attributes are read one after the other: where the cursor is, and
-/// whether the node is there, if that was asked.
+/// A node whose attributes are read one after another: where the cursor is, and whether the node
+/// exists, if that was asked.
 #[derive(Drop)]
 struct Row {
     catalog: u64,
@@ -43,10 +45,11 @@ struct Row {
 }
 
 impl Row {
-    /// A row of which nothing is read yet.
+    /// A row that nothing was read from yet.
     fn new(catalog: u64, node: u64) -> Row
-        ensures row { (standing : ℕ → Stands) (words : ℕ → ℕ → ℕ) → IsTree standing words catalog
-            → IsInRow standing words result }
+        ensures row { (page_state : ℕ → AnyPageState) (words : ℕ → ℕ → ℕ)
+            → IsTree page_state words catalog
+            → IsInRow page_state words result }
         ensures catalog { result.catalog ≡ catalog }
         ensures node { result.node ≡ node }
     {
@@ -59,20 +62,20 @@ impl Row {
     }
 }
 
-/// A step of the cursor, and the place of the item that it passed, if that has the key.
+/// Steps the cursor, and returns the place of the item that it passed if the item has this key.
 fn step_to<L: Look>(look: &mut L, cursor: &mut Cursor, key: &[u8]) -> Option<(u64, usize)>
-    requires cursor { IsCursor (L.standing look.old) (L.words look.old) cursor.old }
-    ensures item { IfSome result (λ at. IsReadableAt (L.standing look.old) (L.words look.old) at.0
+    requires cursor { IsCursor (L.page_state look.old) (L.words look.old) cursor.old }
+    ensures item { IfSome result (λ at. IsReadableAt (L.page_state look.old) (L.words look.old) at.0
         at.1) }
     ensures found { IfSome result (λ at. slice_get (remaining (L.words look.old) cursor.old) 0
         ≡ Some (item_at (L.words look.old at.0) at.1)) }
     ensures same { IfSome result (λ at. (item_at (L.words look.old at.0) at.1).key ≡ key.now) }
     ensures none { IfNone result (StartsElsewhere key.now
         (remaining (L.words look.old) cursor.old)) }
-    ensures cursor { IsCursor (L.standing look.old) (L.words look.old) cursor.new }
+    ensures cursor { IsCursor (L.page_state look.old) (L.words look.old) cursor.new }
     ensures rest { remaining (L.words look.old) cursor.new
         ≡ drop 1 (remaining (L.words look.old) cursor.old) }
-    ensures unchanged { IsUnchanged L.kept L.standing L.words look.old look.new }
+    ensures unchanged { IsUnchanged L.kept L.page_state L.words look.old look.new }
 {
     let (page, at) = cursor.step(look)?;
     if !is_key_at(look, page, at, key) {
@@ -81,19 +84,19 @@ fn step_to<L: Look>(look: &mut L, cursor: &mut Cursor, key: &[u8]) -> Option<(u6
     Some((page, at))
 }
 
-/// The place of the attribute with a key in the catalog's tree, if it is there: at the cursor, or
-/// where a descent leads. The cursor is past it then.
+/// The place of the catalog's item with this key, if there is one: at the cursor, or where a
+/// descent leads. The cursor is then past it.
 fn next_place<L: Look>(
     look: &mut L,
     catalog: u64,
     cursor: &mut Cursor,
     key: &[u8],
 ) -> Option<(u64, usize)>
-    requires tree { IsTree (L.standing look.old) (L.words look.old) catalog }
-    requires cursor { WalksIn (L.standing look.old) (L.words look.old) catalog cursor.old }
-    ensures found { IsFoundAt (L.standing look.new) (L.words look.new) catalog key.now result }
-    ensures cursor { WalksIn (L.standing look.new) (L.words look.new) catalog cursor.new }
-    ensures unchanged { IsUnchanged L.kept L.standing L.words look.old look.new }
+    requires tree { IsTree (L.page_state look.old) (L.words look.old) catalog }
+    requires cursor { WalksIn (L.page_state look.old) (L.words look.old) catalog cursor.old }
+    ensures found { IsFoundAt (L.page_state look.new) (L.words look.new) catalog key.now result }
+    ensures cursor { WalksIn (L.page_state look.new) (L.words look.new) catalog cursor.new }
+    ensures unchanged { IsUnchanged L.kept L.page_state L.words look.old look.new }
 {
     if let Some(place) = step_to(look, cursor, key) {
         return Some(place);
@@ -102,7 +105,7 @@ fn next_place<L: Look>(
     step_to(look, cursor, key)
 }
 
-/// The place of the value of a node's attribute, if the node has it, as `next_place` finds it.
+/// The place of a node's value at a name, if the node has it, found as `next_place` does.
 fn value_place<L: Look>(
     look: &mut L,
     catalog: u64,
@@ -110,14 +113,14 @@ fn value_place<L: Look>(
     name: &HeldName,
     cursor: &mut Cursor,
 ) -> Option<(u64, usize)>
-    requires tree { IsTree (L.standing look.old) (L.words look.old) catalog }
-    requires cursor { WalksIn (L.standing look.old) (L.words look.old) catalog cursor.old }
-    ensures item { HasItem (L.standing look.new) (L.words look.new) result }
+    requires tree { IsTree (L.page_state look.old) (L.words look.old) catalog }
+    requires cursor { WalksIn (L.page_state look.old) (L.words look.old) catalog cursor.old }
+    ensures item { HasItem (L.page_state look.new) (L.words look.new) result }
     ensures some { IsValuePlace (L.words look.old) (L.words look.new) catalog node
         (name_in name.now) result }
     ensures none { IsValueAbsent (L.words look.old) catalog node (name_in name.now) result }
-    ensures cursor { WalksIn (L.standing look.new) (L.words look.new) catalog cursor.new }
-    ensures unchanged { IsUnchanged L.kept L.standing L.words look.old look.new }
+    ensures cursor { WalksIn (L.page_state look.new) (L.words look.new) catalog cursor.new }
+    ensures unchanged { IsUnchanged L.kept L.page_state L.words look.old look.new }
 {
     let key = held_key(node, name);
     if key.len() <= 8 {
@@ -126,16 +129,16 @@ fn value_place<L: Look>(
     next_place(look, catalog, cursor, &key)
 }
 
-/// Whether the node is there. It is looked for once in a row.
+/// Whether the node exists. A row looks it up only once.
 fn is_there<L: Look>(look: &mut L, catalog: u64, node: u64, known: &mut Option<bool>) -> bool
-    requires tree { IsTree (L.standing look.old) (L.words look.old) catalog }
+    requires tree { IsTree (L.page_state look.old) (L.words look.old) catalog }
     requires known { (nodes : AllNodes) → IsCatalog (pairs (L.words look.old) catalog) nodes
         → AreValid nodes → IfSome known.old (λ there. there ≡ map.contains_key nodes node) }
     ensures there { (nodes : AllNodes) → IsCatalog (pairs (L.words look.old) catalog) nodes
         → AreValid nodes → result ≡ map.contains_key nodes node }
     ensures known { (nodes : AllNodes) → IsCatalog (pairs (L.words look.old) catalog) nodes
         → AreValid nodes → IfSome known.new (λ there. there ≡ map.contains_key nodes node) }
-    ensures unchanged { IsUnchanged L.kept L.standing L.words look.old look.new }
+    ensures unchanged { IsUnchanged L.kept L.page_state L.words look.old look.new }
 {
     if let Some(there) = *known {
         return there;
@@ -145,7 +148,7 @@ fn is_there<L: Look>(look: &mut L, catalog: u64, node: u64, known: &mut Option<b
     there
 }
 
-/// The cell of a node that has no attribute of a name.
+/// The cell for a name that the node doesn't have.
 fn none_cell(there: bool, offset: usize) -> Cell
     ensures { result ≡ cell_of offset (Err (why_none there)) }
 {
@@ -156,8 +159,8 @@ fn none_cell(there: bool, offset: usize) -> Cell
     }
 }
 
-/// Tells what the node of a row has at a name.
-fn tell_attribute<L: Look>(
+/// Writes what the row's node has at a name.
+fn report_attribute<L: Look>(
     look: &mut L,
     row: &mut Row,
     name: &HeldName,
@@ -165,30 +168,30 @@ fn tell_attribute<L: Look>(
     bytes: &mut [u8],
     filled: &mut Filled,
 )
-    requires row { IsInRow (L.standing look.old) (L.words look.old) row.old }
+    requires row { IsInRow (L.page_state look.old) (L.words look.old) row.old }
     requires cells { filled.old.cells < 2 ^ 32 }
     requires few { IsFew filled.old }
-    ensures told { Tells (L.words look.old) row.old.catalog
+    ensures reported { Reports (L.words look.old) row.old.catalog
         (λ nodes. found_at nodes row.old.node (name_in name.now) ∷ []) cells.old cells.new
         bytes.old bytes.new filled.old filled.new }
-    ensures row { GoesOn (L.standing look.new) (L.words look.new) row.old row.new }
+    ensures row { GoesOn (L.page_state look.new) (L.words look.new) row.old row.new }
     ensures one { filled.new.cells ≡ filled.old.cells + 1 }
     ensures few { IsFew filled.new }
-    ensures unchanged { IsUnchanged L.kept L.standing L.words look.old look.new }
+    ensures unchanged { IsUnchanged L.kept L.page_state L.words look.old look.new }
 {
     let place = value_place(look, row.catalog, row.node, name, &mut row.cursor);
     if let Some((page, at)) = place {
         row.known = Some(true);
-        tell_value(look, page, at, cells, bytes, filled);
+        report_value(look, page, at, cells, bytes, filled);
         return;
     }
     let there = is_there(look, row.catalog, row.node, &mut row.known);
     let cell = none_cell(there, filled.bytes);
-    tell(cells, bytes, filled, cell, b"");
+    report(cells, bytes, filled, cell, b"");
 }
 
-/// Tells what the node of a row has at each of the names.
-fn tell_row<L: Look>(
+/// Writes what the row's node has at each of the names.
+fn report_row<L: Look>(
     look: &mut L,
     row: &mut Row,
     names: &[HeldName],
@@ -196,27 +199,27 @@ fn tell_row<L: Look>(
     bytes: &mut [u8],
     filled: &mut Filled,
 )
-    requires row { IsInRow (L.standing look.old) (L.words look.old) row.old }
+    requires row { IsInRow (L.page_state look.old) (L.words look.old) row.old }
     requires cells { filled.old.cells + length names.now ≤ 2 ^ 32 }
     requires few { IsFew filled.old }
-    ensures told { Tells (L.words look.old) row.old.catalog
+    ensures reported { Reports (L.words look.old) row.old.catalog
         (λ nodes. each (found_at nodes row.old.node) (each name_in names.now)) cells.old cells.new
         bytes.old bytes.new filled.old filled.new }
     ensures count { filled.new.cells ≡ filled.old.cells + length names.now }
     ensures few { IsFew filled.new }
-    ensures unchanged { IsUnchanged L.kept L.standing L.words look.old look.new }
+    ensures unchanged { IsUnchanged L.kept L.page_state L.words look.old look.new }
 {
     for name in names {
-        tell_attribute(look, row, name, cells, bytes, filled);
+        report_attribute(look, row, name, cells, bytes, filled);
     }
 }
 
-/// Tells what each node has at each name: the cells of the first node, then those of the second,
-/// and so on, and the bytes of all texts end to end, of both as many as there are places. Returns
-/// how many bytes that are.
+/// Writes what each node has at each name: the cells of the first node, then those of the second,
+/// and so on. It also writes the bytes of all texts one after another. It writes as many of both as
+/// there are places, and returns how many bytes the texts take.
 ///
-/// It takes no memory. A node costs one descent if its attributes of these names lie side by side.
-/// A name that it hasn't costs one more, and so does a node that has none of them.
+/// It takes no memory. A node costs one descent if its attributes with these names are neighbours.
+/// A name that it doesn't have costs one more, and so does a node that has none of the names.
 pub fn columns<L: Look>(
     look: &mut L,
     version_page: u64,
@@ -225,26 +228,25 @@ pub fn columns<L: Look>(
     cells: &mut [Cell],
     bytes: &mut [u8],
 ) -> u64
-    requires version { HasVersion L.standing L.words look.old version_page }
+    requires version { HasVersion L.page_state L.words look.old version_page }
     requires few { length nodes.now * length names.now ≤ 2 ^ 32 }
-    ensures told { (volume : State) → IsVersion (L.standing look.old) (L.words look.old)
+    ensures reported { (volume : State) → IsVersion (L.page_state look.old) (L.words look.old)
         version_page volume →
-        TellsColumns volume nodes.now (each name_in names.now) cells.old cells.new bytes.old
+        ReportsColumns volume nodes.now (each name_in names.now) cells.old cells.new bytes.old
         bytes.new result }
-    ensures unchanged { IsUnchanged L.kept L.standing L.words look.old look.new }
+    ensures unchanged { IsUnchanged L.kept L.page_state L.words look.old look.new }
 {
     let catalog = look.word(version_page, 3);
     let mut filled = Filled { cells: 0, bytes: 0 };
     for node in nodes {
         let mut row = Row::new(catalog, *node);
-        tell_row(look, &mut row, names, cells, bytes, &mut filled);
+        report_row(look, &mut row, names, cells, bytes, &mut filled);
     }
     filled.bytes as u64
 }
 
-/// A node's attribute as a cell, if the node is there and has it. The bytes of a text are written
-/// to the front of the places, as many as there are places. It costs one descent of the catalog's
-/// tree, and takes no memory.
+/// A node's attribute as a cell, if the node exists and has it. Writes a text's bytes to the first
+/// places, as many as fit. It costs one descent of the catalog's tree, and takes no memory.
 #[inline(always)]
 pub fn get_into<L: Look>(
     look: &mut L,
@@ -253,26 +255,26 @@ pub fn get_into<L: Look>(
     name: &HeldName,
     bytes: &mut [u8],
 ) -> Option<Cell>
-    requires version { HasVersion L.standing L.words look.old version_page }
-    ensures value { (volume : State) → IsVersion (L.standing look.old) (L.words look.old)
+    requires version { HasVersion L.page_state L.words look.old version_page }
+    ensures value { (volume : State) → IsVersion (L.page_state look.old) (L.words look.old)
         version_page volume →
         IsReadInto (attribute volume node (name_in name.now)) result bytes.old bytes.new }
-    ensures unchanged { IsUnchanged L.kept L.standing L.words look.old look.new }
+    ensures unchanged { IsUnchanged L.kept L.page_state L.words look.old look.new }
 {
     let catalog = look.word(version_page, 3);
     let (page, at) = found_value(look, catalog, node, name)?;
     read_into(look, page, at, bytes)
 }
 
-/// The place of the value of a node's attribute, if the node has it. One descent.
+/// The place of a node's value at a name, if the node has it. It costs one descent.
 #[inline(always)]
 fn found_value<L: Look>(look: &mut L, catalog: u64, node: u64, name: &HeldName) -> FoundItem
-    requires tree { IsTree (L.standing look.old) (L.words look.old) catalog }
-    ensures item { HasItem (L.standing look.new) (L.words look.new) result }
+    requires tree { IsTree (L.page_state look.old) (L.words look.old) catalog }
+    ensures item { HasItem (L.page_state look.new) (L.words look.new) result }
     ensures some { IsValuePlace (L.words look.old) (L.words look.new) catalog node
         (name_in name.now) result }
     ensures none { IsValueAbsent (L.words look.old) catalog node (name_in name.now) result }
-    ensures unchanged { IsUnchanged L.kept L.standing L.words look.old look.new }
+    ensures unchanged { IsUnchanged L.kept L.page_state L.words look.old look.new }
 {
     let key = held_key(node, name);
     if key.len() <= 8 {

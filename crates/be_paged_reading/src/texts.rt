@@ -1,8 +1,8 @@
-//! Texts of an index, tested where they are.
+//! Tests the texts of an index leaf by leaf.
 //!
-//! The keys of an index of texts are read leaf by leaf. The bytes of a key's text are put in place
-//! of those of the one before it and tested there; the bound and the node are read from the key's
-//! words. So no key moves, and of one whose text doesn't pass nothing else is read.
+//! For each key, the text's bytes are copied over those of the text before, and tested there. The
+//! key's words are compared with the bound in place. So no key is unpacked, and the node of a text
+//! that doesn't pass isn't read.
 ghost use Rattle.std.specs.Prelude.{◌≡◌, ◌+◌, ◌-◌, ◌*◌, ◌<◌, ◌≤◌, ◌++◌, IsTrue, IfErr, IfOk, OnOk};
 ghost use Rattle.std.specs.Prelude.{false, length, take, drop};
 ghost use Rattle.std.specs.Int.{to_be_bytes, w64};
@@ -27,21 +27,21 @@ use std::alloc::AllocError;
 /// Room for the longest text, of 255 bytes, in whole words.
 pub(crate) const ROOM: usize = 256;
 
-/// How long the text of the key at a place of a page is.
+/// The length of the text in the key at this place of a page.
 #[inline(always)]
 fn text_len_at<L: Look>(look: &mut L, page: u64, at: usize) -> usize
-    requires readable { IsTrue (is_readable (L.standing look.old page)) }
+    requires readable { IsTrue (is_readable (L.page_state look.old page)) }
     requires in_page { at + 42 ≤ 512 }
     requires item { IsItem (L.words look.old page) at }
     ensures len { result ≡ length (item_at (L.words look.old page) at).key - 9 }
     ensures short { result ≤ 255 }
-    ensures unchanged { IsUnchanged L.kept L.standing L.words look.old look.new }
+    ensures unchanged { IsUnchanged L.kept L.page_state L.words look.old look.new }
 {
     let key_len = (look.word(page, at) >> LENGTH_BITS) as usize;
     key_len.saturating_sub(9)
 }
 
-/// Puts the eight bytes of a word in place of those from one on.
+/// Writes a word's eight bytes from `at` on.
 #[inline(always)]
 fn put_word(room: &mut [u8], at: usize, word: u64)
     requires { at + 8 ≤ length room.old }
@@ -50,14 +50,14 @@ fn put_word(room: &mut [u8], at: usize, word: u64)
     room[at..at + 8].copy_from_slice(&word.to_be_bytes());
 }
 
-/// Puts the `n` bytes that begin with a word in place of the first ones.
+/// Writes the first `n` bytes of the page's words from this place on to the beginning of `room`.
 #[inline(always)]
 fn put_bytes<L: Look>(look: &mut L, page: u64, at: usize, n: usize, room: &mut [u8])
-    requires readable { IsTrue (is_readable (L.standing look.old page)) }
+    requires readable { IsTrue (is_readable (L.page_state look.old page)) }
     requires in_page { at + words_for n ≤ 512 }
     requires fits { 8 * words_for n ≤ length room.old }
     ensures bytes { take n room.new ≡ bytes_at (L.words look.old page) at n }
-    ensures unchanged { IsUnchanged L.kept L.standing L.words look.old look.new }
+    ensures unchanged { IsUnchanged L.kept L.page_state L.words look.old look.new }
 {
     for i in 0..(n + 7) / 8 {
         let word = look.word(page, at + i);
@@ -65,24 +65,24 @@ fn put_bytes<L: Look>(look: &mut L, page: u64, at: usize, n: usize, room: &mut [
     }
 }
 
-/// Puts the text of the key at a place of a page in place of the first bytes, and returns how long
-/// it is.
+/// Copies the text in the key at this place of a page to the beginning of `room`, and returns its
+/// length.
 #[inline(always)]
 fn put_text<L: Look>(look: &mut L, page: u64, at: usize, room: &mut [u8]) -> usize
-    requires readable { IsTrue (is_readable (L.standing look.old page)) }
+    requires readable { IsTrue (is_readable (L.page_state look.old page)) }
     requires in_page { at + 42 ≤ 512 }
     requires item { IsItem (L.words look.old page) at }
     requires fits { length room.old ≡ 256 }
     ensures text { take result room.new ≡ text_in (item_at (L.words look.old page) at).key }
     ensures short { result ≤ 255 }
-    ensures unchanged { IsUnchanged L.kept L.standing L.words look.old look.new }
+    ensures unchanged { IsUnchanged L.kept L.page_state L.words look.old look.new }
 {
     let length = text_len_at(look, page, at);
     put_bytes(look, page, at + 1, length, room);
     length
 }
 
-/// The first bytes.
+/// The first `n` bytes.
 #[inline(always)]
 fn front(room: &[u8], n: usize) -> &[u8]
     requires { n ≤ length room.now }
@@ -91,8 +91,8 @@ fn front(room: &[u8], n: usize) -> &[u8]
     &room[..n]
 }
 
-/// Adds the node of the key at a place of a page, if its text passes the test. At an error the list
-/// is as before.
+/// Adds the node of the key at this place of a page, if its text passes the test. After an error
+/// the list is as before.
 #[inline(always)]
 pub(crate) fn test_item<L: Look>(
     look: &mut L,
@@ -102,7 +102,7 @@ pub(crate) fn test_item<L: Look>(
     room: &mut [u8],
     found: &mut Vec<u64>,
 ) -> Result<(), AllocError>
-    requires readable { IsTrue (is_readable (L.standing look.old page)) }
+    requires readable { IsTrue (is_readable (L.page_state look.old page)) }
     requires in_page { at + 42 ≤ 512 }
     requires item { IsItem (L.words look.old page) at }
     requires is_text { IsTextKey (item_at (L.words look.old page) at).key }
@@ -110,7 +110,7 @@ pub(crate) fn test_item<L: Look>(
     ensures added { OnOk result (found.new.items ≡ found.old.items
         ++ node_if_passing test.now.0 test.now.1 (item_at (L.words look.old page) at)) }
     ensures kept { IfErr result (λ _. found.new.items ≡ found.old.items) }
-    ensures unchanged { IsUnchanged L.kept L.standing L.words look.old look.new }
+    ensures unchanged { IsUnchanged L.kept L.page_state L.words look.old look.new }
 {
     let length = put_text(look, page, at, room);
     let passes = test.passes(front(room, length));
@@ -121,9 +121,8 @@ pub(crate) fn test_item<L: Look>(
     Ok(())
 }
 
-/// Adds the nodes of a leaf's keys, from the item of a number on, up to the bound, whose texts
-/// pass the test, and returns whether a key is above the bound. The leaf is named by its page and
-/// that number.
+/// Tests a leaf's keys from an item on, up to the bound, and adds the nodes of those whose texts
+/// pass. Returns whether a key is above the bound. `leaf` has the page and the item's number.
 fn test_leaf<L: Look>(
     look: &mut L,
     leaf: (u64, usize),
@@ -132,7 +131,7 @@ fn test_leaf<L: Look>(
     room: &mut [u8],
     found: &mut Vec<u64>,
 ) -> Result<bool, AllocError>
-    requires leaf { IsTreeAt 0 1 (L.standing look.old) (L.words look.old) leaf.0 }
+    requires leaf { IsTreeAt 0 1 (L.page_state look.old) (L.words look.old) leaf.0 }
     requires left { leaf.1 < L.words look.old leaf.0 1 }
     requires texts { AreTexts (drop leaf.1 (items_of (L.words look.old leaf.0))) }
     requires fits { length room.old ≡ 256 }
@@ -145,7 +144,7 @@ fn test_leaf<L: Look>(
     ensures past { IfOk result (λ past. past
         ≡ list_any (λ x. is_past (option_copied high.entry) x.key)
         (drop leaf.1 (items_of (L.words look.old leaf.0)))) }
-    ensures unchanged { IsUnchanged L.kept L.standing L.words look.old look.new }
+    ensures unchanged { IsUnchanged L.kept L.page_state L.words look.old look.new }
 {
     let (page, from) = leaf;
     let first = first_of(high);
@@ -161,8 +160,8 @@ fn test_leaf<L: Look>(
     Ok(false)
 }
 
-/// Adds the nodes of the keys that a cursor has still to give, up to the bound, whose texts pass
-/// the test, leaf by leaf.
+/// Tests the keys that a cursor has ahead, up to the bound, leaf by leaf, and adds the nodes of
+/// those whose texts pass.
 fn test_rest<L: Look>(
     look: &mut L,
     cursor: &mut Cursor,
@@ -170,14 +169,14 @@ fn test_rest<L: Look>(
     test: &TextTest<'_>,
     found: &mut Vec<u64>,
 ) -> Result<(), AllocError>
-    requires cursor { IsCursor (L.standing look.old) (L.words look.old) cursor.old }
+    requires cursor { IsCursor (L.page_state look.old) (L.words look.old) cursor.old }
     requires texts { AreTexts (remaining (L.words look.old) cursor.old) }
     ensures first { HasFirst found.old.items (nodes_passing_to test.now.0 test.now.1
         (remaining (L.words look.old) cursor.old) (option_copied high.entry)) found.new.items }
     ensures found { OnOk result (found.new.items ≡ found.old.items
         ++ nodes_passing_to test.now.0 test.now.1
         (remaining (L.words look.old) cursor.old) (option_copied high.entry)) }
-    ensures unchanged { IsUnchanged L.kept L.standing L.words look.old look.new }
+    ensures unchanged { IsUnchanged L.kept L.page_state L.words look.old look.new }
 {
     let mut room = [0u8; ROOM];
     'leaves: while let Some((page, from)) = cursor.step_leaf(look) {
@@ -189,8 +188,8 @@ fn test_rest<L: Look>(
     Ok(())
 }
 
-/// Adds the nodes of the keys from `low` to `high`, both included, or to the last key, whose texts
-/// pass the test, in the order of the keys. It costs one descent, and reads the words of each text.
+/// Tests the keys from `low` to `high`, both included, or to the last key. Adds the nodes of those
+/// whose texts pass, in the keys' order. It costs one descent, and reads the words of each text.
 pub(crate) fn nodes_passing<L: Look>(
     look: &mut L,
     root: u64,
@@ -199,7 +198,7 @@ pub(crate) fn nodes_passing<L: Look>(
     test: &TextTest<'_>,
     found: &mut Vec<u64>,
 ) -> Result<(), AllocError>
-    requires tree { IsTree (L.standing look.old) (L.words look.old) root }
+    requires tree { IsTree (L.page_state look.old) (L.words look.old) root }
     requires texts { AreTexts (pairs (L.words look.old) root) }
     ensures first { HasFirst found.old.items (nodes_passing_to test.now.0 test.now.1
         (pairs_from (pairs (L.words look.old) root) low.now false) (option_copied high.entry))
@@ -207,7 +206,7 @@ pub(crate) fn nodes_passing<L: Look>(
     ensures found { OnOk result (found.new.items ≡ found.old.items
         ++ nodes_passing_to test.now.0 test.now.1
         (pairs_from (pairs (L.words look.old) root) low.now false) (option_copied high.entry)) }
-    ensures unchanged { IsUnchanged L.kept L.standing L.words look.old look.new }
+    ensures unchanged { IsUnchanged L.kept L.page_state L.words look.old look.new }
 {
     let mut cursor = Cursor::new();
     cursor.seek(look, root, low, false);

@@ -1,16 +1,16 @@
-//! Version pages, read and written.
+//! Reads and writes version pages.
 ghost use Rattle.std.specs.Prelude.{◌≡◌, ◌≢◌, ℕ, ◌+◌, ◌<◌, [], All, IsTrue};
 ghost use Rattle.be_volume.specs.Sound.{IsName};
-ghost use Rattle.be_pages.specs.Pages.{is_readable, is_taken, IsUnchanged, StandsAt};
-ghost use Rattle.be_pages.specs.declared.room.Standing.TheVariants.{Filled};
+ghost use Rattle.be_pages.specs.Pages.{is_readable, is_taken, IsUnchanged, SetsStateAt};
+ghost use Rattle.be_pages.specs.declared.room.PageState.TheVariants.{Filled};
 ghost use Rattle.be_paged_reading.specs.Page.{contents, contents_of, IsVersionPage};
 
 use crate::entry::Entry;
 use arrayvec::ArrayVec;
 use be_pages::{Look, Room};
 
-/// A version page's contents in hand. It is large, so a writer keeps one from one write to the
-/// next, whatever its contents are then.
+/// A version page's contents, loaded. It is large, so a writer keeps one from write to write,
+/// whatever it has in it then.
 #[derive(Drop)]
 pub struct Version {
     pub next: u64,
@@ -19,7 +19,7 @@ pub struct Version {
 }
 
 impl Version {
-    /// Contents that have no index yet.
+    /// Contents without indices.
     pub fn new() -> Version
         ensures next { result.next ≡ 0 }
         ensures catalog { result.catalog ≡ 0 }
@@ -33,13 +33,13 @@ impl Version {
     }
 }
 
-/// Reads a version page into contents, whatever they were. They are filled in place, since contents
-/// that are passed by value cost their whole capacity.
+/// Loads a version page over whatever the contents were. It fills them in place, since passing
+/// contents by value costs their whole capacity.
 pub fn fill_version<L: Look>(look: &mut L, page: u64, version: &mut Version)
-    requires readable { IsTrue (is_readable (L.standing look.old page)) }
+    requires readable { IsTrue (is_readable (L.page_state look.old page)) }
     requires page { IsVersionPage (L.words look.old page) }
     ensures contents { contents version.new ≡ contents_of (L.words look.old page) }
-    ensures unchanged { IsUnchanged L.kept L.standing L.words look.old look.new }
+    ensures unchanged { IsUnchanged L.kept L.page_state L.words look.old look.new }
 {
     let count = look.word(page, 1) as usize;
     let next = look.word(page, 2);
@@ -52,14 +52,14 @@ pub fn fill_version<L: Look>(look: &mut L, page: u64, version: &mut Version)
     }
 }
 
-/// Writes a version page that was taken: the words that it uses, and no others.
+/// Writes a version to a page that was taken: only the words that it uses.
 pub fn store_version<R: Room>(room: &mut R, page: u64, version: &Version)
-    requires taken { IsTrue (is_taken (R.standing room.old page)) }
+    requires taken { IsTrue (is_taken (R.page_state room.old page)) }
     requires named { All (λ e. IsName e.name) version.now.entries.items }
     requires open { IsTrue (R.is_open (R.kept room.old)) }
     ensures contents { contents_of (R.words room.new page) ≡ contents version.now }
     ensures page { IsVersionPage (R.words room.new page) }
-    ensures standing { StandsAt (R.standing room.old) (R.standing room.new) page Filled }
+    ensures page_state { SetsStateAt (R.page_state room.old) (R.page_state room.new) page Filled }
     ensures others { (q : ℕ) → q ≢ page → R.words room.new q ≡ R.words room.old q }
     ensures kept { R.kept room.new ≡ R.kept room.old }
 {

@@ -1,7 +1,7 @@
 //! Reads of each form of a volume.
 //!
-//! What is refused memory is asked again: so each test passes with any one request for memory
-//! refused.
+//! A call that runs out of memory is repeated, so each test passes even if any one request for
+//! memory is refused.
 ghost use Rattle.std.specs.Prelude.{◌≡◌, true, IfOk};
 ghost use Rattle.be_pages.specs.Pages.{IsUnchanged};
 ghost use Rattle.be_volume.specs.Query.{has_index};
@@ -20,12 +20,12 @@ use be_volume::Volume;
 use std::alloc::Global;
 use std::test::Fail;
 
-/// The query of a text.
+/// Parses a query.
 pub fn read_query(alloc: Global, text: &str) -> Result<Query, Refusal> {
     again!(parse(alloc, text))
 }
 
-/// What a query is answered from: one pick that is given, or what is chosen.
+/// The plan for a query: the one pick that is given, or the chosen indices.
 fn cover_of<S: Source>(
     alloc: Global,
     query: &Query,
@@ -48,8 +48,8 @@ fn cover_of<S: Source>(
     })
 }
 
-/// The nodes of a query, from one pick or from what is chosen. The plain volume isn't asked: it
-/// names the volume that the source reads.
+/// The nodes that a query finds, with the given pick or the chosen indices. The plain volume isn't
+/// read: it only names the volume that the source reads.
 fn ask<S: Source>(
     alloc: Global,
     _plain: &Volume,
@@ -69,13 +69,13 @@ fn ask<S: Source>(
     run(alloc, &cover, query, source)
 }
 
-/// The nodes of a query on the plain volume.
+/// The nodes that a query finds in the plain volume.
 fn asked_plain(plain: &Volume, query: &Query) -> Result<Vec<u64>, Refusal> {
     again!(plain.query(query))
 }
 
-/// The answer of both forms to a query, which is answered from one pick or from what is chosen, and
-/// the look as it was.
+/// The nodes that a query finds in both forms, with the given pick or the chosen indices in the one
+/// in pages. It returns the page reader too.
 pub fn query_both<L: Look + Drop>(
     alloc: Global,
     plain: &Volume,
@@ -84,8 +84,8 @@ pub fn query_both<L: Look + Drop>(
     query: &Query,
     pick: Option<usize>,
 ) -> Result<(L, Result<Vec<u64>, Refusal>), Fail>
-    requires version { IsVersion (L.standing look) (L.words look) page plain.now }
-    ensures unchanged { IfOk result (λ r. IsUnchanged L.kept L.standing L.words look r.0) }
+    requires version { IsVersion (L.page_state look) (L.words look) page plain.now }
+    ensures unchanged { IfOk result (λ r. IsUnchanged L.kept L.page_state L.words look r.0) }
 {
     let mut reader = source(look, page);
     let answer = again!(ask(alloc, plain, query, pick, &mut reader));

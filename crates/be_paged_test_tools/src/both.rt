@@ -1,8 +1,7 @@
-//! Both forms of a volume, the plain one and the one over pages, which have to give the same
-//! answers.
+//! Both forms of a volume, the plain one and the one in pages, which have to give the same answers.
 //!
-//! The type keeps that the pages encode the plain volume, so a test that goes from one call to the
-//! next states nothing.
+//! The type's invariant says that the pages encode the plain volume, so a test that makes one call
+//! after another states nothing.
 use crate::asking::query_both;
 use crate::same::same_lists;
 use crate::writing::{accepts, apply_pages, refuses, room_of};
@@ -17,10 +16,10 @@ use std::alloc::Global;
 use std::marker::Model;
 use std::test::Fail;
 
-/// Nodes, or why they were refused.
+/// Nodes, or the error.
 type Nodes = Result<Vec<u64>, Refusal>;
 
-/// A plain volume, and a room with the version page of an equal one.
+/// A plain volume, and a page writer with the version page of an equal volume.
 #[derive(Drop)]
 pub struct Both {
     pub plain: Volume,
@@ -37,12 +36,12 @@ impl Model for Both {
 
     ghost view = { λ b. b.page };
 
-    ghost invariant = { λ b. IsVersion (⟦<VecRoom as Look>⟧.standing b.room)
+    ghost invariant = { λ b. IsVersion (⟦<VecRoom as Look>⟧.page_state b.room)
         (⟦<VecRoom as Look>⟧.words b.room) b.page b.plain
-        × IsWriteStart (⟦<VecRoom as Look>⟧.standing b.room) };
+        × IsWriteStart (⟦<VecRoom as Look>⟧.page_state b.room) };
 }
 
-/// An answer that both forms gave, if they did.
+/// An answer, if both forms gave it.
 fn agreed<T: Drop>(same: bool, answer: T, otherwise: &str) -> Result<T, Fail> {
     if same {
         Ok(answer)
@@ -51,7 +50,7 @@ fn agreed<T: Drop>(same: bool, answer: T, otherwise: &str) -> Result<T, Fail> {
     }
 }
 
-/// The indices that both forms gave, if they did.
+/// The indices, if both forms gave them.
 fn agreed_indices(
     list: Result<Vec<(Name, Kind)>, Refusal>,
     plain: Result<Vec<(Name, Kind)>, Refusal>,
@@ -63,7 +62,7 @@ fn agreed_indices(
 }
 
 impl Both {
-    /// Both forms of the empty volume, the one in a room of that many pages.
+    /// Both forms of the empty volume; the one in pages has this many pages.
     pub fn new(alloc: Global, pages: u64) -> Result<Both, Refusal> {
         let (room, page) = room_of(alloc, pages)?;
         Ok(Both {
@@ -73,8 +72,8 @@ impl Both {
         })
     }
 
-    /// Applies a list, and returns the outcomes of both. A write that is accepted is kept, and one
-    /// that is refused is undone.
+    /// Applies a list of operations to both forms, and returns the outcomes if they agree. An
+    /// accepted write is kept, and a refused one undone.
     pub fn write(self, ops: &[Op]) -> Result<(Both, Result<ArrayVec<Done, 64>, Refusal>), Fail> {
         let Both {
             mut plain,
@@ -98,7 +97,7 @@ impl Both {
         }
     }
 
-    /// Writes a list, which has to be accepted.
+    /// Applies a list of operations that has to be accepted.
     pub fn accepted(self, ops: &[Op]) -> Result<Both, Fail> {
         let (both, answer) = self.write(ops)?;
         if answer?.len() != ops.len() {
@@ -107,7 +106,7 @@ impl Both {
         Ok(both)
     }
 
-    /// The answer to a query, from one pick or from what is chosen.
+    /// The answer to a query, with the given pick or the chosen indices.
     pub fn query(
         self,
         alloc: Global,
@@ -119,14 +118,14 @@ impl Both {
         Ok((Both { plain, room, page }, answer))
     }
 
-    /// The attribute.
+    /// The attribute of a node, if both forms agree.
     pub fn get(&mut self, node: u64, name: &Name) -> Result<Option<Value>, Fail> {
         let value = get(&mut self.room, self.page, node, name);
         let same = value == self.plain.get(node, name);
         agreed(same, value, "the forms have another attribute")
     }
 
-    /// The attributes, or the refusal.
+    /// The attributes of a node, or the error, if both forms agree.
     pub fn attrs(
         &mut self,
         alloc: Global,
@@ -137,13 +136,13 @@ impl Both {
         agreed(same, list, "the forms have other attributes")
     }
 
-    /// The indices.
+    /// The indices, if both forms agree.
     pub fn indices(&mut self, alloc: Global) -> Result<Vec<(Name, Kind)>, Fail> {
         let list = again!(indices(alloc, &mut self.room, self.page));
         agreed_indices(list, again!(self.plain.indices()))
     }
 
-    /// Up to `most` nodes of the form over pages, from a number on.
+    /// Up to `most` nodes from a number on, in the form in pages.
     pub fn nodes(&mut self, alloc: Global, from: u64, most: usize) -> Nodes {
         again!(nodes(alloc, &mut self.room, self.page, from, most))
     }

@@ -4,11 +4,11 @@ use be_test_tools::list_of;
 use std::alloc::{AllocError, Global};
 use std::test::Fail;
 
-/// How many nodes of the volume have attributes. The next one is bare.
+/// The number of nodes that have attributes. The next node has none.
 pub const NODES: u64 = 300;
 
-/// The list that makes a node. Its name and its size have an index, and its kind has none. Names
-/// and sizes come in an order that is far from rising.
+/// The list of operations that makes a node. Its name and its size have an index, its kind has
+/// none. Names and sizes don't come in ascending order.
 fn node_text(alloc: Global, node: u64) -> Result<String, AllocError> {
     let name = 10_000 + node.wrapping_mul(271) % NODES;
     let size = node.wrapping_mul(577) % NODES * 10;
@@ -26,7 +26,7 @@ fn make_node(alloc: Global, both: Both, node: u64) -> Result<Both, Fail> {
     both.accepted(&list_of(alloc, text.as_str())?)
 }
 
-/// Both forms of the volume, the one in a room of 1,024 pages. They are made alike each time.
+/// Both forms of the volume, with 1,024 pages. They are the same in each run.
 pub fn filled(alloc: Global) -> Result<Both, Fail> {
     let indices = list_of(alloc, "mkindex name CSTR;mkindex size LONG")?;
     let mut both = Both::new(alloc, 1024)?.accepted(&indices)?;

@@ -1,7 +1,7 @@
-//! What the tests of a volume over pages share: the plain volume and an equal one over pages, which
-//! are written alike, and are asked alike.
+//! What the tests of volumes in pages share: a plain volume and an equal one in pages, with the
+//! same writes and queries.
 //!
-//! It is here once, and is proved once.
+//! As a library it is proved only once.
 #![tactic(auto)]
 
 mod asking;

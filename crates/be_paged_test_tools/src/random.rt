@@ -7,17 +7,17 @@ pub struct Random {
 }
 
 impl Random {
-    /// The numbers that follow a state, which isn't 0.
+    /// The numbers after this state, which mustn't be 0.
     pub fn new(state: u64) -> Random {
         Random { state }
     }
 
-    /// The numbers that are still to come, once more.
+    /// A copy, which yields the same numbers.
     pub fn copy(&self) -> Random {
         Random { state: self.state }
     }
 
-    /// The next number below a limit; 0 if that is 0.
+    /// The next number below a limit, or 0 if the limit is 0.
     pub fn below(&mut self, limit: u64) -> u64 {
         let mut x = self.state;
         x ^= x.wrapping_mul(1 << 13);

@@ -1,7 +1,7 @@
-//! Whether two answers are one.
+//! Whether two answers are the same.
 use be_value::Refusal;
 
-/// Whether two lists are one, or the refusals in their place.
+/// Whether two lists are equal. If both calls failed, whether their errors are.
 pub fn same_lists<T: PartialEq>(
     one: &Result<Vec<T>, Refusal>,
     other: &Result<Vec<T>, Refusal>,

@@ -1,7 +1,7 @@
 //! Lists of operations on each form of a volume.
 //!
-//! What is refused memory is asked again: so each test passes with any one request for memory
-//! refused.
+//! A call that runs out of memory is repeated, so each test passes even if any one request for
+//! memory is refused.
 ghost use Rattle.std.specs.Prelude.{◌≡◌, ◌<◌, ◌≤◌, ◌+◌, ◌^◌, Ok, IfOk, OnOk, IfErr, List, length};
 ghost use Rattle.be_pages.specs.Pages.{after_undo};
 ghost use Rattle.be_tree_reading.specs.Forest.{IsWriteStart};
@@ -19,11 +19,11 @@ use be_volume::{Done, Op, Volume};
 use std::alloc::Global;
 use std::test::Fail;
 
-/// A room with the first version, and its page.
+/// A page writer with the first version, and that version's page.
 pub fn room_of(alloc: Global, pages: u64) -> Result<(VecRoom, u64), Refusal>
-    ensures version { IfOk result (λ r. IsVersion (⟦<VecRoom as Look>⟧.standing r.0)
+    ensures version { IfOk result (λ r. IsVersion (⟦<VecRoom as Look>⟧.page_state r.0)
         (⟦<VecRoom as Look>⟧.words r.0) r.1 empty) }
-    ensures start { IfOk result (λ r. IsWriteStart (⟦<VecRoom as Look>⟧.standing r.0)) }
+    ensures start { IfOk result (λ r. IsWriteStart (⟦<VecRoom as Look>⟧.page_state r.0)) }
 {
     let mut room = again!(VecRoom::new(alloc, pages))?;
     let page = room.take()?;
@@ -36,7 +36,7 @@ pub fn room_of(alloc: Global, pages: u64) -> Result<(VecRoom, u64), Refusal>
     Ok((room, page))
 }
 
-/// Applies a list to the plain volume.
+/// Applies a list of operations to the plain volume.
 fn apply_plain(plain: &mut Volume, ops: &[Op]) -> Result<ArrayVec<Done, 64>, Refusal>
     requires some { 1 ≤ length ops.now }
     requires few { length ops.now ≤ 64 }
@@ -46,7 +46,8 @@ fn apply_plain(plain: &mut Volume, ops: &[Op]) -> Result<ArrayVec<Done, 64>, Ref
     again!(plain.apply(ops))
 }
 
-/// Applies a list to the pages. The plain volume isn't asked: it names the volume that they encode.
+/// Applies a list of operations to the pages. The plain volume isn't read: it only names the volume
+/// that they encode.
 pub fn apply_pages(
     _plain: &Volume,
     room: &mut VecRoom,
@@ -54,22 +55,22 @@ pub fn apply_pages(
     ops: &[Op],
 ) -> Result<(u64, ArrayVec<Done, 64>), Refusal>
     ghost volume: { State }
-    requires version { IsVersion (⟦<VecRoom as Look>⟧.standing room.old)
+    requires version { IsVersion (⟦<VecRoom as Look>⟧.page_state room.old)
         (⟦<VecRoom as Look>⟧.words room.old) page volume }
     requires some { 1 ≤ length ops.now }
     requires few { length ops.now ≤ 64 }
     requires fits { volume.next + 64 < 2 ^ 64 }
-    ensures ok { IfOk result (λ r. Applies ⟦<VecRoom as Look>⟧.kept ⟦<VecRoom as Look>⟧.standing
+    ensures ok { IfOk result (λ r. Applies ⟦<VecRoom as Look>⟧.kept ⟦<VecRoom as Look>⟧.page_state
         ⟦<VecRoom as Look>⟧.words
         page r.0 volume ops.now r.1.items room.old room.new) }
     ensures err { IfErr result (λ e. IsRefusedList ⟦<VecRoom as Look>⟧.kept
-        ⟦<VecRoom as Look>⟧.standing ⟦<VecRoom as Look>⟧.words
+        ⟦<VecRoom as Look>⟧.page_state ⟦<VecRoom as Look>⟧.words
         ⟦<VecRoom as Room>⟧.full volume ops.now e room.old room.new) }
 {
     apply(room, page, ops)
 }
 
-/// Applies a list to the plain volume, which has to answer so.
+/// Applies a list to the plain volume, which has to accept it with these outcomes.
 pub fn accepts(plain: &mut Volume, ops: &[Op], dones: &[Done]) -> Result<(), Fail>
     requires some { 1 ≤ length ops.now }
     requires few { length ops.now ≤ 64 }
@@ -83,8 +84,8 @@ pub fn accepts(plain: &mut Volume, ops: &[Op], dones: &[Done]) -> Result<(), Fai
     }
 }
 
-/// Applies a list to the plain volume, which has to refuse it by the same refusal. If the pages are
-/// full, it has to accept the list, and isn't asked for more.
+/// Applies a list to the plain volume, which has to refuse it with the same error. If that error is
+/// Full, the plain volume has to accept the list, and nothing else is checked.
 pub fn refuses(plain: &mut Volume, ops: &[Op], refusal: Refusal) -> Result<(), Fail>
     requires some { 1 ≤ length ops.now }
     requires few { length ops.now ≤ 64 }

@@ -1,5 +1,5 @@
-//! Tests of a volume over pages, by be_paged's public calls alone: the plain volume and the one
-//! over pages answer alike.
+//! Tests of a volume in pages, by public calls of be_paged only. The plain volume and the volume in
+//! pages have to give the same answers.
 #![tactic(auto)]
 
 #[cfg(test)]

@@ -1,8 +1,8 @@
-//! The same requests to both forms of a volume: lines `REQUEST => REPLY` in the words of scripts,
-//! with ` / ` between several requests and between the lines of replies.
+//! Makes the same requests to both forms of a volume, by lines `REQUEST => REPLY` in the words of
+//! scripts. ` / ` separates several requests, and the lines of replies.
 //!
-//! A list of several operations has `;` between them. `pick PLACE TEXT` is a query by one pick, and
-//! `free` the number of free pages, which the room alone answers.
+//! A list of several operations has `;` between them. `pick PLACE TEXT` is a query answered by one
+//! pick. `free` is the number of free pages, which only the room can report.
 
 mod costs;
 mod lines;
@@ -21,13 +21,13 @@ use be_volume::Op;
 use std::alloc::Global;
 use std::test::Fail;
 
-/// The reply of both forms to a list of operations.
+/// Both forms' reply to a list of operations.
 fn write(alloc: Global, both: Both, ops: &[Op]) -> Result<(Both, String), Fail> {
     let (both, answer) = both.write(ops)?;
     Ok((both, written_text(alloc, answer)?))
 }
 
-/// The reply of both forms to a query, from one pick or from what is chosen.
+/// Both forms' reply to a query, by one pick or by what is chosen.
 fn query(
     alloc: Global,
     both: Both,
@@ -39,7 +39,7 @@ fn query(
     Ok((both, nodes_text(alloc, answer)?))
 }
 
-/// The same from the pick whose place comes before the query.
+/// The same, by the pick whose place comes before the query.
 fn picked(alloc: Global, both: Both, text: &str) -> Result<(Both, String), Fail> {
     let (place, text) = text.split_once(" ").unwrap_or(("0", text));
     let place = word_of(place.as_bytes()).unwrap_or(99) as usize;
@@ -58,7 +58,7 @@ fn attributes(alloc: Global, both: &mut Both, node: u64) -> Result<Result<Reply,
     }
 }
 
-/// The reply of both forms to a read.
+/// Both forms' reply to a read.
 fn read(alloc: Global, both: Both, asked: Request) -> Result<(Both, String), Fail> {
     let mut both = both;
     let answer = match asked {
@@ -71,7 +71,7 @@ fn read(alloc: Global, both: Both, asked: Request) -> Result<(Both, String), Fai
     Ok((both, answer_text(alloc, answer)?))
 }
 
-/// The reply of both forms to a line of a script.
+/// Both forms' reply to a line of a script.
 fn line_reply(alloc: Global, both: Both, line: &str) -> Result<(Both, String), Fail> {
     match request_of(alloc, line)? {
         Request::Write(Ok(op)) => write(alloc, both, &[op]),
@@ -108,7 +108,7 @@ fn reply(alloc: Global, both: Both, request: &str) -> Result<(Both, String), Fai
     line_reply(alloc, both, request)
 }
 
-/// Does the requests of a line, each of which has to have its reply.
+/// Makes the requests of a line. Each must have its reply.
 fn run_line(alloc: Global, both: Both, line: &str) -> Result<Both, Fail> {
     let (requests, expected) = line.split_once(" => ").unwrap_or((line, "no reply"));
     let mut both = both;
@@ -127,7 +127,7 @@ fn run_line(alloc: Global, both: Both, line: &str) -> Result<Both, Fail> {
     Err(Fail::new(line))
 }
 
-/// Does the requests, and returns both forms after them.
+/// Makes the requests, and returns both forms after them.
 pub(crate) fn run_lines(alloc: Global, both: Both, lines: &str) -> Result<Both, Fail> {
     let mut both = both;
     for line in lines.lines() {
@@ -136,14 +136,14 @@ pub(crate) fn run_lines(alloc: Global, both: Both, lines: &str) -> Result<Both, 
     Ok(both)
 }
 
-/// Fails unless both forms give these replies, the one in a room of 64 pages. Returns both forms
+/// Fails unless both forms give these replies, with 64 pages for the one. It returns both forms
 /// after them.
 fn runs(alloc: Global, lines: &str) -> Result<Both, Fail> {
     let both = Both::new(alloc, 64)?;
     run_lines(alloc, both, lines)
 }
 
-/// The examples that every form of a volume answers alike.
+/// The examples that every form of a volume has to answer the same way.
 #[test]
 fn examples(rt: HostRuntime) -> Result<(), Fail> {
     for lines in EXAMPLES {
@@ -152,7 +152,7 @@ fn examples(rt: HostRuntime) -> Result<(), Fail> {
     Ok(())
 }
 
-/// What a query is answered from, of each pick.
+/// The nodes that a query finds by each pick.
 #[test]
 fn picks(rt: HostRuntime) -> Result<(), Fail> {
     let both = runs(rt.alloc(), TWO_INDICES)?;
@@ -161,7 +161,7 @@ fn picks(rt: HostRuntime) -> Result<(), Fail> {
     Ok(())
 }
 
-/// Lists of several operations, and the pages that they leave free.
+/// Lists of several operations, and how many pages they leave free.
 #[test]
 fn batches(rt: HostRuntime) -> Result<(), Fail> {
     let both = runs(rt.alloc(), LISTS)?;
@@ -169,7 +169,7 @@ fn batches(rt: HostRuntime) -> Result<(), Fail> {
     Ok(())
 }
 
-/// An index takes no page before it has a pair, and frees all pages that it has.
+/// An index takes no page before it has a pair, and frees all its pages when it is removed.
 #[test]
 fn paged_pool(rt: HostRuntime) -> Result<(), Fail> {
     let lines = "free / new / free => 63 / node 1 / 62
@@ -179,7 +179,7 @@ rmindex k / free / drop 1 / free => ok / 62 / ok / 63";
     Ok(())
 }
 
-/// Makes nodes, one list after the other, until one is refused. Returns how many there are.
+/// Makes nodes, one list after another, until one is refused. It returns how many there are.
 fn make_nodes(both: Both, most: u64) -> Result<(Both, u64), Fail> {
     let mut both = both;
     for i in 0..most {
@@ -192,8 +192,8 @@ fn make_nodes(both: Both, most: u64) -> Result<(Both, u64), Fail> {
     Ok((both, most))
 }
 
-/// A room of eight pages takes at least 13 nodes and at most 36. Then it is full, which the version
-/// page outlives.
+/// A room of eight pages takes at least 13 and at most 36 nodes. Then it is full, but its version
+/// can still be read.
 #[test]
 fn smallest_pool(rt: HostRuntime) -> Result<(), Fail> {
     let (both, made) = make_nodes(Both::new(rt.alloc(), 8)?, 37)?;

@@ -1,4 +1,4 @@
--- The free pages of a pool.
+-- A pool's free pages.
 use Rattle.std.proofs.Common.{◌≡◌, ℕ, ◌<◌, ◌≤◌, ◌⊎◌, ◌||◌, length, Bool, true, false, refl, inl, inr, arith}
 use Rattle.be_pages.specs.declared.free_pages.FreePages.{FreePages}
 use Rattle.be_pages.specs.PageSet.{has_page}
@@ -18,7 +18,7 @@ free_below pages q is = by_set (one_of (has_page pages.plain.places.items q) (ha
     by_set (inl plain) = flagged_below pages.plain.places.items q plain
     by_set (inr spare) = omega (arith, flagged_below pages.spare.places.items q spare, pages.spare_pages)
 
--- a page past the pool is not free
+-- a page outside the pool is not free
 pub not_free : (pages : FreePages) (q : ℕ) → length pages.plain.places.items ≤ q → has_free pages q ≡ false
 not_free pages q past = by_test (has_free pages q) refl
   where

@@ -7,7 +7,7 @@ use Rattle.std.proofs.lemmas.List.Sums.{sum_by-append, sum_by-cons, sum_by-set, 
 use Rattle.be_pages.specs.Pages.{times}
 use Rattle.be_pages.specs.PageSet.{has_page, is_place, one_if, page_at, place_in, IsListed}
 
--- a page of the set has a place, and no other does
+-- a page of the set has a place, and no other page does
 pub placed_if : (places : List ℕ) (q : ℕ) → has_page places q ≡ true → 0 < place_in places q
 unfolding has_page
 placed_if places q is = ltb-true 0 (place_in places q) is
@@ -30,7 +30,7 @@ flagged_below places p is = elim (cases_lt p (length places)) [
   | inr past ↦ absurd (omega (arith, placed_if places p is, get_or_past places p 0 past))
 ]
 
--- how many pages there are, as one gets a place or loses it
+-- how many pages are in the set, after one gets a place or loses it
 counted : (places : List ℕ) (p n : ℕ) → p < length places → count_by is_place (slice_set places p n) + one_if (has_page places p) ≡ count_by is_place places + one_if (is_place n)
 unfolding has_page
 counted places p n lt = omega (arith, is_one (has_page places p), sum_by-set (λ x. cond {A = ℕ} (is_place x) 1 0) places p n 0 lt, is_one (is_place n))
@@ -39,7 +39,7 @@ counted places p n lt = omega (arith, is_one (has_page places p), sum_by-set (λ
     is_one true = refl
     is_one false = refl
 
--- a page that is not there has room
+-- if a page isn't in the set, the set has room
 pub room_left : (places : List ℕ) (p : ℕ) → p < length places → has_page places p ≡ false → count_by is_place places < length places
 room_left places p lt not = omega (arith, counted places p 1 lt, ap one_if not, count_by-le-length is_place (slice_set places p 1), length-set places p 1)
 
@@ -67,7 +67,7 @@ same_page p = grind (arith, nat_tests)
 pub other_page : (q p : ℕ) → (q ≡ p → ⊥) → cond {A = ℕ} (p == q) 1 0 ≡ 0
 other_page q p ne = grind (arith, nat_tests)
 
--- which pages there are, as one gets a place or loses it
+-- which pages are in the set, after one gets a place or loses it
 pub has_set : (places : List ℕ) (p n : ℕ) → p < length places → (q : ℕ) → has_page (slice_set places p n) q ≡ (if q == p then is_place n else has_page places q)
 unfolding has_page
 has_set places p n lt q = elim (cases_eq q p) [
@@ -75,7 +75,7 @@ has_set places p n lt q = elim (cases_eq q p) [
   | inr ne ↦ ap is_place (get_or-set_other places p q n 0 ne) ∙ sym (ap (λ (c : Bool). if c then is_place n else has_page places q) (other_test q p ne))
 ]
 
--- a page comes in at the end
+-- a page is added at the end
 module _ (list places : List ℕ) (n p : ℕ) (ln : n < length list) (lp : p < length places) (not : place_in places p ≡ 0) (is : IsListed list places n) where
   there : (q : ℕ) → (q ≡ p → ⊥) → place_in (slice_set places p (n + 1)) q ≡ place_in places q
   there q ne = get_or-set_other places p q (n + 1) 0 ne
@@ -104,7 +104,7 @@ module _ (list places : List ℕ) (n p : ℕ) (ln : n < length list) (lp : p < l
     ];
   }
 
--- the last page goes out
+-- the last page is removed
 module _ (list places : List ℕ) (n p : ℕ) (some : 0 < n) (top : p ≡ page_at list (n - 1)) (is : IsListed list places n) where
   pub top_place : place_in places p ≡ n
   top_place = ap (place_in places) top ∙ omega (arith, is.placed (n - 1) (omega (arith, some)), some)
@@ -135,7 +135,7 @@ module _ (list places : List ℕ) (n p : ℕ) (some : 0 < n) (top : p ≡ page_a
         stays (page_at list i) (λ h. absurd (omega (arith, was, ap (place_in places) h, top_place, lt))) ∙ was;
   }
 
--- a page goes out, and the last one gets its place
+-- a page is removed, and the last one gets its place
 module _ (list places : List ℕ) (n p k l : ℕ) (place : k ≡ place_in places p) (has : 0 < k) (last : l ≡ page_at list (n - 1)) (le : n ≤ length list) (is : IsListed list places n) where
   within : k ≤ n
   within = omega (arith, place, is.inside p (omega (arith, place, has)))
@@ -185,10 +185,10 @@ module _ (list places : List ℕ) (n p k l : ℕ) (place : k ≡ place_in places
       | inr ne ↦
           let same : place_in (slice_set (slice_set places l k) p 0) q ≡ place_in places q = rest q (out q some) ne in
           let was : 0 < place_in places q = omega (arith, same, some) in
-          let stood : page_at list (place_in places q - 1) ≡ q = is.lies q was in
+          let lay : page_at list (place_in places q - 1) ≡ q = is.lies q was in
           ap (λ m. page_at (slice_set list (k - 1) l) (m - 1)) same
-          ∙ get_or-set_other list (k - 1) (place_in places q - 1) l 0 (λ h. absurd (out q some (sym stood ∙ ap (page_at list) h ∙ at)))
-          ∙ stood
+          ∙ get_or-set_other list (k - 1) (place_in places q - 1) l 0 (λ h. absurd (out q some (sym lay ∙ ap (page_at list) h ∙ at)))
+          ∙ lay
     ];
     placed = λ i lt. elim (cases_eq i (k - 1)) [
       | inl e ↦

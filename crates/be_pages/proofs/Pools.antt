@@ -1,4 +1,4 @@
--- A pool's lists, as one page's place changes.
+-- A pool's lists, when one page's place changes.
 use Rattle.std.proofs.Common.{◌≡◌, ℕ, suc, ◌+◌, ◌<◌, ◌≤◌, ◌==◌, List, [], ◌∷◌, ◌++◌, ◌||◌, length, drop, cond, Bool, true, false, if◌then◌else◌, ap, sym, subst, ◌∙◌, refl, inl, inr, arith, slice_set, count_by, map}
 use Rattle.std.specs.Prelude.{IsTrue, slice_index}
 use Rattle.std.proofs.lemmas.Bool.{cases_eq, cases_lt, le-ltb, lt-ltb}
@@ -66,7 +66,7 @@ active Current h = (refl, refl)
 active GivenUp h = (refl, refl)
 active (Retired n) h = (refl, absurd (false≢true (sym h)))
 
--- what a write leaves as it was stays as it ends
+-- a page that a write hasn't touched keeps its place when the write ends
 pub idle_after : (ending : Ending) (x : Place) → is_idle x ≡ true → place_after ending x ≡ x
 idle_after (Published n) Free h = refl
 idle_after (Published n) Reserved h = absurd (false≢true h)
@@ -87,7 +87,7 @@ idle_after Undone Current h = refl
 idle_after Undone GivenUp h = absurd (false≢true h)
 idle_after Undone (Retired r) h = refl
 
--- and every page is one that a write leaves as it was then
+-- after a write ends, every page is one that a write hasn't touched
 pub after_idle : (ending : Ending) (x : Place) → is_idle (place_after ending x) ≡ true
 after_idle (Published n) Free = refl
 after_idle (Published n) Reserved = refl
@@ -108,7 +108,7 @@ after_idle Undone Current = refl
 after_idle Undone GivenUp = refl
 after_idle Undone (Retired r) = refl
 
--- the write that ends gives no number above the newest
+-- if the end of a write retires a page, no page has a greater number
 pub newest_after : (ending : Ending) (x : Place) (number : ℕ → ℕ) → IsNewest ending number → is_idle x ≡ false → is_retired (place_after ending x) ≡ true → (q : ℕ) → number q ≤ retired_number (place_after ending x)
 newest_after (Published n) Free number new un is q = absurd (false≢true (sym un))
 newest_after (Published n) Reserved number new un is q = absurd (false≢true is)
@@ -137,7 +137,7 @@ number_after n Current le = omega arith
 number_after n GivenUp le = omega arith
 number_after n (Retired r) le = le
 
--- a retired page below the least is free after a sweep
+-- a retired page below the minimum is free after a sweep
 pub swept_free : (least : ℕ) (x : Place) → is_retired x ≡ true → retired_number x < least → swept_place least x ≡ Free
 swept_free least Free is lt = absurd (false≢true is)
 swept_free least Reserved is lt = absurd (false≢true is)
@@ -158,7 +158,7 @@ swept_stays least (Retired n) h = ap (λ (b : Bool). if b then Free else Retired
 pub places_map : (f : Place → Place) (new old : List Place) → f Current ≡ Current → length new ≡ length old → ((q : ℕ) → place_of new q ≡ f (place_of old q)) → new ≡ map f old
 places_map f new old stays len each = ext_get_or Current new (map f old) (len ∙ sym (length-map old f)) (λ q lt. each q ∙ sym (get_or-map f old q Current Current (omega (arith, lt, len))))
 
--- how many pages two sets have, of which no page is in both
+-- how many pages two disjoint sets have
 pub count_free : (f : Place → Bool) (plain spare : List ℕ) (P : List Place) → length plain ≡ length P → length spare ≡ length P → ((q : ℕ) → (has_page plain q || has_page spare q) ≡ f (place_of P q))
     → ((q : ℕ) → has_page plain q ≡ true → has_page spare q ≡ false) → count_by is_place plain + count_by is_place spare ≡ count_by f P
 unfolding has_page
@@ -185,18 +185,18 @@ count_free f (x ∷ xs) (z ∷ zs) (y ∷ ys) len same h apart =
     of_one false true apart = refl
     of_one false false apart = refl
 
--- no page is counted where none passes
+-- if no page passes a test, none is counted
 pub count_none : (f : Place → Bool) (P : List Place) → ((q : ℕ) → f (place_of P q) ≡ false) → count_by f P ≡ 0
 count_none f [] h = refl
 count_none f (y ∷ ys) h = omega (arith, sum_by-cons (λ (p : Place). cond {A = ℕ} (f p) 1 0) y ys, ap (λ (b : Bool). cond {A = ℕ} b 1 0) (h 0), count_none f ys (λ q. h (suc q)))
 
--- a queue
+-- a page in the queue is there at least once
 pub at_most_once : (queue : List ℕ) (i : ℕ) → i < length queue → 1 ≤ times (slice_index queue i) queue
 at_most_once queue i lt =
     let x : ℕ = slice_index queue i in
     omega (arith, get_or-le-sum_by (λ (p : ℕ). cond {A = ℕ} (p == x) 1 0) queue i 0 lt, same_page x)
 
--- a page that is in the queue is somewhere in it
+-- a page that is in the queue has a place there
 pub find_place : (queue : List ℕ) (q : ℕ) → 0 < times q queue → (i : ℕ) × (i < length queue) × (slice_index queue i ≡ q)
 find_place [] q some = absurd (omega (arith, some))
 find_place (x ∷ xs) q some = elim (cases_eq x q) [
@@ -228,7 +228,7 @@ oldest_drop num queue order i j le lt =
 queue_top : (queue : List ℕ) → 0 < length queue → queue ≡ slice_index queue 0 ∷ drop 1 queue
 queue_top queue some = drop_more queue 0 0 some
 
--- one page stands anew
+-- one page gets a new place
 module _ (P : List Place) (p : ℕ) (s : Place) (lt : p < length P) where
   pub here : place_of (slice_set P p s) p ≡ s
   here = get_or-set_same P p s Current lt
@@ -327,7 +327,7 @@ module _ (P : List Place) (p : ℕ) (s : Place) (lt : p < length P) where
         gone : (i : ℕ) → i < length (drop 1 queue) → slice_index (drop 1 queue) i ≡ p → ⊥
         gone i within e = absurd (omega (arith, at_most_once (drop 1 queue) i within, ap (λ (r : ℕ). times r (drop 1 queue)) e, first_out some top p, same_page p, retires p, ap one_if was))
 
-  -- what a loop over the waiting pages keeps
+  -- the invariant of a loop over the waiting pages
   pub done_to : (after : Place → Place) (start : List Place) (flags new : List ℕ) → ((q : ℕ) → has_page flags q ≡ false → place_of P q ≡ after (place_of start q)) → ((q : ℕ) → has_page new q ≡ (if q == p then false else has_page flags q))
       → s ≡ after (place_of start p) → (q : ℕ) → has_page new q ≡ false → place_of (slice_set P p s) q ≡ after (place_of start q)
   done_to after start flags new done to is q not = elim (cases_eq q p) [
@@ -357,13 +357,13 @@ module _ (P : List Place) (p : ℕ) (s : Place) (lt : p < length P) where
     | inr ne ↦ ap (swept_place least) (there q ne) ∙ swept q
   ]
 
--- where the oldest waits, each waits
+-- if the oldest has to wait, each has to wait
 pub none_expired : (P : List Place) (queue : List ℕ) → ((q : ℕ) → times q queue ≡ one_if (is_retired (place_of P q))) → (least : ℕ) → IsOldestFirst (retired_at P) queue → (0 < length queue → least ≤ retired_at P (slice_index queue 0)) → (q : ℕ) → swept_place least (place_of P q) ≡ place_of P q
 none_expired P queue retires least order waits q = swept_stays least (place_of P q) (λ is.
     let at : (i : ℕ) × (i < length queue) × (slice_index queue i ≡ q) = find_place queue q (omega (arith, retires q, ap one_if is)) in
     omega (arith, waits (omega (arith, at.1)), order 0 at.0 (omega arith) at.1, ap (retired_at P) at.2))
 
--- a page that a write leaves is of the current version, free or retired
+-- a place that is neither free nor retired passes neither test
 pub other_place : (s : Place) → (s ≡ Free → ⊥) → ((n : ℕ) → s ≡ Retired n → ⊥) → (is_free s ≡ false) × (is_retired s ≡ false)
 other_place Free free retired = absurd (free refl)
 other_place Reserved free retired = (refl, refl)
@@ -372,7 +372,7 @@ other_place Current free retired = (refl, refl)
 other_place GivenUp free retired = (refl, refl)
 other_place (Retired n) free retired = absurd (retired n refl)
 
--- a page that was settled before waits no longer
+-- a page that has been settled no longer waits
 pub done_less : (after : Place → Place) (P start : List Place) (p : ℕ) (flags new : List ℕ) → ((q : ℕ) → has_page flags q ≡ false → place_of P q ≡ after (place_of start q)) → ((q : ℕ) → has_page new q ≡ (if q == p then false else has_page flags q))
     → place_of P p ≡ after (place_of start p) → (q : ℕ) → has_page new q ≡ false → place_of P q ≡ after (place_of start q)
 done_less after P start p flags new done to is q not = elim (cases_eq q p) [

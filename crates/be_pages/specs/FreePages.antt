@@ -1,4 +1,4 @@
--- The free pages of a pool: those that are spared, and the others.
+-- A pool's free pages: those that are spared, and the others.
 use Rattle.std.specs.Prelude.{ℕ, Bool, ◌||◌}
 use Rattle.be_pages.specs.declared.free_pages.FreePages.{FreePages}
 use Rattle.be_pages.specs.PageSet.{has_page}

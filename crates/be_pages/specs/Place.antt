@@ -54,7 +54,7 @@ is_held_page Current = true
 is_held_page GivenUp = false
 is_held_page (Retired n) = false
 
--- the number that a page is retired with, otherwise 0
+-- the number with which a page is retired, or 0
 abbrev pub retired_number : Place → ℕ
 retired_number Free = 0
 retired_number Reserved = 0
@@ -75,7 +75,7 @@ given_place Current = GivenUp
 given_place GivenUp = GivenUp
 given_place (Retired n) = Retired n
 
--- what becomes of a page as the write is published with a number
+-- what becomes of a page when the write is published with a number
 abbrev pub published_place : ℕ → Place → Place
 published_place number Free = Free
 published_place number Reserved = Free
@@ -84,7 +84,7 @@ published_place number Current = Current
 published_place number GivenUp = Retired number
 published_place number (Retired n) = Retired n
 
--- as it is kept
+-- what becomes of a page when the write is kept
 abbrev pub kept_place : Place → Place
 kept_place Free = Free
 kept_place Reserved = Current
@@ -93,7 +93,7 @@ kept_place Current = Current
 kept_place GivenUp = Free
 kept_place (Retired n) = Retired n
 
--- as it is undone
+-- what becomes of a page when the write is undone
 abbrev pub undone_place : Place → Place
 undone_place Free = Free
 undone_place Reserved = Free
@@ -107,7 +107,7 @@ place_after (Published number) place = published_place number place
 place_after Kept place = kept_place place
 place_after Undone place = undone_place place
 
--- as the pages that are retired with a number below the least become free
+-- what becomes of a page when those retired with a number below `least` are freed
 abbrev pub swept_place : ℕ → Place → Place
 swept_place least Free = Free
 swept_place least Reserved = Reserved
@@ -116,13 +116,13 @@ swept_place least Current = Current
 swept_place least GivenUp = GivenUp
 swept_place least (Retired n) = if nat_lt n least then Free else Retired n
 
--- no page has a number above that of a write which is published
+-- no retired page's number is above that of a write that is published
 abbrev pub IsNewest : Ending → (ℕ → ℕ) → Type 0
 IsNewest (Published number) number_of = (q : ℕ) → number_of q ≤ number
 IsNewest Kept number_of = Unit {0}
 IsNewest Undone number_of = Unit {0}
 
--- the numbers of the pages of a queue do not fall
+-- the numbers of the queue's pages never decrease
 abbrev pub IsOldestFirst : (ℕ → ℕ) → List ℕ → Type 0
 IsOldestFirst number_of queue = (i j : ℕ) → i ≤ j → j < length queue
     → number_of (slice_index queue i) ≤ number_of (slice_index queue j)

@@ -1,13 +1,14 @@
--- Which refusal a call returns.
+-- Which error a call returns.
 use Rattle.std.specs.Prelude.{◌≡◌, ℕ, ◌≤◌, ◌<◌, ◌⊎◌}
 use Rattle.be_value.specs.declared.refusals.Refusal.{Refusal}
 use Rattle.be_value.specs.declared.refusals.Refusal.TheVariants.{OutOfMemory, Full, BadLimits}
 
--- no page was left, and this holds of the number that the refusal carries
+-- no page was free, and this holds of the number that the error carries
 abbrev pub IsFullOf : (ℕ → Type 0) → Refusal → Type 0
-IsFullOf tells refusal = (least : ℕ) × (refusal ≡ Full least) × tells least
+IsFullOf reports refusal = (least : ℕ) × (refusal ≡ Full least) × reports least
 
--- for a number of pages: a limit out of its range exactly, or no memory
+-- for a number of pages: the error is BadLimits exactly if it is out of its range; otherwise memory
+-- ran out
 abbrev pub IsLimitOrMemory : ℕ → Refusal → Type 0
 IsLimitOrMemory pages refusal = (refusal ≡ BadLimits × ((pages < 8) ⊎ (16384 < pages)))
     ⊎ (refusal ≡ OutOfMemory × (8 ≤ pages) × (pages ≤ 16384))

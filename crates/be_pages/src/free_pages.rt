@@ -1,11 +1,11 @@
-//! The free pages of a pool, some of which are spared for the copy of one page.
+//! A pool's free pages, some of which are spared for the copy of one page.
 //!
 //! # Spared pages
 //! A write copies each page of a tree that it changes. Writes that change the same pages again and
-//! again copy each back and forth between two, and a copy has most of the words that its page held
-//! before. So a page that was copied is spared once it is free, for the next copy of its own copy,
-//! which then stores only the words that differ. A spared page is taken for something else only if
-//! no other page is free.
+//! again copy each of them back and forth between two pages. The page that takes the copy then has
+//! most of the words already. So a page that was copied is spared once it is free, for the next
+//! copy of its own copy. That copy stores only the words that differ. A spared page is taken for
+//! something else only if no other page is free.
 ghost use Rattle.std.specs.Prelude.{◌≡◌, ℕ, ◌+◌, ◌<◌, ◌≤◌, ◌==◌, if◌then◌else◌, Bool, true, false};
 ghost use Rattle.std.specs.Prelude.{length, vec_len, count_by, IfOk, IfSome, IfNone};
 ghost use Rattle.be_pages.specs.PageSet.{has_page, is_place};
@@ -13,17 +13,17 @@ ghost use Rattle.be_pages.specs.PageSet.{has_page, is_place};
 use crate::page_set::PageSet;
 use std::alloc::{AllocError, Global};
 
-/// Of a page that was copied from none. No pool has a page of this number.
+/// Stands for no page: the page wasn't copied from one. No pool has a page with this number.
 const NO_PAGE: u64 = u64::MAX;
 
-/// The free pages of those below a number. No call but `from` takes memory.
+/// The free pages among those below a number. Only `from` allocates memory.
 #[derive(Drop)]
 pub(crate) struct FreePages {
     plain: PageSet,
     spare: PageSet,
-    /// Of each page, the one that it was copied from last.
+    /// For each page, the page that it was last copied from.
     earlier: Vec<u64>,
-    /// Whether a page is spared once it is free.
+    /// For each page, whether it will be spared once it is free.
     spared: Vec<bool>,
     ghost spare_pages: { length spare.places.items ≡ length plain.places.items },
     ghost earlier_pages: { vec_len earlier ≡ length plain.places.items },
@@ -35,7 +35,7 @@ pub(crate) struct FreePages {
 impl FreePages {
     ghost use Rattle.be_pages.specs.FreePages.{has_free};
 
-    /// The pages from one on that are below `pages`. The lowest is the first to go out.
+    /// The pages from `first` on, below `pages`. The lowest is the first that `pop` takes.
     #[tactic(auto, unfolding(crate::specs::FreePages::has_free))]
     pub(crate) fn from(alloc: Global, first: usize, pages: usize) -> Result<FreePages, AllocError>
         requires { first ≤ pages }
@@ -56,7 +56,7 @@ impl FreePages {
         })
     }
 
-    /// Adds a page that is not there.
+    /// Adds a page, which must not be in the set.
     #[tactic(auto, unfolding(crate::specs::FreePages::has_free))]
     pub(crate) fn insert(&mut self, page: u64)
         requires inside { page < length self.old.plain.places.items }
@@ -72,7 +72,7 @@ impl FreePages {
         }
     }
 
-    /// Takes the last page that came in, and a spared one only if there is no other.
+    /// Takes the page that was added last, and a spared one only if there is no other.
     #[tactic(auto, unfolding(crate::specs::FreePages::has_free))]
     pub(crate) fn pop(&mut self) -> Option<u64>
         ensures some { IfSome result (λ page. has_free self.old page ≡ true) }
@@ -91,8 +91,8 @@ impl FreePages {
         Some(page)
     }
 
-    /// Takes a page for a copy of a page: the one that this page was copied from, if it is spared.
-    /// Otherwise it takes the one that `pop` does.
+    /// Takes a page for a copy of `page`: the one that `page` was copied from, if that is spared.
+    /// Otherwise it takes the page that `pop` takes.
     #[tactic(auto, unfolding(crate::specs::FreePages::has_free))]
     pub(crate) fn pop_like(&mut self, page: u64) -> Option<u64>
         ensures some { IfSome result (λ copy. has_free self.old copy ≡ true) }
@@ -112,7 +112,7 @@ impl FreePages {
         Some(copy)
     }
 
-    /// Takes a page if it is spared, and otherwise the one that `pop` does.
+    /// Takes this page if it is spared, and otherwise the page that `pop` takes.
     #[tactic(auto, unfolding(crate::specs::FreePages::has_free))]
     fn pop_spared(&mut self, page: u64) -> Option<u64>
         ensures some { IfSome result (λ copy. has_free self.old copy ≡ true) }
@@ -130,7 +130,7 @@ impl FreePages {
         Some(page)
     }
 
-    /// How many pages there are.
+    /// How many pages are free.
     pub(crate) fn len(&self) -> usize
         ensures { result ≡ count_by is_place self.now.plain.places.items
             + count_by is_place self.now.spare.places.items }

@@ -1,17 +1,17 @@
-//! Where each page of a pool is, and the lists that make each change cost what it changes.
+//! Where each page of a pool is, with lists that make each change cost only what it changes.
 //!
 //! # Places
-//! A page is free, taken by the open write, of the current version, given up by the open write, or
-//! retired: given up by an earlier write, while a reader of an older version may still look at it.
-//! A retired page has the number of the last version that it is of.
+//! A page is free, taken by the open write, in the current version, given up by the open write, or
+//! retired. An earlier write gave a retired page up, and a reader of an older version may still
+//! read it. A retired page has the number of the last version that contains it.
 //!
 //! # Lists
-//! The pool keeps three lists beside the places. The free pages lie on a stack: the page that was
-//! freed last is taken first, since its words are still near, but for the pages that are spared for
-//! a copy (`FreePages`). The pages that the open write took or gave up lie on another, so the write
-//! ends by walking these alone. The retired pages lie in a queue, oldest first, so a sweep stops at
-//! the first one that has to wait. Each list has room for every page from the start: no call but
-//! `new` takes memory.
+//! The pool keeps three lists beside the places. The free pages are on a stack: the page that was
+//! freed last is taken first, because its words are probably still in the cache. Pages that are
+//! spared for a copy are the exception (`FreePages`). Another stack has the pages that the open
+//! write took or gave up, so ending the write visits only these. The retired pages are in a queue,
+//! oldest first, so a sweep stops at the first page that has to wait. Each list has room for every
+//! page from the start: only `new` allocates memory.
 ghost use Rattle.std.specs.Prelude.{◌≡◌, ◌≢◌, ℕ, ◌+◌, ◌<◌, ◌≤◌, List, Bool, true, false, length};
 ghost use Rattle.std.specs.Prelude.{vec_len, map, count_by, slice_set};
 ghost use Rattle.std.specs.Prelude.{slice_index, slice_index_or, IsTrue, IfOk, IfSome, IfNone};
@@ -35,32 +35,32 @@ use std::collections::VecDeque;
 /// Where a page is.
 #[derive(Clone, Copy, Debug, PartialEq, Eq)]
 pub enum Place {
-    /// Of no version, and not taken.
+    /// In no version, and not taken.
     Free,
     /// Taken by the open write, and not filled yet.
     Reserved,
-    /// Taken by the open write, with a word filled.
+    /// Taken by the open write, with at least one word filled.
     Filled,
-    /// Of the current version.
+    /// In the current version.
     Current,
-    /// Of the current version, and given up by the open write.
+    /// In the current version, and given up by the open write.
     GivenUp,
-    /// Given up by the write that followed the version of this number.
+    /// Given up by the write that followed the version with this number.
     Retired(u64),
 }
 
 /// How a write ends.
 #[derive(Clone, Copy, Debug, PartialEq, Eq)]
 pub(crate) enum Ending {
-    /// What was given up is retired with this number.
+    /// Pages that were given up are retired with this number.
     Published(u64),
-    /// What was given up is free.
+    /// Pages that were given up are free.
     Kept,
-    /// What was taken is free, and what was given up stays.
+    /// Pages that were taken are free, and pages that were given up stay.
     Undone,
 }
 
-/// The places of the pages of a pool.
+/// The places of a pool's pages.
 #[derive(Drop)]
 pub struct PagePool {
     places: Vec<Place>,
@@ -82,7 +82,7 @@ pub struct PagePool {
 impl PagePool {
     ghost use Rattle.be_pages.specs.PagePool.{places};
 
-    /// A pool of pages, of which those below `used` are of the current version, and the others
+    /// A pool of `pages` pages. Those below `used` are in the current version, and the others are
     /// free.
     pub fn new(alloc: Global, pages: usize, used: usize) -> Result<PagePool, AllocError>
         requires { used ≤ pages }
@@ -127,7 +127,7 @@ impl PagePool {
         is_in_hand(self.place(page))
     }
 
-    /// Takes the free page that was freed last, and a spared one only if there is no other.
+    /// Takes the page that was freed last, and a spared one only if there is no other.
     pub fn take(&mut self) -> Option<u64>
         ensures free { IfSome result (λ page. (page < length (places self.old))
             × (place_of (places self.old) page ≡ Free)) }
@@ -143,8 +143,8 @@ impl PagePool {
         Some(page)
     }
 
-    /// Takes a free page for a copy of a page: the one that this page was copied from, if that is
-    /// spared. Otherwise it takes the page that `take` does.
+    /// Takes a free page for a copy of `page`: the one that `page` was copied from, if that is
+    /// spared. Otherwise it takes the page that `take` takes.
     pub fn take_like(&mut self, page: u64) -> Option<u64>
         ensures free { IfSome result (λ copy. (copy < length (places self.old))
             × (place_of (places self.old) copy ≡ Free)) }
@@ -160,8 +160,7 @@ impl PagePool {
         Some(copy)
     }
 
-    /// Marks a page that was taken as one with a word filled. Most calls find it marked, and then
-    /// write nothing.
+    /// Marks a taken page as filled. Most calls find it marked already, and write nothing.
     pub fn fill(&mut self, page: u64)
         requires { IsTrue (is_in_hand (place_of (places self.old) page)) }
         ensures { places self.new ≡ slice_set (places self.old) page Filled }
@@ -172,7 +171,7 @@ impl PagePool {
         self.places[page as usize] = Place::Filled;
     }
 
-    /// Gives a page up. One that the open write took is free at once.
+    /// Gives a page up. A page that the open write took becomes free at once.
     pub fn give_up(&mut self, page: u64)
         requires inside { page < length (places self.old) }
         requires held { IsTrue (is_held_page (place_of (places self.old) page)) }
@@ -192,9 +191,9 @@ impl PagePool {
         }
     }
 
-    /// The write is published: what it filled is of the current version, and what it gave up is
-    /// retired with this number, which no retired page's number may pass. A page that was taken and
-    /// not filled is free.
+    /// Publishes the write. Pages that it filled are in the current version; pages that it gave up
+    /// are retired with this number. No retired page may have a greater number. A page that was
+    /// taken but not filled is free.
     pub fn publish(&mut self, number: u64)
         requires newest { (q : ℕ) → retired_at (places self.old) q ≤ number }
         ensures { places self.new ≡ map (published_place number) (places self.old) }
@@ -202,21 +201,22 @@ impl PagePool {
         self.end(Ending::Published(number));
     }
 
-    /// The write is kept: what it took is of the current version, and what it gave up is free.
+    /// Keeps the write: pages that it took are in the current version, and pages that it gave up
+    /// are free.
     pub fn keep(&mut self)
         ensures { places self.new ≡ map kept_place (places self.old) }
     {
         self.end(Ending::Kept);
     }
 
-    /// The write is undone: what it took is free, and what it gave up stays.
+    /// Undoes the write: pages that it took are free, and pages that it gave up stay.
     pub fn undo(&mut self)
         ensures { places self.new ≡ map undone_place (places self.old) }
     {
         self.end(Ending::Undone);
     }
 
-    /// Ends a write: each page that it touched is settled.
+    /// Ends a write by settling each page that it touched.
     fn end(&mut self, ending: Ending)
         requires newest { IsNewest ending (retired_at (places self.old)) }
         ensures { places self.new ≡ map (place_after ending) (places self.old) }
@@ -242,7 +242,7 @@ impl PagePool {
         }
     }
 
-    /// The pages that are retired with a number below `least` are free.
+    /// Frees the pages that are retired with a number below `least`.
     pub fn sweep(&mut self, least: u64)
         ensures { places self.new ≡ map (swept_place least) (places self.old) }
     {
@@ -271,7 +271,7 @@ impl PagePool {
         }
     }
 
-    /// The number that a page is retired with.
+    /// The number with which a page is retired.
     fn number(&self, page: u64) -> u64
         requires { is_retired (place_of (places self.now) page) ≡ true }
         ensures { result ≡ retired_at (places self.now) page }
@@ -297,7 +297,7 @@ impl PagePool {
     }
 }
 
-/// Whether a page is one that the open write has taken.
+/// Whether the place is that of a page that the open write has taken.
 fn is_in_hand(place: Place) -> bool
     ensures { result ≡ is_in_hand place }
 {
@@ -307,7 +307,7 @@ fn is_in_hand(place: Place) -> bool
     }
 }
 
-/// Whether the open write has left a page as it was.
+/// Whether the place is that of a page that the open write hasn't touched.
 fn is_idle(place: Place) -> bool
     ensures { result ≡ is_idle place }
 {
@@ -317,7 +317,7 @@ fn is_idle(place: Place) -> bool
     }
 }
 
-/// What becomes of a page as a write ends.
+/// What becomes of a page when a write ends.
 fn settled(ending: Ending, place: Place) -> Place
     ensures { result ≡ place_after ending place }
 {

@@ -1,16 +1,16 @@
-//! A set of pages, of which the last that came in is the first that `pop` takes out.
+//! A set of pages. `pop` takes the page that was added last.
 ghost use Rattle.std.specs.Prelude.{◌≡◌, ◌≢◌, ℕ, ◌<◌, ◌≤◌, ◌==◌, if◌then◌else◌, Bool, true, false};
 ghost use Rattle.std.specs.Prelude.{length, vec_len, count_by, IfOk, IfSome, IfNone};
 ghost use Rattle.be_pages.specs.PageSet.{has_page, is_place, IsListed};
 
 use std::alloc::{AllocError, Global};
 
-/// A set of the pages below a number. No call but `new` and `from` takes memory.
+/// A set of pages below a number. Only `new` and `from` allocate memory.
 #[derive(Drop)]
 pub(crate) struct PageSet {
     list: Vec<u64>,
     len: usize,
-    /// Of each page one more than its place in the list, or 0.
+    /// For each page, its place in the list plus one, or 0.
     places: Vec<usize>,
     ghost same: { vec_len list ≡ vec_len places },
     ghost counted: { len ≡ count_by is_place places.items },
@@ -18,7 +18,7 @@ pub(crate) struct PageSet {
 }
 
 impl PageSet {
-    /// No page, of those below `pages`.
+    /// The empty set, for pages below `pages`.
     #[tactic(auto, unfolding(crate::specs::PageSet::has_page))]
     pub(crate) fn new(alloc: Global, pages: usize) -> Result<PageSet, AllocError>
         ensures none { IfOk result (λ s. (q : ℕ) → has_page s.places.items q ≡ false) }
@@ -33,7 +33,7 @@ impl PageSet {
         })
     }
 
-    /// The pages from one on that are below `pages`. The lowest is the first to go out.
+    /// The pages from `first` on, below `pages`. The lowest is the first that `pop` takes.
     pub(crate) fn from(alloc: Global, first: usize, pages: usize) -> Result<PageSet, AllocError>
         requires { first ≤ pages }
         ensures in_set { IfOk result (λ s. (q : ℕ) → first ≤ q → q < pages
@@ -48,7 +48,7 @@ impl PageSet {
         Ok(set)
     }
 
-    /// Adds a page, which may be there.
+    /// Adds a page. It may already be in the set.
     #[tactic(auto, unfolding(crate::specs::PageSet::has_page))]
     pub(crate) fn insert(&mut self, page: u64)
         requires { page < length self.old.places.items }
@@ -65,7 +65,8 @@ impl PageSet {
         self.places[at] = self.len;
     }
 
-    /// Takes the last page of the list: the one that came in last, if none was removed since.
+    /// Takes the last page of the list: the one that was added last, if none has been removed
+    /// since.
     #[tactic(auto, unfolding(crate::specs::PageSet::has_page))]
     pub(crate) fn pop(&mut self) -> Option<u64>
         ensures some { IfSome result (λ page. has_page self.old.places.items page ≡ true) }
@@ -97,7 +98,7 @@ impl PageSet {
         }
     }
 
-    /// Takes a page out that is in the set. The last one that came in gets its place.
+    /// Removes a page, which must be in the set. The page that was added last moves to its place.
     #[tactic(auto, unfolding(crate::specs::PageSet::has_page))]
     pub(crate) fn remove(&mut self, page: u64)
         requires { has_page self.old.places.items page ≡ true }

@@ -1,14 +1,14 @@
-//! The two traits over pages.
+//! The traits of page readers and page writers.
 //!
-//! # The states of pages
-//! A page's state in a write (`Standing`) is one function of the page, so the sets of pages that
-//! can be read, taken or given up cannot disagree. Ghost members give this function, the words of
-//! each page and the facts that no call changes; none of them says who holds the words.
+//! # Page states
+//! A page's state in a write (`PageState`) is one function of the page. So the sets of pages that
+//! can be read, taken or given up can't disagree. Ghost members give this function, the words of
+//! each page, and the facts that no call changes. None of them says where the words are stored.
 ghost use Rattle.std.specs.Prelude.{◌≡◌, ℕ, ◌<◌, ◌^◌, ◌==◌, ◌≢◌, if◌then◌else◌, IsTrue, Bool, IfOk};
 ghost use Rattle.std.specs.Prelude.{IfErr, OnErr};
-ghost use Rattle.be_pages.specs.declared.room.Standing.{Standing as Stands};
-ghost use Rattle.be_pages.specs.declared.room.Standing.TheVariants.{Free, Taken, Filled};
-ghost use Rattle.be_pages.specs.Pages.{is_readable, is_taken, is_held, after_give_up, StandsAt};
+ghost use Rattle.be_pages.specs.declared.room.PageState.{PageState as AnyPageState};
+ghost use Rattle.be_pages.specs.declared.room.PageState.TheVariants.{Free, Taken, Filled};
+ghost use Rattle.be_pages.specs.Pages.{is_readable, is_taken, is_held, after_give_up, SetsStateAt};
 ghost use Rattle.be_pages.specs.Refusal.{IsFullOf};
 
 use be_value::Refusal;
@@ -18,115 +18,117 @@ pub const PAGE_WORDS: usize = 512;
 
 /// The state of a page in a write.
 #[derive(Clone, Copy, Debug, PartialEq, Eq)]
-pub enum Standing {
+pub enum PageState {
     /// Neither readable nor taken.
     Free,
     /// Readable since before this write.
     Old,
     /// Readable since before this write, and given up by it.
     GivenUp,
-    /// Taken in this write, and not filled yet.
+    /// Taken by this write, and not filled yet.
     Taken,
-    /// Taken in this write, with a word filled.
+    /// Taken by this write, with at least one word filled.
     Filled,
 }
 
-/// A reader of pages.
+/// A page reader.
 pub trait Look {
-    /// The facts of a reader that no call changes.
+    /// The facts about a reader that no call changes.
     ghost Kept: { Type 0 };
 
     ghost kept: { Self → Kept };
 
-    /// Whether a reader with these facts may be written: its write is open.
+    /// Whether a reader with these facts may be written to: its write is open.
     ghost is_open: { Kept → Bool };
 
     /// The state of each page.
-    ghost standing: { Self → ℕ → Stands };
+    ghost page_state: { Self → ℕ → AnyPageState };
 
     /// The word of a page at a place.
     ghost words: { Self → ℕ → ℕ → ℕ };
 
-    /// A word of a page that was there when the write began, or that the write has taken.
+    /// Reads a word of a page that was in use when the write began, or that the write has taken.
     fn word(&mut self, page: u64, i: usize) -> u64
-        requires readable { IsTrue (is_readable (standing self.old page)) }
+        requires readable { IsTrue (is_readable (page_state self.old page)) }
         requires in_page { i < 512 }
         ensures value { result ≡ words self.old page i }
         ensures kept { kept self.new ≡ kept self.old }
-        ensures standing { standing self.new ≡ standing self.old }
+        ensures page_state { page_state self.new ≡ page_state self.old }
         ensures words { words self.new ≡ words self.old };
 
-    // A page that isn't free has a small number: a root is one more than its page, and a new level
-    // fits too.
-    ghost pages_small: { (reader : Self) (q : ℕ) → standing reader q ≢ Free → q < 2 ^ 32 };
+    // A page that isn't free has a number below 2^32. So a root, which is its page plus one, fits,
+    // also when the tree gets a new level.
+    ghost pages_small: { (reader : Self) (q : ℕ) → page_state reader q ≢ Free → q < 2 ^ 32 };
 }
 
-/// A reader that takes, fills and gives up pages, for one write.
+/// A page writer: a page reader that takes, fills and gives up pages, for one write.
 pub trait Room: Look {
-    /// What a room that has just refused a page says about the refusal's number.
+    /// What holds of the number in the error, if the writer has just returned `Full`.
     ghost full: { Self → ℕ → Type 0 };
 
-    /// Whether a page that can be read is one that this write has taken: such a page may be filled
-    /// again where it is. It takes no look at the page's words.
+    /// Whether this write has taken a readable page: such a page may be filled again in place. It
+    /// doesn't read the page's words.
     fn is_taken(&self, page: u64) -> bool
-        requires readable { IsTrue (is_readable (Self.standing self.now page)) }
-        ensures { result ≡ is_taken (Self.standing self.now page) };
+        requires readable { IsTrue (is_readable (Self.page_state self.now page)) }
+        ensures { result ≡ is_taken (Self.page_state self.now page) };
 
-    /// Takes a free page. Its words have no meaning until they are filled.
+    /// Takes a free page. Its words mean nothing until they are filled.
     fn take(&mut self) -> Result<u64, Refusal>
         requires open { IsTrue (Self.is_open (Self.kept self.old)) }
         ensures page { IfOk result (λ page. (page < 2 ^ 32)
-            × (Self.standing self.old page ≡ Free)) }
-        ensures ok { IfOk result (λ page. StandsAt (Self.standing self.old) (Self.standing self.new)
-            page Taken) }
-        ensures err { OnErr result (Self.standing self.new ≡ Self.standing self.old) }
+            × (Self.page_state self.old page ≡ Free)) }
+        ensures ok { IfOk result (λ page. SetsStateAt (Self.page_state self.old)
+            (Self.page_state self.new) page Taken) }
+        ensures err { OnErr result (Self.page_state self.new ≡ Self.page_state self.old) }
         ensures full { IfErr result (IsFullOf (full self.new)) }
         ensures words { Self.words self.new ≡ Self.words self.old }
         ensures kept { Self.kept self.new ≡ Self.kept self.old };
 
-    /// Takes a free page as `take` does, for a copy of a page. A room may prefer one that has most
-    /// of that page's words already.
+    /// Takes a free page, as `take` does, for a copy of `page`. It may prefer a free page that
+    /// already has most of the words.
     fn take_like(&mut self, page: u64) -> Result<u64, Refusal>
         requires open { IsTrue (Self.is_open (Self.kept self.old)) }
         ensures page { IfOk result (λ page. (page < 2 ^ 32)
-            × (Self.standing self.old page ≡ Free)) }
-        ensures ok { IfOk result (λ page. StandsAt (Self.standing self.old) (Self.standing self.new)
-            page Taken) }
-        ensures err { OnErr result (Self.standing self.new ≡ Self.standing self.old) }
+            × (Self.page_state self.old page ≡ Free)) }
+        ensures ok { IfOk result (λ page. SetsStateAt (Self.page_state self.old)
+            (Self.page_state self.new) page Taken) }
+        ensures err { OnErr result (Self.page_state self.new ≡ Self.page_state self.old) }
         ensures full { IfErr result (IsFullOf (full self.new)) }
         ensures words { Self.words self.new ≡ Self.words self.old }
         ensures kept { Self.kept self.new ≡ Self.kept self.old };
 
-    /// Writes one word of a page that was taken in this write.
+    /// Writes one word of a page that this write has taken.
     fn fill(&mut self, page: u64, i: usize, word: u64)
         requires open { IsTrue (Self.is_open (Self.kept self.old)) }
-        requires taken { IsTrue (is_taken (Self.standing self.old page)) }
+        requires taken { IsTrue (is_taken (Self.page_state self.old page)) }
         requires in_page { i < 512 }
-        ensures standing { StandsAt (Self.standing self.old) (Self.standing self.new) page Filled }
+        ensures page_state { SetsStateAt (Self.page_state self.old) (Self.page_state self.new) page
+            Filled }
         ensures place { (j : ℕ) → Self.words self.new page j
             ≡ (if j == i then word else Self.words self.old page j) }
         ensures others { (q : ℕ) → q ≢ page → Self.words self.new q ≡ Self.words self.old q }
         ensures kept { Self.kept self.new ≡ Self.kept self.old };
 
-    /// Writes one word of a page that has a word filled in this write. It is `fill` for such a
-    /// page, and costs less, since where the page is needn't be looked up.
+    /// Writes one word of a page in which this write has already filled a word. It does what `fill`
+    /// does, and costs less, because it needn't look up where the page is.
     fn refill(&mut self, page: u64, i: usize, word: u64)
         requires open { IsTrue (Self.is_open (Self.kept self.old)) }
-        requires filled { Self.standing self.old page ≡ Filled }
+        requires filled { Self.page_state self.old page ≡ Filled }
         requires in_page { i < 512 }
-        ensures standing { StandsAt (Self.standing self.old) (Self.standing self.new) page Filled }
+        ensures page_state { SetsStateAt (Self.page_state self.old) (Self.page_state self.new) page
+            Filled }
         ensures place { (j : ℕ) → Self.words self.new page j
             ≡ (if j == i then word else Self.words self.old page j) }
         ensures others { (q : ℕ) → q ≢ page → Self.words self.new q ≡ Self.words self.old q }
         ensures kept { Self.kept self.new ≡ Self.kept self.old };
 
-    /// Gives a page up. One that was taken in this write is free at once; any other keeps its words
+    /// Gives a page up. A page that this write took is free at once; any other keeps its words
     /// until the write is kept.
     fn give_up(&mut self, page: u64)
         requires open { IsTrue (Self.is_open (Self.kept self.old)) }
-        requires held { IsTrue (is_held (Self.standing self.old page)) }
-        ensures standing { StandsAt (Self.standing self.old) (Self.standing self.new) page
-            (after_give_up (Self.standing self.old page)) }
+        requires held { IsTrue (is_held (Self.page_state self.old page)) }
+        ensures page_state { SetsStateAt (Self.page_state self.old) (Self.page_state self.new) page
+            (after_give_up (Self.page_state self.old page)) }
         ensures words { Self.words self.new ≡ Self.words self.old }
         ensures kept { Self.kept self.new ≡ Self.kept self.old };
 }

@@ -1,16 +1,16 @@
-//! A room in memory: a pool's places, and the words of its pages one page after another. Tests use
-//! it in place of a table, and so does code in which one thread alone reads and writes.
+//! A page writer in memory: a pool's places, and the words of its pages, one page after another.
+//! Tests use it instead of a table. So does code in which only one thread reads and writes.
 ghost use Rattle.std.specs.Prelude.{◌≡◌, ◌≢◌, ℕ, ◌<◌, ◌≤◌, ◌*◌, false, length, vec_len, count_by};
 ghost use Rattle.std.specs.Prelude.{slice_index, IfOk, IfErr, OnErr, ◌^◌};
-ghost use Rattle.be_pages.specs.declared.room.Standing.TheVariants.{Free, Taken};
-ghost use Rattle.be_pages.specs.Pages.{StandsAt, after_keep, after_undo, is_takable};
+ghost use Rattle.be_pages.specs.declared.room.PageState.TheVariants.{Free, Taken};
+ghost use Rattle.be_pages.specs.Pages.{SetsStateAt, after_keep, after_undo, is_takable};
 ghost use Rattle.be_pages.specs.PagePool.{places};
 ghost use Rattle.be_pages.specs.Place.{is_retired, place_of};
 ghost use Rattle.be_pages.specs.Refusal.{IsFullOf, IsLimitOrMemory};
-ghost use Rattle.be_pages.specs.VecRoom.{NoneFree, standing_in, standings, pool_word};
+ghost use Rattle.be_pages.specs.VecRoom.{NoneFree, page_state_in, page_states, pool_word};
 
 use crate::page_pool::PagePool;
-use crate::room::{Look, PAGE_WORDS, Room, Standing};
+use crate::room::{Look, PAGE_WORDS, PageState, Room};
 use be_value::Refusal;
 use std::alloc::{AllocError, Global};
 
@@ -27,7 +27,7 @@ pub struct VecRoom {
 impl Look for VecRoom {
     ghost use Rattle.std.specs.Prelude.{ℕ, length, true};
     ghost use Rattle.be_pages.specs.PagePool.{places};
-    ghost use Rattle.be_pages.specs.VecRoom.{standing_in, pool_word, small_in};
+    ghost use Rattle.be_pages.specs.VecRoom.{page_state_in, pool_word, small_in};
 
     ghost Kept = { ℕ };
 
@@ -35,7 +35,7 @@ impl Look for VecRoom {
 
     ghost is_open = { λ _. true };
 
-    ghost standing = { λ r q. standing_in (places r.pool) q };
+    ghost page_state = { λ r q. page_state_in (places r.pool) q };
 
     ghost words = { λ r q i. pool_word r.words.items q i };
 
@@ -86,12 +86,12 @@ impl Room for VecRoom {
 }
 
 impl VecRoom {
-    /// A room whose pages are all free. `BadLimits` for a number of pages out of its range,
-    /// otherwise `OutOfMemory` if a growth was refused.
+    /// A pool whose pages are all free. The error is `BadLimits` if the number of pages is out of
+    /// its range, and otherwise `OutOfMemory`.
     pub fn new(alloc: Global, pages: u64) -> Result<VecRoom, Refusal>
         ensures ok { IfOk result (λ r. (8 ≤ pages) × (pages ≤ 16384)
             × (⟦<VecRoom as Look>⟧.kept r ≡ pages)) }
-        ensures free { IfOk result (λ r. (q : ℕ) → ⟦<VecRoom as Look>⟧.standing r q ≡ Free) }
+        ensures free { IfOk result (λ r. (q : ℕ) → ⟦<VecRoom as Look>⟧.page_state r q ≡ Free) }
         ensures err { IfErr result (IsLimitOrMemory pages) }
     {
         if pages < 8 || pages > 16384 {
@@ -103,28 +103,28 @@ impl VecRoom {
     fn of_pages(alloc: Global, pages: usize) -> Result<VecRoom, AllocError>
         requires { pages ≤ 16384 }
         ensures pages { IfOk result (λ r. length (places r.pool) ≡ pages) }
-        ensures free { IfOk result (λ r. (q : ℕ) → standing_in (places r.pool) q ≡ Free) }
+        ensures free { IfOk result (λ r. (q : ℕ) → page_state_in (places r.pool) q ≡ Free) }
     {
         let words = vec![in alloc; 0; pages * PAGE_WORDS]?;
         let pool = PagePool::new(alloc, pages, 0)?;
         Ok(VecRoom { words, pool })
     }
 
-    /// The write is kept: pages that it gave up are free, and pages that it took stay. Costs what
-    /// the write touched.
+    /// Keeps the write: pages that it gave up are free, and pages that it took stay. The cost
+    /// depends on how many pages the write touched.
     pub fn keep(&mut self)
-        ensures standing { (q : ℕ) → ⟦<VecRoom as Look>⟧.standing self.new q
-            ≡ after_keep (⟦<VecRoom as Look>⟧.standing self.old q) }
+        ensures page_state { (q : ℕ) → ⟦<VecRoom as Look>⟧.page_state self.new q
+            ≡ after_keep (⟦<VecRoom as Look>⟧.page_state self.old q) }
         ensures words { ⟦<VecRoom as Look>⟧.words self.new ≡ ⟦<VecRoom as Look>⟧.words self.old }
         ensures kept { ⟦<VecRoom as Look>⟧.kept self.new ≡ ⟦<VecRoom as Look>⟧.kept self.old }
     {
         self.pool.keep();
     }
 
-    /// The write is undone: pages that it took are free, and pages that it gave up are old again.
+    /// Undoes the write: pages that it took are free, and pages that it gave up are old again.
     pub fn undo(&mut self)
-        ensures standing { (q : ℕ) → ⟦<VecRoom as Look>⟧.standing self.new q
-            ≡ after_undo (⟦<VecRoom as Look>⟧.standing self.old q) }
+        ensures page_state { (q : ℕ) → ⟦<VecRoom as Look>⟧.page_state self.new q
+            ≡ after_undo (⟦<VecRoom as Look>⟧.page_state self.old q) }
         ensures words { ⟦<VecRoom as Look>⟧.words self.new ≡ ⟦<VecRoom as Look>⟧.words self.old }
         ensures kept { ⟦<VecRoom as Look>⟧.kept self.new ≡ ⟦<VecRoom as Look>⟧.kept self.old }
     {
@@ -134,7 +134,7 @@ impl VecRoom {
     /// How many pages are free.
     #[tactic(auto, using(crate::proofs::Rooms::count_free))]
     pub fn free(&self) -> u64
-        ensures { result ≡ count_by is_takable (standings (places self.now.pool)) }
+        ensures { result ≡ count_by is_takable (page_states (places self.now.pool)) }
     {
         self.pool.free() as u64
     }

@@ -1,4 +1,4 @@
--- A text without a special character spells its characters.
+-- A text without special characters encodes its characters.
 use Rattle.std.proofs.Common.{◌≡◌, ℕ, ◌<◌, true, false, List, [], ◌∷◌, ◌++◌, ◌||◌, ◌&&◌, map, Ok, refl, sym, ap, ◌∙◌, arith, IsUtf8}
 use Rattle.std.specs.Prelude.{encode_utf8, encode_utf8_all, nat_eq}
 use Rattle.std.specs.Cmp.Lexicographic.{pointwise}
@@ -65,7 +65,7 @@ own_front (c ∷ cs) = ap (λ l. c ∷ l) (own_front cs)
 pub front_text : (text : List ℕ) → IsUtf8 text → encode_utf8_all (literal_prefix (map Only (chars text))) ≡ text
 front_text text u = ap encode_utf8_all (own_front (chars text)) ∙ encodes-chars text u
 
--- A literal text matches itself alone.
+-- A literal text matches only itself.
 
 own_matches : (cs ds : List ℕ) → matches (map Only cs) ds ≡ pointwise nat_eq ds cs
 own_matches [] [] = refl

@@ -1,4 +1,4 @@
--- The canonical text of a pattern, and what of it is literal. Texts are lists of characters here.
+-- A pattern's canonical text, and its literal prefix. Here texts are lists of characters.
 use Rattle.std.specs.Prelude.{ℕ, Bool, true, false, List, [], ◌∷◌, ◌++◌, map, codes, ◌&&◌, ◌||◌}
 use Rattle.std.specs.Prelude.{◌==◌, if◌then◌else◌}
 use Rattle.std.specs.List.{flat_map, list_all}
@@ -15,7 +15,7 @@ is_literal (Only c) = true
 abbrev pub is_plain : List Part → Bool
 is_plain = list_all is_literal
 
--- no wildcard, or one `*` that comes last
+-- no wildcard, or only one `*` at the end
 abbrev pub is_prefix : List Part → Bool
 is_prefix [] = true
 is_prefix (Run ∷ []) = true
@@ -69,13 +69,13 @@ canonical = flat_map part_text
 
 -- `*`, if the flag is set
 abbrev pub run_if : Bool → List Part
-run_if stands = if stands then Run ∷ [] else []
+run_if is_there = if is_there then Run ∷ [] else []
 
 -- a literal text, with `*` before it and after it if the flags are set
 abbrev pub around : Bool → List ℕ → Bool → List Part
 around before cs beyond = run_if before ++ (map Only cs ++ run_if beyond)
 
--- a set has members, and none that falls
+-- a set has members, and no descending range
 abbrev pub is_formed : Part → Bool
 is_formed Run = true
 is_formed One = true
@@ -89,7 +89,7 @@ are_formed = list_all is_formed
 abbrev pub notation : List ℕ
 notation = codes "\\*?[]^-"
 
--- each character that a token names passes the test
+-- each character in the token passes the test
 abbrev pub has_only : (ℕ → Bool) → Part → Bool
 has_only test Run = true
 has_only test One = true

@@ -1,5 +1,5 @@
--- What the code has read of a pattern's text, as the definitions see it. It serves the proofs
--- alone: `Parse` says what a text means.
+-- What the code has read of a pattern's text, in terms of the definitions. Only the proofs need it:
+-- `Parse` says what a text means.
 use Rattle.std.specs.Prelude.{ℕ, ◌+◌, ◌-◌, zero, suc, Bool, true, false, Option, Some, None, List}
 use Rattle.std.specs.Prelude.{[], ◌∷◌, length, drop, ◌&&◌, not, if◌then◌else◌}
 use Rattle.std.specs.List.{list_any, before_first}
@@ -11,14 +11,14 @@ use Rattle.be_pattern.specs.Parse.{Letter, letters, ending_backslash, is_bare, m
 abbrev pub letter_of : ℕ → code.Letter → Letter
 letter_of at l = record { at = at; escaped = l.escaped; char = l.char }
 
--- the letters of the end of a text of that many bytes
+-- the letters of the last part of a text that has `total` bytes
 abbrev pub letters_in : ℕ → List ℕ → List Letter
 letters_in total rest = letters false (total - length rest) (chars rest)
 
 abbrev pub ending_in : ℕ → List ℕ → Option ℕ
 ending_in total rest = ending_backslash false (total - length rest) (chars rest)
 
--- the place where that many last bytes begin, if there are any
+-- the place where the last bytes begin, if their number isn't 0
 abbrev pub ending_of : ℕ → ℕ → Option ℕ
 ending_of total zero = None
 ending_of total (suc n) = Some (total - suc n)
@@ -33,7 +33,7 @@ abbrev pub end_or : ℕ × List Letter → Option (ℕ × List Letter) → ℕ �
 end_or single None = single
 end_or single (Some p) = p
 
--- the last character of a member that begins with this one, and the letters after it
+-- the last character of a member that begins with c, and the letters after it
 abbrev pub member_end : ℕ → List Letter → ℕ × List Letter
 member_end c ls = end_or (c, ls) (dashed ls)
 

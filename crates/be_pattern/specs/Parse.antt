@@ -1,4 +1,4 @@
--- What a pattern's text means. Places are in bytes, characters are their numbers.
+-- What a pattern's text means. Places are in bytes, and characters are numbers.
 use Rattle.std.specs.Prelude.{◌≡◌, ◌⊎◌, ℕ, ◌+◌, ◌≤◌, zero, suc, Bool, true, false, Option, Some}
 use Rattle.std.specs.Prelude.{None, Result, Ok, Err, List, [], ◌∷◌, length, ◌&&◌, not, ◌==◌, nat_lt}
 use Rattle.std.specs.Prelude.{if◌then◌else◌}
@@ -8,13 +8,14 @@ use Rattle.be_value.specs.declared.refusals.Refusal.{Refusal}
 use Rattle.be_value.specs.declared.refusals.Refusal.TheVariants.{OutOfMemory, BadPattern}
 use Rattle.be_pattern.specs.Match.{Part, Run, One, Among, Only}
 
--- A character of the text: where it begins, with its backslash, and whether it has one.
+-- A character of the text: the place where it begins, including its backslash, and whether it has
+-- one.
 pub record Letter : Type 0 where
   pub at : ℕ
   pub escaped : Bool
   pub char : ℕ
 
--- the letters of the text from a place on; the flag says whether a backslash there precedes them
+-- the letters of the text from a place on; the flag says whether a backslash comes before it
 abbrev pub letters : Bool → ℕ → List ℕ → List Letter
 letters escaped at [] = []
 letters true at (c ∷ cs) = record { at = at; escaped = true; char = c }
@@ -30,11 +31,11 @@ ending_backslash true at (c ∷ cs) = ending_backslash false (at + 1 + len_utf8 
 ending_backslash false at (c ∷ cs) = if c == 92 then ending_backslash true at cs
     else ending_backslash false (at + len_utf8 c) cs
 
--- the letter is this character, with no backslash
+-- the letter is this character without a backslash
 abbrev pub is_bare : ℕ → Letter → Bool
 is_bare c l = (l.char == c) && not l.escaped
 
--- The members of a set: `c-d` from c to d, any other letter from itself to itself.
+-- The members of a set: `c-d` goes from c to d, and any other letter is a range of itself.
 abbrev pub members : List Letter → List (ℕ × ℕ)
 members [] = []
 members (c ∷ []) = (c.char, c.char) ∷ []
@@ -42,11 +43,11 @@ members (c ∷ d ∷ []) = (c.char, c.char) ∷ (d.char, d.char) ∷ []
 members (c ∷ d ∷ e ∷ ls) = if is_bare 45 d then (c.char, e.char) ∷ members ls else (c.char, c.char)
     ∷ members (d ∷ e ∷ ls)
 
--- some range ends before it begins
+-- some range is descending
 abbrev pub falls : List (ℕ × ℕ) → Bool
 falls = list_any (λ m. nat_lt m.1 m.0)
 
--- some, and none that falls
+-- there are members, and none is descending
 abbrev pub are_members : List (ℕ × ℕ) → Bool
 are_members [] = false
 are_members (m ∷ ms) = not (falls (m ∷ ms))
@@ -54,7 +55,7 @@ are_members (m ∷ ms) = not (falls (m ∷ ms))
 abbrev pub set_with : Bool → List (ℕ × ℕ) → Option Part
 set_with negated ms = if are_members ms then Some (Among negated ms) else None
 
--- the set whose letters between the brackets these are
+-- the set with these letters between its brackets
 abbrev pub set_of : List Letter → Option Part
 set_of [] = None
 set_of (l ∷ ls) = if is_bare 94 l then set_with true (members ls)
@@ -64,7 +65,7 @@ abbrev pub with_length : ℕ → Option Part → Option (Part × ℕ)
 with_length n None = None
 with_length n (Some p) = Some (p, n)
 
--- the set after a `[`, and how many letters it takes with its `]`
+-- the set after a `[`, and how many letters it has, including its `]`
 abbrev pub set_at : List Letter → Option (Part × ℕ)
 set_at ls =
     let body = before_first (is_bare 93) ls in
@@ -74,8 +75,8 @@ abbrev pub and_then : Part → Result (List Part) ℕ → Result (List Part) ℕ
 and_then p (Ok ps) = Ok (p ∷ ps)
 and_then p (Err at) = Err at
 
--- The tokens of the letters after the first ones, which were taken already; or where the first
--- faulty set begins.
+-- The tokens of the letters after the first `taken` ones, which have been read; or the place of the
+-- first invalid set.
 abbrev pub parts_after : ℕ → List Letter → Result (List Part) ℕ
 parts_after taken [] = Ok []
 parts_after (suc taken) (l ∷ ls) = parts_after taken ls
@@ -86,12 +87,12 @@ parts_after zero (l ∷ ls) =
     [ None ↦ Err l.at | Some s ↦ and_then s.0 (parts_after s.1 ls) ])
     else and_then (Only l.char) (parts_after 0 ls)))
 
--- The tokens of a pattern's text, or the place of its fault.
+-- The tokens of a pattern's text, or the place where it is invalid.
 abbrev pub pattern : List ℕ → Result (List Part) ℕ
 pattern cs = elim (ending_backslash false 0 cs)
     [ Some at ↦ Err at | None ↦ parts_after 0 (letters false 0 cs) ]
 
--- the refusal of a text of that many bytes: out of memory, or the place of its fault
+-- the error for a text of `len` bytes: out of memory, or the place where it is invalid
 abbrev pub IsFault : Result (List Part) ℕ → ℕ → Refusal → Type 0
 IsFault read len e = (e ≡ OutOfMemory)
     ⊎ ((at : ℕ) × (e ≡ BadPattern at) × (read ≡ Err at) × (at ≤ len))

@@ -1,4 +1,4 @@
-//! Matching with one place to go back to.
+//! Matching with one place to backtrack to.
 ghost use Rattle.std.specs.Prelude.{false, ◌≡◌, ◌∷◌, ◌++◌, ◌<◌, [], length, encode_utf8, IfNone};
 ghost use Rattle.std.specs.Prelude.{IfSome};
 ghost use Rattle.std.specs.List.{list_any};
@@ -45,7 +45,7 @@ fn takes(token: &Token, c: char) -> bool
     }
 }
 
-/// The tokens after a `*` that comes first.
+/// The tokens after a `*`, if that comes first.
 fn split_run(tokens: &[Token]) -> Option<&[Token]>
     ensures found { IfSome result (λ after. parts_of tokens.now ≡ Run ∷ parts_of after.now) }
     ensures none { IfNone result (begins_with_run (parts_of tokens.now) ≡ false) }
@@ -57,7 +57,8 @@ fn split_run(tokens: &[Token]) -> Option<&[Token]>
     }
 }
 
-/// The tokens and the text after the first of each, if the one takes the other.
+/// The tokens after the first and the text after its first character, if that token takes that
+/// character.
 fn take_one<'a>(tokens: &'a [Token], text: &'a str) -> Option<(&'a [Token], &'a str)>
     ensures taken { IfSome result (λ p. TakesOne (parts_of tokens.now) (chars text.now)
         (parts_of p.0.now) (chars p.1.now)) }
@@ -76,13 +77,13 @@ fn take_one<'a>(tokens: &'a [Token], text: &'a str) -> Option<(&'a [Token], &'a 
     }
 }
 
-/// Whether the tokens match the text. Only the last `*` that was passed is gone back to.
+/// Whether the tokens match the text. It backtracks only to the last `*` that it passed.
 pub(crate) fn matches(all: &[Token], text: &str) -> bool
     ensures { result ≡ matches (parts_of all.now) (chars text.now) }
 {
     let mut tokens = all;
     let mut rest = text;
-    // The tokens after that `*`, and where its run ends for now.
+    // The tokens after that `*`, and where its run ends so far.
     let mut retry: Option<(&[Token], &str)> = None;
     'scan: loop {
         if let Some(after) = split_run(tokens) {

@@ -1,5 +1,5 @@
-//! Reading a pattern's text, letter by letter: a letter is a character, with a backslash before it
-//! or without.
+//! Reads a pattern's text letter by letter. A letter is a character, with or without a backslash
+//! before it.
 ghost use Rattle.std.specs.Prelude.{◌≡◌, ◌<◌, ◌≤◌, ◌-◌, ◌∷◌, ℕ, [], map, true, false, length, Ok};
 ghost use Rattle.std.specs.Prelude.{Some, None, IfOk, IfErr, IfSome, IfNone, MatchOption};
 ghost use Rattle.std.specs.List.{list_any};
@@ -16,7 +16,7 @@ use crate::token::Token;
 use be_value::Refusal;
 use std::alloc::{AllocError, Global};
 
-/// For how many tokens memory is asked for before they are read.
+/// The maximum number of tokens for which memory is reserved before they are read.
 const MAX_ROOM: usize = 64;
 
 /// A character of a pattern's text.
@@ -27,7 +27,7 @@ struct Letter {
 }
 
 impl Letter {
-    /// Whether the letter is this character, with no backslash.
+    /// Whether the letter is this character without a backslash.
     fn is_plain(self, c: char) -> bool
         ensures { (at : ℕ) → is_bare c (letter_of at self) ≡ result }
     {
@@ -35,7 +35,7 @@ impl Letter {
     }
 }
 
-/// The first letter and the text after it. There is none at the end, and none of an ending
+/// The first letter, and the text after it. `None` at the end of the text and for an ending
 /// backslash.
 fn split_letter(text: &str) -> Option<(Letter, &str)>
     ensures some { IfSome result (λ p. (total : ℕ) → length text.now ≤ total
@@ -85,22 +85,21 @@ fn after_letters(text: &str) -> &str
     rest
 }
 
-/// Whether one of the bytes is a character that means more than itself without a backslash, or a
-/// `"`.
+/// Whether one of the bytes is a `"`, or a character that has another meaning without a backslash.
 fn has_special(bytes: &[u8]) -> bool
     ensures { result ≡ list_any is_special bytes.now }
 {
     bytes.iter().any(|b| *b == b'"' || *b == b'\\' || *b == b'*' || *b == b'?' || *b == b'[')
 }
 
-/// Whether it is seen from the bytes that each character of a text is a token of its own.
+/// Whether each character of a text is plainly a token of its own. Only the bytes are examined.
 pub(crate) fn is_literal(text: &str) -> bool
     ensures { result ≡ true → pattern (chars text.now) ≡ Ok (map Only (chars text.now)) }
 {
     !has_special(text.as_bytes())
 }
 
-/// For how many tokens of a text memory is asked for at once.
+/// The number of tokens for which memory is reserved before a text is read.
 fn room_for(text: &str) -> usize {
     text.len().min(MAX_ROOM)
 }
@@ -126,7 +125,7 @@ pub(crate) fn parse(alloc: Global, text: &str) -> Result<Vec<Token>, Refusal>
     Ok(tokens)
 }
 
-/// The token that begins with a letter, and the text after it, or nothing if it is a faulty set.
+/// The token that begins with a letter, and the text after it. `None` if it is an invalid set.
 fn read_token(
     alloc: Global,
     letter: Letter,
@@ -151,7 +150,7 @@ fn read_token(
     Ok(Some((Token::Literal(char), text)))
 }
 
-/// The text after a `^` that comes first.
+/// The text after a `^`, if that comes first.
 fn split_caret(text: &str) -> Option<&str>
     ensures some { IfSome result (λ after. (total : ℕ) → length text.now ≤ total
         → set_after (letters_in total text.now)
@@ -171,7 +170,7 @@ fn split_caret(text: &str) -> Option<&str>
     }
 }
 
-/// The set after a `[`, and the text after its `]`, or nothing if it is faulty.
+/// The set after a `[`, and the text after its `]`. `None` if the set is invalid.
 fn read_set(alloc: Global, text: &str) -> Result<Option<(Token, &str)>, AllocError>
     ensures set { IfOk result (λ o. (total : ℕ) → length text.now ≤ total → MatchOption o
         (set_after (letters_in total text.now) ≡ None)
@@ -185,8 +184,7 @@ fn read_set(alloc: Global, text: &str) -> Result<Option<(Token, &str)>, AllocErr
     }
 }
 
-/// The set whose members begin at the front of a text, and the text after its `]`, or nothing if it
-/// is faulty.
+/// The set whose members begin the text, and the text after its `]`. `None` if the set is invalid.
 fn read_members(
     alloc: Global,
     negated: bool,
@@ -215,7 +213,7 @@ fn read_members(
     Ok(None)
 }
 
-/// The last character of a range that goes on at the front of a text, and the text after it.
+/// If `-` and a character come next, as in a range: that character, and the text after it.
 fn split_range(text: &str) -> Option<(char, &str)>
     ensures none { IfNone result ((total : ℕ) → length text.now ≤ total
         → dashed (letters_in total text.now) ≡ None) }
@@ -239,7 +237,7 @@ fn split_range(text: &str) -> Option<(char, &str)>
     Some((last, beyond))
 }
 
-/// The last character of a member that begins with this one, and the text after the member.
+/// The last character of a member that begins with `first`, and the text after the member.
 fn range_end(first: char, text: &str) -> (char, &str)
     ensures end { (total : ℕ) → length text.now ≤ total
         → member_end first (letters_in total text.now) ≡ (result.0, letters_in total result.1.now) }
@@ -251,14 +249,14 @@ fn range_end(first: char, text: &str) -> (char, &str)
     }
 }
 
-/// Whether the ranges are some, and none ends before it begins.
+/// Whether there are ranges, and none is descending.
 fn are_members(members: &[(char, char)]) -> bool
     ensures { result ≡ are_members members.now }
 {
     !members.is_empty() && !falls(members)
 }
 
-/// Whether one of the ranges ends before it begins.
+/// Whether one of the ranges is descending, such as `z-a`.
 fn falls(members: &[(char, char)]) -> bool
     ensures { result ≡ falls members.now }
 {

@@ -1,4 +1,4 @@
-//! A pattern's canonical text, and its literal front.
+//! A pattern's canonical text, and its literal prefix.
 ghost use Rattle.std.specs.Prelude.{◌≡◌, ◌++◌, ◌∷◌, ◌<◌, false, [], length, IfOk, IfNone, IfSome};
 ghost use Rattle.std.specs.Prelude.{string_bytes, encode_utf8_all};
 ghost use Rattle.std.specs.List.{flat_map};
@@ -10,7 +10,6 @@ ghost use Rattle.be_pattern.specs.Canonical.{member_char, class_opening, part_te
 use crate::token::Token;
 use std::alloc::{AllocError, Global};
 
-/// Whether the token is a literal character.
 fn is_literal(token: &Token) -> bool
     ensures { result ≡ is_literal (part_of token.now) }
 {
@@ -39,7 +38,7 @@ pub(crate) fn is_plain(tokens: &[Token]) -> bool
     true
 }
 
-/// Whether a token that isn't literal is a `*` with nothing after it.
+/// Whether a token that isn't literal is a `*` at the end.
 fn is_last_run(token: &Token, after: &[Token]) -> bool
     requires { is_literal (part_of token.now) ≡ false }
     ensures { result ≡ is_prefix (part_of token.now ∷ parts_of after.now) }
@@ -50,7 +49,7 @@ fn is_last_run(token: &Token, after: &[Token]) -> bool
     }
 }
 
-/// Whether there is no wildcard, or one `*` that comes last.
+/// Whether there is no wildcard, or only one `*` at the end.
 pub(crate) fn is_prefix(tokens: &[Token]) -> bool
     ensures { result ≡ is_prefix (parts_of tokens.now) }
 {
@@ -64,7 +63,7 @@ pub(crate) fn is_prefix(tokens: &[Token]) -> bool
     true
 }
 
-/// The first token's character and the tokens after it, if that token is literal.
+/// The first token's character, and the tokens after it, if that token is literal.
 fn split_literal(tokens: &[Token]) -> Option<(char, &[Token])>
     ensures some { IfSome result (λ p. parts_of tokens.now ≡ Only p.0 ∷ parts_of p.1.now) }
     ensures none { IfNone result (literal_prefix (parts_of tokens.now) ≡ []) }
@@ -131,7 +130,7 @@ fn is_special_in_set(c: char) -> bool
     c == '"' || c == '\\' || c == '[' || c == ']' || c == '^' || c == '-'
 }
 
-/// Appends a character, after a backslash if the flag says so.
+/// Appends a character, with a backslash before it if the flag is set.
 fn push_marked(text: &mut String, c: char, backslash: bool) -> Result<(), AllocError>
     ensures { IfOk result (λ _. string_bytes text.new ≡ string_bytes text.old
         ++ encode_utf8_all (marked backslash c)) }
@@ -143,7 +142,6 @@ fn push_marked(text: &mut String, c: char, backslash: bool) -> Result<(), AllocE
     text.push(c)
 }
 
-/// Appends a set.
 fn push_set(text: &mut String, negated: bool, members: &[(char, char)]) -> Result<(), AllocError>
     ensures { IfOk result (λ _. string_bytes text.new
         ≡ string_bytes text.old ++ encode_utf8_all
@@ -159,7 +157,7 @@ fn push_set(text: &mut String, negated: bool, members: &[(char, char)]) -> Resul
     Ok(())
 }
 
-/// Appends what a set begins with.
+/// Appends the beginning of a set: `[` or `[^`.
 fn push_opening(text: &mut String, negated: bool) -> Result<(), AllocError>
     ensures { IfOk result (λ _. string_bytes text.new ≡ string_bytes text.old
         ++ encode_utf8_all (class_opening negated)) }
@@ -170,7 +168,6 @@ fn push_opening(text: &mut String, negated: bool) -> Result<(), AllocError>
     text.push('[')
 }
 
-/// Appends a member of a set.
 fn push_member(text: &mut String, range: (char, char)) -> Result<(), AllocError>
     ensures { IfOk result (λ _. string_bytes text.new ≡ string_bytes text.old
         ++ encode_utf8_all (member range)) }

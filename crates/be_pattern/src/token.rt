@@ -1,4 +1,4 @@
-//! The tokens of a pattern.
+//! A pattern's tokens.
 
 /// One token of a pattern.
 #[derive(Debug, Drop)]
@@ -7,7 +7,7 @@ pub enum Token {
     AnyRun,
     /// `?`: one character.
     AnyOne,
-    /// One character that is in one of the ranges, or, if negated, in none.
+    /// One character that is in one of the ranges or, if negated, in none.
     Set {
         negated: bool,
         members: Vec<(char, char)>,

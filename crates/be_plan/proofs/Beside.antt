@@ -7,7 +7,7 @@ use Rattle.std.specs.declared.cmp.Ordering.TheVariants.{Less, Equal, Greater}
 use Rattle.be_volume.specs.Maps.{name_cmp}
 use Rattle.be_plan.proofs.Bounds.{not_below_empty, not_less}
 
--- what is above a key is not below the key with a zero byte
+-- what is above a key isn't below the key with a zero byte
 pub above_zero : (k a : List ℕ) → is_gt (name_cmp k a) ≡ true → is_lt (name_cmp k (a ++ 0 ∷ [])) ≡ false
 above_zero [] [] h = cc
 above_zero [] (y ∷ a) h = cc
@@ -24,7 +24,7 @@ above_zero (x ∷ k) (y ∷ a) h = by (nat_cmp x y) (above_zero k a) h
     by Equal rest e = rest e
     by Greater rest e = refl
 
--- what is below a key with a zero byte is not above the key without it
+-- what is below a key with a zero byte isn't above the key without it
 pub below_zero : (k a : List ℕ) → is_lt (name_cmp k (a ++ 0 ∷ [])) ≡ true → is_gt (name_cmp k a) ≡ false
 below_zero [] [] h = refl
 below_zero [] (y ∷ a) h = refl

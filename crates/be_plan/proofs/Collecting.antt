@@ -1,10 +1,10 @@
--- What is collected step by step.
+-- What is collected, step by step.
 use Rattle.std.proofs.Common.{ℕ, List, inl, inr}
 use Rattle.be_query.specs.Grammar.{Formula}
 use Rattle.be_volume.specs.Volume.{State}
 use Rattle.be_plan.specs.Walk.{Collects}
 
--- no step has collected nothing
+-- without a step nothing is collected
 pub collects_none : (s : State) (f : Formula) (found : List ℕ) → Collects s f found found
 collects_none s f found = record { keeps = λ n h. h; only = λ n h. inl h }
 

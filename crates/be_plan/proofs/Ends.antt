@@ -1,4 +1,4 @@
--- What the ends of a range tell of its keys.
+-- What the ends of a range say about its keys.
 use Rattle.std.proofs.Common.{◌≡◌, ◌<◌, ◌^◌, ℕ, Bool, true, false, not, List, Some, None, if◌then◌else◌, refl, sym, ap, ◌∙◌}
 use Rattle.std.specs.List.{Contains}
 use Rattle.std.specs.Ordering.{is_lt, is_gt, ordering_reverse}
@@ -19,7 +19,7 @@ use Rattle.be_plan.specs.declared.ranges.Range.{Range}
 use Rattle.be_plan.specs.Walk.{HasCome, HasWanted, Keeps}
 use Rattle.be_plan.proofs.Passing.{total, reversed, greater_trans, above_too, ends_above, passes}
 
--- what is not below the low end is not below what is not above that
+-- a key not below the low end isn't below a bound that the low end isn't below
 pub not_below : (k low bound : List ℕ) → is_lt (name_cmp low bound) ≡ false → is_lt (name_cmp k low) ≡ false → is_lt (name_cmp k bound) ≡ false
 not_below k low bound least h = by (name_cmp k bound) refl
   where
@@ -32,7 +32,7 @@ not_below k low bound least h = by (name_cmp k bound) refl
     by Equal e = refl
     by Greater e = refl
 
--- what is not above the high end is not above what is not below that
+-- a key not above the high end isn't above a bound that isn't below the high end
 pub not_above : (k high bound : List ℕ) → is_lt (name_cmp bound high) ≡ false → is_gt (name_cmp k high) ≡ false → is_gt (name_cmp k bound) ≡ false
 not_above k high bound greatest h = by (name_cmp k bound) refl
   where
@@ -46,7 +46,7 @@ not_above k high bound greatest h = by (name_cmp k bound) refl
     by Equal e = refl
     by Greater e = let no : true ≡ false = sym (ap is_gt (beyond e _ refl greatest)) ∙ h in absurd (cc no)
 
--- what is not above what is not above the bound is not above it
+-- a key not above the high end isn't above a bound that the high end isn't above
 pub not_past : (k high bound : List ℕ) → is_gt (name_cmp high bound) ≡ false → is_gt (name_cmp k high) ≡ false → is_gt (name_cmp k bound) ≡ false
 not_past k high bound least h = not_above k high bound (turned (name_cmp high bound) refl least) h
   where
@@ -55,7 +55,7 @@ not_past k high bound least h = not_above k high bound (turned (name_cmp high bo
     turned Equal e g = ap is_lt (total.antisymm bound high ∙ ap ordering_reverse e)
     turned Greater e g = cc
 
--- a bound above another is not below it
+-- a bound above another one isn't below it
 pub up_not_below : (low bound : List ℕ) → is_lt (name_cmp low bound) ≡ true → is_lt (name_cmp bound low) ≡ false
 up_not_below low bound up = by (name_cmp low bound) refl up
   where
@@ -64,7 +64,7 @@ up_not_below low bound up = by (name_cmp low bound) refl up
     by Equal e g = cc
     by Greater e g = cc
 
--- what is not above a bound below the high end is not above the high end
+-- a key not above a bound below the high end isn't above the high end
 pub reached : (k high bound : List ℕ) → is_gt (name_cmp high bound) ≡ true → is_gt (name_cmp k bound) ≡ false → is_gt (name_cmp k high) ≡ false
 reached k high bound over h = not_above k bound high (by (name_cmp high bound) over) h
   where
@@ -73,7 +73,7 @@ reached k high bound over h = not_above k bound high (by (name_cmp high bound) o
     by Equal g = refl
     by Greater g = refl
 
--- what is not below a bound above the low end is not below the low end
+-- a key not below a bound above the low end isn't below the low end
 pub started : (k low bound : List ℕ) → is_lt (name_cmp low bound) ≡ true → is_lt (name_cmp k bound) ≡ false → is_lt (name_cmp k low) ≡ false
 started k low bound up h = not_below k bound low (up_not_below low bound up) h
 
@@ -85,11 +85,11 @@ is_greater Less h = cc
 is_greater Equal h = cc
 is_greater Greater h = refl
 
--- what is not below a low end above the bound is above the bound
+-- a key not below a low end above the bound is above the bound
 pub beyond : (k low bound : List ℕ) → is_gt (name_cmp low bound) ≡ true → is_lt (name_cmp k low) ≡ false → is_gt (name_cmp k bound) ≡ true
 beyond k low bound up h = ap is_gt (above_too k low bound _ refl h (is_greater _ up))
 
--- what is not above a high end below the bound is below the bound
+-- a key not above a high end below the bound is below the bound
 pub before : (k high bound : List ℕ) → is_gt (name_cmp bound high) ≡ true → is_gt (name_cmp k high) ≡ false → is_lt (name_cmp k bound) ≡ true
 before k high bound up h = by (name_cmp k bound) refl
   where
@@ -106,12 +106,12 @@ greater_not_less Less h = cc
 greater_not_less Equal h = cc
 greater_not_less Greater h = refl
 
--- the next key of a walk that has come from the low end is not below it
+-- the next key of a walk that began at the low end isn't below the low end
 from_low : (from : List ℕ) (after : Bool) (next low : List ℕ) → is_at_or_after from after next ≡ true → is_lt (name_cmp from low) ≡ false → is_lt (name_cmp next low) ≡ false
 from_low from true next low h g = not_below next from low g (greater_not_less _ h)
 from_low from false next low h g = not_below next from low g (not_true _ h)
 
--- the low end is not below itself
+-- the low end isn't below itself
 at_low : (low : List ℕ) → is_lt (name_cmp low low) ≡ false
 at_low low = ap is_lt (tied_itself total low)
 
@@ -126,7 +126,7 @@ module _ (s : State) (Wanted : ℕ → Type 0) (name low : List ℕ) (high : Opt
     passed = λ k h w no holds. let yes : true ≡ false = sym (ap not w.from_low) ∙ no in cc;
   }
 
-  -- a walk goes on from a key whose node was visited
+  -- a walk continues from a key whose node was visited
   pub comes_next : (key : List ℕ) (next : Option (List ℕ)) (before now : List ℕ) → IsSound s → HasCome s Wanted name low high (Some key) before → Keeps before now →
       ((v : Value) (n : ℕ) → n < 2 ^ 64 → key ≡ key_bytes v n → Wanted n → Contains now n) → IsNextKey s name key true next → HasCome s Wanted name low high next now
   comes_next key next before now sound come keeps has is = record {
@@ -137,10 +137,10 @@ module _ (s : State) (Wanted : ℕ → Type 0) (name low : List ℕ) (high : Opt
     passed = passes s Wanted name low high come.from come.after key before now sound come.is_next come.passed keeps has;
   }
 
-  -- a walk has passed the range where the next key is above it
+  -- a walk has passed the range if the next key is above it
   pub came_above : (key found : List ℕ) → is_above high key ≡ true → HasCome s Wanted name low high (Some key) found → HasWanted s Wanted name low high found
   came_above key found up come = ends_above s Wanted name low high come.from come.after key found come.is_next up come.passed
 
-  -- the next key is not below the low end
+  -- the next key isn't below the low end
   pub came_from_low : (key found : List ℕ) → HasCome s Wanted name low high (Some key) found → is_lt (name_cmp key low) ≡ false
   came_from_low key found come = from_low come.from come.after key low come.is_next.1 come.start

@@ -1,4 +1,4 @@
--- Texts whose keys lie between the front of a pattern and the front with its limit.
+-- Texts whose keys lie between a pattern's front and the front with its limit.
 use Rattle.std.proofs.Common.{◌≡◌, ◌<◌, ℕ, true, false, List, [], ◌∷◌, ◌++◌, append_assoc, refl, sym, ap, ◌∙◌, arith}
 use Rattle.std.specs.Int.{to_be_bytes, w64}
 use Rattle.std.specs.Str.{chars, IsUtf8}
@@ -18,7 +18,7 @@ use Rattle.be_plan.specs.Narrow.{limit}
 use Rattle.be_plan.proofs.LongTexts.{some_byte}
 use Rattle.be_plan.proofs.Prefixes.{front_bytes}
 
--- The text begins with the front, and is the front where the limit is 1.
+-- The text begins with the front, and equals the front if the limit is 1.
 record Begun (front text : List ℕ) (end : ℕ) : Type 0 where
   pub rest : List ℕ
   pub is : text ≡ front ++ rest
@@ -56,7 +56,7 @@ module _ (end : ℕ) (s : List ℕ) where
           record { rest = b.rest; is = ap (λ x. x ∷ text) same ∙ ap (λ t. f ∷ t) b.is; whole = b.whole }
       by Greater e low high more = cc
 
--- The pattern that its front decides matches a text whose key lies there.
+-- A pattern that its front decides matches each text whose key lies there.
 pub front_decides : (parts : List Part) (text : List ℕ) (n : ℕ) → IsUtf8 (front_bytes parts) → has_nul (front_bytes parts) ≡ false → has_nul text ≡ false →
     is_lt (name_cmp (key (Cstr text) n) (front_bytes parts)) ≡ false →
     is_gt (name_cmp (key (Cstr text) n) (front_bytes parts ++ limit (is_plain parts) ∷ [])) ≡ false →
@@ -70,6 +70,6 @@ front_decides parts text n utf8 bare clean low high decides =
     begun (limit (is_plain parts)) s (front_bytes parts) text bare clean
     (sym (ap (λ k. is_lt (name_cmp k (front_bytes parts))) key_is) ∙ low)
     (sym (ap (λ k. is_gt (name_cmp k (front_bytes parts ++ limit (is_plain parts) ∷ []))) key_is) ∙ high) in
-    let spelt : chars text ≡ literal_prefix parts ++ chars b.rest =
+    let encoded : chars text ≡ literal_prefix parts ++ chars b.rest =
     ap chars b.is ∙ chars-append (front_bytes parts) b.rest utf8 ∙ ap (λ cs. cs ++ chars b.rest) (sym (chars_from_encodes (literal_prefix parts) (front_bytes parts) utf8 refl)) in
-    ap (matches parts) spelt ∙ decides (chars b.rest) (λ plain. ap chars (b.whole (ap limit plain)))
+    ap (matches parts) encoded ∙ decides (chars b.rest) (λ plain. ap chars (b.whole (ap limit plain)))

@@ -19,6 +19,6 @@ pub mod Rising
 pub mod Seen
 pub mod Sides
 pub mod Spines
-pub mod Standing
+pub mod Represented
 pub mod Tested
 pub mod Ways

@@ -1,4 +1,4 @@
--- Bytes beside a front with an end after it.
+-- Comparing bytes with a front followed by an end.
 use Rattle.std.proofs.Common.{◌≡◌, ◌<◌, ℕ, List, [], ◌∷◌, ◌++◌, length, refl, ap, ◌∙◌, arith}
 use Rattle.std.specs.Ordering.{nat_cmp, ordering_then}
 use Rattle.std.specs.declared.cmp.Ordering.{Ordering}
@@ -10,14 +10,14 @@ then_assoc Less b c = refl
 then_assoc Equal b c = refl
 then_assoc Greater b c = refl
 
--- bytes that are shorter than the front are compared with the front alone
+-- bytes that are shorter than the front are only compared with the front
 pub shorter : (k front end : List ℕ) → length k < length front → name_cmp k (front ++ end) ≡ name_cmp k front
 shorter [] [] end lt = absurd (omega arith)
 shorter [] (f ∷ front) end lt = refl
 shorter (c ∷ k) [] end lt = absurd (omega arith)
 shorter (c ∷ k) (f ∷ front) end lt = ap (ordering_then (nat_cmp c f)) (shorter k front end (omega arith))
 
--- as many bytes as the front has are compared with the front, and then those after them with the end
+-- as many bytes as the front has are compared with the front, and those after them with the end
 pub in_parts : (head tail front end : List ℕ) → length head ≡ length front → name_cmp (head ++ tail) (front ++ end) ≡ ordering_then (name_cmp head front) (name_cmp tail end)
 in_parts [] tail [] end e = refl
 in_parts [] tail (f ∷ front) end e = absurd (omega arith)

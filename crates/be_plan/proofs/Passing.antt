@@ -35,7 +35,7 @@ abbrev pub ahead_in : Option Index → List ℕ → Bool → ℕ
 ahead_in None from after = 0
 ahead_in (Some index) from after = how_many (λ n v. is_at_or_after from after (key v n)) (map.entries index.pairs)
 
--- how many keys of the index are ahead of a walk that stands at `from`
+-- how many keys of the index are ahead of a walk that is at `from`
 abbrev pub ahead : State → List ℕ → List ℕ → Bool → ℕ
 ahead s name from after = ahead_in (map.get s.indices name) from after
 
@@ -53,13 +53,13 @@ is_greater Less h = cc
 is_greater Equal h = cc
 is_greater Greater h = refl
 
--- what is not below a key above the bound is above it
+-- a key not below a key above the bound is above the bound
 pub above_too : (k next high : List ℕ) (r : Ordering) → name_cmp k next ≡ r → is_lt r ≡ false → name_cmp next high ≡ Greater → name_cmp k high ≡ Greater
 above_too k next high Less e h g = cc
 above_too k next high Equal e h g = total.congr k next high e ∙ g
 above_too k next high Greater e h g = greater_trans k next high e g
 
--- what is above a key from there on is from there on
+-- a key above one from there on is also from there on
 from_too : (from : List ℕ) (after : Bool) (next k : List ℕ) → is_at_or_after from after next ≡ true → name_cmp k next ≡ Greater → is_at_or_after from after k ≡ true
 from_too from true next k h g = ap is_gt (greater_trans k next from g (is_greater _ h))
 from_too from false next k h g = by (name_cmp next from) refl h
@@ -107,7 +107,7 @@ module _ (p q : ℕ → Value → Bool) (only : (n : ℕ) (v : Value) → q n v 
       by false t f more = omega (arith, at_one (p e.0 e.1) (q e.0 e.1) (only e.0 e.1), more f)
 
 module _ (s : State) (Wanted : ℕ → Type 0) (name low : List ℕ) (high : Option (List ℕ)) where
-  -- where the next key is above the range, the walk has passed all of it
+  -- if the next key is above the range, the walk has passed all of it
   pub ends_above : (from : List ℕ) (after : Bool) (next : List ℕ) (found : List ℕ) → IsNextKey s name from after (Some next) → is_above high next ≡ true →
       HasPassed s Wanted name low high from after found → HasWanted s Wanted name low high found
   ends_above from after next found is up passed = λ k h w wanted. by k h w wanted (is_at_or_after from after k) refl
@@ -120,7 +120,7 @@ module _ (s : State) (Wanted : ℕ → Type 0) (name low : List ℕ) (high : Opt
       by k h w wanted false t = passed k h w t wanted
       by k h w wanted true t = let u : is_above high k ≡ true = beyond high k up (is.2 k h t) in let v : is_above high k ≡ false = w.to_high in cc
 
-  -- after the node of the next key was visited, the walk has passed that key too
+  -- after the next key's node was visited, the walk has passed that key, too
   pub passes : (from : List ℕ) (after : Bool) (next : List ℕ) (before now : List ℕ) → IsSound s → IsNextKey s name from after (Some next) →
       HasPassed s Wanted name low high from after before → Keeps before now →
       ((v : Value) (n : ℕ) → n < 2 ^ 64 → next ≡ key v n → Wanted n → Contains now n) → HasPassed s Wanted name low high next true now
@@ -148,7 +148,7 @@ falls s name from after next is =
     k : IsKey s name next
     k = is.0
 
--- how many steps the walk has left where this key is next
+-- how many steps a walk has left if this is the next key
 abbrev pub steps : State → List ℕ → Option (List ℕ) → ℕ
 steps s name None = 0
 steps s name (Some key) = suc (ahead s name key true)

@@ -1,4 +1,4 @@
--- Keys of texts that a pattern matches.
+-- Keys of texts that match a pattern.
 use Rattle.std.proofs.Common.{◌≡◌, ◌<◌, ◌≤◌, ◌+◌, ◌/◌, ℕ, Bool, true, false, cond, ◌==◌, List, [], ◌∷◌, ◌++◌, length, length-append, nat_lt, append_assoc, refl, sym, ap, ◌∙◌, arith, inl, inr, suc}
 use Rattle.std.proofs.lemmas.Bool.Decides.{nat_tests}
 use borrow.Author.Tests.{ltb-true}
@@ -56,7 +56,7 @@ begins_encode : (c : ℕ) → scalar c ≡ true → Begins (encode c) 255
 unfolding encode
 begins_encode c h = first_of c _ _ _ (scalar_below c h) (ltb c 128) (ltb c 2048) (ltb c 65536) refl refl refl
 
--- a pattern has literal characters before its first wildcard where it begins with one
+-- a pattern has literal characters before its first wildcard if it begins with one
 pub shows_front : (parts : List Part) → nat_lt 0 (length (encode_utf8_all (literal_prefix parts))) ≡ begins_literally parts
 shows_front [] = refl
 shows_front (Run ∷ ps) = refl
@@ -71,7 +71,7 @@ shows_front (Only c ∷ ps) = shown (encode c) (front_bytes ps) (some_encode c)
     shown [] ys h = absurd (omega arith)
     shown (x ∷ xs) ys h = positive (length (xs ++ ys))
 
--- What a pattern matches begins with its literal characters, and has nothing after them where it has no wildcard.
+-- What a pattern matches begins with its literal characters, and ends there if it has no wildcard.
 record Prefixed (parts : List Part) (cs : List ℕ) : Type 0 where
   pub rest : List ℕ
   pub characters : scalars rest ≡ true

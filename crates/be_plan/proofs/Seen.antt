@@ -1,4 +1,4 @@
--- What a comparison sees of a node, by the keys of an index.
+-- What a comparison sees of a node, given the keys of an index.
 use Rattle.std.proofs.Common.{◌≡◌, ◌<◌, ◌^◌, ℕ, Bool, true, false, IsTrue, List, refl, sym, ap, ◌∙◌, subst, Some, None}
 use Rattle.std.specs.Option.{option_map, option_map_or, IfSome, IfNone}
 use Rattle.std.proofs.lemmas.Option.{same_Some}
@@ -18,12 +18,12 @@ use Rattle.be_volume.specs.Sound.{IsSound, IsPaired}
 use Rattle.be_volume.specs.Reading.{attribute, index_kind}
 use Rattle.be_plan.specs.Narrow.{LeavesRest, IsPair, Within, rest_true}
 
--- a key ends with one node alone
+-- a key ends with exactly one node
 pub key_node : (v w : Value) (m n : ℕ) → m < 2 ^ 64 → n < 2 ^ 64 → key v m ≡ key w n → m ≡ n
 key_node v w m n h g e = same_node (value_key v) (value_key w) m n h g e
 
 module _ (s : State) (sound : IsSound s) (name : List ℕ) (node : ℕ) (fits : node < 2 ^ 64) where
-  -- where the index has the key of the node's attribute, that is what is seen
+  -- if the index has the key of the node's attribute, that attribute is what is seen
   pub seen_key : (value : Value) → attribute s node name ≡ Some value → IsKey s name (key value node) → Some value ≡ sees s node name
   seen_key value is k =
       let there : IsPaired s name k.index.kind k.node k.value = sound.pairs name k.index k.node k.value k.there k.paired in
@@ -34,7 +34,7 @@ module _ (s : State) (sound : IsSound s) (name : List ℕ) (node : ℕ) (fits : 
       let got : map.get k.index.pairs node ≡ Some k.value = subst Q same k.paired in
       sym is ∙ attr ∙ sym got ∙ ap (λ i. seen_in i (attribute s node name) node) (sym k.there)
 
-  -- what the pair of the node in the index is, if there is one
+  -- the node's pair in the index, if there is one
   pair_of : (index : Index) (value : Value) (found : Option Value) → map.get s.indices name ≡ Some index → map.get index.pairs node ≡ found →
       attribute s node name ≡ Some value → (kind_of value ≡ index.kind → IsKey s name (key value node) → ⊥) → None ≡ found
   pair_of index value None there got is not = refl
@@ -51,7 +51,7 @@ module _ (s : State) (sound : IsSound s) (name : List ℕ) (node : ℕ) (fits : 
       let kinds : index.kind ≡ kind = same_Some _ _ (sym (ap (λ i. Rattle.std.specs.Option.option_map (λ (i : Index). i.kind) i) there) ∙ has) in
       pair_of index value _ there refl is (λ e. not (e ∙ kinds)) ∙ ap (λ i. seen_in i (attribute s node name) node) (sym there)
 
-  -- where the index has no such key, or its kind is another, nothing is seen
+  -- if the index has no such key, or its kind is another, nothing is seen
   pub seen_none : (value : Value) (kind : Kind) → index_kind s name ≡ Some kind → attribute s node name ≡ Some value →
       (kind_of value ≡ kind → IsKey s name (key value node) → ⊥) → None ≡ sees s node name
   seen_none value kind has is not = by_index _ value kind refl has is not
@@ -64,16 +64,16 @@ kind_indexable s sound name kind is = by (map.get s.indices name) refl is
     by None there e = cc
     by (Some index) there e = let P : Kind → Type 0 = λ k. IsTrue (is_indexable k) in subst P (same_Some index.kind kind e) (sound.kinds name index there)
 
--- what is true of the node's attribute is true of what is seen exactly where the index has its key
-module _ (s : State) (sound : IsSound s) (name : List ℕ) (node : ℕ) (fits : node < 2 ^ 64) (told : Value → Bool) (value : Value) (kind : Kind) (is : index_kind s name ≡ Some kind)
+-- what is true of the node's attribute is true of what is seen exactly if the index has the attribute's key
+module _ (s : State) (sound : IsSound s) (name : List ℕ) (node : ℕ) (fits : node < 2 ^ 64) (reported : Value → Bool) (value : Value) (kind : Kind) (is : index_kind s name ≡ Some kind)
     (there : attribute s node name ≡ Some value) where
-  pub seen_by_key : told value ≡ true → (has : Bool) → (has ≡ true → IsKey s name (key value node)) → (IsKey s name (key value node) → has ≡ true) → has ≡ option_map_or told (sees s node name) false
-  seen_by_key t true found finds = sym t ∙ ap (λ o. option_map_or told o false) (seen_key s sound name node fits value there (found refl))
-  seen_by_key t false found finds = ap (λ o. option_map_or told o false) (seen_none s sound name node fits value kind is there (λ e k. let yes = finds k in cc))
+  pub seen_by_key : reported value ≡ true → (has : Bool) → (has ≡ true → IsKey s name (key value node)) → (IsKey s name (key value node) → has ≡ true) → has ≡ option_map_or reported (sees s node name) false
+  seen_by_key t true found finds = sym t ∙ ap (λ o. option_map_or reported o false) (seen_key s sound name node fits value there (found refl))
+  seen_by_key t false found finds = ap (λ o. option_map_or reported o false) (seen_none s sound name node fits value kind is there (λ e k. let yes = finds k in cc))
 
-  -- and of nothing where no index may have such a value
-  pub not_indexable : is_indexable (kind_of value) ≡ false → false ≡ option_map_or told (sees s node name) false
-  not_indexable not = ap (λ o. option_map_or told o false) (seen_none s sound name node fits value kind is there
+  -- and it is true of nothing if no index may have such a value
+  pub not_indexable : is_indexable (kind_of value) ≡ false → false ≡ option_map_or reported (sees s node name) false
+  not_indexable not = ap (λ o. option_map_or reported o false) (seen_none s sound name node fits value kind is there
       (λ e k.
       let Q : Kind → Type 0 = λ x. IsTrue (is_indexable x) in
       let yes : IsTrue (is_indexable (kind_of value)) = subst Q (sym e) (kind_indexable s sound name kind is) in
@@ -100,7 +100,7 @@ module _ (s : State) (sound : IsSound s) (name bytes : List ℕ) (k : IsKey s na
       let P : Option (Value × ℕ) → Type 0 = λ r. IfNone r (NoPair kind bytes) in
       subst P e none k.value k.node paired.is_value paired.node_fits (kind_indexable s sound name kind is) (paired.kind_is ∙ kinds) k.is
 
-  -- and the value of this pair is seen of its node
+  -- and this pair's value is seen at its node
   pub seen_pair : (found : Option (Value × ℕ)) (value : Value) (node : ℕ) → found ≡ Some (value, node) → IfSome found (OnlyPair kind bytes) →
       (node ≡ k.node) × (sees s node name ≡ Some value)
   seen_pair found value node e only =
@@ -109,11 +109,11 @@ module _ (s : State) (sound : IsSound s) (name bytes : List ℕ) (k : IsKey s na
       subst P e only k.value k.node paired.is_value paired.node_fits (kind_indexable s sound name kind is) (paired.kind_is ∙ kinds) k.is in
       (same.1, ap (λ n. sees s n name) same.1 ∙ ap (λ i. seen_in i (attribute s k.node name) k.node) k.there ∙ k.paired ∙ ap (λ v. Some v) (sym same.0))
 
-  -- a key that ends with a node is this node's
+  -- a key that ends with a node is this node's key
   pub own_node : (value : Value) (node : ℕ) → node < 2 ^ 64 → bytes ≡ key value node → k.node ≡ node
   own_node value node fits e = key_node k.value value k.node node paired.node_fits fits (sym k.is ∙ e)
 
-  -- of the node of a key in the range the formula is true where what is left to ask is
+  -- the node of a key in the range satisfies the formula if it satisfies what is left to ask
   pub left_key : (f : Formula) (low : List ℕ) (high : Option (List ℕ)) (rest : Option Formula) → LeavesRest f name kind low high rest →
       Within low high bytes → sat s f k.node ≡ rest_true s rest k.node
   left_key f low high rest leaves within =

@@ -1,4 +1,4 @@
--- A pick stands in the part that is found for it.
+-- A pick is in the part that is found for it.
 use Rattle.std.proofs.Common.{◌≡◌, ◌<◌, ◌≤◌, ◌+◌, ◌-◌, ℕ, Bool, true, false, ◌||◌, List, refl, sym, ap, ◌∙◌, arith}
 use Rattle.std.specs.Prelude.{slice_get}
 use Rattle.std.specs.Option.{option_map_or}
@@ -10,7 +10,7 @@ use Rattle.be_volume.specs.Query.{sat}
 use Rattle.be_volume.specs.Volume.{State}
 use Rattle.be_plan.specs.Cover.{Comparison, leaves, rests_on}
 use Rattle.be_plan.specs.Narrow.{Allows, rest_true}
-use Rattle.be_plan.specs.Spine.{IsUnderOr, StandsIn, is_or}
+use Rattle.be_plan.specs.Spine.{IsUnderOr, LiesIn, is_or}
 use Rattle.be_plan.proofs.Ways.{left_part, right_part}
 
 or_true : (a b : Bool) → b ≡ true → (a || b) ≡ true
@@ -21,17 +21,17 @@ pub whole_under : (f : Formula) → IsUnderOr f 0 f
 whole_under f = record {
   places = λ i h. let e : 0 + i ≡ i = omega arith in ap (slice_get (leaves f)) e;
   allows = λ pick name v lo hi h. h;
-  tells = λ s node h. h;
+  means = λ s node h. h;
   alone = λ none. refl;
 }
 
--- what an "or" allows, by its sides
+-- what an "or" allows, given its sides
 by_sides : (pick from : ℕ) (a b : Formula) (name : List ℕ) (v : Value) → Allows pick from (Or a b) name v →
     (from ≤ pick → pick < from + comparisons a → Allows pick from a name v)
     × (from + comparisons a ≤ pick → pick < from + comparisons a + comparisons b → Allows pick (from + comparisons a) b name v)
 by_sides pick from a b name v h = h
 
--- a part of an "or" is no whole that is none
+-- a part of an "or" isn't a whole that is no "or"
 side_alone : (whole a b part : Formula) → (is_or whole ≡ false → Or a b ≡ whole) → is_or whole ≡ false → part ≡ whole
 side_alone whole a b part alone none = let e : true ≡ false = ap is_or (alone none) ∙ none in cc
 
@@ -39,7 +39,7 @@ pub left_under : (whole : Formula) (from : ℕ) (a b : Formula) → IsUnderOr wh
 left_under whole from a b u = record {
   places = left_part whole from a b u.places;
   allows = λ pick name v lo hi h. (by_sides pick from a b name v (u.allows pick name v lo (omega (arith, hi)) h)).0 lo hi;
-  tells = λ s node h. u.tells s node (ap (λ t. t || sat s b node) h);
+  means = λ s node h. u.means s node (ap (λ t. t || sat s b node) h);
   alone = side_alone whole a b a u.alone;
 }
 
@@ -47,27 +47,27 @@ pub right_under : (whole : Formula) (from : ℕ) (a b : Formula) → IsUnderOr w
 right_under whole from a b u = record {
   places = right_part whole from a b u.places;
   allows = λ pick name v lo hi h. (by_sides pick from a b name v (u.allows pick name v (omega (arith, lo)) (omega (arith, hi)) h)).1 lo hi;
-  tells = λ s node h. u.tells s node (or_true (sat s a node) _ h);
+  means = λ s node h. u.means s node (or_true (sat s a node) _ h);
   alone = side_alone whole a b b u.alone;
 }
 
--- the comparison at the pick's place, counted from the part's first
-pub there_in : (whole part : Formula) (pick from : ℕ) → StandsIn whole pick from part → slice_get (leaves whole) pick ≡ slice_get (leaves part) (pick - from)
+-- the comparison at the pick's place, counted from the part's first comparison
+pub there_in : (whole part : Formula) (pick from : ℕ) → LiesIn whole pick from part → slice_get (leaves whole) pick ≡ slice_get (leaves part) (pick - from)
 there_in whole part pick from s =
     let e : pick ≡ from + (pick - from) = omega (arith, s.first) in
     let lt : pick - from < comparisons part = omega (arith, s.first, s.last) in
     ap (slice_get (leaves whole)) e ∙ s.under.places (pick - from) lt
 
--- which rests on an index as the pick does
-pub rests_in : (indexed : List ℕ → Bool) (whole part : Formula) (pick from : ℕ) → StandsIn whole pick from part → rests_on indexed whole pick ≡ true → rests_on indexed part (pick - from) ≡ true
+-- it rests on an index if the pick does
+pub rests_in : (indexed : List ℕ → Bool) (whole part : Formula) (pick from : ℕ) → LiesIn whole pick from part → rests_on indexed whole pick ≡ true → rests_on indexed part (pick - from) ≡ true
 rests_in indexed whole part pick from s h = sym (ap (λ o. option_map_or (λ (d : Comparison). indexed d.name) o false) (there_in whole part pick from s)) ∙ h
 
--- where nothing is left to ask of a part under "or" alone, the whole is true
+-- if nothing is left to ask of a part that is only under "or", the whole is true
 pub whole_true : (whole : Formula) (from : ℕ) (part : Formula) (s : State) (node : ℕ) (rest : Option Formula) → IsUnderOr whole from part →
     sat s part node ≡ rest_true s rest node → rest ≡ None → sat s whole node ≡ true
-whole_true whole from part s node rest u e none = u.tells s node (e ∙ ap (λ r. rest_true s r node) none)
+whole_true whole from part s node rest u e none = u.means s node (e ∙ ap (λ r. rest_true s r node) none)
 
--- what is left to ask of the whole, where that is no "or"
+-- what is left to ask of the whole, if the whole isn't an "or"
 pub rest_of_same : (whole : Formula) (from : ℕ) (part : Formula) (s : State) (node : ℕ) (rest : Option Formula) → is_or whole ≡ false → IsUnderOr whole from part →
     sat s part node ≡ rest_true s rest node → sat s whole node ≡ rest_true s rest node
 rest_of_same whole from part s node rest is u e = ap (λ f. sat s f node) (sym (u.alone is)) ∙ e

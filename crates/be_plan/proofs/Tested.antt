@@ -1,4 +1,4 @@
--- What a comparison with the text of a key tells of the key's node.
+-- What a comparison with a key's text says about the key's node.
 use Rattle.std.proofs.Common.{◌≡◌, ◌-◌, ◌≤◌, ◌++◌, ◌∷◌, [], ℕ, Bool, false, List, Some, length, take, sym, ap, ◌∙◌, subst, arith, append_assoc}
 use Rattle.std.specs.Int.{to_be_bytes, w64}
 use Rattle.std.specs.Option.{option_map, option_map_or}
@@ -32,7 +32,7 @@ text_of_key text node =
 pub key_long : (s : State) (name bytes : List ℕ) → IsKey s name bytes → 8 ≤ length bytes
 key_long s name bytes k = omega (arith, ap length k.is, length-append (value_key k.value) (to_be_bytes w64 k.node))
 
--- the text in the key of a text is one
+-- the text in a text's key is valid UTF-8
 pub text_valid : (value : Value) (node : ℕ) → kind_of value ≡ kinds.Cstr → IsValue value → IsUtf8 (text_in (key value node))
 text_valid (Cstr t) node kind valid = subst IsUtf8 (sym (text_of_key t node)) valid.1
 text_valid (Long n) node kind valid = absurd (cc kind)
@@ -42,11 +42,11 @@ text_valid (Rawt bytes) node kind valid = absurd (cc kind)
 text_valid (Ulng n) node kind valid = absurd (cc kind)
 text_valid (Ullg n) node kind valid = absurd (cc kind)
 
-module _ (op : Cmp) (literal : Literal) (text : List ℕ) (node : ℕ) (answer : Bool) (told : IsUtf8 text → answer ≡ holds_of_text op text literal) where
+module _ (op : Cmp) (literal : Literal) (text : List ℕ) (node : ℕ) (answer : Bool) (reported : IsUtf8 text → answer ≡ holds_of_text op text literal) where
   of_value : (value : Value) → kind_of value ≡ kinds.Cstr → IsValue value → text ≡ text_in (key value node) → answer ≡ holds op value literal
   of_value (Cstr t) kind valid e =
       let same : text ≡ t = e ∙ text_of_key t node in
-      told (subst IsUtf8 (sym same) valid.1) ∙ ap (λ x. holds_of_text op x literal) same
+      reported (subst IsUtf8 (sym same) valid.1) ∙ ap (λ x. holds_of_text op x literal) same
   of_value (Long n) kind valid e = cc
   of_value (Llng n) kind valid e = cc
   of_value (Mims t) kind valid e = cc
@@ -54,13 +54,13 @@ module _ (op : Cmp) (literal : Literal) (text : List ℕ) (node : ℕ) (answer :
   of_value (Ulng n) kind valid e = cc
   of_value (Ullg n) kind valid e = cc
 
--- In a sound index of texts, what a comparison answers of the text of a key is what it answers of the key's node.
+-- In a sound index of texts, a comparison has the same outcome for a key's text as for the key's node.
 pub passed : (s : State) → IsSound s → (name bytes : List ℕ) (k : IsKey s name bytes) → index_kind s name ≡ Some kinds.Cstr
     → (op : Cmp) (literal : Literal) (text : List ℕ) (answer : Bool) → text ≡ text_in bytes → (IsUtf8 text → answer ≡ holds_of_text op text literal)
     → answer ≡ sat s (Leaf name op literal) k.node
-passed s sound name bytes k is op literal text answer e told =
+passed s sound name bytes k is op literal text answer e reported =
     let paired : IsPaired s name k.index.kind k.node k.value = sound.pairs name k.index k.node k.value k.there k.paired in
     let texts : k.index.kind ≡ kinds.Cstr = same_Some _ _ (sym (ap (λ i. option_map (λ (i : Index). i.kind) i) k.there) ∙ is) in
     let seen : sees s k.node name ≡ Some k.value = ap (λ i. seen_in i (attribute s k.node name) k.node) k.there ∙ k.paired in
-    of_value op literal text k.node answer told k.value (paired.kind_is ∙ texts) paired.is_value (e ∙ ap text_in k.is)
+    of_value op literal text k.node answer reported k.value (paired.kind_is ∙ texts) paired.is_value (e ∙ ap text_in k.is)
     ∙ sym (ap (λ o. option_map_or (λ value. holds op value literal) o false) seen)

@@ -1,4 +1,4 @@
--- Picks that cover a query reach each node of which it is true.
+-- Picks that cover a query reach each node that matches it.
 use Rattle.std.proofs.Common.{◌≡◌, ◌<◌, ◌≤◌, ◌+◌, ◌-◌, ℕ, zero, suc, Bool, true, false, ◌&&◌, ◌||◌, List, [], ◌∷◌, ◌++◌, length, length-append, add-zero, add_assoc, nat_eq, refl, sym, ap, ◌∙◌, arith, Some, None}
 use Rattle.std.proofs.lemmas.Bool.Decides.{nat_tests}
 use Rattle.std.specs.Prelude.{slice_get}
@@ -72,7 +72,7 @@ pub and_second : (a b : Bool) → (a && b) ≡ true → b ≡ true
 and_second true b h = h
 and_second false b h = cc
 
--- how a node is reached by way of a pick in the part
+-- how a node is reached through a pick in the part
 pub record Way (s : State) (picks : List ℕ) (whole : Formula) (node : ℕ) (at : ℕ) (f : Formula) : Type 0 where
   pub pick : ℕ
   pub is_pick : list_any (nat_eq pick) picks ≡ true
@@ -93,7 +93,7 @@ module _ (s : State) (node : ℕ) where
   sees_some test None h = cc
   sees_some test (Some v) h = (v, refl)
 
-  -- a part without the pick allows what is seen where it is true
+  -- a true part without the pick allows what is seen
   outside : (pick at : ℕ) (f : Formula) → sat s f node ≡ true → (at ≤ pick → pick < at + comparisons f → ⊥) →
       (name : List ℕ) (v : Value) → sees s node name ≡ Some v → Allows pick at f name v
   outside pick at (Leaf own op literal) h out name v seen = true_of_seen (record { name = own; op = op; literal = literal }) h name v seen
@@ -179,7 +179,7 @@ module _ (s : State) (node : ℕ) where
 pub nat_is : (n m : ℕ) → nat_eq n m ≡ true → n ≡ m
 nat_is n m h = grind (arith, nat_tests)
 
--- what passes at each pick passes at this one
+-- what holds for each pick holds for this one
 pub at_pick : (p : ℕ → Bool) (picks : List ℕ) (n : ℕ) → list_all p picks ≡ true → list_any (nat_eq n) picks ≡ true → p n ≡ true
 at_pick p [] n h i = cc
 at_pick p (x ∷ picks) n h i =
@@ -187,7 +187,7 @@ at_pick p (x ∷ picks) n h i =
     (λ e. ap p (nat_is n x e) ∙ and_first (p x) (list_all p picks) h)
     (λ e. at_pick p picks n (and_second (p x) (list_all p picks) h) e)
 
--- what picks cover rests on indices
+-- what picks cover is covered by indices
 pub is_covered : (s : State) (picks : List ℕ) (whole : Formula) → list_all (rests_on (has_index s) whole) picks ≡ true →
     (at : ℕ) (f : Formula) → IsPart whole at f → covers_part picks at f ≡ true → covered s f ≡ true
 is_covered s picks whole rest at (Leaf name op literal) part covers =

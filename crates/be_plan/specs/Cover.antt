@@ -1,5 +1,5 @@
 -- Which comparisons a query may be answered from, and which ones are chosen. A pick is the place of
--- a comparison, counted from 0 from left to right.
+-- a comparison, counted from 0 and from left to right.
 use Rattle.std.specs.Prelude.{ℕ, ◌+◌, Bool, true, false, ◌&&◌, ◌||◌, List, [], ◌∷◌, ◌++◌, nat_eq}
 use Rattle.std.specs.Prelude.{nat_lt, Some, None, if◌then◌else◌, slice_get}
 use Rattle.std.specs.Option.{option_map_or}
@@ -28,7 +28,7 @@ pub record Comparison : Type 0 where
   pub op : Cmp
   pub literal : Literal
 
--- a comparison of the code
+-- a comparison as the program stores it
 abbrev pub comparison_of : code.Comparison → Comparison
 comparison_of c = record { name = c.name; op = c.op; literal = literal c.literal }
 
@@ -38,8 +38,8 @@ leaves (Leaf name op literal) = record { name = name; op = op; literal = literal
 leaves (And a b) = leaves a ++ leaves b
 leaves (Or a b) = leaves a ++ leaves b
 
--- The picks cover the part of the query whose first comparison has the place `at`: a picked
--- comparison covers itself, an "and" is covered if one side is, and an "or" if both are.
+-- The picks cover the part of the query whose first comparison is at the place `at`. A comparison
+-- is covered if it is picked, an "and" if one side is covered, and an "or" if both are.
 abbrev pub covers_part : List ℕ → ℕ → Formula → Bool
 covers_part picks at (Leaf name op literal) = list_any (nat_eq at) picks
 covers_part picks at (And a b) = covers_part picks at a || covers_part picks (at + comparisons a) b
@@ -65,7 +65,7 @@ begins_literally (One ∷ parts) = false
 begins_literally (Among negated members ∷ parts) = false
 begins_literally (Only c ∷ parts) = true
 
--- how dear it is to answer from a comparison
+-- how expensive it is to answer from a comparison
 abbrev pub score_of : Cmp → Literal → ℕ
 score_of Eq (Exact words) = 1
 score_of Eq (Wild parts) = if is_plain parts then 1 else if begins_literally parts then 2 else 4
@@ -75,7 +75,8 @@ score_of Le literal = 3
 score_of Gt literal = 3
 score_of Ge literal = 3
 
--- the one with the smaller score, the left one at a tie; one alone if the other side is not covered
+-- the one with the lower score, or the left one if both are equal; the only one if one side isn't
+-- covered
 abbrev pub cheaper : Option Cover → Option Cover → Option Cover
 cheaper None b = b
 cheaper (Some a) None = Some a
@@ -88,7 +89,7 @@ both_covers (Some a) None = None
 both_covers (Some a) (Some b) = Some
     (record { picks = a.picks ++ b.picks; score = a.score + b.score })
 
--- the choice for the part whose first comparison has the place `at`, if it is covered
+-- the choice for the part whose first comparison is at the place `at`, if it is covered
 abbrev pub choice : (List ℕ → Bool) → ℕ → Formula → Option Cover
 choice indexed at (Leaf name op literal) = if indexed name
     then Some (record { picks = at ∷ []; score = score_of op literal }) else None
@@ -100,6 +101,6 @@ abbrev pub or_not_covered : Option Cover → Result Cover Refusal
 or_not_covered None = Err NotCovered
 or_not_covered (Some cover) = Ok cover
 
--- the choice for a query, or that it rests on no index
+-- the choice for a query, or NotCovered
 abbrev pub chosen : (List ℕ → Bool) → Formula → Result Cover Refusal
 chosen indexed f = or_not_covered (choice indexed 0 f)

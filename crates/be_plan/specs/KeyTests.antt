@@ -1,4 +1,4 @@
--- What a walk over an index asks of the keys that it passes.
+-- What a walk over an index asks about the keys that it passes.
 use Rattle.std.specs.Prelude.{ℕ, Bool, true, false, List}
 use Rattle.be_query.specs.Grammar.{Leaf}
 use Rattle.be_volume.specs.Query.{holds_of_text, sat}
@@ -8,7 +8,7 @@ use Rattle.be_plan.specs.Texts.{text_in}
 use Rattle.be_plan.specs.declared.keytests.KeyTest.{KeyTest}
 use Rattle.be_plan.specs.declared.keytests.KeyTest.TheVariants.{Marked, Text}
 
--- whether a key passes, by its text or by its node
+-- whether a key passes, by its text or its node
 abbrev pub passes_key : KeyTest → (key : List ℕ) → (node : ℕ) → Bool
 passes_key (Text test) key node = holds_of_text test.now.0 (text_in key) test.now.1
 passes_key (Marked marks) key node = is_marked marks.now node

@@ -20,9 +20,9 @@ use Rattle.be_volume.specs.Query.{holds, is_true_of, sat, sees}
 use Rattle.be_volume.specs.Volume.{State}
 use Rattle.be_plan.specs.declared.ranges.Range.{Range}
 
--- The value is one that a node may have at the name if the part, whose first comparison has the
--- place `at`, is true of it by way of the pick: the comparisons on this name that are then true are
--- true of the value.
+-- The value is one that a node may have at the name if it satisfies the part through the pick: the
+-- comparisons on this name that are then true are true of the value. The part's first comparison is
+-- at the place `at`.
 abbrev pub Allows : ℕ → ℕ → Formula → List ℕ → Value → Type 0
 Allows pick at (Leaf own op literal) name value = own ≡ name → holds op value literal ≡ true
 Allows pick at (And a b) name value = Allows pick at a name value
@@ -37,20 +37,20 @@ abbrev pub is_above : Option (List ℕ) → List ℕ → Bool
 is_above None k = false
 is_above (Some high) k = is_gt (name_cmp k high)
 
--- k is one of the keys from `low` to `high`, both included
+-- k is a key from `low` to `high`, both included
 pub record Within (low : List ℕ) (high : Option (List ℕ)) (k : List ℕ) : Type 0 where
   pub from_low : is_lt (name_cmp k low) ≡ false
   pub to_high : is_above high k ≡ false
 
--- the bytes that no key of the range is above, if there are any
+-- the bytes above which the range has no key, if it has a high end
 abbrev pub high_of : Range → Option (List ℕ)
 high_of range = if range.bounded then Some range.high.items else None
 
--- k is one of the keys of the range
+-- k is a key in the range
 abbrev pub IsIn : Range → List ℕ → Type 0
 IsIn range k = Within range.low.items (high_of range) k
 
--- no key from these bytes on is left out
+-- narrowing has left out no key from these bytes on
 abbrev pub KeepsFrom : List ℕ → Range → Range → Type 0
 KeepsFrom bytes old new = (k : List ℕ) → is_lt (name_cmp k bytes) ≡ false → IsIn old k → IsIn new k
 
@@ -58,7 +58,7 @@ KeepsFrom bytes old new = (k : List ℕ) → is_lt (name_cmp k bytes) ≡ false 
 abbrev pub IsFrom : List ℕ → Range → Type 0
 IsFrom bytes range = (k : List ℕ) → IsIn range k → is_lt (name_cmp k bytes) ≡ false
 
--- no key up to these bytes is left out
+-- narrowing has left out no key up to these bytes
 abbrev pub KeepsTo : List ℕ → Range → Range → Type 0
 KeepsTo bytes old new = (k : List ℕ) → is_gt (name_cmp k bytes) ≡ false → IsIn old k → IsIn new k
 
@@ -66,45 +66,45 @@ KeepsTo bytes old new = (k : List ℕ) → is_gt (name_cmp k bytes) ≡ false �
 abbrev pub IsTo : List ℕ → Range → Type 0
 IsTo bytes range = (k : List ℕ) → IsIn range k → is_gt (name_cmp k bytes) ≡ false
 
--- the greatest number of a node
+-- the highest node number
 abbrev pub last_node : ℕ
 last_node = 2 ^ 64 - 1
 
--- a pair that an index of this kind may hold
+-- a pair that an index of this kind may have
 pub record IsPair (kind : Kind) (value : Value) (node : ℕ) : Type 0 where
   pub is_value : IsValue value
   pub kind_is : kind_of value ≡ kind
   pub node_fits : node < 2 ^ 64
 
--- no key is left out whose value the comparison is true of
+-- no key is left out whose value satisfies the comparison
 abbrev pub KeepsTrue : Kind → Cmp → Literal → Range → Range → Type 0
 KeepsTrue kind op literal old new = (v : Value) (n : ℕ) → IsPair kind v n → holds op v literal
     ≡ true → IsIn old (key v n) → IsIn new (key v n)
 
--- the comparison is true of the values of all keys of the range
+-- the comparison is true of the values of all keys in the range
 abbrev pub AllTrue : Kind → Cmp → Literal → Range → Type 0
 AllTrue kind op literal range = (v : Value) (n : ℕ) → IsPair kind v n → IsIn range (key v n)
     → holds op v literal ≡ true
 
--- the same of a comparison as the program has it
+-- the same for a comparison as the program stores it
 abbrev pub KeepsTrueOf : Kind → Comparison → Range → Range → Type 0
 KeepsTrueOf kind comparison = KeepsTrue kind comparison.op (literal comparison.literal)
 
--- the same of a comparison as the program has it
+-- the same for a comparison as the program stores it
 abbrev pub AllTrueOf : Kind → Comparison → Range → Type 0
 AllTrueOf kind comparison = AllTrue kind comparison.op (literal comparison.literal)
 
--- The value takes the place of the literal at the values of an index of this kind: a comparison
--- with the literal is true of one of them exactly if the operator is true of the two values.
-pub record StandsFor (literal : Literal) (kind : Kind) (bound : Value) : Type 0 where
+-- The value can replace the literal in an index of this kind. A comparison of an index value with
+-- the literal is true exactly if the operator is true of the two values.
+pub record Represents (literal : Literal) (kind : Kind) (bound : Value) : Type 0 where
   pub is_value : IsValue bound
   pub kind_is : kind_of bound ≡ kind
   pub indexable : IsTrue (is_indexable kind)
   pub compares : (op : Cmp) (value : Value) → kind_of value ≡ kind → holds op value literal
       ≡ is_true_of op (value_cmp value bound)
 
--- Each key of the value begins with the front. After the front comes `first` with the least node.
--- With the greatest node comes what `after` has before its zero byte.
+-- Each key of the value begins with `front`. With the lowest node, `first` comes after it; with the
+-- highest node, what `after` has before its zero byte.
 pub record HasEnds (bound : Value) (front first after : List ℕ) : Type 0 where
   pub below : List ℕ
   pub last : List ℕ
@@ -113,7 +113,7 @@ pub record HasEnds (bound : Value) (front first after : List ℕ) : Type 0 where
   pub least : front ++ first ≡ key bound 0
   pub greatest : front ++ last ≡ key bound last_node
 
--- the value is a number from the least to the greatest
+-- the value is a number from `least` to `greatest`
 abbrev pub IsBetween : ℤ → ℤ → Value → Type 0
 IsBetween least greatest (Long n) = (least ≤ℤ n) × (n ≤ℤ greatest)
 IsBetween least greatest (Llng n) = (least ≤ℤ n) × (n ≤ℤ greatest)
@@ -123,12 +123,12 @@ IsBetween least greatest (Cstr text) = ⊥
 IsBetween least greatest (Mims text) = ⊥
 IsBetween least greatest (Rawt bytes) = ⊥
 
--- what is left to ask is true of the node; if nothing is left, it is
+-- whether what is left to ask is true of the node; true if nothing is left
 abbrev pub rest_true : State → Option Formula → ℕ → Bool
 rest_true s rest node = option_map_or (λ f. sat s f node) rest true
 
--- Of nodes that have keys from `low` to `high` in the index of that name the formula is true
--- exactly if what is left to ask is, whatever the volume.
+-- A node with a key from `low` to `high` in that name's index satisfies the formula exactly if it
+-- satisfies what is left to ask. The volume may be any.
 abbrev pub LeavesRest : Formula → List ℕ → Kind → List ℕ → Option (List ℕ) → Option Formula → Type 0
 LeavesRest f name kind low high rest =
     (s : State) (value : Value) (node : ℕ) → IsPair kind value node

@@ -1,4 +1,4 @@
--- What the range of a query decides.
+-- What a query's range decides.
 use Rattle.std.specs.Prelude.{ℕ, List, None, Some}
 use Rattle.std.specs.declared.option.Option.{Option}
 use Rattle.be_value.specs.Key.{key}
@@ -8,8 +8,8 @@ use Rattle.be_query.specs.Grammar.{Formula}
 use Rattle.be_plan.specs.Narrow.{Allows, IsPair, LeavesRest, Within}
 use Rattle.be_plan.specs.Walk.{AreAllOn}
 
--- The keys from `low` to `high` decide comparisons on one name, if its index has this kind: of the
--- nodes of these keys the formula is true, and all keys with values that it allows are among them.
+-- The keys from `low` to `high` decide comparisons on one name if its index has this kind. The
+-- nodes of these keys satisfy the formula, and all keys with values that it allows are among them.
 pub record Decides (f : Formula) (kind : Kind) (low : List ℕ) (high : Option (List ℕ)) : Type 0
   where
     pub leaves : (name : List ℕ) → AreAllOn f name → LeavesRest f name kind low high None

@@ -1,14 +1,14 @@
--- What a source answers for.
+-- Which volume a source answers for.
 use Rattle.std.specs.Prelude.{◌≡◌}
 use Rattle.be_volume.specs.Volume.{State}
 use Rattle.be_volume.specs.Sound.{IsSound}
 
--- this very volume, and its indices are sound
+-- exactly this volume, whose indices are sound
 pub record IsVolume (own : State) (volume : State) : Type 0 where
   pub same : volume ≡ own
   pub sound : IsSound volume
 
--- the source answers for each volume that it answered for
+-- the source still answers for each volume for which it answered
 abbrev pub StillAnswers : {Own : Type 0} → (Own → State → Type 0) → Own → Own → Type 0
 StillAnswers answers_for old new = (volume : State) → answers_for old volume
     → answers_for new volume

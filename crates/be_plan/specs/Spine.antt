@@ -1,4 +1,4 @@
--- The parts of a query that are under "or" alone.
+-- The parts of a query that are only under "or".
 use Rattle.std.specs.Prelude.{◌≡◌, ◌<◌, ◌≤◌, ◌+◌, ◌-◌, ℕ, Bool, true, false, List, slice_get}
 use Rattle.be_value.specs.declared.values.Value.{Value}
 use Rattle.be_query.specs.Grammar.{Formula, Leaf, And, Or, comparisons}
@@ -13,32 +13,32 @@ is_or (Leaf name op literal) = false
 is_or (And a b) = false
 is_or (Or a b) = true
 
--- The part, whose first comparison has the place `from`, is under "or" alone: if it is true, so is
--- the whole, and what the whole allows by way of a pick in the part, the part allows. So if the
--- whole is no "or", the part is the whole itself.
+-- The part, whose first comparison is at the place `from`, is only under "or". If it is true, so is
+-- the whole. What the whole allows through a pick in the part, the part allows, too. If the whole
+-- isn't an "or", the part is the whole itself.
 pub record IsUnderOr (whole : Formula) (from : ℕ) (part : Formula) : Type 0 where
   pub places : (i : ℕ) → i < comparisons part → slice_get (leaves whole) (from + i)
       ≡ slice_get (leaves part) i
   pub allows : (pick : ℕ) (name : List ℕ) (v : Value) → from ≤ pick → pick < from + comparisons part
       → Allows pick 0 whole name v → Allows pick from part name v
-  pub tells : (s : State) (node : ℕ) → sat s part node ≡ true → sat s whole node ≡ true
+  pub means : (s : State) (node : ℕ) → sat s part node ≡ true → sat s whole node ≡ true
   pub alone : is_or whole ≡ false → part ≡ whole
 
--- the pick is a place of such a part
-pub record StandsIn (whole : Formula) (pick from : ℕ) (part : Formula) : Type 0 where
+-- the pick is a place in such a part
+pub record LiesIn (whole : Formula) (pick from : ℕ) (part : Formula) : Type 0 where
   pub under : IsUnderOr whole from part
   pub first : from ≤ pick
   pub last : pick < from + comparisons part
 
--- The part begins with the first comparison of the whole and is under "or" alone; it has so many
+-- The part begins with the first comparison of the whole and is only under "or"; it has `count`
 -- comparisons.
 pub record IsFrontOf (whole part : Formula) (count : ℕ) : Type 0 where
   pub end : count ≡ comparisons part
   pub few : count ≤ 256
   pub under : IsUnderOr whole 0 part
 
--- The pick is a place of such a part, and the comparison there is on a name that has an index.
+-- The pick is a place in such a part, and the comparison there is on a name that has an index.
 pub record IsPickOf (s : State) (whole : Formula) (pick from : ℕ) (part : Formula) : Type 0 where
   pub few : from + comparisons part ≤ 256
   pub rests : rests_on (has_index s) part (pick - from) ≡ true
-  pub stands : StandsIn whole pick from part
+  pub lies : LiesIn whole pick from part

@@ -6,11 +6,11 @@ use Rattle.be_query.specs.Grammar.{Literal, Wild, Exact}
 use Rattle.be_plan.specs.declared.texts.Compared.{Compared}
 use Rattle.be_plan.specs.declared.texts.Compared.TheVariants.{Words, Pattern}
 
--- what comes before a zero byte and the bytes of the node
+-- a key's text: what comes before its zero byte and the bytes of its node
 abbrev pub text_in : List ℕ → List ℕ
 text_in bytes = take (length bytes - 9) bytes
 
--- what is compared with as a literal
+-- what texts are compared with, as a literal
 abbrev pub literal_of : Compared → Literal
 literal_of (Words words) = Exact words.now
 literal_of (Pattern parts) = Wild parts

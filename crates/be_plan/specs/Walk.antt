@@ -24,13 +24,13 @@ asks_name (Leaf own op literal) name = pointwise nat_eq own name
 asks_name (And a b) name = asks_name a name || asks_name b name
 asks_name (Or a b) name = asks_name a name || asks_name b name
 
--- each comparison of the formula is on this name, and none is under "or"
+-- all comparisons of the formula are on this name, and none is under "or"
 abbrev pub AreAllOn : Formula → List ℕ → Type 0
 AreAllOn (Leaf own op literal) name = own ≡ name
 AreAllOn (And a b) name = AreAllOn a name × AreAllOn b name
 AreAllOn (Or a b) name = ⊥
 
--- each comparison of the formula is on this name, whose index has this kind
+-- all comparisons of the formula are on this name, whose index has this kind
 pub record AreOnIndex (s : State) (f : Formula) (name : List ℕ) (kind : Kind) : Type 0 where
   pub named : AreAllOn f name
   pub kind_is : index_kind s name ≡ Some kind
@@ -40,8 +40,8 @@ pub record IsKeyOfKind (s : State) (name : List ℕ) (kind : Kind) (bytes : List
   pub kind_is : index_kind s name ≡ Some kind
   pub is_key : IsKey s name bytes
 
--- The index of that name has this kind, and of the nodes of its keys from `low` to `high` the
--- formula is true exactly if what is left to ask is.
+-- The index of that name has this kind. A node with a key from `low` to `high` satisfies the
+-- formula exactly if it satisfies what is left to ask.
 pub record LeavesInIndex (s : State) (f : Formula) (name : List ℕ) (kind : Kind) (low : List ℕ)
     (high : Option (List ℕ)) (rest : Option Formula) : Type 0 where
   pub kind_is : index_kind s name ≡ Some kind
@@ -51,42 +51,42 @@ pub record LeavesInIndex (s : State) (f : Formula) (name : List ℕ) (kind : Kin
 abbrev pub Keeps : List ℕ → List ℕ → Type 0
 Keeps before after = (n : ℕ) → Contains before n → Contains after n
 
--- each of the nodes was there before, or the formula is true of it
+-- each of the nodes was there before, or satisfies the formula
 abbrev pub AddsTrue : State → Formula → List ℕ → List ℕ → Type 0
 AddsTrue s f before after = (n : ℕ) → Contains after n → Contains before n ⊎ (sat s f n ≡ true)
 
--- No node is lost, and of each node that came the formula is true.
+-- No node is lost, and each new node satisfies the formula.
 pub record Collects (s : State) (f : Formula) (before after : List ℕ) : Type 0 where
   pub keeps : Keeps before after
   pub only : AddsTrue s f before after
 
--- each node of which the formula is true is there
+-- each node that satisfies the formula is there
 abbrev pub HasAllTrue : State → Formula → List ℕ → Type 0
 HasAllTrue s f found = (n : ℕ) → sat s f n ≡ true → Contains found n
 
--- each of the nodes was there before, or is one of these and the formula is true of it
+-- each of the nodes was there before, or is one of `nodes` and satisfies the formula
 abbrev pub AddsTrueOf : State → Formula → List ℕ → List ℕ → List ℕ → Type 0
 AddsTrueOf s f nodes before after = (n : ℕ) → Contains after n → Contains before n
     ⊎ (Contains nodes n × (sat s f n ≡ true))
 
--- each of these nodes of which the formula is true is there
+-- each of these nodes that satisfies the formula is there
 abbrev pub HasTrueOf : State → Formula → List ℕ → List ℕ → Type 0
 HasTrueOf s f nodes found = (n : ℕ) → Contains nodes n → sat s f n ≡ true → Contains found n
 
--- there is no memory, or the query rests on no index
+-- either memory ran out, or no index covers the query
 abbrev pub IsNoAnswer : State → Formula → Refusal → Type 0
 IsNoAnswer s f e = (e ≡ OutOfMemory) ⊎ ((e ≡ NotCovered) × (covered s f ≡ false))
 
--- each node whose key lies from `low` to `high`, and that is wanted, is there
+-- each wanted node with a key from `low` to `high` is there
 abbrev pub HasWanted : State → (ℕ → Type 0) → List ℕ → List ℕ → Option (List ℕ) → List ℕ → Type 0
 HasWanted s Wanted name low high found = (k : List ℕ) (h : IsKey s name k) → Within low high k
     → Wanted h.node → Contains found h.node
 
--- each node of which the formula is true and whose key lies from `low` to `high` is there
+-- each node that satisfies the formula and has a key from `low` to `high` is there
 abbrev pub HasWithin : State → Formula → List ℕ → List ℕ → Option (List ℕ) → List ℕ → Type 0
 HasWithin s f = HasWanted s (λ n. sat s f n ≡ true)
 
--- each node whose key lies from `low` to `high` is there
+-- each node with a key from `low` to `high` is there
 abbrev pub HasNodes : State → List ℕ → List ℕ → Option (List ℕ) → List ℕ → Type 0
 HasNodes s name low high found = (k : List ℕ) (h : IsKey s name k) → Within low high k
     → Contains found h.node
@@ -104,22 +104,21 @@ abbrev pub HasOnly : State → List ℕ → List ℕ → Option (List ℕ) → L
 HasOnly s name low high before after = (n : ℕ) → Contains after n → Contains before n
     ⊎ IsNodeWithin s name low high n
 
--- each of the nodes has a key from `low` to `high` and the formula is true of it, or it was there
--- before
+-- each of the nodes was there before, or has a key from `low` to `high` and satisfies the formula
 abbrev pub HasOnlyTrue : State → Formula → List ℕ → List ℕ → Option (List ℕ) → List ℕ → List ℕ
     → Type 0
 HasOnlyTrue s f name low high before after = (n : ℕ) → Contains after n → Contains before n
     ⊎ (IsNodeWithin s name low high n × (sat s f n ≡ true))
 
--- the same of the keys that are not ahead of the walk, whose place is `from`
+-- the same for the keys that the walk has passed; its place is `from`
 abbrev pub HasPassed : State → (ℕ → Type 0) → List ℕ → List ℕ → Option (List ℕ) → List ℕ → Bool
     → List ℕ → Type 0
 HasPassed s Wanted name low high from after found =
     (k : List ℕ) (h : IsKey s name k) → Within low high k → is_at_or_after from after k ≡ false
     → Wanted h.node → Contains found h.node
 
--- The next key of the walk is this one, or there is none, and it has passed those before: of these
--- the nodes that are wanted are there.
+-- The walk's next key is this one, or there is none. Among the nodes of the keys that it has
+-- passed, those that are wanted are there.
 pub record HasCome (s : State) (Wanted : ℕ → Type 0) (name low : List ℕ)
     (high next : Option (List ℕ)) (found : List ℕ) : Type 0 where
   pub from : List ℕ
@@ -128,8 +127,8 @@ pub record HasCome (s : State) (Wanted : ℕ → Type 0) (name low : List ℕ)
   pub start : is_lt (name_cmp from low) ≡ false
   pub passed : HasPassed s Wanted name low high from after found
 
--- The node is reached by way of the pick: the picked comparison sees a value, and the value is one
--- that the query allows by that way.
+-- The node is reached through the pick: the picked comparison sees a value of it, and the query
+-- allows this value through the pick.
 pub record Reaches (s : State) (f : Formula) (pick : ℕ) (node : ℕ) : Type 0 where
   pub picked : Comparison
   pub there : slice_get (leaves f) pick ≡ Some picked
@@ -137,7 +136,7 @@ pub record Reaches (s : State) (f : Formula) (pick : ℕ) (node : ℕ) : Type 0 
   pub seen : sees s node picked.name ≡ Some value
   pub allows : Allows pick 0 f picked.name value
 
--- each node that is reached by way of the pick, and of which the formula is true, is there
+-- each node that is reached through the pick and satisfies the formula is there
 abbrev pub HasReached : State → Formula → ℕ → List ℕ → Type 0
 HasReached s f pick found = (node : ℕ) → Reaches s f pick node → sat s f node ≡ true
     → Contains found node

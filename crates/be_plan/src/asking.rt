@@ -1,8 +1,8 @@
-//! The answer to a query, from what a source's own indices choose.
+//! Answering a query with what is chosen from a source's own indices.
 //!
 //! The sides of an `||` are computed one after the other, each by itself. So a comparison that is
-//! under `||` alone, as most are, has nothing to choose from. Neither have comparisons of one name
-//! under `&&`, as the two ends of a range: their index is asked for once, and no cover is made. Of
+//! only under `||`, as most are, leaves nothing to choose. Neither do comparisons of one name under
+//! `&&`, such as the two ends of a range: their index is looked up once, and no cover is made. For
 //! any other side under `&&` the choice is made as for a query of its own.
 ghost use Rattle.std.specs.Prelude.{◌≡◌, ◌≤◌, true, OnOk, IfOk, IfErr};
 ghost use Rattle.std.specs.List.Sorted.{IsStrictlyIncreasing};
@@ -25,7 +25,7 @@ use be_query::{Query, Tree};
 use be_value::{Name, Refusal};
 use std::alloc::Global;
 
-/// Adds the nodes of which a side is true whose comparisons are all on one name.
+/// Adds the nodes that match a side whose comparisons are all on one name.
 fn collect_named<S: Source>(
     alloc: Global,
     source: &mut S,
@@ -51,8 +51,8 @@ fn collect_named<S: Source>(
     walk_index(alloc, source, range, tree, index, found)
 }
 
-/// Adds the nodes of which a side is true, from the comparisons that the source's indices choose
-/// for it. It is a function of its own, so that comparisons of one name need no room for a cover.
+/// Adds the nodes that match a side, using the comparisons that are chosen for it from the source's
+/// indices. It is a separate function so that comparisons of one name need no room for a cover.
 #[inline(never)]
 fn collect_chosen<S: Source>(
     alloc: Global,
@@ -77,7 +77,7 @@ fn collect_chosen<S: Source>(
     walk_picks(alloc, source, range, tree, cover.picks.as_slice(), found)
 }
 
-/// Adds the nodes of which a side of an `||` is true.
+/// Adds the nodes that match a side of an `||`.
 fn collect_side<S: Source>(
     alloc: Global,
     source: &mut S,
@@ -101,8 +101,8 @@ fn collect_side<S: Source>(
     }
 }
 
-/// Adds the nodes of which the tree is true, side by side. A query of many parts under `||` leans
-/// to the left, so its last side comes first.
+/// Adds the nodes that match the tree, side by side. A query of many parts under `||` leans to the
+/// left, so its last side comes first.
 fn collect<S: Source>(
     alloc: Global,
     source: &mut S,
@@ -128,8 +128,8 @@ fn collect<S: Source>(
     collect_side(alloc, source, range, rest, found)
 }
 
-/// Puts the nodes of which a part of a query is true into a list, as `answer_into` does of the
-/// whole.
+/// Puts the nodes that match a part of a query into a list, as `answer_into` does for a whole
+/// query.
 pub fn true_nodes_into<S: Source>(
     alloc: Global,
     tree: &Tree,
@@ -151,14 +151,16 @@ pub fn true_nodes_into<S: Source>(
     Ok(())
 }
 
-/// Puts the nodes of which the query is true into a list, ascending, in place of what it had. They
-/// come from comparisons that the source's own indices choose; `explain` of the cover that
-/// `choose_from` gives shows which. A query that rests on no index is refused by `NotCovered`. The
-/// function asks for the index of each comparison once, or once for all of one name under `&&`, and
-/// of others under `&&` a second time for each pick. If more than 64 nodes of a walk are left to be
-/// asked of one other name, it asks for the `estimate` of that index, and for the index once more
-/// unless that is too large. A list with room for the nodes takes no memory. After an error the
-/// source is still that of the volume, and the list has any numbers.
+/// Replaces a list's content with the nodes that match the query, in ascending order. They come
+/// from comparisons that are chosen from the source's own indices; to see which, call `explain`
+/// with the cover that `choose_from` returns. NotCovered if no index covers the query.
+///
+/// The function looks up the index of each comparison once, or once for all comparisons of one name
+/// under `&&`; for others under `&&` it does so a second time for each pick. If a walk leaves more
+/// than 64 nodes to test against comparisons on one other name, it asks for the `estimate` of that
+/// name's index. Unless that is too large, it looks up the index once more. A list with room for
+/// the nodes allocates no memory. After an error the source still answers for the volume, and the
+/// list may hold any numbers.
 pub fn answer_into<S: Source>(
     alloc: Global,
     query: &Query,
@@ -175,7 +177,7 @@ pub fn answer_into<S: Source>(
     true_nodes_into(alloc, query.tree(), source, found)
 }
 
-/// The nodes that `answer_into` puts into a list, in a list of their own.
+/// The nodes that `answer_into` would put into a list, in a new list.
 pub fn answer<S: Source>(alloc: Global, query: &Query, source: &mut S) -> Result<Vec<u64>, Refusal>
     ghost volume: { State }
     requires { S.answers_for source.old volume }

@@ -1,7 +1,8 @@
-//! What a query says of the values in one index.
+//! What a query says about the values in one index.
 //!
-//! A page in the order of an index comes from a walk over that index, whatever the query rests on.
-//! The comparisons on the index's own name bound the walk, and only the rest is asked of the nodes.
+//! A page in the order of an index comes from a walk over that index, whatever indices cover the
+//! query. The comparisons on the index's own name bound the walk, and the nodes are only asked
+//! about the rest.
 ghost use Rattle.std.specs.Prelude.{◌≡◌, List, ℕ};
 ghost use Rattle.std.specs.Option.{option_copied, option_map};
 ghost use Rattle.be_query.specs.Grammar.{comparisons};
@@ -42,9 +43,9 @@ impl KeyBounds {
         }
     }
 
-    /// Takes the keys that a part of a query leaves in the index of that name, which has this kind,
-    /// in place of those that were there. Returns what is left to ask of their nodes: nothing, if
-    /// the keys decide the part.
+    /// Sets the keys to those that a part of a query leaves in the index of that name, which has
+    /// this kind. Returns what is left to ask about their nodes: nothing, if the keys decide the
+    /// part.
     pub fn narrow<'t>(&mut self, tree: &'t Tree, name: &Name, kind: Kind) -> Option<&'t Tree>
         ensures bounds { Bounding (formula tree.now) name.now kind self.new.0 self.new.1
             (option_map formula (option_copied result)) }
@@ -55,7 +56,7 @@ impl KeyBounds {
         narrow_beside(&mut self.range, tree, name, kind)
     }
 
-    /// The keys, in the index of a name.
+    /// The keys, for the index of a name.
     pub fn keys<'a>(&'a self, name: &'a Name) -> KeyRange<'a>
         ensures name { result.name.now ≡ name.now }
         ensures low { result.low.now ≡ self.now.0 }

@@ -1,8 +1,8 @@
-//! The choice of comparisons.
+//! Choosing comparisons.
 //!
-//! Each comparison on an indexed name has a score by its operator, from 1 for an exact match to 5
-//! for `!=`, which passes nearly the whole index. An `||` needs both its sides, so their scores are
-//! added; an `&&` is answered from the cheaper one, as the Be File System drives an `&&`
+//! Each comparison on an indexed name has a score by its operator. It goes from 1 for an exact
+//! match to 5 for `!=`, which passes nearly the whole index. An `||` needs both its sides, so their
+//! scores are added. An `&&` is answered from the cheaper side, as in the Be File System
 //! (Giampaolo, "Practical File System Design", on queries).
 ghost use Rattle.std.specs.Prelude.{◌≡◌, ◌≤◌, ◌<◌, ◌+◌, ◌*◌, ◌∷◌, ◌++◌, [], IfOk, IfErr, IfSome};
 ghost use Rattle.std.specs.Prelude.{◌⊎◌, true, false, Some, None, if◌then◌else◌};
@@ -21,9 +21,9 @@ use be_query::{Cmp, Comparison, Literal, Query, Tree};
 use be_value::Refusal;
 use std::alloc::{AllocError, Global};
 
-/// The comparisons to answer the query from. Of an `&&` it takes the covered side with the lower
-/// score, the left one at a tie. A query that rests on no index is refused by `NotCovered`. The
-/// source is asked for the names of the query alone, once for each comparison, so the number of the
+/// The comparisons from which to answer the query. For an `&&` it chooses the covered side with the
+/// lower score, or the left one if both are equal. NotCovered if no index covers the query. The
+/// source is asked only about the query's names, once for each comparison, so the number of the
 /// volume's indices doesn't matter.
 pub fn choose_from<S: Source>(
     alloc: Global,
@@ -33,8 +33,8 @@ pub fn choose_from<S: Source>(
     ghost volume: { State }
     requires { S.answers_for source.old volume }
     ensures choice { Answers (λ cover. cover) result (chosen (has_index volume) query.now) }
-    // The choice covers the query, so each pick is a place. There is no choice exactly if the query
-    // rests on no index.
+    // The choice covers the query, so each pick is the place of a comparison. There is no choice
+    // exactly if no index covers the query.
     ensures covers { IfOk result (λ cover. covers (has_index volume) cover.picks query.now ≡ true) }
     ensures rests { IfOk result (λ _. covered volume query.now ≡ true) }
     ensures places { IfOk result (λ cover. are_places query.now cover.picks ≡ true) }
@@ -84,8 +84,8 @@ pub(crate) struct PartChoice {
     pub(crate) end: usize,
 }
 
-/// The choice for a part of a query whose first comparison has the place `at`. The source is asked
-/// once for each comparison.
+/// The choice for a part of a query whose first comparison is at the place `at`. The source is
+/// asked once for each comparison.
 fn choose_part<S: Source>(
     alloc: Global,
     tree: &Tree,
@@ -130,7 +130,7 @@ fn choose_part<S: Source>(
     }
 }
 
-/// The choice for a comparison at a place, if its name has an index. It takes no memory.
+/// The choice for a comparison at a place, if its name has an index. No memory is allocated.
 pub(crate) fn choose_leaf(comparison: &Comparison, at: usize, indexed: bool) -> PartChoice
     requires { at < 256 }
     ensures cover { result.cover ≡ if indexed
@@ -156,7 +156,7 @@ pub(crate) fn choose_leaf(comparison: &Comparison, at: usize, indexed: bool) -> 
     }
 }
 
-/// The one with the smaller score, the left one at a tie.
+/// The one with the lower score, or the left one if both are equal.
 pub(crate) fn cheaper(left: Option<Cover>, right: Option<Cover>) -> Option<Cover>
     ensures { result ≡ cheaper left right }
 {
@@ -188,7 +188,7 @@ pub(crate) fn join(alloc: Global, left: Cover, right: Cover) -> Result<Cover, Al
     })
 }
 
-/// How dear it is to answer from the comparison.
+/// How expensive it is to answer from the comparison.
 fn score_of(comparison: &Comparison) -> u64
     ensures score { result ≡ score_of comparison.now.op (literal comparison.now.literal) }
     ensures small { result ≤ 5 }

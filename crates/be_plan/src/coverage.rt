@@ -1,7 +1,7 @@
 //! Whether picks cover a query.
 //!
-//! `run` takes any picks that cover. Those of `choose_from` do; picks from elsewhere are tested
-//! here.
+//! `run` takes any picks that cover the query. Those of `choose_from` do; picks from elsewhere can
+//! be checked here.
 ghost use Rattle.std.specs.Prelude.{◌≡◌, ◌≤◌, ◌+◌};
 ghost use Rattle.std.specs.List.{list_all};
 ghost use Rattle.be_query.specs.Grammar.{comparisons};
@@ -47,7 +47,7 @@ fn all_rest<S: Source>(source: &mut S, tree: &Tree, picks: &[usize]) -> bool
     true
 }
 
-/// Whether the picks cover the part whose first comparison has the place `at`.
+/// Whether the picks cover the part whose first comparison is at the place `at`.
 fn covers_part(picks: &[usize], at: usize, tree: &Tree) -> bool
     requires { at + comparisons (formula tree.now) ≤ 256 }
     ensures { result ≡ covers_part picks.now at (formula tree.now) }
@@ -59,9 +59,10 @@ fn covers_part(picks: &[usize], at: usize, tree: &Tree) -> bool
     }
 }
 
-/// Whether the picks cover the query on the source's volume: each is the place of a comparison on
-/// an indexed name, and of each `&&` one side is covered, of each `||` both. So a cover of any
-/// origin can be tested before `run`. It asks for one kind a pick.
+/// Whether the picks cover the query on the source's volume. Each has to be the place of a
+/// comparison on an indexed name. For each `&&` one side has to be covered, and for each `||` both.
+/// So a cover from anywhere can be checked before `run`. It asks the source for one kind for each
+/// pick.
 pub fn covers<S: Source>(cover: &Cover, query: &Query, source: &mut S) -> bool
     ghost volume: { State }
     requires { S.answers_for source.old volume }

@@ -1,7 +1,7 @@
-//! The truth of a query at a node, asked of a source.
+//! Whether a node matches a query, as a source says.
 //!
-//! The source says of each comparison whether it is true of what it sees: on an indexed name of
-//! what the index holds, otherwise of the attribute.
+//! The source says for each comparison whether it is true of what it sees: on an indexed name that
+//! is what the index has, otherwise the attribute.
 ghost use Rattle.std.specs.Prelude.{◌≡◌, Some};
 ghost use Rattle.be_query.specs.View.{formula};
 ghost use Rattle.be_volume.specs.Query.{sees, sat};
@@ -14,8 +14,8 @@ use be_query::Tree;
 use be_value::{Name, Value};
 use be_volume::holds;
 
-/// Whether the tree is true of the node, if a comparison on `name` sees this value of it. The
-/// source is asked only for comparisons on other names.
+/// Whether the node satisfies the tree, if a comparison on `name` sees this value of it. The source
+/// is asked only about comparisons on other names.
 pub(crate) fn satisfies<S: Source>(
     source: &mut S,
     tree: &Tree,
@@ -48,7 +48,7 @@ pub(crate) fn satisfies<S: Source>(
     }
 }
 
-/// Whether the tree is true of the node. The source is asked for each comparison.
+/// Whether the node satisfies the tree. The source is asked about each comparison.
 pub fn is_true<S: Source>(source: &mut S, tree: &Tree, node: u64) -> bool
     requires { (volume : State) × S.answers_for source.old volume }
     ensures answer { (volume : State) → S.answers_for source.old volume → result

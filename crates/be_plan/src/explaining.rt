@@ -1,4 +1,4 @@
-//! What is said of a cover.
+//! Explaining a cover.
 ghost use Rattle.std.specs.Prelude.{◌≡◌, ◌≤◌, true, IfOk, IfErr};
 ghost use Rattle.std.specs.String.{string_bytes};
 ghost use Rattle.be_value.specs.declared.refusals.Refusal.TheVariants.{OutOfMemory};
@@ -43,7 +43,7 @@ fn print_picks(alloc: Global, tree: &Tree, picks: &[usize]) -> Result<String, Re
 }
 
 /// The picked comparisons in canonical form and in the order of the picks, joined by ` || `, and
-/// the score, such as `"a"=="1" score 1`.
+/// the score. An example is `"a"=="1" score 1`.
 pub fn explain(alloc: Global, query: &Query, cover: &Cover) -> Result<String, Refusal>
     requires { are_places (query.now) cover.now.picks ≡ true }
     ensures text { IfOk result (λ text. string_bytes text ≡ explanation (query.now) cover.now) }

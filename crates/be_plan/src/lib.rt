@@ -1,14 +1,15 @@
-//! Plans: which comparisons a query is answered from, and its answer by walks over their indices.
+//! Plans: from which comparisons a query is answered, and how walks over their indices answer it.
 //!
 //! A query on a large volume must not look at every node. It is computed from a few of its
-//! comparisons, the picks: the index of each is walked over the keys that can matter, and of each
-//! node found there the whole query is asked. Picks cover a query if no answer can escape these
-//! walks; of an `&&` one side is enough, of an `||` both are needed. The answer depends on no plan:
-//! any picks that cover give the ascending list of all nodes of which the query is true.
+//! comparisons, the picks. For each pick the index of its name is walked over the keys that can
+//! matter. Each node found there is tested against the whole query. Picks cover a query if these
+//! walks can't miss an answer: for an `&&` one side is enough, for an `||` both are needed. The
+//! answer doesn't depend on the plan. Any picks that cover the query give the ascending list of all
+//! nodes that match it.
 //!
-//! `choose_from` picks, and `choose` from a list of indices. `run` walks, `explain` says what was
-//! picked, and `answer` does all of a query, as does `answer_into` for a caller's list. `Source` is
-//! what is walked: a plain volume, or a reader of pages.
+//! `choose_from` chooses picks, and `choose` does so from a list of indices. `run` makes the walks,
+//! `explain` says what was picked, and `answer` does all of it; `answer_into` does so for a
+//! caller's list. Walks read a `Source`, which is a plain volume or a page reader.
 #![tactic(auto)]
 
 mod asking;

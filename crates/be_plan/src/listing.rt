@@ -1,4 +1,4 @@
-//! The choice of comparisons from a list of the indices, as `indices` of a version gives it.
+//! Choosing comparisons from a list of the indices, such as a version's `indices`.
 ghost use Rattle.std.specs.Prelude.{◌≡◌, ◌≤◌, ◌+◌, ◌*◌, IfOk, IfErr, IfSome, ◌⊎◌, true, false};
 ghost use Rattle.be_value.specs.Refusal.{Answers};
 ghost use Rattle.be_value.specs.declared.refusals.Refusal.TheVariants.{OutOfMemory, NotCovered};
@@ -14,14 +14,14 @@ use be_query::{Query, Tree};
 use be_value::{Kind, Name, Refusal};
 use std::alloc::{AllocError, Global};
 
-/// The comparisons to answer the query from, if a volume has these indices: the rule is that of
-/// `choose_from`, and no volume is needed. A query that rests on none of them is refused by
-/// `NotCovered`; `OutOfMemory` is the only other refusal. One pass over the tree, and a look
-/// through the list for each comparison.
+/// The comparisons from which to answer the query if a volume has these indices. The rule is that
+/// of `choose_from`, and no volume is needed. NotCovered if none of them covers the query; the only
+/// other error is OutOfMemory. It costs one pass over the tree, and a search of the list for each
+/// comparison.
 pub fn choose(alloc: Global, query: &Query, indices: &[(Name, Kind)]) -> Result<Cover, Refusal>
     ensures choice { Answers (λ cover. cover) result (chosen (is_listed indices.now) query.now) }
-    // The choice covers the query, so each pick is a place. There is no choice exactly if the query
-    // rests on no index.
+    // The choice covers the query, so each pick is the place of a comparison. There is no choice
+    // exactly if no index covers the query.
     ensures covers { IfOk result (λ cover. covers (is_listed indices.now) cover.picks query.now
         ≡ true) }
     ensures rests { IfOk result (λ _. rests (is_listed indices.now) query.now ≡ true) }
@@ -49,7 +49,7 @@ fn choose_by_list(
     Ok(cover)
 }
 
-/// The choice for a part of a query whose first comparison has the place `at`.
+/// The choice for a part of a query whose first comparison is at the place `at`.
 fn choose_part(
     alloc: Global,
     tree: &Tree,

@@ -18,7 +18,7 @@ fn are_all_on(tree: &Tree, name: &Name) -> bool
     }
 }
 
-/// The name that each comparison is on, if it is one, and none is under `||`.
+/// The name that all comparisons are on, if there is one and none is under `||`.
 pub(crate) fn only_name(tree: &Tree) -> Option<&Name>
     ensures { IfSome (option_copied result) (λ name. AreAllOn (formula tree.now) name) }
 {

@@ -1,19 +1,19 @@
 //! The keys that a walk over an index has to pass.
 //!
-//! A walk for a pick begins with all keys of the index and leaves out what can't be an answer by
-//! way of this pick: each comparison on the picked name that is beside it under `&&` gives a bound,
-//! and a pattern gives its literal prefix. A comparison on the other side of an `||` gives none,
-//! since it need not be true. A number outside the index's kind leaves out all keys or none, by the
-//! side on which it lies, and a literal that is no number leaves out all. Of a text longer than any
-//! value's, the bytes that a value may have decide.
+//! A walk for a pick begins with all keys of the index, and leaves out those that can't give an
+//! answer through this pick. Each comparison on the picked name that is next to it under `&&` gives
+//! a bound, and a pattern gives its literal prefix. A comparison on the other side of an `||` gives
+//! none, because it need not be true. A number outside the index's kind leaves out all keys or
+//! none, depending on the side on which it lies; a literal that isn't a number leaves out all. For
+//! a text longer than any value, the bytes that a value may have decide.
 //!
-//! Bounds are bytes, both included: a value's key with the least node number or the greatest, or
-//! the bytes next to it if the value is left out. So no key in a range of numbers is idle. The key
-//! is never made: its front is the literal's own bytes or the number's, its end one of four.
+//! Bounds are bytes, both included: a value's key with the lowest or the highest node number, or
+//! the bytes next to it if the value is left out. So a range of numbers has no useless key. The key
+//! is never made: its front is the bytes of the literal or the number, and its end is one of four.
 //!
-//! The functions that narrow a range return whether that leaves no value of which the comparison,
-//! or the whole query, is false. Then the node of each key is an answer, and nothing is asked of
-//! it. A pattern is decided by the range if it only says how a text begins.
+//! The functions that narrow a range return whether every remaining value satisfies the comparison,
+//! or the whole query. Then the node of each key is an answer, and nothing is asked about it. The
+//! range decides a pattern only if the pattern just says how a text begins.
 ghost use Rattle.std.specs.Prelude.{◌≡◌, ◌<◌, ◌≤◌, ◌+◌, ℕ, ℤ, ◌≤ℤ◌, true, false, List, []};
 ghost use Rattle.std.specs.Prelude.{◌∷◌, ◌++◌, ◌&&◌};
 ghost use Rattle.std.specs.Prelude.{Some, None, IfSome, IfOk, IfErr, IsUtf8, length};
@@ -32,7 +32,7 @@ ghost use Rattle.be_volume.specs.Query.{holds, holds_of_number, is_true_of, lite
 ghost use Rattle.be_volume.specs.Volume.{State};
 ghost use Rattle.be_plan.specs.Walk.{AreAllOn};
 ghost use Rattle.be_plan.specs.Bounding.{HasAtMost};
-ghost use Rattle.be_plan.specs.Narrow.{AllTrueOf, KeepsTrueOf, IsIn, IsBetween, IsPair, StandsFor};
+ghost use Rattle.be_plan.specs.Narrow.{AllTrueOf, KeepsTrueOf, IsIn, IsBetween, IsPair, Represents};
 ghost use Rattle.be_plan.specs.Narrow.{HasEnds, Allows, LeavesRest, high_of, limit, rest_true};
 
 use crate::ranges::Range;
@@ -41,16 +41,16 @@ use be_query::{Cmp, Comparison, Literal, Tree};
 use be_value::{Kind, Name, counted32, counted64};
 use be_volume::literal_number;
 
-/// The bytes after the text in a text's key, with the least node.
+/// The bytes after the text in a text's key, for the lowest node.
 const TEXT_FIRST: [u8; 9] = [0; 9];
 
-/// The same with the greatest node, and a zero byte after that: the bytes next above the key.
+/// The same for the highest node, and then a zero byte: with it, the bytes next above the key.
 const TEXT_AFTER: [u8; 10] = [0, 255, 255, 255, 255, 255, 255, 255, 255, 0];
 
-/// The bytes after the number in a number's key, with the least node.
+/// The bytes after the number in a number's key, for the lowest node.
 const NUMBER_FIRST: [u8; 8] = [0; 8];
 
-/// The same with the greatest node, and a zero byte after that.
+/// The same for the highest node, and then a zero byte.
 const NUMBER_AFTER: [u8; 9] = [255, 255, 255, 255, 255, 255, 255, 255, 0];
 
 /// The end without its last byte. If that byte is zero, no bytes lie between the two.
@@ -63,10 +63,10 @@ fn without_last(end: &[u8]) -> &[u8]
     }
 }
 
-/// Leaves out keys of values at which the comparison is false, by a value that takes the place of
-/// its literal. The keys of this value begin with the front. After it comes `first` with the least
-/// node, and `after`, but for its zero byte, with the greatest. Returns whether the comparison is
-/// true of all values that are left.
+/// Leaves out keys of values that don't satisfy the comparison, using a value that replaces its
+/// literal. The keys of this value begin with `front`. After it comes `first` for the lowest node,
+/// and `after` without its zero byte for the highest. Returns whether all remaining values satisfy
+/// the comparison.
 fn narrow_by(
     range: &mut Range,
     comparison: &Comparison,
@@ -76,7 +76,7 @@ fn narrow_by(
     after: &[u8],
 ) -> bool
     ghost bound: { AnyValue }
-    requires stands { StandsFor (literal comparison.now.literal) kind bound }
+    requires represents { Represents (literal comparison.now.literal) kind bound }
     requires ends { HasEnds bound front.now first.now after.now }
     ensures within { (k : List ℕ) → IsIn range.new k → IsIn range.old k }
     ensures keeps { KeepsTrueOf kind comparison.now range.old range.new }
@@ -92,10 +92,10 @@ fn narrow_by(
     }
 }
 
-/// The same by an integer, whose bytes in a key these are.
+/// Does what `narrow_by` does, for an integer whose bytes in a key these are.
 fn narrow_by_integer(range: &mut Range, comparison: &Comparison, kind: Kind, bytes: &[u8]) -> bool
     ghost bound: { AnyValue }
-    requires stands { StandsFor (literal comparison.now.literal) kind bound }
+    requires represents { Represents (literal comparison.now.literal) kind bound }
     requires bytes { bytes.now ≡ value_key bound }
     ensures within { (k : List ℕ) → IsIn range.new k → IsIn range.old k }
     ensures keeps { KeepsTrueOf kind comparison.now range.old range.new }
@@ -104,8 +104,8 @@ fn narrow_by_integer(range: &mut Range, comparison: &Comparison, kind: Kind, byt
     narrow_by(range, comparison, kind, bytes, &NUMBER_FIRST, &NUMBER_AFTER)
 }
 
-/// The same by the number that the literal encodes, if a value of the kind is this number;
-/// otherwise the range stays.
+/// Does the same for the number that the literal encodes, if that is a value of the kind. Otherwise
+/// the range stays.
 fn narrow_by_number(
     range: &mut Range,
     comparison: &Comparison,
@@ -139,7 +139,7 @@ fn narrow_by_number(
     }
 }
 
-/// The least and the greatest number of an integer kind.
+/// The lowest and the highest number of an integer kind.
 fn numbers_of(kind: Kind) -> Option<(i128, i128)>
     ensures { IfSome result (λ ends. (v : AnyValue) → IsValue v → kind_of v ≡ kind
         → IsBetween ends.0 ends.1 v) }
@@ -153,8 +153,8 @@ fn numbers_of(kind: Kind) -> Option<(i128, i128)>
     }
 }
 
-/// Whether the operator with this number is false of all numbers from the least to the greatest, as
-/// it is with no number.
+/// Whether the operator with this number is false for all numbers from `least` to `greatest`.
+/// Without a number it is.
 fn is_false_between(op: Cmp, number: Option<i128>, least: i128, greatest: i128) -> bool
     ensures { result ≡ true → (n : ℤ) → least ≤ℤ n → n ≤ℤ greatest → holds_of_number op n number
         ≡ false }
@@ -170,8 +170,8 @@ fn is_false_between(op: Cmp, number: Option<i128>, least: i128, greatest: i128) 
     }
 }
 
-/// Whether the comparison is false of all values of an integer kind, because its literal encodes no
-/// number or one on the wrong side of them all.
+/// Whether the comparison is false for all values of an integer kind. It is if its literal encodes
+/// no number, or one on the wrong side of them all.
 fn is_false_of_all(comparison: &Comparison, kind: Kind, number: Option<i128>) -> bool
     requires { number ≡ literal_number (literal comparison.now.literal) }
     ensures { result ≡ true → (v : AnyValue) → IsValue v → kind_of v ≡ kind
@@ -183,8 +183,8 @@ fn is_false_of_all(comparison: &Comparison, kind: Kind, number: Option<i128>) ->
     is_false_between(comparison.op, number, least, greatest)
 }
 
-/// Leaves out keys of integers at which the comparison is false. Whether it is true of all that are
-/// left; a literal that is no value of the kind decides nothing.
+/// Leaves out keys of integers that don't satisfy the comparison. Returns whether all remaining
+/// ones do. A literal that isn't a value of the kind decides nothing.
 fn narrow_integers(range: &mut Range, comparison: &Comparison, kind: Kind) -> bool
     ensures within { (k : List ℕ) → IsIn range.new k → IsIn range.old k }
     ensures keeps { KeepsTrueOf kind comparison.now range.old range.new }
@@ -203,17 +203,17 @@ fn narrow_integers(range: &mut Range, comparison: &Comparison, kind: Kind) -> bo
 }
 
 /// A limit above each byte that may follow the pattern's literal characters in a key. Without a
-/// wildcard that is a zero byte; with one it may also be the first byte of a character.
+/// wildcard that byte is zero; with one it may also be the first byte of a character.
 fn limit_of(pattern: &Pattern) -> u8
     ensures { result ≡ limit (is_plain pattern.now) }
 {
     if pattern.is_plain() { 1 } else { 255 }
 }
 
-/// Leaves out keys of texts that don't begin with the pattern's literal characters: all keys, if
-/// those are more than a value may have. Returns whether the pattern matches all texts that are
-/// left. Literal characters with a zero byte would reach into the node's number, and decide
-/// nothing.
+/// Leaves out keys of texts that don't begin with the pattern's literal characters. If these are
+/// longer than a value may be, it leaves out all keys. Returns whether the pattern matches all
+/// remaining texts. Literal characters with a zero byte would reach into the node's number, so they
+/// decide nothing.
 fn narrow_by_pattern(range: &mut Range, pattern: &Pattern) -> bool
     ensures within { (k : List ℕ) → IsIn range.new k → IsIn range.old k }
     ensures keeps { (text : List ℕ) (n : ℕ) → IsUtf8 text → length text ≤ 255
@@ -238,8 +238,8 @@ fn narrow_by_pattern(range: &mut Range, pattern: &Pattern) -> bool
     pattern.is_prefix() && !front.contains(&0)
 }
 
-/// Leaves out keys of texts at which the operator with a text longer than any value's is false. Its
-/// first 255 bytes tell, unless a zero byte is among them.
+/// Leaves out keys of texts for which the operator is false, given a text longer than any value.
+/// The text's first 255 bytes decide, unless a zero byte is among them.
 fn narrow_by_long(range: &mut Range, op: Cmp, words: &[u8])
     requires { 255 < length words.now }
     ensures within { (k : List ℕ) → IsIn range.new k → IsIn range.old k }
@@ -262,8 +262,8 @@ fn narrow_by_long(range: &mut Range, op: Cmp, words: &[u8])
     }
 }
 
-/// Leaves out keys of texts at which the comparison with this text is false. Whether it is true of
-/// all that are left; a text that no value may be decides nothing.
+/// Leaves out keys of texts that don't satisfy the comparison with this text. Returns whether all
+/// remaining ones do. A text that can't be a value decides nothing.
 fn narrow_by_text(range: &mut Range, comparison: &Comparison, words: &str) -> bool
     requires { literal comparison.now.literal ≡ Exact words.now }
     ensures within { (k : List ℕ) → IsIn range.new k → IsIn range.old k }
@@ -288,8 +288,8 @@ fn narrow_by_text(range: &mut Range, comparison: &Comparison, words: &str) -> bo
     )
 }
 
-/// Leaves out keys of texts at which the comparison is false. Whether it is true of all that are
-/// left.
+/// Leaves out keys of texts that don't satisfy the comparison. Returns whether all remaining ones
+/// do.
 fn narrow_texts(range: &mut Range, comparison: &Comparison) -> bool
     ensures within { (k : List ℕ) → IsIn range.new k → IsIn range.old k }
     ensures keeps { KeepsTrueOf Kind.Cstr comparison.now range.old range.new }
@@ -302,8 +302,8 @@ fn narrow_texts(range: &mut Range, comparison: &Comparison) -> bool
     }
 }
 
-/// Leaves out keys of values at which the comparison is false. Whether it is true of all that are
-/// left.
+/// Leaves out keys of values that don't satisfy the comparison. Returns whether all remaining ones
+/// do.
 fn narrow(range: &mut Range, comparison: &Comparison, kind: Kind) -> bool
     ensures within { (k : List ℕ) → IsIn range.new k → IsIn range.old k }
     ensures keeps { KeepsTrueOf kind comparison.now range.old range.new }
@@ -318,7 +318,7 @@ fn narrow(range: &mut Range, comparison: &Comparison, kind: Kind) -> bool
     }
 }
 
-/// What is left to ask of an `&&`, if this is left of its sides.
+/// What is left to ask of an `&&`, given what is left of its sides.
 fn rest_of_both<'a>(
     tree: &'a Tree,
     left: Option<&'a Tree>,
@@ -342,8 +342,8 @@ fn rest_of_both<'a>(
     }
 }
 
-/// What is left to ask of an `||`, if this is left of one side: nothing, if nothing is left of
-/// that.
+/// What is left to ask of an `||`, given what is left of one side: nothing if nothing is left of
+/// that side.
 pub(crate) fn rest_of_or<'a>(tree: &'a Tree, rest: Option<&'a Tree>) -> Option<&'a Tree>
     ensures { (s : State) (node : ℕ) →
         (option_map formula (option_copied rest.entry) ≡ None → sat s (formula tree.now) node
@@ -357,9 +357,9 @@ pub(crate) fn rest_of_or<'a>(tree: &'a Tree, rest: Option<&'a Tree>) -> Option<&
     }
 }
 
-/// Leaves out keys of values that a node can't have at this name if the part is true of it. An `||`
-/// leaves out none, since neither of its sides need be true. Returns what is left to ask of the
-/// nodes of the other keys, none if the range decides the part.
+/// Leaves out keys of values that a node can't have at this name if it satisfies the part. An `||`
+/// leaves out none, because neither side need be true. Returns what is left to ask about the nodes
+/// of the remaining keys; None if the range decides the part.
 pub(crate) fn narrow_beside<'a>(
     range: &mut Range,
     tree: &'a Tree,
@@ -389,7 +389,7 @@ pub(crate) fn narrow_beside<'a>(
     }
 }
 
-/// The same if each comparison is on the index's own name, whatever that is: so no name is
+/// Does the same if all comparisons are on the index's own name, whatever it is: so no names are
 /// compared.
 pub(crate) fn narrow_alone<'a>(range: &mut Range, tree: &'a Tree, kind: Kind) -> Option<&'a Tree>
     ensures within { (k : List ℕ) → IsIn range.new k → IsIn range.old k }
@@ -415,10 +415,10 @@ pub(crate) fn narrow_alone<'a>(range: &mut Range, tree: &'a Tree, kind: Kind) ->
     }
 }
 
-/// Leaves out keys of values that a node can't have at this name if the part is true of it by way
-/// of the pick. The part's first comparison has the place `at`. Returns what is left to ask of the
-/// nodes of the other keys; an `||` is decided by the side of the pick. If the part ends before the
-/// pick, the range stays, and the function returns the place after the part.
+/// Leaves out keys of values that a node can't have at this name if it satisfies the part through
+/// the pick. The part's first comparison is at the place `at`. Returns what is left to ask about
+/// the nodes of the remaining keys; the pick's side decides an `||`. If the part ends before the
+/// pick, the range stays, and the error is the place after the part.
 pub(crate) fn narrow_all<'a>(
     range: &mut Range,
     tree: &'a Tree,

@@ -1,6 +1,6 @@
 //! A plain volume as a source.
 //!
-//! The source only lends the volume and takes no memory, so each call is that of the volume. The
+//! The source only borrows the volume and allocates no memory, so each call is the volume's. The
 //! nodes of a range are found from key to key.
 ghost use Rattle.std.specs.Prelude.{◌≡◌, OnOk, IfErr};
 ghost use Rattle.std.specs.Option.{option_copied};
@@ -15,7 +15,7 @@ use be_value::{Kind, Name, Refusal, Value, node_of};
 use be_volume::Volume;
 use std::marker::Model;
 
-/// A lent volume, seen as its `State`.
+/// A borrowed volume, seen as its `State`.
 #[derive(Drop)]
 pub struct VolumeSource<'a> {
     volume: &'a Volume,
@@ -73,8 +73,8 @@ impl Source for VolumeSource<'_> {
     }
 }
 
-/// Adds the nodes of the keys of an index from `low` to `high`, both included, or to the last key,
-/// by one search for each and one more.
+/// Adds the nodes of the keys of an index from `low` to `high`, both included; up to the last key
+/// if `high` is None. It makes one search for each key, and one more.
 fn nodes_in(
     volume: &Volume,
     name: &Name,

@@ -5,16 +5,16 @@ use std::alloc::{AllocError, Global};
 use std::marker::Model;
 use std::slice::from_ref;
 
-/// A list of places: one alone, which is enough for most queries, is kept in the value itself, and
-/// more in a list.
+/// A list of places. A single place, which is enough for most queries, is stored in the value
+/// itself; several are stored in a list.
 #[derive(Debug, Drop)]
 enum Places {
     One(usize),
     Many(Vec<usize>),
 }
 
-/// Places of comparisons, counted from 0 from left to right over the whole query. A contract sees
-/// their list.
+/// Places of comparisons, counted from 0 and from left to right over the whole query. A contract
+/// sees the list of them.
 #[derive(Debug, Drop)]
 pub struct Picks {
     places: Places,
@@ -30,7 +30,7 @@ impl Model for Picks {
 }
 
 impl Picks {
-    /// These places, without memory.
+    /// These places. No memory is allocated.
     pub fn new(places: Vec<usize>) -> Picks
         ensures { result ≡ places.items }
     {
@@ -39,7 +39,7 @@ impl Picks {
         }
     }
 
-    /// This place alone, without memory.
+    /// Only this place. No memory is allocated.
     pub fn one(place: usize) -> Picks
         ensures { result ≡ place ∷ [] }
     {
@@ -58,7 +58,7 @@ impl Picks {
         }
     }
 
-    /// The places in a list, without memory but for one that was alone.
+    /// The places in a list. Memory is allocated only if a single place was stored in the value.
     pub fn into_vec(self, alloc: Global) -> Result<Vec<usize>, AllocError>
         ensures { IfOk result (λ places. places.items ≡ self) }
     {
@@ -74,8 +74,8 @@ impl Picks {
     }
 }
 
-/// The comparisons that a query is answered from, and the score of that: the lower, the fewer keys
-/// the walks are thought to pass.
+/// The comparisons that a query is answered from, and their score. The lower the score, the fewer
+/// keys the walks are expected to pass.
 #[derive(Debug, Drop)]
 pub struct Cover {
     pub picks: Picks,

@@ -1,8 +1,9 @@
-//! Queries that are asked again and again.
+//! Queries that are used again and again.
 //!
-//! Most queries have all their comparisons on one name, and then depend on the version only by the
-//! index of that name: what range of its keys they leave depends on the query and on the index's
-//! kind. So a prepared query keeps that range, and the place of the index at the last asking.
+//! Most queries have all their comparisons on one name. What they do with a version then depends
+//! only on that name's index: the range of keys that they leave depends on the query and on the
+//! index's kind. So a prepared query keeps that range, and the place where the index was last
+//! found.
 ghost use Rattle.std.specs.Prelude.{◌≡◌, true, IfSome};
 ghost use Rattle.std.specs.Option.{option_copied};
 ghost use Rattle.be_plan.specs.Narrow.{high_of};
@@ -17,9 +18,9 @@ use be_query::Query;
 use be_value::{Kind, Name};
 use std::marker::Model;
 
-/// A query with what its askings share: the name that all its comparisons are on, if it is one, and
-/// the range of keys by which they are decided in an index of the kind that was met last. It is
-/// asked of any versions of any stores, one after the other. A contract sees the query.
+/// A query with what its uses share. If all its comparisons are on one name, it has that name, and
+/// the range of keys that decides them. The range is for an index of the kind that was last met. It
+/// may be used on any versions of any stores, one after the other. A contract sees the query.
 #[derive(Drop)]
 pub struct PreparedQuery {
     query: Query,
@@ -48,7 +49,7 @@ impl Model for PreparedQuery {
         × DecidesIf p.decided p.query p.range.low.items (high_of p.range) };
 }
 
-/// The name that all comparisons of the query are on, if it is one and none is under `||`.
+/// The name that all comparisons of the query are on, if there is one and none is under `||`.
 fn name_asked(query: &Query) -> Option<Name>
     ensures { IfSome result (λ name. AreAllOn query.now name) }
 {
@@ -58,7 +59,8 @@ fn name_asked(query: &Query) -> Option<Name>
     }
 }
 
-/// Makes the range that comparisons on one name leave of its index. Whether it decides them.
+/// Computes the range that comparisons on one name leave of its index. Returns whether the range
+/// decides them.
 fn range_decides(range: &mut Range, query: &Query, kind: Kind) -> bool
     ensures { result ≡ true → Decides query.now kind range.new.low.items (high_of range.new) }
 {
@@ -70,7 +72,8 @@ fn range_decides(range: &mut Range, query: &Query, kind: Kind) -> bool
 }
 
 impl PreparedQuery {
-    /// The query, ready to be asked. It takes no memory, and makes the range when an index is met.
+    /// The query, ready to be used. No memory is allocated. The range is computed when an index is
+    /// met.
     pub fn new(query: Query) -> PreparedQuery
         ensures { result ≡ query }
     {
@@ -92,7 +95,7 @@ impl PreparedQuery {
         &self.query
     }
 
-    /// The name that all comparisons are on, if it is one and none is under `||`.
+    /// The name that all comparisons are on, if there is one and none is under `||`.
     pub fn name(&self) -> Option<&Name>
         ensures { IfSome (option_copied result) (λ name. AreAllOn self.now name) }
     {
@@ -102,14 +105,14 @@ impl PreparedQuery {
         }
     }
 
-    /// The place of that name's index at the last asking, as it was passed to `meet`; 0 before the
+    /// The place of that name's index at the last use, as it was passed to `meet`; 0 before the
     /// first.
     pub fn place(&self) -> usize {
         self.place
     }
 
-    /// Makes the range for an index of the kind, unless it was made for this kind last, and keeps
-    /// the index's place.
+    /// Computes the range for an index of this kind, unless it was last computed for this kind, and
+    /// keeps the index's place.
     #[inline(always)]
     pub fn meet(&mut self, place: usize, kind: Kind)
         ensures { self.new ≡ self.old }
@@ -120,7 +123,7 @@ impl PreparedQuery {
         }
     }
 
-    /// Makes the range for an index of the kind.
+    /// Computes the range for an index of this kind.
     #[inline(never)]
     fn make_range(&mut self, kind: Kind)
         ensures { self.new ≡ self.old }
@@ -133,8 +136,8 @@ impl PreparedQuery {
         }
     }
 
-    /// The range that decides the query in an index of the kind; none if the range was made for
-    /// another kind, or leaves something to ask.
+    /// The range that decides the query in an index of this kind. None if the range was computed
+    /// for another kind, or if it leaves something to ask.
     #[inline(always)]
     pub fn keys_for(&self, kind: Kind) -> Option<KeyRange<'_>>
         ensures on { IfSome result (λ keys. AreAllOn self.now keys.name.now) }

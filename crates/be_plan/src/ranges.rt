@@ -1,8 +1,8 @@
 //! Ranges of keys.
 //!
-//! A range is narrowed by bounds. A bound is given in two parts, a front and an end, such as the
-//! bytes of a literal and those of a node after it: so its bytes need not be put together to be
-//! compared, and are written where they stay, and only if the range changes.
+//! A range is narrowed by bounds. A bound is given in two parts, a front and an end, such as a
+//! literal's bytes and those of a node after it. So its bytes need not be joined to be compared.
+//! They are written directly to where they stay, and only if the range changes.
 ghost use Rattle.std.specs.Prelude.{◌≡◌, ◌+◌, ◌≤◌, true, false, List, [], ◌++◌, ℕ, length};
 ghost use Rattle.std.specs.Option.{option_copied};
 ghost use Rattle.std.specs.Ordering.{is_lt, is_gt};
@@ -13,10 +13,10 @@ use arrayvec::ArrayVec;
 use std::cmp::Ordering;
 use std::marker::Model;
 
-/// The bytes at an end of a range, which are at most those next above the longest key. Few lie in
-/// their own room, since all room is cleared when it is made: 40 bytes are enough for numbers and
-/// for texts of 30 bytes. To write that there are no more clears their room too, so it is written
-/// only if there were more.
+/// The bytes at one end of a range; the longest are those next above the longest key. A few bytes
+/// have their own array, because an array is cleared when it is made: 40 bytes are enough for
+/// numbers and for texts of 30 bytes. Setting `many` to None clears that array, too, so it is set
+/// only if it was Some.
 #[derive(Drop)]
 struct Bound {
     few: ArrayVec<u8, 40>,
@@ -57,7 +57,7 @@ impl Bound {
         }
     }
 
-    /// Leaves no bytes.
+    /// Makes the bytes empty.
     fn clear(&mut self)
         ensures { self.new.items ≡ [] }
     {
@@ -67,7 +67,7 @@ impl Bound {
         }
     }
 
-    /// Puts a front and an end in the place of the bytes, in the room for few.
+    /// Replaces the bytes with a front and an end, in the small array.
     fn put_few(&mut self, front: &[u8], end: &[u8])
         requires { length front.now + length end.now ≤ 40 }
         ensures { self.new.items ≡ front.now ++ end.now }
@@ -80,8 +80,8 @@ impl Bound {
         }
     }
 
-    /// Puts a front and an end in the place of the bytes, in room of their own. It is a function of
-    /// its own, since its room is cleared whenever it is called.
+    /// Replaces the bytes with a front and an end, in the large array. It is a separate function
+    /// because its array is cleared at every call.
     #[inline(never)]
     fn put_many(&mut self, front: &[u8], end: &[u8])
         requires { length front.now + length end.now ≤ 265 }
@@ -94,7 +94,7 @@ impl Bound {
     }
 }
 
-/// The keys from `low` to `high`, both included; with no bound to the last key.
+/// The keys from `low` to `high`, both included; up to the last key if the range isn't bounded.
 #[derive(Drop)]
 pub(crate) struct Range {
     low: Bound,
@@ -114,8 +114,8 @@ impl Range {
         }
     }
 
-    /// Takes all keys again. So a range is made once for all walks of a query: to clear the room
-    /// for its ends takes as long as to narrow it.
+    /// Takes all keys again, so that a range is made once for all walks of a query. Clearing a new
+    /// range's arrays would take as long as narrowing it.
     pub(crate) fn open(&mut self)
         ensures { (k : List ℕ) → IsIn self.new k }
     {
@@ -123,14 +123,14 @@ impl Range {
         self.bounded = false;
     }
 
-    /// The bytes that no key of the range is below.
+    /// The bytes below which the range has no key.
     pub(crate) fn low(&self) -> &[u8]
         ensures { result.now ≡ self.now.low.items }
     {
         self.low.as_slice()
     }
 
-    /// The bytes that no key of the range is above, if there are any.
+    /// The bytes above which the range has no key, if it has a high end.
     pub(crate) fn high(&self) -> Option<&[u8]>
         ensures { option_copied result ≡ high_of self.now }
     {
@@ -148,8 +148,8 @@ impl Range {
         self.bounded && key.cmp(&self.high.as_slice()).is_gt()
     }
 
-    /// Whether no key of the range is below the front followed by the end; if not, the range has
-    /// all keys from there. With no bytes at its low end nothing is compared.
+    /// Whether no key of the range is below the front followed by the end. If false, no key from
+    /// there on is below the low end. If the low end is empty, nothing is compared.
     fn starts_at(&self, front: &[u8], end: &[u8]) -> bool
         ensures starts { result ≡ true → (k : List ℕ) → is_lt (name_cmp k self.now.low.items)
             ≡ false → is_lt (name_cmp k (front.now ++ end.now)) ≡ false }
@@ -160,8 +160,8 @@ impl Range {
         !low.is_empty() && !order(low, front, end).is_lt()
     }
 
-    /// Leaves out keys below the front followed by the end, unless these are longer than an end of
-    /// a range. Returns whether none is left.
+    /// Leaves out keys below the front followed by the end, unless these are too long for an end of
+    /// a range. Returns whether no such key is left.
     pub(crate) fn raise_to(&mut self, front: &[u8], end: &[u8]) -> bool
         ensures within { (k : List ℕ) → IsIn self.new k → IsIn self.old k }
         ensures keeps { KeepsFrom (front.now ++ end.now) self.old self.new }
@@ -170,8 +170,8 @@ impl Range {
         self.starts_at(front, end) || put(&mut self.low, front, end)
     }
 
-    /// Whether no key of the range is above the front followed by the end; if not, the range has
-    /// all keys up to there.
+    /// Whether no key of the range is above the front followed by the end. If false, no key up to
+    /// there is above the high end.
     fn ends_at(&self, front: &[u8], end: &[u8]) -> bool
         ensures ends { result ≡ true → (k : List ℕ) → is_above (high_of self.now) k ≡ false
             → is_gt (name_cmp k (front.now ++ end.now)) ≡ false }
@@ -181,8 +181,8 @@ impl Range {
         self.bounded && !order(self.high.as_slice(), front, end).is_gt()
     }
 
-    /// Leaves out keys above the front followed by the end, unless these are longer than an end of
-    /// a range. Returns whether none is left.
+    /// Leaves out keys above the front followed by the end, unless these are too long for an end of
+    /// a range. Returns whether no such key is left.
     pub(crate) fn lower_to(&mut self, front: &[u8], end: &[u8]) -> bool
         ensures within { (k : List ℕ) → IsIn self.new k → IsIn self.old k }
         ensures keeps { KeepsTo (front.now ++ end.now) self.old self.new }
@@ -198,8 +198,8 @@ impl Range {
         true
     }
 
-    /// Leaves out all keys, since none is without bytes. The walk then ends at the first key that
-    /// it asks for.
+    /// Leaves out all keys, because no key is empty. The walk then ends at the first key that it
+    /// gets.
     pub(crate) fn close(&mut self)
         ensures within { (k : List ℕ) → IsIn self.new k → IsIn self.old k }
         ensures leaves { (k : List ℕ) → IsIn self.new k → k ≡ [] }
@@ -209,7 +209,7 @@ impl Range {
     }
 }
 
-/// Puts a front and an end in the place of these bytes, if they fit.
+/// Replaces these bytes with a front and an end, if they fit.
 fn put(bytes: &mut Bound, front: &[u8], end: &[u8]) -> bool
     ensures fits { result ≡ true → bytes.new.items ≡ front.now ++ end.now }
     ensures not { result ≡ false → bytes.new ≡ bytes.old }
@@ -225,7 +225,7 @@ fn put(bytes: &mut Bound, front: &[u8], end: &[u8]) -> bool
     true
 }
 
-/// The order of bytes and a front followed by an end.
+/// The order between bytes and a front followed by an end.
 fn order(bytes: &[u8], front: &[u8], end: &[u8]) -> Ordering
     ensures { result ≡ name_cmp bytes.now (front.now ++ end.now) }
 {

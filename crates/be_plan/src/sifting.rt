@@ -1,12 +1,13 @@
-//! Walks that leave only other names to ask.
+//! Walks that leave only comparisons on other names to ask.
 //!
-//! If the range of a walk decides all that the query says of the index's name, as one side of an
-//! `&&` may, the source gives the nodes of its keys by one call, and the rest is asked of them, the
-//! least number first. Of a few nodes the source is asked, one by one. Of many, if the rest is all
-//! on one name whose index is not much larger than they are many, the nodes of the rest are
-//! collected too, by a walk over that index, and those that are in both lists are the answer. Such
-//! a walk passes several keys in the time of one question about a node. Every other walk goes as
-//! `walks` says.
+//! The range of a walk may decide everything that the query says about the index's name, for
+//! example one side of an `&&`. Then the source returns the nodes of the range's keys in one call,
+//! and these are tested against the rest, in ascending order.
+//!
+//! If there are few nodes, the source is asked about each of them. If there are many, and the rest
+//! is all on one name whose index isn't much larger than their number, that index is walked, too.
+//! The nodes in both lists are the answer. Such a walk passes several keys in the time that one
+//! question about a node takes. All other walks go as `walks` says.
 ghost use Rattle.std.specs.Prelude.{◌≡◌, ◌⊎◌, ◌<◌, ◌≤◌, ℕ, true, Some, OnOk, IfErr, IfOk};
 ghost use Rattle.std.specs.Prelude.{IfSome, length, slice_index};
 ghost use Rattle.std.specs.Option.{option_copied, option_map};
@@ -33,13 +34,13 @@ use be_query::Tree;
 use be_value::{Name, Refusal};
 use std::alloc::{AllocError, Global};
 
-/// So many nodes are few: of these the source is asked.
+/// Up to this many nodes are few: the source is asked about each of them.
 const FEW: usize = 64;
 
-/// A question about a node takes the time in which a walk passes so many keys, or more.
+/// A question about a node takes at least the time in which a walk passes this many keys.
 const KEYS_A_NODE: u64 = 8;
 
-/// Adds the node, if the tree is true of it. The source is asked for each comparison.
+/// Adds the node if it satisfies the tree. The source is asked about each comparison.
 fn add_if_true<S: Source>(
     source: &mut S,
     tree: &Tree,
@@ -63,7 +64,7 @@ fn add_if_true<S: Source>(
     Ok(())
 }
 
-/// Adds those of the nodes of which the tree is true. The source is asked of each.
+/// Adds those of the nodes that satisfy the tree. The source is asked about each node.
 fn ask_all<S: Source>(
     source: &mut S,
     tree: &Tree,
@@ -85,7 +86,7 @@ fn ask_all<S: Source>(
     Ok(())
 }
 
-/// The first place from this one on whose number is not below that one; the end, if there is none.
+/// The first place, from this one on, whose number isn't below `number`; the end if there is none.
 fn pass_below(numbers: &[u64], from: usize, number: u64) -> usize
     requires { from ≤ length numbers.now }
     ensures from { from ≤ result }
@@ -100,7 +101,7 @@ fn pass_below(numbers: &[u64], from: usize, number: u64) -> usize
     at
 }
 
-/// Adds the number, if it has this place among others.
+/// Adds the number if it is at this place in the other list.
 fn add_if_at(others: &[u64], at: usize, number: u64, found: &mut Vec<u64>) -> Result<(), AllocError>
     ensures keeps { Keeps found.old.items found.new.items }
     ensures only { (n : ℕ) → Contains found.new.items n → Contains found.old.items n
@@ -114,7 +115,7 @@ fn add_if_at(others: &[u64], at: usize, number: u64, found: &mut Vec<u64>) -> Re
     Ok(())
 }
 
-/// Adds the numbers that are in both lists, by one pass over both.
+/// Adds the numbers that are in both lists, in one pass over both.
 fn add_common(numbers: &[u64], others: &[u64], found: &mut Vec<u64>) -> Result<(), AllocError>
     requires rising { IsStrictlyIncreasing numbers.now }
     requires others { IsStrictlyIncreasing others.now }
@@ -132,8 +133,8 @@ fn add_common(numbers: &[u64], others: &[u64], found: &mut Vec<u64>) -> Result<(
     Ok(())
 }
 
-/// The index of the name that the comparisons are on, if it is one, none is under `||`, and a walk
-/// over the whole index takes no longer than to ask the source of so many nodes.
+/// The index of the name that the comparisons are on, if there is one and none is under `||`.
+/// Walking the whole index must take no longer than asking the source about `count` nodes.
 fn index_to_walk<'t, S: Source>(source: &mut S, tree: &'t Tree, count: usize) -> Option<Index<'t>>
     ghost volume: { State }
     requires answers { S.answers_for source.old volume }
@@ -153,7 +154,7 @@ fn index_to_walk<'t, S: Source>(source: &mut S, tree: &'t Tree, count: usize) ->
     Some(Index { name, kind })
 }
 
-/// Adds the nodes of which a part is true whose comparisons are all on the name of this index.
+/// Adds the nodes that satisfy a part whose comparisons are all on this index's name.
 #[inline]
 pub(crate) fn walk_index<S: Source>(
     alloc: Global,
@@ -177,8 +178,8 @@ pub(crate) fn walk_index<S: Source>(
     walk_alone(alloc, source, Walk { tree, index, range }, rest, found)
 }
 
-/// The nodes, in order, of which a part is true whose comparisons are all on the name of this
-/// index.
+/// The nodes, in ascending order, that satisfy a part whose comparisons are all on this index's
+/// name.
 fn nodes_of_index<S: Source>(
     alloc: Global,
     source: &mut S,
@@ -203,7 +204,7 @@ fn nodes_of_index<S: Source>(
     Ok(nodes)
 }
 
-/// Adds those of the nodes, in order, of which the tree is true.
+/// Adds those of the nodes that satisfy the tree. The nodes are in ascending order.
 fn add_true<S: Source>(
     alloc: Global,
     source: &mut S,
@@ -231,9 +232,9 @@ fn add_true<S: Source>(
     }
 }
 
-/// Adds the nodes of the keys in the range of which the tree is true. The source gives the nodes by
-/// one call, and the tree is asked of them in the order of their numbers: so what the source reads
-/// for one is near what it read for the one before, and the nodes added are in order already.
+/// Adds the nodes of the keys in the range that satisfy the tree. The source returns the nodes in
+/// one call, and they are tested in ascending order. So what the source reads for one node is near
+/// what it read for the one before, and the nodes are added in order.
 #[inline(never)]
 fn ask_each<S: Source>(
     alloc: Global,
@@ -266,7 +267,7 @@ fn ask_each<S: Source>(
     add_true(alloc, source, tree, &nodes, found)
 }
 
-/// What is left to ask, if no comparison of it is on the index's own name.
+/// What is left to ask, if no comparison in it is on the index's own name.
 fn asked_apart<'t>(rest: Option<&'t Tree>, name: &Name) -> Option<&'t Tree>
     ensures { IfSome (option_copied result)
         (λ t. option_map formula (option_copied rest.entry) ≡ Some (formula t)) }
@@ -278,9 +279,9 @@ fn asked_apart<'t>(rest: Option<&'t Tree>, name: &Name) -> Option<&'t Tree>
     Some(rest)
 }
 
-/// Adds the nodes of the keys of a walk of which its tree is true, if this is left to ask of them:
-/// nothing, if the range decides the tree. If no comparison on the index's name is left, only the
-/// nodes of the keys are needed.
+/// Adds the nodes of a walk's keys that satisfy its tree, given what is left to ask about them:
+/// nothing if the range decides the tree. If no comparison on the index's name is left, only the
+/// keys' nodes are needed.
 #[inline]
 pub(crate) fn walk<S: Source>(
     alloc: Global,

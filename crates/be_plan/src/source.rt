@@ -1,11 +1,10 @@
-//! What answers for a volume.
+//! What plans read a volume through.
 //!
-//! A source is read by eight calls, and each may change the source itself: a cursor moves, a reader
-//! counts its steps. What stays is said in two ways. `kept` names the facts of the source that no
-//! call changes, and `answers_for` is the relation between the source and the volume that it reads.
-//! It is a relation and not a function, since a reader of pages encodes a volume but can't compute
-//! it: a contract says what holds of each volume in that relation, and the caller, who knows the
-//! volume, names it.
+//! Each call of a source may change the source itself: a cursor moves, or a reader counts its
+//! steps. Two things say what stays. `kept` is the facts about the source that no call changes, and
+//! `answers_for` relates the source to the volume that it reads. This is a relation and not a
+//! function, because a page reader encodes a volume but can't compute it. A contract says what
+//! holds for each volume in that relation, and the caller, who knows the volume, names it.
 ghost use Rattle.std.specs.Prelude.{◌≡◌, true, false, OnOk, IfErr, IfOk};
 ghost use Rattle.std.specs.Option.{option_copied, option_map};
 ghost use Rattle.be_value.specs.declared.refusals.Refusal.TheVariants.{OutOfMemory};
@@ -25,7 +24,8 @@ use be_query::Comparison;
 use be_value::{Kind, Name, Refusal, Value, key_of};
 use be_volume::holds;
 
-/// The keys of the index of a name from `low` to `high`, both included, or to the last key.
+/// The keys in the index of a name from `low` to `high`, both included; up to the last key if
+/// `high` is None.
 #[derive(Clone, Copy)]
 pub struct KeyRange<'a> {
     pub name: &'a Name,
@@ -34,10 +34,11 @@ pub struct KeyRange<'a> {
 }
 
 /// A reader of one volume. Its calls may change the reader itself, but neither the volume nor the
-/// facts that it keeps. Each call asks that the source answers for some volume, and its clauses
-/// hold of every volume for which it does. No call takes memory, but for what is added to a list.
+/// facts in `kept`. Each call requires that the source answers for some volume, and its clauses
+/// hold for every volume for which it does. No call allocates memory, except for what is added to a
+/// list.
 pub trait Source {
-    /// The facts of the source that no call changes.
+    /// The facts about the source that no call changes.
     ghost Kept: { Type 0 };
 
     ghost kept: { Self → Kept };
@@ -45,7 +46,7 @@ pub trait Source {
     /// Whether the source answers for this volume.
     ghost answers_for: { Self → State → Type 0 };
 
-    /// The kind of the index of that name, none without an index.
+    /// The kind of the index of that name; None if there is no index.
     fn kind_of(&mut self, name: &Name) -> Option<Kind>
         requires { (volume : State) × answers_for self.old volume }
         ensures answer { (volume : State) → answers_for self.old volume → result
@@ -53,8 +54,8 @@ pub trait Source {
         ensures stays { kept self.new ≡ kept self.old }
         ensures answers { StillAnswers answers_for self.old self.new };
 
-    /// The least key of the index of that name at `from` or after it, or strictly after it. Keys
-    /// are ordered by their bytes, and `from` may be any bytes. Without an index there is none.
+    /// The lowest key in the index of that name that is at `from` or after it, or strictly after
+    /// it. Keys are ordered by their bytes, and `from` may be any bytes. None if there is no index.
     fn next_key(&mut self, name: &Name, from: &[u8], after: bool) -> Option<ArrayVec<u8, 264>>
         requires { (volume : State) × answers_for self.old volume }
         ensures answer { (volume : State) → answers_for self.old volume →
@@ -62,8 +63,8 @@ pub trait Source {
         ensures stays { kept self.new ≡ kept self.old }
         ensures answers { StillAnswers answers_for self.old self.new };
 
-    /// Adds the node of each of these keys; best in the order of the keys. Without an index there
-    /// is none.
+    /// Adds the node of each of these keys, preferably in the order of the keys. It adds none if
+    /// there is no index.
     fn nodes_within(&mut self, keys: KeyRange<'_>, found: &mut Vec<u64>) -> Result<(), Refusal>
         requires { (volume : State) × answers_for self.old volume }
         ensures memory { IfErr result (λ e. e ≡ OutOfMemory) }
@@ -77,9 +78,9 @@ pub trait Source {
         ensures stays { kept self.new ≡ kept self.old }
         ensures answers { StillAnswers answers_for self.old self.new };
 
-    /// Adds the node of each of these keys of whose text the comparison is true, and returns true,
-    /// if the source tests texts where they are and the index is one of texts. Otherwise it adds
-    /// nothing and returns false, and the caller goes from key to key.
+    /// Adds the nodes of those keys whose text satisfies the comparison, and returns true. It does
+    /// so only if the source tests texts in place and the index is one of texts. Otherwise it adds
+    /// nothing and returns false, and the caller has to go from key to key.
     fn nodes_passing(
         &mut self,
         keys: KeyRange<'_>,
@@ -106,7 +107,7 @@ pub trait Source {
         Ok(false)
     }
 
-    /// Whether the index of that name has the key; false without an index.
+    /// Whether the index of that name has the key; false if there is no index.
     fn has_key(&mut self, name: &Name, key: &[u8]) -> bool
         requires { (volume : State) × answers_for self.old volume }
         ensures found { (volume : State) → answers_for self.old volume → result ≡ true
@@ -124,10 +125,11 @@ pub trait Source {
         ensures stays { kept self.new ≡ kept self.old }
         ensures answers { StillAnswers answers_for self.old self.new };
 
-    /// Whether the comparison is true of what it sees of the node. A pair of an index is always its
-    /// node's attribute, so the index of the comparison's name holds the attribute or nothing, and
-    /// whether it has the attribute's key decides which; without an index the attribute is seen. A
-    /// source that can compare a value where it lies has a body of its own, which moves none.
+    /// Whether the comparison is true of what it sees of the node. Each pair of an index is its
+    /// node's attribute. So the index of the comparison's name has either the node's attribute or
+    /// nothing of the node. Whether it has the attribute's key shows which. Without an index the
+    /// comparison sees the attribute. A source that can compare a value in place has its own body,
+    /// which copies no value.
     fn holds(&mut self, node: u64, comparison: &Comparison) -> bool
         requires { (volume : State) × answers_for self.old volume }
         ensures answer { (volume : State) → answers_for self.old volume →
@@ -149,8 +151,8 @@ pub trait Source {
         value.kind().indexable() && self.has_key(name, key_of(&value, node).as_slice())
     }
 
-    /// The same of a comparison that a caller asks of many nodes and has made ready to be asked of
-    /// texts: a source that compares a text where it lies decodes none. Others ask `holds`.
+    /// Does what `holds` does, for a comparison that the caller uses on many nodes and has prepared
+    /// for texts. A source that compares texts in place then decodes none. Others call `holds`.
     fn holds_tested(&mut self, node: u64, comparison: &Comparison, test: &TextTest<'_>) -> bool
         requires source { (volume : State) × answers_for self.old volume }
         requires test { test.now ≡ (comparison.now.op, literal comparison.now.literal) }
@@ -163,9 +165,9 @@ pub trait Source {
         self.holds(node, comparison)
     }
 
-    /// About how many keys the index of that name has. It decides only which way a query goes, so
-    /// any number is right, as it is without an index. A source with no body of its own gives the
-    /// largest, and so that index isn't walked for what another walk leaves to ask.
+    /// About how many keys the index of that name has. It only decides how a query is answered, so
+    /// any number is correct, also if there is no index. A source without its own body returns the
+    /// largest number. That index is then never walked for what another walk leaves to ask.
     fn estimate(&mut self, _name: &Name) -> u64
         requires { (volume : State) × answers_for self.old volume }
         ensures stays { kept self.new ≡ kept self.old }

@@ -1,21 +1,21 @@
-//! The parts of a query that are under `||` alone.
+//! The parts of a query that are only under `||`.
 //!
-//! What lies on the other side of an `||` says nothing of a pick, so a walk for it looks at its own
-//! part only. A query of many parts leans to the left: its last part is the right side of its first
-//! joint, and what is left of that joint begins with the same comparison. So if the picks are taken
-//! from the last to the first, each search goes on from the place of the one before it, and all of
-//! them pass the joints once.
+//! The other side of an `||` says nothing about a pick, so a walk for the pick looks only at its
+//! own part. A query of many parts leans to the left: its last part is the right side of its top
+//! `||`, and the left side begins with the same comparison as the query. So if the picks are taken
+//! from the last to the first, each search continues from where the one before ended. All of them
+//! together pass each `||` once.
 ghost use Rattle.std.specs.Prelude.{◌≡◌, ◌≤◌, ◌<◌, ◌+◌};
 ghost use Rattle.be_query.specs.Grammar.{Formula, comparisons};
 ghost use Rattle.be_query.specs.View.{formula};
-ghost use Rattle.be_plan.specs.Spine.{IsFrontOf, IsUnderOr, StandsIn};
+ghost use Rattle.be_plan.specs.Spine.{IsFrontOf, IsUnderOr, LiesIn};
 
 use crate::choosing::count;
 use be_query::Tree;
 
-/// A part of a query that begins with its first comparison, the number of its comparisons, and its
-/// last side: the right one of an `||`, otherwise the part itself, which begins at the place
-/// `from`.
+/// A part of a query that begins with the query's first comparison, and how many comparisons it
+/// has. Also its last side, which begins at the place `from`: the right side of an `||`; otherwise
+/// the part itself.
 #[derive(Clone, Copy)]
 pub(crate) struct Front<'a> {
     pub(crate) tree: &'a Tree,
@@ -24,7 +24,7 @@ pub(crate) struct Front<'a> {
     pub(crate) from: usize,
 }
 
-/// The whole query, as the first front to look in.
+/// The whole query, as the first front to search.
 pub(crate) fn whole_front(tree: &Tree) -> Front<'_>
     requires { comparisons (formula tree.now) ≤ 256 }
     ensures { IsFrontOf (formula tree.now) (formula result.tree.now) result.end }
@@ -37,8 +37,8 @@ pub(crate) fn whole_front(tree: &Tree) -> Front<'_>
     }
 }
 
-/// The front that is left of a front of that many comparisons if the last sides that begin after
-/// the pick are cut off: so the pick is in its last side.
+/// Cuts off a front's last sides that begin after the pick, so that the pick is in the last side.
+/// The front has `end` comparisons.
 fn cut_after(tree: &Tree, end: usize, pick: usize) -> Front<'_>
     requires end { end ≡ comparisons (formula tree.now) }
     requires few { end ≤ 256 }
@@ -47,8 +47,8 @@ fn cut_after(tree: &Tree, end: usize, pick: usize) -> Front<'_>
         → IsUnderOr whole 0 (formula result.tree.now) }
     ensures end { result.end ≡ comparisons (formula result.tree.now) }
     ensures few { result.end ≤ 256 }
-    ensures stands { (whole : Formula) → IsUnderOr whole 0 (formula tree.now)
-        → StandsIn whole pick result.from (formula result.side.now) }
+    ensures lies { (whole : Formula) → IsUnderOr whole 0 (formula tree.now)
+        → LiesIn whole pick result.from (formula result.side.now) }
     ensures side { result.from + comparisons (formula result.side.now) ≡ result.end }
 {
     match tree {
@@ -73,14 +73,14 @@ fn cut_after(tree: &Tree, end: usize, pick: usize) -> Front<'_>
     }
 }
 
-/// The front in whose last side the pick is. It is looked for in the front before, or in the whole
-/// if the pick is beyond that.
+/// The front whose last side contains the pick. It is searched for in the previous front, or in the
+/// whole query if the pick is beyond that.
 pub(crate) fn front_for<'a>(whole: &'a Tree, before: &Front<'a>, pick: usize) -> Front<'a>
     requires front { IsFrontOf (formula whole.now) (formula before.now.tree.now) before.now.end }
     requires whole { comparisons (formula whole.now) ≤ 256 }
     requires within { pick < comparisons (formula whole.now) }
     ensures front { IsFrontOf (formula whole.now) (formula result.tree.now) result.end }
-    ensures stands { StandsIn (formula whole.now) pick result.from (formula result.side.now) }
+    ensures lies { LiesIn (formula whole.now) pick result.from (formula result.side.now) }
     ensures side { result.from + comparisons (formula result.side.now) ≡ result.end }
 {
     if pick < before.end {

@@ -1,7 +1,8 @@
-//! Comparisons that are asked of many texts.
+//! Comparisons that are used on many texts.
 //!
-//! A walk over an index of texts asks one comparison of each key. So its pattern is compiled once,
-//! and then asked of the bytes of the keys: no text is taken out of a key, and none is decoded.
+//! A walk over an index of texts tests each key against one comparison. So its pattern is compiled
+//! once, and then matched against the keys' bytes: no text is copied out of a key, and none is
+//! decoded.
 ghost use Rattle.std.specs.Prelude.{◌≡◌, IsUtf8, IfOk, IfErr};
 ghost use Rattle.be_value.specs.declared.refusals.Refusal.TheVariants.{OutOfMemory};
 ghost use Rattle.be_query.specs.View.{literal};
@@ -22,7 +23,7 @@ enum Compared<'q> {
     Pattern(BytePattern<'q>),
 }
 
-/// A comparison that is ready to be asked of texts. A contract sees its operator and its literal.
+/// A comparison that is prepared for texts. A contract sees its operator and its literal.
 #[derive(Drop)]
 pub struct TextTest<'q> {
     op: Cmp,
@@ -40,7 +41,7 @@ impl<'q> Model for TextTest<'q> {
 }
 
 impl<'q> TextTest<'q> {
-    /// Makes a comparison ready. It takes memory for a pattern alone.
+    /// Prepares a comparison. Memory is allocated only for a pattern.
     pub fn new(alloc: Global, comparison: &'q Comparison) -> Result<TextTest<'q>, Refusal>
         ensures ok { IfOk result (λ test. test
             ≡ (comparison.now.op, literal comparison.now.literal)) }
@@ -56,7 +57,7 @@ impl<'q> TextTest<'q> {
         })
     }
 
-    /// Whether the comparison is true of a text, given by its bytes.
+    /// Whether the comparison is true of a text, given its bytes.
     pub fn passes(&self, text: &[u8]) -> bool
         ensures { IsUtf8 text.now → result ≡ holds_of_text self.now.0 text.now self.now.1 }
     {
@@ -70,7 +71,7 @@ impl<'q> TextTest<'q> {
     }
 }
 
-/// The text of a key of an index of texts: what comes before a zero byte and the eight bytes of the
+/// The text in a key of an index of texts: what comes before a zero byte and the eight bytes of the
 /// node.
 pub fn text_of(key: &[u8]) -> &[u8]
     ensures { result.now ≡ text_in key.now }

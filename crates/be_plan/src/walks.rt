@@ -1,12 +1,13 @@
 //! Walks over indices.
 //!
-//! A walk collects the nodes of the keys in a range of which the query is true. If the range
-//! decides the query, all of them are answers, and the source gives them by one call. If one
-//! comparison with a text is left to ask, the source is asked for the nodes of which it is true.
-//! Otherwise, and if the source doesn't test texts, the walk goes from key to key by `next_key`,
-//! from the range's low end to the first key above its high end, and asks the query of each node.
-//! It asks for one key more than it passes. A walk that leaves only other names to ask is in
-//! `sifting`.
+//! A walk collects the nodes of the keys in a range that match the query. If the range decides the
+//! query, all of them are answers, and the source returns them in one call. If only one comparison
+//! with a text is left, the source is asked for the nodes that satisfy it.
+//!
+//! In other cases, or if the source doesn't test texts, the walk goes from key to key with
+//! `next_key`: from the range's low end to the first key above its high end. It tests each node
+//! against the query, and gets one key more than it passes. A walk that leaves only other names to
+//! ask is in `sifting`.
 ghost use Rattle.std.specs.Prelude.{◌≡◌, ◌⊎◌, ◌<◌, ◌^◌, ℕ, true, Some, OnOk, IfErr, IfSome};
 ghost use Rattle.std.specs.Option.{option_copied, option_map};
 ghost use Rattle.std.specs.List.{Contains};
@@ -34,8 +35,8 @@ use be_query::{Comparison, Tree};
 use be_value::{Kind, Name, Refusal, node_of, read_key};
 use std::alloc::Global;
 
-/// For so many nodes there is room from the start: for a hundred hits the list doesn't grow. Their
-/// 1,024 bytes are the most that an allocator gives as fast as a few.
+/// A list has room for this many nodes from the start, so it doesn't grow for a hundred hits. Its
+/// 1,024 bytes are the most that an allocator returns as fast as a few bytes.
 pub(crate) const ROOM: usize = 128;
 
 /// The index of a name, and its kind.
@@ -45,8 +46,8 @@ pub(crate) struct Index<'a> {
     pub(crate) kind: Kind,
 }
 
-/// The keys of an index from one end of a range to the other, and the query that is asked of their
-/// nodes.
+/// The keys of an index from one end of a range to the other, and the query that their nodes are
+/// tested against.
 #[derive(Clone, Copy)]
 pub(crate) struct Walk<'a> {
     pub(crate) tree: &'a Tree,
@@ -54,7 +55,7 @@ pub(crate) struct Walk<'a> {
     pub(crate) range: &'a Range,
 }
 
-/// Adds the node of a key of the index, if the tree is true of it.
+/// Adds the node of a key of the index if it satisfies the tree.
 fn visit<S: Source>(
     source: &mut S,
     tree: &Tree,
@@ -81,7 +82,7 @@ fn visit<S: Source>(
     Ok(())
 }
 
-/// Adds the nodes of the keys of a walk of which its tree is true, from key to key.
+/// Adds the nodes of a walk's keys that satisfy its tree, from key to key.
 fn visit_all<S: Source>(source: &mut S, walk: Walk<'_>, found: &mut Vec<u64>) -> Result<(), Refusal>
     ghost volume: { State }
     requires answers { S.answers_for source.old volume }
@@ -106,7 +107,7 @@ fn visit_all<S: Source>(source: &mut S, walk: Walk<'_>, found: &mut Vec<u64>) ->
     Ok(())
 }
 
-/// Adds the node of a key of an index of texts, if the comparison is true of its text.
+/// Adds the node of a key of an index of texts if the comparison is true of its text.
 fn visit_text(
     test: &TextTest<'_>,
     name: &Name,
@@ -131,7 +132,7 @@ fn visit_text(
     Ok(())
 }
 
-/// Adds the nodes of the keys in the range of whose texts the comparison is true, from key to key.
+/// Adds the nodes of those keys in the range whose texts satisfy the comparison, from key to key.
 fn visit_texts<S: Source>(
     source: &mut S,
     test: &TextTest<'_>,
@@ -164,8 +165,8 @@ fn visit_texts<S: Source>(
     Ok(())
 }
 
-/// Adds the nodes of the keys in the range of whose texts the comparison is true: by one call, if
-/// the source tests texts where they are, otherwise from key to key.
+/// Adds the nodes of those keys in the range whose texts satisfy the comparison. This takes one
+/// call if the source tests texts in place, and otherwise goes from key to key.
 fn test_texts<S: Source>(
     source: &mut S,
     test: &TextTest<'_>,
@@ -198,7 +199,7 @@ fn test_texts<S: Source>(
     visit_texts(source, test, name, range, found)
 }
 
-/// The comparison that is left to ask of the texts of the index, if that is all that is left.
+/// The comparison that is left to ask about the index's texts, if nothing else is left.
 pub fn asked_of_texts<'t>(rest: &'t Tree, name: &Name, kind: Kind) -> Option<&'t Comparison>
     ensures leaf { IfSome (option_copied result)
         (λ c. formula rest.now ≡ Leaf name.now c.op (literal c.literal)) }
@@ -216,9 +217,9 @@ pub fn asked_of_texts<'t>(rest: &'t Tree, name: &Name, kind: Kind) -> Option<&'t
     }
 }
 
-/// Adds the nodes of the keys of a walk of which its tree is true, if this part is left to ask of
-/// them, from what the keys hold. It is a function of its own, so that a walk whose range decides
-/// the tree needs no room for keys.
+/// Adds the nodes of a walk's keys that satisfy its tree, given that this part is left to ask about
+/// them. The keys' content is enough for that. It is a separate function so that a walk whose range
+/// decides the tree needs no room for keys.
 #[inline(never)]
 fn pass_keys<S: Source>(
     alloc: Global,
@@ -248,8 +249,8 @@ fn pass_keys<S: Source>(
     visit_all(source, walk, found)
 }
 
-/// Adds the nodes of the keys of a walk of which its tree is true, if this is left to ask of them:
-/// nothing, if the range decides the tree. What is left is asked from key to key.
+/// Adds the nodes of a walk's keys that satisfy its tree, given what is left to ask about them:
+/// nothing if the range decides the tree. What is left is tested from key to key.
 #[inline]
 pub(crate) fn walk_alone<S: Source>(
     alloc: Global,

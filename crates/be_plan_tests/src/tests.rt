@@ -1,14 +1,19 @@
-//! Worked examples, over a plain volume's source that writes down its calls.
+//! Worked examples, with a plain volume as a source that records its calls.
 //!
-//! A volume is made by lines of a script, such as `set 1 n LONG 5`; `6 times new` is six of them,
-//! and `each n LONG: 5 7` sets the attribute of nodes 1, 2, .. to one of these values each. The
-//! requests are lines `COMMAND QUERY => REPLY`. The command `explain` returns what the query is
-//! computed from, and `query` its nodes by these picks; `list` explains what the list of the
-//! indices chooses. Digits are a command too: the nodes by these picks, a digit for each. After the
-//! nodes come the indices of which a key was asked, by the first letter of the name for each call;
-//! of a range that is asked for whole, a letter for each key that lies in it and one for its end:
-//! `nodes 2 3 asks nnn`. The commands `keys`, `looks` and `kinds` count the calls to a source that
-//! knows the kinds, and `ranges` counts the ranges that decide a query whole.
+//! A volume is made by lines of a script, such as `set 1 n LONG 5`. `6 times new` repeats a line,
+//! and `each n LONG: 5 7` gives the attribute of nodes 1, 2, .. one of these values each.
+//!
+//! The requests are lines `COMMAND QUERY => REPLY`. `explain` returns what the query is computed
+//! from, and `query` returns its nodes by these picks. `list` explains what is chosen from the list
+//! of the indices. Digits are also a command: they return the nodes by these picks, one for each
+//! digit.
+//!
+//! After the nodes, the reply has a letter for each key that was asked for: the first letter of the
+//! index's name. A range that is asked for whole has a letter for each of its keys and one for its
+//! end: `nodes 2 3 asks nnn`.
+//!
+//! The commands `keys`, `looks` and `kinds` count the calls to a source that knows the kinds.
+//! `ranges` counts the ranges that decide a query whole.
 
 mod both;
 mod counting;
@@ -28,16 +33,16 @@ use be_volume::{Op, Volume};
 use std::alloc::{AllocError, Global};
 use std::test::Fail;
 
-/// Does a list of operations, which has to be accepted.
+/// Applies a list of operations, which has to be accepted.
 fn write(volume: &mut Volume, ops: &[Op]) -> Result<(), Refusal> {
     if ops.is_empty() || ops.len() > 64 || volume.next() > u64::MAX - 64 {
         return Err(Refusal::BadLimits);
     }
-    let _dones = volume.apply(ops)?;
+    let _outcomes = volume.apply(ops)?;
     Ok(())
 }
 
-/// Does the operations of a line, again if they are refused memory.
+/// Applies the operations of a line. If memory runs out, it tries again.
 fn write_line(alloc: Global, volume: &mut Volume, line: &str) -> Result<(), Refusal> {
     let ops = list_of(alloc, line)?;
     match write(volume, &ops) {
@@ -50,7 +55,7 @@ fn set_line(alloc: Global, node: u64, attribute: &str, value: &str) -> Result<St
     format!(in alloc; "set {node} {attribute} {value}")
 }
 
-/// Sets an attribute of a node to a value.
+/// Sets one attribute of a node.
 fn set_one(
     alloc: Global,
     volume: &mut Volume,
@@ -65,7 +70,7 @@ fn set_one(
     write_line(alloc, volume, line.as_str())
 }
 
-/// Sets an attribute of nodes 1, 2, .. to a value each. Its name and its kind come before these.
+/// Sets an attribute of nodes 1, 2, .. to one value each. Its name and kind come before the values.
 fn set_each(alloc: Global, volume: &mut Volume, words: &str) -> Result<(), Refusal> {
     let (attribute, values) = words.split_once(": ").unwrap_or((words, ""));
     let mut node: u64 = 0;
@@ -76,7 +81,7 @@ fn set_each(alloc: Global, volume: &mut Volume, words: &str) -> Result<(), Refus
     Ok(())
 }
 
-/// Does a line: the values of an attribute, or a list as often as the line says.
+/// Runs a line: the values of an attribute, or a list of operations as often as the line says.
 fn do_line(alloc: Global, volume: &mut Volume, line: &str) -> Result<(), Refusal> {
     if let Some(words) = line.strip_prefix("each ") {
         return set_each(alloc, volume, words);
@@ -95,14 +100,14 @@ fn do_lines(alloc: Global, volume: &mut Volume, lines: &str) -> Result<(), Refus
     Ok(())
 }
 
-/// Makes a volume.
+/// Makes a volume by these lines.
 pub(crate) fn volume_of(alloc: Global, lines: &str) -> Result<Volume, Refusal> {
     let mut volume = Volume::new(alloc);
     do_lines(alloc, &mut volume, lines)?;
     Ok(volume)
 }
 
-/// The places of digits.
+/// The picks that the digits name.
 fn picks_of(alloc: Global, digits: &str) -> Result<Picks, Refusal> {
     let mut places = Vec::new(alloc);
     for digit in digits.bytes() {
@@ -111,7 +116,7 @@ fn picks_of(alloc: Global, digits: &str) -> Result<Picks, Refusal> {
     Ok(Picks::new(places))
 }
 
-/// The words `nodes` and each number.
+/// The word `nodes` and the numbers.
 fn nodes_text(alloc: Global, nodes: &[u64]) -> Result<String, Refusal> {
     let mut text = String::from_str(alloc, "nodes")?;
     for node in nodes {
@@ -120,7 +125,7 @@ fn nodes_text(alloc: Global, nodes: &[u64]) -> Result<String, Refusal> {
     Ok(text)
 }
 
-/// The nodes, and the indices of which keys were asked for them.
+/// The nodes, and the indices of the keys that were asked for.
 fn found_text(alloc: Global, nodes: &[u64], asked: &str) -> Result<String, Refusal> {
     let mut text = nodes_text(alloc, nodes)?;
     text.push_str(" asks ")?;
@@ -128,7 +133,7 @@ fn found_text(alloc: Global, nodes: &[u64], asked: &str) -> Result<String, Refus
     Ok(text)
 }
 
-/// The nodes by the cover, and what was asked for them.
+/// The nodes that the cover finds, and what was asked for to find them.
 fn found(alloc: Global, volume: &Volume, query: &Query, cover: &Cover) -> Result<String, Refusal> {
     match nodes_by(alloc, volume, query, cover)? {
         Some((nodes, counts)) => found_text(alloc, &nodes, counts.asked.as_str()),
@@ -145,7 +150,7 @@ fn are_scanned(volume: &Volume, query: &Query, nodes: &[u64]) -> Result<bool, Re
     Ok(volume.query(query)?.as_slice() == nodes)
 }
 
-/// How many ranges were asked for whole by the cover, which has to give the nodes of a scan.
+/// How many ranges the cover asked for whole. The nodes that it finds have to be those of a scan.
 fn count_ranges(
     alloc: Global,
     volume: &Volume,
@@ -160,20 +165,20 @@ fn count_ranges(
     Ok(String::from_str(alloc, "not the nodes of a scan")?)
 }
 
-/// The nodes, and how many kinds and ranges were asked for them.
+/// The nodes, and how many kinds and ranges were asked for to find them.
 fn kinds(alloc: Global, nodes: &[u64], kinds: u64, ranges: u64) -> Result<String, Refusal> {
     let mut text = nodes_text(alloc, nodes)?;
     text.push_str(format!(in alloc; " kinds {kinds} ranges {ranges}")?.as_str())?;
     Ok(text)
 }
 
-/// The text of the counts of values asked for and of searches of an index.
+/// The text of two counts: values that were asked for, and searches of an index.
 fn looks(alloc: Global, values: u64, searches: u64) -> Result<String, Refusal> {
     Ok(format!(in alloc; "values {values} searches {searches}")?)
 }
 
-/// The counts of calls to a source that knows the kinds: the keys of a range without its end, the
-/// values and the keys that were searched for, or the kinds and the ranges.
+/// Counts the calls to a source that knows the kinds. They are the keys of a range without its end;
+/// the values and the searches for keys; or the kinds and the ranges.
 fn counted(
     alloc: Global,
     volume: &Volume,
@@ -188,7 +193,7 @@ fn counted(
     }
 }
 
-/// What is chosen by the volume's indices.
+/// What is chosen from the volume's indices.
 fn chosen(alloc: Global, volume: &Volume, query: &Query) -> Result<Cover, Refusal>
     ensures places { IfOk result (λ cover. are_places query.now cover.picks ≡ true) }
 {
@@ -196,7 +201,7 @@ fn chosen(alloc: Global, volume: &Volume, query: &Query) -> Result<Cover, Refusa
     choose_from(alloc, query, &mut source)
 }
 
-/// What is chosen by the list of the volume's indices.
+/// What is chosen from the list of the volume's indices.
 fn listed(alloc: Global, volume: &Volume, query: &Query) -> Result<Cover, Refusal>
     ensures places { IfOk result (λ cover. are_places query.now cover.picks ≡ true) }
 {
@@ -204,19 +209,20 @@ fn listed(alloc: Global, volume: &Volume, query: &Query) -> Result<Cover, Refusa
     choose(alloc, query, indices.as_slice())
 }
 
-/// The text of what is chosen by the list.
+/// The text of what is chosen from the list.
 fn listed_text(alloc: Global, volume: &Volume, query: &Query) -> Result<String, Refusal> {
     let cover = listed(alloc, volume, query)?;
     explain(alloc, query, &cover)
 }
 
-/// The text of what is chosen by the volume's indices.
+/// The text of what is chosen from the volume's indices.
 fn chosen_text(alloc: Global, volume: &Volume, query: &Query) -> Result<String, Refusal> {
     let cover = chosen(alloc, volume, query)?;
     explain(alloc, query, &cover)
 }
 
-/// The same, if what is chosen by the list is the same; otherwise BadLimits.
+/// The text of what is chosen, if the list and the volume give the same; otherwise the error is
+/// `BadLimits`.
 fn explained(alloc: Global, volume: &Volume, query: &Query) -> Result<String, Refusal> {
     let text = chosen_text(alloc, volume, query)?;
     let other = listed_text(alloc, volume, query)?;
@@ -226,7 +232,7 @@ fn explained(alloc: Global, volume: &Volume, query: &Query) -> Result<String, Re
     Ok(text)
 }
 
-/// The picks of digits.
+/// A cover with the picks that the digits name.
 fn picked(alloc: Global, digits: &str) -> Result<Cover, Refusal> {
     Ok(Cover {
         picks: picks_of(alloc, digits)?,
@@ -267,12 +273,12 @@ pub(crate) fn replies(alloc: Global, volume: &Volume, lines: &str) -> Result<(),
     check_lines(alloc, &mut Asked { volume }, lines)
 }
 
-/// The same on a volume of these lines.
+/// Fails unless each request has its reply on a volume of these lines.
 pub(crate) fn replies_of(alloc: Global, lines: &str, requests: &str) -> Result<(), Fail> {
     replies(alloc, &volume_of(alloc, lines)?, requests)
 }
 
-/// Each pick asks for keys of its own index alone.
+/// Each pick asks only for keys of its own index.
 #[test]
 fn two_indices(rt: HostRuntime) -> Result<(), Fail> {
     let lines = "new
@@ -299,8 +305,8 @@ query b==2 => nodes 1 2 asks bbb
     replies_of(rt.alloc(), lines, requests)
 }
 
-/// A query is covered if both sides of each `||` rest on an index and one side of each `&&` does;
-/// otherwise it is refused.
+/// A comparison is covered if its name has an index, an `||` if both sides are, and an `&&` if one
+/// side is. A query that isn't covered is refused.
 #[test]
 fn coverage(rt: HostRuntime) -> Result<(), Fail> {
     let lines = "mkindex a LONG
@@ -319,7 +325,8 @@ list a==1||b==2 => refused 17
     replies_of(rt.alloc(), lines, requests)
 }
 
-/// The cheapest side of an `&&`, the left one at a tie, and both sides of an `||`.
+/// Of an `&&`, the cheaper side is chosen, and the left one if both cost the same. Of an `||`, both
+/// sides are.
 #[test]
 fn choices(rt: HostRuntime) -> Result<(), Fail> {
     let lines = "mkindex a LONG
@@ -342,15 +349,15 @@ list z==1 && (b==2 || z==3) => refused 17";
     replies_of(rt.alloc(), lines, requests)
 }
 
-/// Six nodes. At each of them m is 7 less n.
+/// Six nodes. At each of them, m is 7 minus n.
 const NUMBERS: &str = "mkindex n LONG
 mkindex m LONG
 6 times new
 each n LONG: 1 2 3 4 5 6
 each m LONG: 6 5 4 3 2 1";
 
-/// A walk is bounded by what is beside its pick under `&&`, and by nothing under an `||` that the
-/// pick isn't in.
+/// A walk is bounded by what `&&` joins to its pick, and by nothing inside an `||` that the pick
+/// isn't in.
 #[test]
 fn bounds(rt: HostRuntime) -> Result<(), Fail> {
     let requests = "0 n==3 => nodes 3 asks nn
@@ -371,7 +378,7 @@ fn bounds(rt: HostRuntime) -> Result<(), Fail> {
     replies_of(rt.alloc(), NUMBERS, requests)
 }
 
-/// A number outside the kind of the index bounds a walk as well, and so does a text that encodes no
+/// A number outside the kind of the index also bounds a walk, and so does a text that encodes no
 /// number.
 #[test]
 fn bounds_outside_the_kind(rt: HostRuntime) -> Result<(), Fail> {
@@ -391,7 +398,7 @@ fn bounds_outside_the_kind(rt: HostRuntime) -> Result<(), Fail> {
     replies_of(rt.alloc(), NUMBERS, requests)
 }
 
-/// The ranges of the other integer kinds.
+/// The ranges of the other kinds of integers.
 #[test]
 fn bounds_of_each_kind(rt: HostRuntime) -> Result<(), Fail> {
     let lines = "mkindex l LLNG
@@ -435,7 +442,7 @@ each t CSTR: a ab abc ac b é";
     replies_of(rt.alloc(), lines, requests)
 }
 
-/// The kind that a source gives to an index.
+/// The kind that a source reports for an index.
 fn kind_by<S: Source + Drop>(mut source: S, name: &Name) -> Option<Kind>
     ghost volume: { State }
     requires { S.answers_for source volume }
@@ -443,7 +450,7 @@ fn kind_by<S: Source + Drop>(mut source: S, name: &Name) -> Option<Kind>
     source.kind_of(name)
 }
 
-/// Whether the next key that a source gives is this one.
+/// Whether this is the next key that a source returns.
 fn is_next<S: Source + Drop>(
     mut source: S,
     name: &Name,
@@ -485,7 +492,7 @@ fn gives_keys(volume: &Volume, index: &Name, other: &Name) -> bool {
         && is_next_in(volume, other, LAST, false, &[])
 }
 
-/// A volume as a source gives the kind of an index and its keys in order, and neither for a name
+/// As a source, a volume returns an index's kind and its keys in order, and neither for a name
 /// without an index.
 #[test]
 fn plan_source(rt: HostRuntime) -> Result<(), Fail> {
@@ -502,12 +509,12 @@ new";
     Ok(())
 }
 
-/// The text with 254 times m in place of each M.
+/// The text with each M replaced by 254 times m.
 fn lengthened(alloc: Global, text: &str) -> Result<String, Refusal> {
     Ok(text.replace(alloc, "M", "m".repeat(alloc, 254)?.as_str())?)
 }
 
-/// The same. A call that is refused memory is made again.
+/// The same. If memory runs out, it tries again.
 fn with_long(alloc: Global, text: &str) -> Result<String, Refusal> {
     match lengthened(alloc, text) {
         Err(Refusal::OutOfMemory) => lengthened(alloc, text),
@@ -515,7 +522,7 @@ fn with_long(alloc: Global, text: &str) -> Result<String, Refusal> {
     }
 }
 
-/// Fails unless each request has its reply on a volume of these lines. In both each M is replaced
+/// Fails unless each request has its reply on a volume of these lines. In both, each M is replaced
 /// by 254 times m.
 fn replies_of_long(alloc: Global, lines: &str, requests: &str) -> Result<(), Fail> {
     let lines = with_long(alloc, lines)?;
@@ -523,8 +530,8 @@ fn replies_of_long(alloc: Global, lines: &str, requests: &str) -> Result<(), Fai
     replies_of(alloc, lines.as_str(), requests.as_str())
 }
 
-/// A text longer than any value's bounds a walk by the bytes that a value may have, and a pattern
-/// of more literal bytes leaves out all keys.
+/// A text longer than any value bounds a walk by the bytes that a value may have. A pattern with
+/// more literal bytes than a value may have leaves out all keys.
 #[test]
 fn bounds_of_long_texts(rt: HostRuntime) -> Result<(), Fail> {
     let lines = "mkindex t CSTR
@@ -542,13 +549,13 @@ each t CSTR: a Mm Mn z";
     replies_of_long(rt.alloc(), lines, requests)
 }
 
-/// Texts around the fronts of patterns: of one, two and four bytes a character, with the least byte
-/// after a front, and of 255 bytes.
+/// Texts around the fronts of patterns: with characters of one, two and four bytes, with the lowest
+/// byte after a front, and of 255 bytes.
 const BY_FRONT: &str = "mkindex t CSTR
 10 times new
 each t CSTR: a a\u{1} ab aé aéz aè \u{10ffff} Mm M b";
 
-/// Queries, and the number of ranges that each is answered by whole.
+/// Queries, and how many whole ranges answer each.
 const BY_RANGE: &str = "ranges t==a => 1
 ranges t==\"\" => 1
 ranges t==\"*\" => 1
@@ -567,14 +574,14 @@ ranges t==\"a*z\" => 0
 ranges t==\"[a]*\" => 0
 ranges t!=\"a*\" => 0";
 
-/// A pattern that says how a text begins is answered by its range alone, and every other is asked
-/// of each key.
+/// A pattern that only says how a text begins is answered by its range; every other pattern
+/// is tested against each key.
 #[test]
 fn patterns_by_range(rt: HostRuntime) -> Result<(), Fail> {
     replies_of_long(rt.alloc(), BY_FRONT, BY_RANGE)
 }
 
-/// The front of a pattern has up to 255 bytes, as a text has.
+/// The front of a pattern has at most 255 bytes, as a text has.
 #[test]
 fn longest_front(rt: HostRuntime) -> Result<(), Fail> {
     let requests = "ranges t==\"Mm*\" => 1
@@ -583,8 +590,7 @@ ranges t==\"Mmm*\" => 0";
 }
 
 /// 256 comparisons on the names of 32 indices, joined by `||`: i0==0, i1==1, .. i31==255. They find
-/// nodes 1 and 2, and the kind of each comparison's index is asked for once to choose and once to
-/// walk.
+/// nodes 1 and 2. The kind of each comparison's index is asked for once to choose and once to walk.
 fn most_comparisons(alloc: Global) -> Result<String, Refusal> {
     let mut text = String::from_str(alloc, "kinds i0==0")?;
     for number in 1..256u64 {
@@ -595,8 +601,8 @@ fn most_comparisons(alloc: Global) -> Result<String, Refusal> {
     Ok(text)
 }
 
-/// The lines of a volume with 32 indices, of which the first and the last hold a value that the
-/// query asks for last.
+/// The lines of a volume with 32 indices. The first and the last index have a value that the
+/// query's last comparisons look for.
 fn most_indices(alloc: Global) -> Result<String, Refusal> {
     let mut lines = String::from_str(alloc, "new\nnew\nnew")?;
     for index in 0..32u64 {
@@ -630,14 +636,14 @@ fn falling_values(alloc: Global) -> Result<String, Refusal> {
     Ok(lines)
 }
 
-/// Queries on these: of 255 nodes and of 256, of all, of all found twice, and of one.
+/// Queries on these nodes: they find 255 of them, 256, all, all twice, and one.
 const FALLING: &str = "ranges n>=700 && n<955 => 1
 ranges n>=700 && n<956 => 1
 ranges n>=0 => 1
 ranges n>=0 || n<1000 => 2
 ranges n==850 => 1";
 
-/// Nodes that are found in falling order are answered in rising order, each once.
+/// Nodes that are found in descending order are returned in ascending order, each once.
 #[test]
 fn falling_nodes(rt: HostRuntime) -> Result<(), Fail> {
     let lines = match falling_values(rt.alloc()) {

@@ -1,4 +1,4 @@
--- How many comparisons a tree that is read or built from items has.
+-- How many comparisons a tree has that was read from a text or built from items.
 use Rattle.std.proofs.Common.{◌≡◌, ℕ, ◌+◌, ◌<◌, ◌≤◌, Bool, true, false, Option, Some, None, Result, Ok, Err, List, [], ◌∷◌, length, refl, sym, ap, ◌∙◌, subst, arith, cond}
 use Rattle.std.specs.Prelude.{nat_le, nat_lt}
 use Rattle.std.proofs.lemmas.Bool.{leb-false, ltb-false, cond_both}
@@ -7,7 +7,7 @@ use Rattle.be_value.specs.declared.refusals.Refusal.{Refusal}
 use Rattle.be_value.specs.declared.refusals.Refusal.TheVariants.{Syntax, BadPattern, TooLong, TooMany}
 use Rattle.be_query.specs.declared.tree.Cmp.{Cmp}
 use Rattle.be_query.specs.Tokens.{Token, Open, Close, Bang, Both, Either, Compares, Text, plain, is_name}
-use Rattle.be_query.specs.Grammar.{Formula, Leaf, And, Or, complement, comparisons, literal_of, Spells}
+use Rattle.be_query.specs.Grammar.{Formula, Leaf, And, Or, complement, comparisons, literal_of, ParsesTo}
 use Rattle.be_query.specs.Reading.{Awaited, Operand, Mark, next}
 use Rattle.be_query.specs.Building.{Level, Stage, Operands, Operators, Values, Joints, State, nothing_built, turned, conjunction, disjunction, joined, with_operand, with_side, close, build_at, take_token, build_from, tree_at, tree_of, awaited_at, marks_of, view_of, IsSettled}
 use Rattle.be_query.specs.Lexing.{Placed, Lexeme, Whole, Broken, Odd, lexemes, whole, all_whole, tokens}
@@ -27,7 +27,7 @@ turned_same : (b : Bool) (t : Formula) → comparisons (turned b t) ≡ comparis
 turned_same false t = refl
 turned_same true t = complement_same t
 
--- how many comparisons wait in a side, a level, the levels and a stage
+-- how many comparisons are in a side, in a level, in all levels and in a stage
 in_side : Option Formula → ℕ
 in_side None = 0
 in_side (Some t) = comparisons t
@@ -48,7 +48,7 @@ in_stage (Joints t) = comparisons t
 in_state : Stage → Level → List Level → ℕ
 in_state stage level outer = in_stage stage + (in_level level + in_levels outer)
 
--- a comparison ends with the next token
+-- how many comparisons the next token completes: one or none
 ends_one : Stage → ℕ
 ends_one Operands = 0
 ends_one (Operators n) = 0
@@ -118,7 +118,7 @@ build_holds (Joints t) level outer Either = let a = joined_or level.negated leve
 build_holds (Joints t) level outer (Compares op) = tt
 build_holds (Joints t) level outer (Text raw) = tt
 
--- a value that has no fault is at most the 256th
+-- a value without an error is at most the 256th
 value_few : (n start : ℕ) (o : Option ℕ) → value_fault n start o ≡ None → n < 256
 value_few n start (Some at) h = cc
 value_few n start None h = go (nat_le 256 n) refl h
@@ -153,7 +153,7 @@ none_built : (ts : List Token) (t : Formula) → tree_of (build_from None ts) �
 none_built [] t e = cc
 none_built (x ∷ ts) t e = cc
 
--- What is read on without a fault has no more comparisons than were counted.
+-- A text that is read without an error has no more comparisons than were counted.
 Few : List Placed → Type 0
 Few xs = (s : State) (n len : ℕ) (t : Formula) → IsSettled s → first_fault (awaited_at s.stage) (marks_of s.level s.outer) n len xs ≡ None
     → in_state s.stage s.level s.outer ≤ n → n ≤ 256 → tree_of (build_from (Some s) (whole xs)) ≡ Some t → comparisons t ≤ 256
@@ -205,7 +205,7 @@ fault_short text h = go (nat_lt 4096 (length text)) refl h
     go true e k = absurd (let no : Some TooLong ≡ None = k in cc)
     go false e k = ltb-false 4096 (length text) e
 
--- Where there is no fault each lexeme is a token.
+-- If there is no error, each lexeme is a token.
 Unbroken : ℕ → List Placed → Type 0
 Unbroken len xs = (place : Awaited) (marks : List Mark) (n : ℕ) → first_fault place marks n len xs ≡ None → all_whole xs ≡ true
 
@@ -236,15 +236,15 @@ pub whole_text : (text : List ℕ) → fault text ≡ None → all_whole (lexeme
 unfolding Unbroken
 whole_text text f = unbroken (length text) (lexemes 0 0 text) Operand [] 0 (sym (fault_within text (fault_short text f)) ∙ f)
 
--- the tree of a text without a fault has at most 256 comparisons
-pub few_spelt : (text : List ℕ) (t : Formula) → fault text ≡ None → Spells (tokens text) t → comparisons t ≤ 256
+-- the tree of a text without an error has at most 256 comparisons
+pub few_parsed : (text : List ℕ) (t : Formula) → fault text ≡ None → ParsesTo (tokens text) t → comparisons t ≤ 256
 unfolding Few in_state in_stage in_level in_levels in_side
-few_spelt text t f (o, same, tree) =
+few_parsed text t f (o, same, tree) =
     let first = sym (fault_within text (fault_short text f)) ∙ f in
     let built = ap (λ l. tree_of (build_from (Some nothing_built) l)) (sym same) ∙ tree_built o ∙ ap Some tree in
     read_few (lexemes 0 0 text) nothing_built 0 (length text) t tt first (omega arith) (omega arith) built
 
--- The same of items.
+-- The same for items.
 
 on_stack : List rpn.Thing → ℕ
 on_stack [] = 0
@@ -252,9 +252,9 @@ on_stack (rpn.Attribute n ∷ things) = on_stack things
 on_stack (rpn.Value v ∷ things) = on_stack things
 on_stack (rpn.Whole t ∷ things) = comparisons t + on_stack things
 
-Stands : Result (ℕ × List rpn.Thing) Refusal → Type 0
-Stands (Err e) = Unit {0}
-Stands (Ok s) = (on_stack s.1 ≤ s.0) × (s.0 ≤ 256)
+IsFew : Result (ℕ × List rpn.Thing) Refusal → Type 0
+IsFew (Err e) = Unit {0}
+IsFew (Ok s) = (on_stack s.1 ≤ s.0) × (s.0 ≤ 256)
 
 LeavesComparison : List rpn.Thing → Option (List ℕ × List ℕ × List rpn.Thing) → Type 0
 LeavesComparison things None = Unit {0}
@@ -303,51 +303,51 @@ trees_left (rpn.Attribute n ∷ things) = tt
 trees_left (rpn.Value v ∷ things) = tt
 trees_left (rpn.Whole t ∷ things) = below_trees t things
 
-counts_stand : (n : ℕ) (leaf : Formula) (things : List rpn.Thing) → comparisons leaf ≡ 1 → on_stack things ≤ n → Stands (rpn.counts n leaf things)
-unfolding Stands on_stack
-counts_stand n leaf things one h = cond_both (nat_le 256 n) _ _ Stands (λ e. tt) (λ e. let few = leb-false 256 n e in (omega arith, omega arith))
+counts_are_few : (n : ℕ) (leaf : Formula) (things : List rpn.Thing) → comparisons leaf ≡ 1 → on_stack things ≤ n → IsFew (rpn.counts n leaf things)
+unfolding IsFew on_stack
+counts_are_few n leaf things one h = cond_both (nat_le 256 n) _ _ IsFew (λ e. tt) (λ e. let few = leb-false 256 n e in (omega arith, omega arith))
 
-compares_stand : (at n : ℕ) (op : Cmp) (things : List rpn.Thing) (o : Option (List ℕ × List ℕ × List rpn.Thing)) → LeavesComparison things o → on_stack things ≤ n → Stands (rpn.compares at n op o)
-unfolding LeavesComparison Stands
-compares_stand at n op things None l h = tt
-compares_stand at n op things (Some c) l h = go (bad_pattern op c.1)
+compares_are_few : (at n : ℕ) (op : Cmp) (things : List rpn.Thing) (o : Option (List ℕ × List ℕ × List rpn.Thing)) → LeavesComparison things o → on_stack things ≤ n → IsFew (rpn.compares at n op o)
+unfolding LeavesComparison IsFew
+compares_are_few at n op things None l h = tt
+compares_are_few at n op things (Some c) l h = go (bad_pattern op c.1)
   where
-    go : (o : Option ℕ) → Stands (elim o [ Some _ ↦ Err (BadPattern at) | None ↦ rpn.counts n (Leaf c.0 op (rpn.given_literal op c.1)) c.2 ])
+    go : (o : Option ℕ) → IsFew (elim o [ Some _ ↦ Err (BadPattern at) | None ↦ rpn.counts n (Leaf c.0 op (rpn.given_literal op c.1)) c.2 ])
     go (Some x) = tt
-    go None = counts_stand n (Leaf c.0 op (rpn.given_literal op c.1)) c.2 refl (omega arith)
+    go None = counts_are_few n (Leaf c.0 op (rpn.given_literal op c.1)) c.2 refl (omega arith)
 
-surrounds_stand : (at n : ℕ) (before beyond : Bool) (things : List rpn.Thing) (o : Option (List ℕ × List ℕ × List rpn.Thing)) → LeavesComparison things o → on_stack things ≤ n → Stands (rpn.surrounds at n before beyond o)
-unfolding LeavesComparison Stands
-surrounds_stand at n before beyond things None l h = tt
-surrounds_stand at n before beyond things (Some c) l h = counts_stand n _ c.2 refl (omega arith)
+surrounds_are_few : (at n : ℕ) (before beyond : Bool) (things : List rpn.Thing) (o : Option (List ℕ × List ℕ × List rpn.Thing)) → LeavesComparison things o → on_stack things ≤ n → IsFew (rpn.surrounds at n before beyond o)
+unfolding LeavesComparison IsFew
+surrounds_are_few at n before beyond things None l h = tt
+surrounds_are_few at n before beyond things (Some c) l h = counts_are_few n _ c.2 refl (omega arith)
 
-work_stands : (at n : ℕ) (things : List rpn.Thing) (i : rpn.Item) → on_stack things ≤ n → n ≤ 256 → Stands (rpn.work at n things i)
-unfolding Stands on_stack LeavesTree LeavesTrees LeavesComparison
-work_stands at n things (rpn.Attr name) h k = (h, k)
-work_stands at n things (rpn.Given text) h k = cond_both (has_nul text) _ _ Stands (λ e. tt) (λ e. (h, k))
-work_stands at n things (rpn.Number text) h k = (h, k)
-work_stands at n things (rpn.Compare op) h k = compares_stand at n op things _ (comparison_left things) h
-work_stands at n things (rpn.Around before beyond) h k = surrounds_stand at n before beyond things _ (comparison_left things) h
-work_stands at n things rpn.Both h k = go (rpn.top_trees things) (trees_left things)
+work_is_few : (at n : ℕ) (things : List rpn.Thing) (i : rpn.Item) → on_stack things ≤ n → n ≤ 256 → IsFew (rpn.work at n things i)
+unfolding IsFew on_stack LeavesTree LeavesTrees LeavesComparison
+work_is_few at n things (rpn.Attr name) h k = (h, k)
+work_is_few at n things (rpn.Given text) h k = cond_both (has_nul text) _ _ IsFew (λ e. tt) (λ e. (h, k))
+work_is_few at n things (rpn.Number text) h k = (h, k)
+work_is_few at n things (rpn.Compare op) h k = compares_are_few at n op things _ (comparison_left things) h
+work_is_few at n things (rpn.Around before beyond) h k = surrounds_are_few at n before beyond things _ (comparison_left things) h
+work_is_few at n things rpn.Both h k = go (rpn.top_trees things) (trees_left things)
   where
-    go : (o : Option (Formula × Formula × List rpn.Thing)) → LeavesTrees things o → Stands (rpn.joins at n And o)
+    go : (o : Option (Formula × Formula × List rpn.Thing)) → LeavesTrees things o → IsFew (rpn.joins at n And o)
     go None l = tt
     go (Some s) l = (omega arith, k)
-work_stands at n things rpn.Either h k = go (rpn.top_trees things) (trees_left things)
+work_is_few at n things rpn.Either h k = go (rpn.top_trees things) (trees_left things)
   where
-    go : (o : Option (Formula × Formula × List rpn.Thing)) → LeavesTrees things o → Stands (rpn.joins at n Or o)
+    go : (o : Option (Formula × Formula × List rpn.Thing)) → LeavesTrees things o → IsFew (rpn.joins at n Or o)
     go None l = tt
     go (Some s) l = (omega arith, k)
-work_stands at n things rpn.Complement h k = go (rpn.top_tree things) (tree_left things)
+work_is_few at n things rpn.Complement h k = go (rpn.top_tree things) (tree_left things)
   where
-    go : (o : Option (Formula × List rpn.Thing)) → LeavesTree things o → Stands (rpn.complements at n o)
+    go : (o : Option (Formula × List rpn.Thing)) → LeavesTree things o → IsFew (rpn.complements at n o)
     go None l = tt
     go (Some s) l = (let same = complement_same s.0 in omega arith, k)
 
-shallow_stands : (r : Result (ℕ × List rpn.Thing) Refusal) → Stands r → Stands (rpn.shallow r)
-unfolding Stands
-shallow_stands (Err e) h = tt
-shallow_stands (Ok s) h = cond_both (nat_lt 64 (length s.1)) _ _ Stands (λ e. tt) (λ e. h)
+shallow_is_few : (r : Result (ℕ × List rpn.Thing) Refusal) → IsFew r → IsFew (rpn.shallow r)
+unfolding IsFew
+shallow_is_few (Err e) h = tt
+shallow_is_few (Ok s) h = cond_both (nat_lt 64 (length s.1)) _ _ IsFew (λ e. tt) (λ e. h)
 
 one_few : (at n : ℕ) (things : List rpn.Thing) (t : Formula) → rpn.one_tree at things ≡ Ok t → on_stack things ≤ n → comparisons t ≤ n
 unfolding on_stack
@@ -357,13 +357,13 @@ one_few at n (rpn.Value v ∷ things) t e h = cc
 one_few at n (rpn.Whole u ∷ []) t e h = let same : u ≡ t = cc in let a = ap comparisons same in omega arith
 one_few at n (rpn.Whole u ∷ x ∷ things) t e h = cc
 
-from_few : (at : ℕ) (r : Result (ℕ × List rpn.Thing) Refusal) (items : List rpn.Item) (t : Formula) → Stands r → rpn.rpn_from at r items ≡ Ok t → comparisons t ≤ 256
-unfolding Stands
+from_few : (at : ℕ) (r : Result (ℕ × List rpn.Thing) Refusal) (items : List rpn.Item) (t : Formula) → IsFew r → rpn.rpn_from at r items ≡ Ok t → comparisons t ≤ 256
+unfolding IsFew
 from_few at (Err x) items t h e = cc
 from_few at (Ok s) [] t h e = let a = one_few at s.0 s.1 t e h.0 in let b = h.1 in omega arith
-from_few at (Ok s) (i ∷ items) t h e = from_few (at + 1) (rpn.shallow (rpn.work at s.0 s.1 i)) items t (shallow_stands _ (work_stands at s.0 s.1 i h.0 h.1)) e
+from_few at (Ok s) (i ∷ items) t h e = from_few (at + 1) (rpn.shallow (rpn.work at s.0 s.1 i)) items t (shallow_is_few _ (work_is_few at s.0 s.1 i h.0 h.1)) e
 
 -- a tree built from items has at most 256 comparisons
 pub few_built : (items : List rpn.Item) (t : Formula) → rpn.rpn items ≡ Ok t → comparisons t ≤ 256
-unfolding Stands on_stack
+unfolding IsFew on_stack
 few_built items t e = from_few 0 (Ok (0, [])) items t (omega arith, omega arith) e

@@ -1,4 +1,4 @@
--- What stands at the front of a text.
+-- What is at the front of a text.
 use Rattle.std.proofs.Common.{◌≡◌, ℕ, ◌+◌, ◌-◌, ◌<◌, ◌≤◌, Bool, true, false, zero, suc, Option, List, [], ◌∷◌, length, take, drop, get_or, ◌||◌, refl, sym, ap, ◌∙◌, subst, arith, cond, not}
 use Rattle.std.specs.Bool.{◌==◌}
 use Rattle.std.proofs.lemmas.Bool.{true≢false, cond-true, cond-false, cond_both, or_cases, or_parts, eqb-true}
@@ -43,7 +43,7 @@ quoted_within q false (b ∷ bs) =
     (λ e. cond_both (b == 0) _ _ (IsQuotedSpan q (b ∷ bs)) (λ k. omega arith)
     (λ k. cond_both (b == 92) _ _ (IsQuotedSpan q (b ∷ bs)) (λ l. further_quoted q b bs _ (quoted_within q true bs)) (λ l. further_quoted q b bs _ (quoted_within q false bs))))
 
--- a word ends at the end or before an ASCII character
+-- a word ends at the text's end or before an ASCII character
 abbrev pub IsWordSpan : List ℕ → Span → Type 0
 IsWordSpan bs (Ends n) = (n ≤ length bs) × (n < length bs → get_or bs n 0 < 128)
 IsWordSpan bs (Breaks n) = n ≤ length bs
@@ -83,16 +83,16 @@ further_some (Breaks n) = tt
 pub word_some : (b : ℕ) (bs : List ℕ) → is_word b ≡ true → IsSome1 (word_span false (b ∷ bs))
 word_some b bs w = cond_both (b == 92) _ _ IsSome1 (λ e. further_some _) (λ e. subst IsSome1 (sym (cond-true _ _ _ w)) (further_some _))
 
-pub stands_from : (text : List ℕ) (x : Lexeme) (width shift : ℕ) → 0 < length text → front (get_or text 0 0) (drop 1 text) ≡ Takes x width shift → HasLexeme text x width shift
-stands_from [] x width shift l h = absurd (omega arith)
-stands_from (b ∷ bs) x width shift l h = h
+pub front_at : (text : List ℕ) (x : Lexeme) (width shift : ℕ) → 0 < length text → front (get_or text 0 0) (drop 1 text) ≡ Takes x width shift → HasLexeme text x width shift
+front_at [] x width shift l h = absurd (omega arith)
+front_at (b ∷ bs) x width shift l h = h
 
 pub begins_separated : (text rest : List ℕ) → 0 < length text → is_separator (get_or text 0 0) ≡ true → rest ≡ drop 1 text → BeginsSeparated text rest
 begins_separated [] rest l h r = absurd (omega arith)
 begins_separated (b ∷ bs) rest l h r = (cond-true _ _ _ h, r)
 
-pub quoted_stands : (b : ℕ) (bs : List ℕ) (s : Span) → is_separator b ≡ false → is_quote b ≡ true → s ≡ quoted_span b false bs → front b bs ≡ quoted_front bs s
-quoted_stands b bs s h q e = cond-false _ _ _ h ∙ cond-true _ _ _ q ∙ ap (quoted_front bs) (sym e)
+pub front_quoted : (b : ℕ) (bs : List ℕ) (s : Span) → is_separator b ≡ false → is_quote b ≡ true → s ≡ quoted_span b false bs → front b bs ≡ quoted_front bs s
+front_quoted b bs s h q e = cond-false _ _ _ h ∙ cond-true _ _ _ q ∙ ap (quoted_front bs) (sym e)
 
 pick : {X : Type 0} (a40 a41 a61 a33 a60 a62 a38 a124 a0 : Bool) (x1 x2 x3 x4 x5 x6 x7 x8 x9 z w : X) → ((((((((a61 || a33) || a60) || a62) || a38) || a124) || a40) || a41) || a0) ≡ true
     → cond a40 x1 (cond a41 x2 (cond a61 x3 (cond a33 x4 (cond a60 x5 (cond a62 x6 (cond a38 x7 (cond a124 x8 (cond a0 x9 z)))))))) ≡ cond a40 x1 (cond a41 x2 (cond a61 x3 (cond a33 x4 (cond a60 x5 (cond a62 x6 (cond a38 x7 (cond a124 x8 (cond a0 x9 w))))))))
@@ -107,10 +107,10 @@ pick false false false false false false false true a0 x1 x2 x3 x4 x5 x6 x7 x8 x
 pick false false false false false false false false true x1 x2 x3 x4 x5 x6 x7 x8 x9 z w h = refl
 pick false false false false false false false false false x1 x2 x3 x4 x5 x6 x7 x8 x9 z w h = absurd (true≢false (sym h))
 
--- a sign is known from the byte after it
-pub sign_stands : (b : ℕ) (bs : List ℕ) → is_separator b ≡ false → is_quote b ≡ false → (is_sign b || (b == 0)) ≡ true → front b bs ≡ front b (take 1 bs)
-sign_stands b [] h q s = refl
-sign_stands b (c ∷ cs) h q s =
+-- what a sign is depends only on the byte after it
+pub front_sign : (b : ℕ) (bs : List ℕ) → is_separator b ≡ false → is_quote b ≡ false → (is_sign b || (b == 0)) ≡ true → front b bs ≡ front b (take 1 bs)
+front_sign b [] h q s = refl
+front_sign b (c ∷ cs) h q s =
     cond-false _ _ _ h ∙ cond-false _ _ _ q
     ∙ pick (b == 40) (b == 41) (b == 61) (b == 33) (b == 60) (b == 62) (b == 38) (b == 124) (b == 0) _ _ _ _ _ _ _ _ _ (word_front (b ∷ c ∷ cs) (word_span false (b ∷ c ∷ cs))) (word_front (b ∷ c ∷ []) (word_span false (b ∷ c ∷ []))) s
     ∙ sym (cond-false _ _ _ h ∙ cond-false _ _ _ q)
@@ -126,8 +126,8 @@ no_sign b h =
     let p1 = or_parts _ _ p2.0 in
     (p1.0, p1.1, p2.1, p3.1, p4.1, p5.1, p6.1, p7.1)
 
-pub word_stands : (b : ℕ) (bs : List ℕ) (s : Span) → is_separator b ≡ false → is_quote b ≡ false → is_sign b ≡ false → (b == 0) ≡ false → s ≡ word_span false (b ∷ bs) → front b bs ≡ word_front (b ∷ bs) s
-word_stands b bs s h q g z e =
+pub front_word : (b : ℕ) (bs : List ℕ) (s : Span) → is_separator b ≡ false → is_quote b ≡ false → is_sign b ≡ false → (b == 0) ≡ false → s ≡ word_span false (b ∷ bs) → front b bs ≡ word_front (b ∷ bs) s
+front_word b bs s h q g z e =
     let n = no_sign b g in
     cond-false _ _ _ h ∙ cond-false _ _ _ q ∙ cond-false _ _ _ n.6 ∙ cond-false _ _ _ n.7 ∙ cond-false _ _ _ n.0 ∙ cond-false _ _ _ n.1 ∙ cond-false _ _ _ n.2 ∙ cond-false _ _ _ n.3 ∙ cond-false _ _ _ n.4 ∙ cond-false _ _ _ n.5 ∙ cond-false _ _ _ z ∙ ap (word_front (b ∷ bs)) (sym e)
 
@@ -162,16 +162,16 @@ TokenAt text t shift rest = (width : ℕ) × HasLexeme text (Whole t) width shif
 
 module _ (text : List ℕ) (l : 0 < length text) (h : is_separator (get_or text 0 0) ≡ false) where
   word_at : (s : Span) → is_quote (get_or text 0 0) ≡ false → is_sign (get_or text 0 0) ≡ false → (get_or text 0 0 == 0) ≡ false → s ≡ word_span false text → front (get_or text 0 0) (drop 1 text) ≡ word_front text s
-  word_at s q g z e = word_stands (get_or text 0 0) (drop 1 text) s h q g z (e ∙ ap (word_span false) (split_first text l)) ∙ ap (λ v. word_front v s) (sym (split_first text l))
+  word_at s q g z e = front_word (get_or text 0 0) (drop 1 text) s h q g z (e ∙ ap (word_span false) (split_first text l)) ∙ ap (λ v. word_front v s) (sym (split_first text l))
 
   pub word_token : (raw rest : List ℕ) (n : ℕ) → is_quote (get_or text 0 0) ≡ false → is_sign (get_or text 0 0) ≡ false → (get_or text 0 0 == 0) ≡ false → Ends n ≡ word_span false text → raw ≡ take n text → rest ≡ drop n text → TokenAt text (Text raw) 0 rest
   word_token raw rest n q g z e r d =
       let w = word_ends text n e in
       let len = ap length r ∙ length-take-le n text w.0 in
-      (n, stands_from text _ n 0 l (word_at (Ends n) q g z e ∙ ap (λ t. Takes (Whole (Text t)) n 0) (sym r)), d, word_span_some text n l (word_first _ h q g z) e, w.0, omega arith)
+      (n, front_at text _ n 0 l (word_at (Ends n) q g z e ∙ ap (λ t. Takes (Whole (Text t)) n 0) (sym r)), d, word_span_some text n l (word_first _ h q g z) e, w.0, omega arith)
 
   pub word_broken : (n : ℕ) → is_quote (get_or text 0 0) ≡ false → is_sign (get_or text 0 0) ≡ false → (get_or text 0 0 == 0) ≡ false → Breaks n ≡ word_span false text → (width : ℕ) × HasLexeme text (Broken n) width 0 × (n ≤ length text)
-  word_broken n q g z e = (1, stands_from text _ 1 0 l (word_at (Breaks n) q g z e), word_breaks text n e)
+  word_broken n q g z e = (1, front_at text _ 1 0 l (word_at (Breaks n) q g z e), word_breaks text n e)
 
   pub quoted_token : (q : ℕ) (beyond raw tail rest : List ℕ) (n : ℕ) → get_or text 0 0 ≡ q → is_quote (get_or text 0 0) ≡ true → beyond ≡ drop 1 text → Ends n ≡ quoted_span q false beyond → raw ≡ take n beyond → tail ≡ drop n beyond → rest ≡ drop 1 tail → TokenAt text (Text raw) 1 rest
   quoted_token q beyond raw tail rest n f k b e r d t =
@@ -181,7 +181,7 @@ module _ (text : List ℕ) (l : 0 < length text) (h : is_separator (get_or text 
       let span : Ends n ≡ quoted_span (get_or text 0 0) false (drop 1 text) = e ∙ ap (quoted_span q false) b ∙ ap (λ v. quoted_span v false (drop 1 text)) (sym f) in
       let order : 1 + n + 1 ≡ n + 2 = omega arith in (
         n + 2,
-        stands_from text _ (n + 2) 1 l (quoted_stands (get_or text 0 0) (drop 1 text) (Ends n) h k span ∙ ap (λ v. Takes (Whole (Text v)) (n + 2) 1) (ap (take n) (sym b) ∙ sym r)),
+        front_at text _ (n + 2) 1 l (front_quoted (get_or text 0 0) (drop 1 text) (Ends n) h k span ∙ ap (λ v. Takes (Whole (Text v)) (n + 2) 1) (ap (take n) (sym b) ∙ sym r)),
         t ∙ ap (drop 1) (d ∙ ap (drop n) b ∙ drop-drop n 1 text) ∙ drop-drop 1 (1 + n) text ∙ ap (λ m. drop m text) order,
         omega arith,
         omega arith,
@@ -193,7 +193,7 @@ module _ (text : List ℕ) (l : 0 < length text) (h : is_separator (get_or text 
       let w = quoted_breaks q beyond n e in
       let lens : length beyond ≡ length text - 1 = ap length b ∙ length-drop 1 text in
       let span : Breaks n ≡ quoted_span (get_or text 0 0) false (drop 1 text) = e ∙ ap (quoted_span q false) b ∙ ap (λ v. quoted_span v false (drop 1 text)) (sym f) in
-      (1, stands_from text _ 1 0 l (quoted_stands (get_or text 0 0) (drop 1 text) (Breaks n) h k span), omega arith)
+      (1, front_at text _ 1 0 l (front_quoted (get_or text 0 0) (drop 1 text) (Breaks n) h k span), omega arith)
 
 pub tail_boundary : (q : ℕ) (beyond tail : List ℕ) (n : ℕ) → IsUtf8 beyond → q < 128 → Ends n ≡ quoted_span q false beyond → tail ≡ drop n beyond → IsCharBoundary tail 1
 tail_boundary q beyond tail n u a e t =
@@ -234,5 +234,5 @@ sign_boundary text first width second u l f s p w a =
     (within, subst (IsCharBoundary text) back (IsCharBoundary-after_ascii text (width - 1) u (omega arith) (omega arith)))
 
 pub sign_at : (text : List ℕ) (first : ℕ) (second : Option ℕ) (x : Lexeme) (width : ℕ) → 0 < length text → get_or text 0 0 ≡ first → second ≡ slice_get text 1 → is_separator first ≡ false → is_quote first ≡ false → (is_sign first || (first == 0)) ≡ true → front first (second_of second) ≡ Takes x width 0 → HasLexeme text x width 0
-sign_at text first second x width l f s h q g e = stands_from text x width 0 l
-    (ap (λ b. front b (drop 1 text)) f ∙ sign_stands first (drop 1 text) h q g ∙ ap (front first) (sym (ap second_of s ∙ second_byte text)) ∙ e)
+sign_at text first second x width l f s h q g e = front_at text x width 0 l
+    (ap (λ b. front b (drop 1 text)) f ∙ front_sign first (drop 1 text) h q g ∙ ap (front first) (sym (ap second_of s ∙ second_byte text)) ∙ e)

@@ -1,4 +1,4 @@
--- What a printed tree needs, so that its text spells it.
+-- What a printed tree needs so that its text encodes it.
 use Rattle.std.proofs.Common.{◌≡◌, ℕ, ◌+◌, ◌<◌, ◌≤◌, Bool, true, false, suc, Ok, List, [], ◌∷◌, ◌++◌, length, get_or, ◌||◌, refl, sym, ap, ◌∙◌, subst, arith, append_assoc, append-nil, length-append}
 use Rattle.std.specs.Prelude.{encode_utf8, encode_utf8_all}
 use Rattle.std.specs.Str.{chars}
@@ -22,8 +22,8 @@ use Rattle.be_query.specs.Faults.{takes_pattern}
 use Rattle.be_query.specs.Lexing.{further, quoted_span, tokens}
 use Rattle.be_query.specs.Printing.{with_backslashes, literal_text, or_text, IsPrintable, IsWhole, IsQuotable, IsKept, IsKeptBy}
 use Rattle.be_query.proofs.Spans.{shifted, shifted_none}
-use Rattle.be_query.proofs.Spelt.{plain-escaped}
-use Rattle.be_query.proofs.Printed.{text_whole, text_spells, escaped_whole}
+use Rattle.be_query.proofs.Parsed.{plain-escaped}
+use Rattle.be_query.proofs.Printed.{text_whole, text_parses, escaped_whole}
 use Rattle.be_query.proofs.Trees.{one_tree}
 use Rattle.be_query.proofs.Names.{no_nul}
 
@@ -73,7 +73,7 @@ taken_char c bs h =
     let some : 0 < length (encode_utf8 c) = omega (arith, length-encode c, (len_utf8_bounds c).0) in
     span_taken (encode_utf8 c) bs some (first_nonzero c h some) (λ k l. later_bare c k l)
 
--- the characters are passed over whole
+-- the characters are skipped whole
 Passes : List ℕ → Type 0
 Passes cs = (bs : List ℕ) → quoted_span 34 false (encode_utf8_all cs ++ bs) ≡ shifted (length (encode_utf8_all cs)) (quoted_span 34 false bs)
 
@@ -162,7 +162,7 @@ pub canonical_whole : (ps : List Part) → has_nul (canonical ps) ≡ false → 
 unfolding Passes
 canonical_whole ps z rest = canonical_passes ps z (34 ∷ rest) ∙ ap Ends (omega arith)
 
--- What is kept by printing.
+-- What printing keeps.
 
 pub kept_name : (n : List ℕ) → name_from n ≡ Ok n → is_name (with_backslashes n) ≡ true
 kept_name n h = ap (λ x. is_ok (name_from x)) (plain-escaped n) ∙ ap is_ok h
@@ -200,10 +200,10 @@ kept_quotable (Leaf n op v) h = (escaped_whole n (no_nul n h.0), (kept_literal o
 kept_quotable (And l r) h = (kept_quotable l h.0, kept_quotable r h.1)
 kept_quotable (Or l r) h = (kept_quotable l h.0, kept_quotable r h.1)
 
--- the canonical text of a kept tree spells it
-pub kept_spells : (t : Formula) → IsKept t → IsTextOf (or_text t) t
-kept_spells t h = (text_whole t (kept_quotable t h), text_spells t (kept_quotable t h) (kept_printable t h))
+-- the canonical text of a kept tree encodes it
+pub kept_parses : (t : Formula) → IsKept t → IsTextOf (or_text t) t
+kept_parses t h = (text_whole t (kept_quotable t h), text_parses t (kept_quotable t h) (kept_printable t h))
 
--- a text spells one tree at most
+-- a text encodes at most one tree
 pub one_text : (text : List ℕ) (s t : Formula) → IsTextOf text s → IsTextOf text t → s ≡ t
 one_text text s t h k = one_tree (tokens text) s t h.1 k.1

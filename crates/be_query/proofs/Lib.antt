@@ -7,7 +7,7 @@ pub mod Sentences
 pub mod Loop
 pub mod Fronts
 pub mod Plain
-pub mod Spelt
+pub mod Parsed
 pub mod Escapes
 pub mod Items
 pub mod Printed

@@ -46,11 +46,11 @@ taken (b ∷ bs) rest len (suc width) shift lexeme h r p w k =
     ∙ ap (λ l. record { at = at; start = at + shift; lexeme = lexeme } ∷ l)
     (ap (λ n. lexemes n (at + 1) bs) one ∙ lexemes_after width (at + 1) bs ∙ ap (λ a. lexemes 0 a (drop width bs)) place ∙ ap (lexemes 0 (len - length rest)) (sym r))
 
--- a lexeme stands there, whatever comes after it
-pub stands : (text : List ℕ) (at width shift : ℕ) (lexeme : Lexeme) → HasLexeme text lexeme width shift → (more : List Placed) × (lexemes 0 at text ≡ record { at = at; start = at + shift; lexeme = lexeme } ∷ more)
+-- the lexeme is at this place, whatever comes after it
+pub is_there : (text : List ℕ) (at width shift : ℕ) (lexeme : Lexeme) → HasLexeme text lexeme width shift → (more : List Placed) × (lexemes 0 at text ≡ record { at = at; start = at + shift; lexeme = lexeme } ∷ more)
 unfolding after_front
-stands [] at width shift lexeme h = absurd h
-stands (b ∷ bs) at width shift lexeme h = (lexemes (width - 1) (at + 1) bs, by_front at b bs ∙ ap (after_front at bs) h)
+is_there [] at width shift lexeme h = absurd h
+is_there (b ∷ bs) at width shift lexeme h = (lexemes (width - 1) (at + 1) bs, by_front at b bs ∙ ap (after_front at bs) h)
 
 pub no_lexemes : (at : ℕ) (rest : List ℕ) → length rest ≡ 0 → lexemes 0 at rest ≡ []
 no_lexemes at [] h = refl

@@ -7,7 +7,7 @@ use Rattle.be_value.specs.Name.{name_from, has_nul}
 use Rattle.be_value.specs.declared.refusals.Refusal.{Refusal}
 use Rattle.be_value.specs.declared.refusals.Refusal.TheVariants.{NameLength, HasNul}
 
--- what a text makes, where its length is wrong or not, and it has a NUL or not
+-- what a text gives, by whether its length is wrong and whether it has a NUL
 made : Bool → Bool → List ℕ → Result (List ℕ) Refusal
 made long nul t = cond long (Err NameLength) (cond nul (Err HasNul) (Ok t))
 
@@ -17,7 +17,7 @@ same_made true nul t n h = cc
 same_made false true t n h = cc
 same_made false false t n h = cc
 
--- the name that a text makes is the text
+-- the name made from a text is the text itself
 pub same_name : (t n : List ℕ) → name_from t ≡ Ok n → n ≡ t
 unfolding made
 same_name t n h = same_made (nat_lt (length t) 1 || nat_lt 63 (length t)) (has_nul t) t n h

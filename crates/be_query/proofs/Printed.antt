@@ -10,14 +10,14 @@ use Rattle.be_query.specs.declared.lexer.Span.TheVariants.{Ends}
 use Rattle.be_query.specs.declared.tree.Cmp.{Cmp}
 use Rattle.be_query.specs.declared.tree.Cmp.TheVariants.{Eq, Ne, Lt, Le, Gt, Ge}
 use Rattle.be_query.specs.Tokens.{Token, Open, Close, Both, Either, Compares, Text}
-use Rattle.be_query.specs.Grammar.{Formula, Leaf, And, Or, Literal, Spells}
+use Rattle.be_query.specs.Grammar.{Formula, Leaf, And, Or, Literal, ParsesTo}
 use Rattle.be_query.specs.Lexing.{further, quoted_span, quoted_front, lexemes, whole, all_whole, tokens, Whole}
 use Rattle.be_query.specs.Printing.{wants_backslash, with_backslashes, literal_text, cmp_text, leaf_text, or_text, and_text, operand_text, leaf_tokens, or_printed, and_printed, operand_printed, IsPrintable, IsWhole, IsQuotable}
 use Rattle.be_query.proofs.Sentences.{lexemes_after}
 use Rattle.be_query.proofs.Loop.{taken_at}
-use Rattle.be_query.proofs.Spelt.{printed_spells}
+use Rattle.be_query.proofs.Parsed.{printed_parses}
 
--- whatever stands after the text, it gives these tokens
+-- the text gives these tokens first, whatever comes after it
 Lexes : List ℕ → List Token → Type 0
 Lexes text ts = (at : ℕ) (rest : List ℕ) → (next : ℕ) × (whole (lexemes 0 at (text ++ rest)) ≡ ts ++ whole (lexemes 0 next rest)) × (all_whole (lexemes 0 at (text ++ rest)) ≡ all_whole (lexemes 0 next rest))
 
@@ -126,10 +126,10 @@ pub text_whole : (t : Formula) → IsQuotable t → all_whole (lexemes 0 0 (or_t
 unfolding Lexes
 text_whole t h = let w = or_lex t h 0 [] in ap (λ x. all_whole (lexemes 0 0 x)) (sym (append-nil (or_text t))) ∙ w.2
 
-pub text_spells : (t : Formula) → IsQuotable t → IsPrintable t → Spells (tokens (or_text t)) t
-text_spells t h k = subst (λ ts. Spells ts t) (sym (text_lexes t h)) (printed_spells t k)
+pub text_parses : (t : Formula) → IsQuotable t → IsPrintable t → ParsesTo (tokens (or_text t)) t
+text_parses t h k = subst (λ ts. ParsesTo ts t) (sym (text_lexes t h)) (printed_parses t k)
 
--- a text without a NUL is whole between its quotes, once its backslashes are put in
+-- a text without a NUL is one token between quotes, once its backslashes are put in
 further_ends : (n m : ℕ) (s : Span) → s ≡ Ends n → m ≡ n + 1 → further s ≡ Ends m
 further_ends n m s e k = ap further e ∙ ap Ends (sym k)
 

@@ -1,7 +1,7 @@
--- What was built to the end is the tree of a sentence.
+-- A tree that was built to the end is the tree of a sentence.
 use Rattle.std.proofs.Common.{◌≡◌, ℕ, ◌+◌, Bool, true, false, zero, suc, Option, Some, None, List, [], ◌∷◌, drop, refl, sym, ap, ◌∙◌, subst, arith, cond}
 use Rattle.be_query.specs.Tokens.{Token, Open, Close, Bang, Both, Either, Compares, Text, is_name}
-use Rattle.be_query.specs.Grammar.{or_tree, Formula, Spells}
+use Rattle.be_query.specs.Grammar.{or_tree, Formula, ParsesTo}
 use Rattle.be_query.specs.Reading.{Joint, read_from}
 use Rattle.be_query.specs.Building.{Level, Stage, Operands, Operators, Values, Joints, State, nothing_built, close, build_at, take_token, build_from, tree_at, tree_of, awaited_at, negations_on, marks_of, IsSettledAt, IsSettled}
 use Rattle.be_query.specs.Lexing.{lexemes}
@@ -73,9 +73,9 @@ whole_view (Values n op) level outer t h e = cc
 whole_view (Joints u) level [] t h e = (refl, ap (λ n. negations_on n []) h)
 whole_view (Joints u) level (l ∷ ls) t h e = cc
 
--- the tree that is built to the end is spelt by the tokens
-pub built_spells : (ts : List Token) (s : State) (t : Formula) → build_from (Some nothing_built) ts ≡ Some s → tree_at s.stage s.level s.outer ≡ Some t → Spells ts t
-built_spells ts s t e h =
+-- the tokens encode the tree that is built to the end
+pub built_parses : (ts : List Token) (s : State) (t : Formula) → build_from (Some nothing_built) ts ≡ Some s → tree_at s.stage s.level s.outer ≡ Some t → ParsesTo ts t
+built_parses ts s t e h =
     let settled : IsSettled s = subst SettledIf e (settled_from (Some nothing_built) ts tt) in
     let w = whole_view s.stage s.level s.outer t settled h in
     let seen_is : seen (build_from (Some nothing_built) ts) ≡ Some (Joint, []) = ap seen e ∙ (λ i. Some (w.0 i, w.1 i)) in
@@ -83,7 +83,7 @@ built_spells ts s t e h =
     let same : Some (or_tree o.0) ≡ Some t = sym (tree_built o.0) ∙ ap (λ l. tree_of (build_from (Some nothing_built) l)) o.1 ∙ ap tree_of e ∙ h in
     (o.0, o.1, cc)
 
--- what is left after the bytes that a lexeme took
+-- the lexemes left after the bytes that one took
 pub lexemes_after : (n at : ℕ) (bs : List ℕ) → lexemes n at bs ≡ lexemes 0 (at + n) (drop n bs)
 lexemes_after zero at bs = ap (λ a. lexemes 0 a bs) (omega arith)
 lexemes_after (suc n) at [] = refl

@@ -1,10 +1,10 @@
--- The tree that is built is the grammar's, so each token list has one tree at most.
+-- The tree that is built is the grammar's, so each list of tokens has at most one tree.
 use Rattle.std.proofs.Common.{◌≡◌, ℕ, Bool, true, false, zero, suc, Option, Some, None, List, [], ◌∷◌, ◌++◌, refl, sym, ap, ◌∙◌, append_assoc, append-nil, cond}
 use Rattle.std.specs.Prelude.{not}
 use Rattle.std.proofs.lemmas.Bool.{false≢true}
 use Rattle.be_query.specs.declared.tree.Cmp.{Cmp}
 use Rattle.be_query.specs.Tokens.{Token, Open, Close, Bang, Both, Either, Compares, Text, plain, is_name}
-use Rattle.be_query.specs.Grammar.{OrPhrase, or_one, or_more, AndPhrase, and_one, and_more, NotPhrase, negation, group, comparison, or_tokens, and_tokens, not_tokens, or_tree, and_tree, not_tree, Formula, Leaf, And, Or, opposite, complement, Spells}
+use Rattle.be_query.specs.Grammar.{OrPhrase, or_one, or_more, AndPhrase, and_one, and_more, NotPhrase, negation, group, comparison, or_tokens, and_tokens, not_tokens, or_tree, and_tree, not_tree, Formula, Leaf, And, Or, opposite, complement, ParsesTo}
 use Rattle.be_query.specs.declared.tree.Cmp.TheVariants.{Eq, Ne, Lt, Le, Gt, Ge}
 use Rattle.be_query.specs.Reading.{Awaited, Operator, Joint, Mark, ended, next}
 use Rattle.be_query.specs.Building.{Level, fresh, Stage, Operands, Operators, Values, Joints, State, nothing_built, turned, conjunction, disjunction, joined, with_operand, with_side, close, build_at, build_from, tree_of, awaited_at, negations_on, outer_marks, marks_of, view_of, IsSettledAt}
@@ -22,7 +22,7 @@ complement_twice (Leaf n op v) = ap (λ o. Leaf n o v) (opposite_twice op)
 complement_twice (And l r) = λ i. And (complement_twice l i) (complement_twice r i)
 complement_twice (Or l r) = λ i. Or (complement_twice l i) (complement_twice r i)
 
--- one `!` more round a tree is a complement inside those that stood there
+-- one more `!` around a tree complements it inside those already there
 turned_more : (b : Bool) (t : Formula) → turned (not b) t ≡ turned b (complement t)
 turned_more false t = refl
 turned_more true t = sym (complement_twice t)
@@ -89,15 +89,15 @@ mutual
       named true e l ls k = refl
       named false e l ls k = absurd (false≢true e)
 
--- the tree that is built of a phrase's tokens is the phrase's
+-- the tree built from a phrase's tokens is the phrase's tree
 pub tree_built : (o : OrPhrase) → tree_of (build_from (Some nothing_built) (or_tokens o)) ≡ Some (or_tree o)
 tree_built o =
     ap (λ ts. tree_of (build_from (Some nothing_built) ts)) (sym (append-nil (or_tokens o)))
     ∙ ap tree_of (or_built o false [] [])
     ∙ ap Some (left_right false o)
 
--- tokens have one tree at most
-pub one_tree : (ts : List Token) (s t : Formula) → Spells ts s → Spells ts t → s ≡ t
+-- tokens have at most one tree
+pub one_tree : (ts : List Token) (s t : Formula) → ParsesTo ts s → ParsesTo ts t → s ≡ t
 one_tree ts s t (o, eo, es) (p, ep, et) =
     let same = sym (tree_built o) ∙ ap (λ l. tree_of (build_from (Some nothing_built) l)) (eo ∙ sym ep) ∙ tree_built p in
     sym es ∙ some_same same ∙ et
@@ -105,7 +105,7 @@ one_tree ts s t (o, eo, es) (p, ep, et) =
     some_same : {a b : Formula} → Some a ≡ Some b → a ≡ b
     some_same e = cc
 
--- Building goes on exactly as long as reading does.
+-- Building continues exactly as long as reading does.
 
 abbrev pub seen : Option State → Option (Awaited × List Mark)
 seen None = None

@@ -1,4 +1,4 @@
--- Reading goes on exactly as long as the tokens are the front of a sentence.
+-- Reading continues exactly as long as the tokens are the front of a sentence.
 use Rattle.std.proofs.Common.{◌≡◌, ℕ, Bool, true, false, Option, Some, None, List, [], ◌∷◌, ◌++◌, refl, sym, ap, ◌∙◌, subst, append_assoc, append-nil, cond}
 use Rattle.std.proofs.lemmas.Bool.{false≢true}
 use Rattle.be_query.specs.declared.tree.Cmp.{Cmp}
@@ -50,9 +50,9 @@ mutual
       named true e m k = refl
       named false e m k = absurd (false≢true e)
 
--- Phrases that others make.
+-- Phrases made from other phrases.
 
--- a phrase goes on with `&&` and an operand
+-- a phrase extended by `&&` and an operand
 and_operand : (o : OrPhrase) (n : NotPhrase) → (r : OrPhrase) × (or_tokens r ≡ or_tokens o ++ Both ∷ not_tokens n)
 and_operand (or_one a) n = (or_one (and_more a n), refl)
 and_operand (or_more o a) n = (or_more o (and_more a n), sym (append_assoc (or_tokens o) (Either ∷ and_tokens a) (Both ∷ not_tokens n)))
@@ -86,7 +86,7 @@ negated (or_more e a) = let p = negated e in (or_more p.0 a, ap (λ l. l ++ Eith
 
 -- What the tokens read so far are, at each open `(`.
 
--- with any phrase after them they are a phrase
+-- followed by any phrase, they are a phrase
 abbrev Continues : List Token → Type 0
 Continues ts = (e : OrPhrase) → (o : OrPhrase) × (or_tokens o ≡ ts ++ or_tokens e)
 
@@ -103,7 +103,7 @@ AtJoint [] ts = Whole ts
 AtJoint (Negation ∷ ms) ts = AtJoint ms ts
 AtJoint (Paren ∷ ms) ts = (before : List Token) × (after : List Token) × (ts ≡ before ++ Open ∷ after) × AtOperand ms before × Whole after
 
--- a phrase stands where an operand may
+-- a phrase fills the place of an operand
 fill : (ms : List Mark) (ts : List Token) (e : OrPhrase) → AtOperand ms ts → AtJoint ms (ts ++ or_tokens e)
 fill [] ts e h = h e
 fill (Negation ∷ ms) ts e h = fill ms ts e h
@@ -223,21 +223,21 @@ any_viable Joint ms ts h = joint_viable ms ts h
 reached_whole : (ts : List Token) → ReachedIf (read ts) ts
 reached_whole ts = reached (Some (Operand, [])) [] ts (λ e. (e, refl))
 
--- what is read on is the front of a sentence
+-- tokens that can be read are the front of a sentence
 pub read_viable : (ts : List Token) (s : Awaited × List Mark) → read ts ≡ Some s → Viable ts
 read_viable ts s e = any_viable s.0 s.1 ts (subst (λ o. ReachedIf o ts) e (reached_whole ts))
 
 not_none : (s : Awaited × List Mark) → Some s ≡ None → ⊥
 not_none s e = cc
 
--- the front of a sentence is read on
+-- the front of a sentence can be read
 pub viable_read : (ts : List Token) → Viable ts → read ts ≡ None → ⊥
 viable_read ts v e =
     let whole = or_read v.1 [] [] in
     let split = read-append (Some (Operand, [])) ts v.0 in
     not_none (Joint, []) (sym whole ∙ ap read (append-nil (or_tokens v.1)) ∙ ap read v.2 ∙ split ∙ ap (λ s. read_from s v.0) e ∙ read_none v.0)
 
--- what is read to a joint with nothing open is a sentence, and conversely
+-- tokens read to a joint with nothing open are a sentence, and conversely
 pub read_sentence : (ts : List Token) → read ts ≡ Some (Joint, []) → (o : OrPhrase) × (or_tokens o ≡ ts)
 read_sentence ts e = subst (λ o. ReachedIf o ts) e (reached_whole ts)
 

@@ -1,4 +1,4 @@
--- What is built from clean items is kept by printing.
+-- Printing keeps whatever clean items build.
 use Rattle.std.proofs.Common.{◌≡◌, ℕ, ◌+◌, ◌<◌, ◌^◌, zero, suc, arith, Bool, true, false, Option, Some, None, Result, Ok, Err, List, [], ◌∷◌, ◌++◌, length, map, refl, sym, ap, ◌∙◌, subst}
 use Rattle.std.specs.Prelude.{IsUtf8, nat_le, nat_lt}
 use Rattle.std.specs.List.{list_all}
@@ -76,17 +76,17 @@ trees_kept (Attribute n ∷ things) k = tt
 trees_kept (Value v ∷ things) k = tt
 trees_kept (Whole t ∷ things) k = right_kept t things k.0 k.1
 
--- Patterns round a literal text.
+-- Patterns around a literal text.
 
 only_all : (test : Part → Bool) (cs : List ℕ) (rest : List Part) → list_all (λ c. test (Only c)) cs ≡ true → list_all test rest ≡ true → list_all test (map Only cs ++ rest) ≡ true
 only_all test [] rest h k = k
 only_all test (c ∷ cs) rest h k = let a = and_parts _ _ h in and_from _ _ a.0 (only_all test cs rest a.1 k)
 
-run_all : (test : Part → Bool) (stands : Bool) (rest : List Part) → test Run ≡ true → list_all test rest ≡ true → list_all test (run_if stands ++ rest) ≡ true
+run_all : (test : Part → Bool) (is_there : Bool) (rest : List Part) → test Run ≡ true → list_all test rest ≡ true → list_all test (run_if is_there ++ rest) ≡ true
 run_all test true rest h k = and_from _ _ h k
 run_all test false rest h k = k
 
-end_all : (test : Part → Bool) (stands : Bool) → test Run ≡ true → list_all test (run_if stands) ≡ true
+end_all : (test : Part → Bool) (is_there : Bool) → test Run ≡ true → list_all test (run_if is_there) ≡ true
 end_all test true h = and_from _ _ h refl
 end_all test false h = refl
 
@@ -163,7 +163,7 @@ shallow_kept : (r : Result (ℕ × List Thing) Refusal) → WorkKept r → WorkK
 shallow_kept (Err e) h = tt
 shallow_kept (Ok s) h = cond_both (nat_lt 64 (length s.1)) _ _ WorkKept (λ e. tt) (λ e. h)
 
--- one clean item keeps the stack so
+-- one clean item preserves this
 pub item_kept : (at n : ℕ) (things : List Thing) (i : Item) (s : ℕ × List Thing) → StackKept things → ItemClean i → shallow (work at n things i) ≡ Ok s → StackKept s.1
 item_kept at n things i s k c e = subst WorkKept e (shallow_kept _ (work_kept at n things i k c))
 

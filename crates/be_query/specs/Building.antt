@@ -1,5 +1,5 @@
--- Building the tree of a query while its tokens are read. It serves the proofs alone: `Grammar`
--- says which tree it is.
+-- Building a query's tree while its tokens are read. Only the proofs use it: `Grammar` says which
+-- tree a text has.
 use Rattle.std.specs.Prelude.{◌≡◌, ℕ, zero, suc, Bool, true, false, Option, Some, None, List, []}
 use Rattle.std.specs.Prelude.{◌∷◌, not, if◌then◌else◌}
 use Rattle.be_query.specs.declared.tree.Cmp.{Cmp}
@@ -8,13 +8,13 @@ use Rattle.be_query.specs.Tokens.{is_name}
 use Rattle.be_query.specs.Grammar.{Formula, Leaf, And, Or, complement, opposite, literal_of}
 use Rattle.be_query.specs.Reading.{Awaited, Operand, Operator, Value, Joint, Mark, Paren, Negation}
 
--- What waits for its right end inside one pair of parentheses: the left sides of `||` and `&&`, and
--- the number of `!`. A tree inside an odd number of `!` is its complement from the start, so each
--- side here is turned as its level is.
+-- What is unfinished inside one pair of parentheses: the left sides of `||` and `&&`, and the
+-- number of `!`. A tree inside an odd number of `!` is built as its complement, so each side here
+-- is already complemented as its level requires.
 pub record Level : Type 0 where
   -- an odd number of `!` applies to the level
   pub negated : Bool
-  -- an odd number applies to the operand that comes next
+  -- an odd number of `!` applies to the next operand
   pub operand_negated : Bool
   pub or_left : Option Formula
   pub and_left : Option Formula
@@ -29,14 +29,14 @@ fresh negated = record {
   negations = 0;
 }
 
--- what may come next, with the comparison or the tree before it
+-- what may come next, with the name or tree read so far
 pub data Stage : Type 0 where
   Operands : Stage
   Operators : List ℕ → Stage
   Values : List ℕ → Cmp → Stage
   Joints : Formula → Stage
 
--- the innermost level, and those round it from the inside
+-- what may come next, the innermost level, and the levels around it, innermost first
 pub record State : Type 0 where
   pub stage : Stage
   pub level : Level
@@ -50,12 +50,12 @@ abbrev pub turned : Bool → Formula → Formula
 turned false t = t
 turned true t = complement t
 
--- the operator of a comparison there
+-- a comparison's operator, or its opposite inside an odd number of `!`
 abbrev pub turned_operator : Bool → Cmp → Cmp
 turned_operator false op = op
 turned_operator true op = opposite op
 
--- what `&&` joins its sides to there, and `||`
+-- the joint that `&&` builds: inside an odd number of `!` it is `||`
 abbrev pub conjunction : Bool → Formula → Formula → Formula
 conjunction false l r = And l r
 conjunction true l r = Or l r
@@ -67,7 +67,7 @@ abbrev pub joined : (Formula → Formula → Formula) → Option Formula → For
 joined join None t = t
 joined join (Some l) t = join l t
 
--- after an operand no `!` waits, and no `&&`
+-- after an operand, no `!` and no `&&` waits
 abbrev pub ended_level : Level → Level
 ended_level level = record {
   negated = level.negated;
@@ -77,7 +77,7 @@ ended_level level = record {
   negations = 0;
 }
 
--- an operand has ended, and its `!` and its `&&` with it
+-- an operand has ended, and with it the `!` and the `&&` that waited for it
 abbrev pub with_operand : Formula → Level → List Level → State
 with_operand t level outer = record {
   stage = Joints
@@ -133,7 +133,7 @@ abbrev pub tree_at : Stage → Level → List Level → Option Formula
 tree_at (Joints t) level [] = Some (with_side t level)
 tree_at _ _ _ = None
 
--- the tree, if nothing waits any more
+-- the tree, if nothing is unfinished
 abbrev pub tree_of : Option State → Option Formula
 tree_of None = None
 tree_of (Some s) = tree_at s.stage s.level s.outer

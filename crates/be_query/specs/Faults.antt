@@ -1,4 +1,4 @@
--- The fault of a query's text: the first that is met when its tokens are read from the left.
+-- The error of a query's text: the first one met when its tokens are read from the left.
 use Rattle.std.specs.Prelude.{ℕ, ◌+◌, Bool, true, false, Option, Some, None, Result, Ok, Err, List}
 use Rattle.std.specs.Prelude.{[], ◌∷◌, length, nat_lt, nat_le, if◌then◌else◌}
 use Rattle.std.specs.Str.{chars}
@@ -25,16 +25,16 @@ abbrev pub error_of : {A : Type 0} → Result A ℕ → Option ℕ
 error_of (Ok a) = None
 error_of (Err at) = Some at
 
--- the place of the fault in a value that is a pattern, if it is faulty
+-- the place of the error in a value that is a pattern, if it has one
 abbrev pub bad_pattern : Cmp → List ℕ → Option ℕ
 bad_pattern op raw = if takes_pattern op then error_of (pattern (chars raw)) else None
 
--- the fault of a value: it is a bad pattern there, or ends a comparison after `comparisons` others
+-- the error of a value: a bad pattern at this place, or a comparison after `comparisons` others
 abbrev pub value_fault : ℕ → ℕ → Option ℕ → Option Refusal
 value_fault comparisons start (Some at) = Some (BadPattern (start + at))
 value_fault comparisons start None = if nat_le 256 comparisons then Some TooMany else None
 
--- the fault of a token that can follow, after `comparisons` comparisons; its text begins at start
+-- the token's own error, if it can follow after `comparisons` comparisons; its text begins at start
 abbrev pub own_fault : Awaited → List Mark → ℕ → ℕ → Token → Option Refusal
 own_fault Operand marks comparisons start Open = if nat_le 64 (length marks) then Some TooDeep
     else None
@@ -48,7 +48,7 @@ abbrev pub comparisons_with : Awaited → ℕ → ℕ
 comparisons_with (Value op) comparisons = comparisons + 1
 comparisons_with _ comparisons = comparisons
 
--- a name or value that breaks off: where one is allowed, the text ends too soon or has a NUL
+-- where the error is if a name or value breaks off: where it breaks off, if one may come here
 abbrev pub broken_at : Awaited → ℕ → ℕ → ℕ
 broken_at Operand at n = at + n
 broken_at (Value op) at n = at + n
@@ -58,7 +58,7 @@ abbrev pub ends : Awaited → List Mark → ℕ → Option Refusal
 ends Joint [] len = None
 ends _ _ len = Some (Syntax len)
 
--- the first fault of the lexemes, if a text of `len` bytes is read up to them
+-- the first error of the lexemes, in a text of `len` bytes that has been read up to them
 abbrev pub first_fault : Awaited → List Mark → ℕ → ℕ → List Placed → Option Refusal
 first_fault place marks comparisons len [] = ends place marks len
 first_fault place marks comparisons len (x ∷ xs) = elim x.lexeme [

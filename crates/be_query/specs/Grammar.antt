@@ -41,7 +41,7 @@ abbrev mutual
   not_tokens (group o) = Open ∷ (or_tokens o ++ Close ∷ [])
   not_tokens (comparison name valid op value) = Text name ∷ Compares op ∷ Text value ∷ []
 
--- what a comparison compares with: a pattern's tokens, or a text as it is
+-- what an attribute is compared with: a pattern's tokens, or a text as it is
 pub data Literal : Type 0 where
   Wild : List Part → Literal
   Exact : List ℕ → Literal
@@ -98,14 +98,14 @@ comparisons (Leaf name op value) = 1
 comparisons (And l r) = comparisons l + comparisons r
 comparisons (Or l r) = comparisons l + comparisons r
 
--- these tokens are a sentence with this tree
-abbrev pub Spells : List Token → Formula → Type 0
-Spells ts tree = (o : OrPhrase) × (or_tokens o ≡ ts) × (or_tree o ≡ tree)
+-- the tokens are a sentence with this tree
+abbrev pub ParsesTo : List Token → Formula → Type 0
+ParsesTo ts tree = (o : OrPhrase) × (or_tokens o ≡ ts) × (or_tree o ≡ tree)
 
--- some tokens after these make a sentence
+-- some more tokens after these complete a sentence
 abbrev pub Viable : List Token → Type 0
 Viable ts = (more : List Token) × (o : OrPhrase) × (or_tokens o ≡ ts ++ more)
 
--- the text is cut into tokens, with nothing else in it, and these encode the tree
+-- the text is cut into tokens, with nothing else in it, and the tokens encode the tree
 abbrev pub IsTextOf : List ℕ → Formula → Type 0
-IsTextOf text tree = (all_whole (lexemes 0 0 text) ≡ true) × Spells (tokens text) tree
+IsTextOf text tree = (all_whole (lexemes 0 0 text) ≡ true) × ParsesTo (tokens text) tree

@@ -23,18 +23,18 @@ is_sign b = (b == 61) || (b == 33) || (b == 60) || (b == 62) || (b == 38) || (b 
 abbrev pub is_word : ℕ → Bool
 is_word b = not (is_separator b || is_quote b || is_sign b || (b == 0))
 
--- at the byte a quoted text may end or break off, or the next byte is taken as it is
+-- at this byte a quoted text may end or break off, or a backslash escapes the next byte
 abbrev pub is_mark : ℕ → ℕ → Bool
 is_mark quote b = (b == quote) || (b == 0) || (b == 92)
 
--- the place after a byte; of a backslash, the place after the byte that it escapes
+-- the place after a byte; after a backslash, the place after the byte that it escapes
 abbrev pub IsBeyond : List ℕ → ℕ → ℕ → Type 0
 IsBeyond bytes at next =
     ((slice_index bytes at ≢ 92) × (next ≡ at + 1))
     ⊎ ((slice_index bytes at ≡ 92) × (at + 1 < length bytes) × (slice_index bytes (at + 1) ≢ 0)
     × (next ≡ at + 1 + 1))
 
--- a backslash lies there, and a NUL or nothing after it
+-- there is a backslash at this place, and then a NUL or the end
 abbrev pub IsLone : List ℕ → ℕ → Type 0
 IsLone bytes at = (slice_index bytes at ≡ 92)
     × ((length bytes ≤ at + 1) ⊎ ((at + 1 < length bytes) × (slice_index bytes (at + 1) ≡ 0)))
@@ -43,7 +43,7 @@ abbrev pub further : Span → Span
 further (Ends n) = Ends (n + 1)
 further (Breaks n) = Breaks (n + 1)
 
--- How far a word goes. The first argument says whether a backslash lies before these bytes.
+-- How far a word extends. The first argument says whether a backslash comes before these bytes.
 abbrev pub word_span : Bool → List ℕ → Span
 word_span true [] = Breaks 0
 word_span true (b ∷ bs) = if b == 0 then Breaks 0 else further (word_span false bs)
@@ -51,7 +51,7 @@ word_span false [] = Ends 0
 word_span false (b ∷ bs) = if b == 92 then further (word_span true bs)
     else (if is_word b then further (word_span false bs) else Ends 0)
 
--- The same for the text after a quote, up to the next such quote.
+-- How far the text after an opening quote extends, up to the next such quote.
 abbrev pub quoted_span : ℕ → Bool → List ℕ → Span
 quoted_span quote true [] = Breaks 0
 quoted_span quote true (b ∷ bs) = if b == 0 then Breaks 0 else further (quoted_span quote false bs)
@@ -63,13 +63,13 @@ quoted_span quote false (b ∷ bs) =
 
 pub data Lexeme : Type 0 where
   Whole : Token → Lexeme
-  -- a name or value that breaks off, that many bytes after its first
+  -- a name or value that breaks off this many bytes after its first
   Broken : ℕ → Lexeme
-  -- no token begins so: a single `&` or `|`, or a NUL
+  -- no token begins like this: a single `&` or `|`, or a NUL
   Odd : Lexeme
 
--- the front of a text: a separator; or a lexeme, its bytes, and how many of them lie before its
--- text
+-- the front of a text: a separator; or a lexeme, its length, and how many of its bytes come before
+-- its text
 pub data Front : Type 0 where
   Separator : Front
   Takes : Lexeme → ℕ → ℕ → Front
@@ -82,7 +82,7 @@ abbrev pub quoted_front : List ℕ → Span → Front
 quoted_front bs (Ends n) = Takes (Whole (Text (take n bs))) (n + 2) 1
 quoted_front bs (Breaks n) = Takes (Broken (n + 1)) 1 0
 
--- a sign of two bytes, if the second follows the first; otherwise what one byte is
+-- a sign of two bytes, if the second one follows; otherwise the sign of one byte
 abbrev pub sign_front : ℕ → Lexeme → Lexeme → List ℕ → Front
 sign_front second two one [] = Takes one 1 0
 sign_front second two one (b ∷ bs) = if b == second then Takes two 2 0 else Takes one 1 0
@@ -108,7 +108,7 @@ pub record Placed : Type 0 where
   pub start : ℕ
   pub lexeme : Lexeme
 
--- The lexemes of a text that begins at a place, after its first bytes, which were taken already.
+-- The lexemes of a text at a place, after some bytes at its front that were already taken.
 abbrev pub lexemes : ℕ → ℕ → List ℕ → List Placed
 lexemes taken at [] = []
 lexemes (suc taken) at (b ∷ bs) = lexemes taken (at + 1) bs
@@ -118,7 +118,7 @@ lexemes zero at (b ∷ bs) = elim (front b bs) [
       ∷ lexemes (width - 1) (at + 1) bs
 ]
 
--- the tokens among them
+-- the tokens among the lexemes
 abbrev pub whole : List Placed → List Token
 whole [] = []
 whole (x ∷ xs) = elim x.lexeme [ Whole t ↦ t ∷ whole xs | Broken n ↦ whole xs | Odd ↦ whole xs ]
@@ -128,6 +128,6 @@ abbrev pub all_whole : List Placed → Bool
 all_whole [] = true
 all_whole (x ∷ xs) = elim x.lexeme [ Whole t ↦ all_whole xs | Broken n ↦ false | Odd ↦ false ]
 
--- the tokens of a text
+-- a text's tokens
 abbrev pub tokens : List ℕ → List Token
 tokens text = whole (lexemes 0 0 text)

@@ -1,4 +1,4 @@
--- The canonical text of a tree.
+-- A tree's canonical text.
 use Rattle.std.specs.Prelude.{◌≡◌, Ok, Some, None, ℕ, ◌+◌, max, nat_lt, Option, Bool, true, false}
 use Rattle.std.specs.Prelude.{List, [], ◌∷◌, ◌++◌, length, ◌||◌, ◌==◌, if◌then◌else◌}
 use Rattle.std.specs.Prelude.{encode_utf8_all, codes}
@@ -42,7 +42,7 @@ abbrev pub leaf_text : List ℕ → Cmp → Literal → List ℕ
 leaf_text name op value = codes "\"" ++ with_backslashes name ++ codes "\"" ++ cmp_text op
     ++ codes "\"" ++ literal_text value ++ codes "\""
 
--- The text of a tree where an `||`, a side of `||`, or an operand of `&&` is allowed.
+-- A tree's text where `||`, a side of `||`, or an operand of `&&` may come.
 abbrev mutual
   pub or_text : Formula → List ℕ
   or_text (Leaf n op v) = leaf_text n op v
@@ -59,7 +59,7 @@ abbrev mutual
   operand_text (And l r) = codes "(" ++ and_text l ++ codes " && " ++ operand_text r ++ codes ")"
   operand_text (Or l r) = codes "(" ++ or_text l ++ codes " || " ++ and_text r ++ codes ")"
 
--- The greatest number of parentheses round a comparison of that text.
+-- The greatest number of parentheses around a comparison in that text.
 abbrev mutual
   pub or_depth : Formula → ℕ
   or_depth (Leaf n op v) = 0
@@ -76,12 +76,12 @@ abbrev mutual
   operand_depth (And l r) = 1 + max (and_depth l) (operand_depth r)
   operand_depth (Or l r) = 1 + max (or_depth l) (and_depth r)
 
--- the limit that the text is past
+-- the limit that the canonical text exceeds, if it exceeds one
 abbrev pub limit_of : Formula → Option Refusal
 limit_of t = if nat_lt 4096 (length (or_text t)) then Some TooLong
     else (if nat_lt 64 (or_depth t) then Some TooDeep else None)
 
--- The tokens of the same.
+-- The tokens of those texts.
 abbrev pub leaf_tokens : List ℕ → Cmp → Literal → List Token
 leaf_tokens name op value = Text (with_backslashes name) ∷ Compares op ∷ Text (literal_text value)
     ∷ []
@@ -102,7 +102,7 @@ abbrev mutual
   operand_printed (And l r) = Open ∷ ((and_printed l ++ Both ∷ operand_printed r) ++ Close ∷ [])
   operand_printed (Or l r) = Open ∷ ((or_printed l ++ Either ∷ and_printed r) ++ Close ∷ [])
 
--- each name is one, and each printed name and value is read back
+-- each name is valid, and each printed name and value is read back
 abbrev pub IsPrintable : Formula → Type 0
 IsPrintable (Leaf n op v) = (is_name (with_backslashes n) ≡ true) × (plain (with_backslashes n) ≡ n)
     × (literal_of op (literal_text v) ≡ v)
@@ -125,7 +125,7 @@ IsKeptBy op (Wild ps) = (takes_pattern op ≡ true) × (pattern (canonical ps) �
     × (has_nul (canonical ps) ≡ false) × (all_scalars (canonical ps) ≡ true)
 IsKeptBy op (Exact bs) = (takes_pattern op ≡ false) × (has_nul bs ≡ false)
 
--- each name is one, and each value is kept by printing
+-- each name is valid, and printing keeps each value
 abbrev pub IsKept : Formula → Type 0
 IsKept (Leaf n op v) = (name_from n ≡ Ok n) × IsKeptBy op v
 IsKept (And l r) = IsKept l × IsKept r

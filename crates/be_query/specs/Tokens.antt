@@ -17,12 +17,12 @@ pub data Token : Type 0 where
   -- a name or a value, with its backslashes and without its quotes
   Text : List ℕ → Token
 
--- the text with each backslash gone that takes the next character literally
+-- the text with its backslashes resolved: each one takes the next byte as it is
 abbrev pub plain : List ℕ → List ℕ
 plain [] = []
 plain (b ∷ []) = b ∷ []
 plain (b ∷ c ∷ bs) = if b == 92 then c ∷ plain bs else b ∷ plain (c ∷ bs)
 
--- with its backslashes gone, the text is a name
+-- the text is a name once its backslashes are resolved
 abbrev pub is_name : List ℕ → Bool
 is_name raw = is_ok (name_from (plain raw))

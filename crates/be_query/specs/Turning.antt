@@ -1,4 +1,4 @@
--- Taking a tree apart by turning its joints to the right. It serves the drop of a tree alone.
+-- Taking a tree apart by turning its joints to the right. Only the drop of a tree uses it.
 use Rattle.std.specs.Prelude.{ℕ, ◌+◌}
 use Rattle.be_query.specs.Grammar.{Formula, Leaf, And, Or}
 
@@ -7,7 +7,8 @@ joints (Leaf name op value) = 0
 joints (And l r) = joints l + joints r + 1
 joints (Or l r) = joints l + joints r + 1
 
--- how many rounds take it apart: one for each joint on its right edge, and two for each other
+-- how many rounds take the tree apart: one for each joint on its right edge, two for every other
+-- joint
 abbrev pub rounds : Formula → ℕ
 rounds (Leaf name op value) = 0
 rounds (And l r) = joints l + joints l + 1 + rounds r
@@ -18,7 +19,7 @@ IsLeaf (Leaf name op value) = Unit {0}
 IsLeaf (And l r) = ⊥
 IsLeaf (Or l r) = ⊥
 
--- its left side is a comparison, if it has sides
+-- the left side is a comparison, if the tree has sides
 abbrev pub BeginsWithLeaf : Formula → Type 0
 BeginsWithLeaf (Leaf name op value) = Unit {0}
 BeginsWithLeaf (And l r) = IsLeaf l

@@ -1,7 +1,8 @@
-//! What the definitions of the grammar and of canonical texts imply.
+//! What follows from the definitions of the grammar and of canonical texts.
 ghost use Rattle.std.specs.Prelude.{ℕ, ◌≡◌, ◌≤◌, false, List, Some, None, []};
 ghost use Rattle.be_query.specs.Faults.{fault};
-ghost use Rattle.be_query.specs.Grammar.{Formula, OrPhrase, comparisons, Spells, IsTextOf, Viable};
+ghost use Rattle.be_query.specs.Grammar.{Formula, OrPhrase, comparisons, ParsesTo, IsTextOf};
+ghost use Rattle.be_query.specs.Grammar.{Viable};
 ghost use Rattle.be_query.specs.Grammar.{or_tokens};
 ghost use Rattle.be_query.specs.Reading.{Awaited, Joint, Mark, read};
 ghost use Rattle.be_query.specs.Tokens.{Token, plain};
@@ -10,34 +11,35 @@ ghost use Rattle.be_query.specs.Printing.{IsKept, IsPrintable, IsQuotable, IsWho
 ghost use Rattle.be_query.specs.Printing.{with_backslashes, or_printed, or_text, limit_of};
 ghost use Rattle.be_query.specs.Lexing.{tokens};
 
-/// A token list is read on exactly as long as some tokens after it make a sentence. It is a
-/// sentence exactly if it is read to its end, and it has one tree at most.
+/// A list of tokens can be read exactly if some more tokens would complete a sentence. It is a
+/// sentence exactly if it can be read and leaves nothing open. It has at most one tree.
 pub fn reading()
     ensures viable { (ts : List Token) (s : Awaited × List Mark) → read ts ≡ Some s → Viable ts }
     ensures stuck { (ts : List Token) → read ts ≡ None → Viable ts → ⊥ }
     ensures sentence { (ts : List Token) → read ts ≡ Some (Joint, []) → (o : OrPhrase)
         × (or_tokens o ≡ ts) }
     ensures whole { (o : OrPhrase) → read (or_tokens o) ≡ Some (Joint, []) }
-    // A printed text encodes its tree, if its names and values are read back.
-    ensures printed { (t : Formula) → IsPrintable t → Spells (or_printed t) t }
+    // A printed tree's tokens encode that tree, if its names and values can be read back.
+    ensures printed { (t : Formula) → IsPrintable t → ParsesTo (or_printed t) t }
     ensures unescaped { (bs : List ℕ) → plain (with_backslashes bs) ≡ bs }
-    ensures one_tree { (ts : List Token) (s t : Formula) → Spells ts s → Spells ts t → s ≡ t }
+    ensures one_tree { (ts : List Token) (s t : Formula) → ParsesTo ts s → ParsesTo ts t → s ≡ t }
 {}
 
-/// The canonical text of a tree encodes the tree, and by `reading` no other.
+/// A tree's canonical text encodes that tree and, by `reading`, no other.
 pub fn printing()
-    // It is cut into the tokens of the tree, if each name and value is one token.
+    // The canonical text is cut into the tree's tokens, if each name and value is one token.
     ensures tokens { (t : Formula) → IsQuotable t → tokens (or_text t) ≡ or_printed t }
-    // So the text of a tree whose names and values are kept encodes it.
+    // So the canonical text encodes the tree, if printing keeps its names and values.
     ensures kept { (t : Formula) → IsKept t → IsTextOf (or_text t) t }
-    ensures spells { (t : Formula) → IsQuotable t → IsPrintable t → Spells (tokens (or_text t)) t }
+    ensures parses { (t : Formula) → IsQuotable t → IsPrintable t
+        → ParsesTo (tokens (or_text t)) t }
     // A name, or an order operator's value, is one token if it has no NUL.
     ensures whole { (bs : List ℕ) → has_nul bs ≡ false → IsWhole (with_backslashes bs) }
 {}
 
-/// The canonical text of a query has no fault but the limit that it is past. So `parse` reads it
-/// back wherever it has at most 4,096 bytes and 64 parentheses round a comparison, and by
-/// `printing` to the same tree.
+/// A query's canonical text has no error except a limit that it exceeds. So `parse` reads it back
+/// if it has at most 4,096 bytes, and at most 64 parentheses around any comparison. By `printing`,
+/// it then returns the same tree.
 pub fn reading_back()
     ensures { (t : Formula) → IsKept t → comparisons t ≤ 256 → fault (or_text t) ≡ limit_of t }
 {}

@@ -1,5 +1,6 @@
-//! How a query's text is cut into tokens. The longest token is taken; a name or value is a word or
-//! a quoted text.
+//! Cuts a query's text into tokens.
+//!
+//! The longest token is taken. A name or value is a word or a quoted text.
 ghost use Rattle.std.specs.Prelude.{false, true, ◌||◌, ℕ, ◌≡◌, ◌≤◌, ◌<◌, ◌+◌, ◌==◌, length, take};
 ghost use Rattle.std.specs.Prelude.{drop, slice_get, slice_index, IfNone, IfSome};
 ghost use Rattle.std.specs.List.{list_any};
@@ -10,28 +11,28 @@ ghost use Rattle.be_query.specs.Lexing.{is_mark, word_span, quoted_span};
 use crate::token::Token;
 use crate::tree::Cmp;
 
-/// How many bytes of a quoted text are looked at together.
+/// How many bytes of a quoted text are checked at once.
 const BLOCK: usize = 16;
 
-/// How far a name or value goes.
+/// How far a name or value extends.
 #[derive(Clone, Copy)]
 pub(crate) enum Span {
-    /// It takes this many bytes.
+    /// It has this many bytes.
     Ends(usize),
-    /// It breaks off this many bytes after its first: there the text ends, or there is a NUL.
+    /// It breaks off this many bytes after its first, at a NUL or at the end of the text.
     Breaks(usize),
 }
 
-/// The front of a text.
+/// What is at the front of a text.
 #[derive(Clone, Copy)]
 pub(crate) enum Front<'a> {
     /// A separator, and the text after it.
     Separator(&'a str),
-    /// A token, how many bytes lie before its text, and the text after it.
+    /// A token, how many bytes come before its text, and the text after the token.
     Token(Token<'a>, usize, &'a str),
-    /// A name or value that breaks off that many bytes after its first.
+    /// A name or value that breaks off this many bytes after its first.
     Broken(usize),
-    /// No token begins so.
+    /// No token begins like this.
     Odd,
 }
 
@@ -42,21 +43,21 @@ fn is_separator(b: u8) -> bool
     b == b' ' || b == b'\t' || b == b'\n' || b == b'\r'
 }
 
-/// Whether the byte is allowed in a word.
+/// Whether a word may contain the byte.
 fn is_word(b: u8) -> bool
     ensures { result ≡ is_word b }
 {
     !(is_separator(b) || is_quote(b) || is_sign(b) || b == 0)
 }
 
-/// Whether a quoted text begins with the byte.
+/// Whether the byte begins a quoted text.
 fn is_quote(b: u8) -> bool
     ensures { result ≡ is_quote b }
 {
     b == b'"' || b == b'\''
 }
 
-/// Whether a token other than a name or value begins with the byte.
+/// Whether the byte begins a token that isn't a name or value.
 fn is_sign(b: u8) -> bool
     ensures { result ≡ is_sign b }
 {
@@ -70,8 +71,8 @@ fn is_sign(b: u8) -> bool
         || b == b')'
 }
 
-/// The place after a byte; of a backslash, the place after the byte that it escapes. None if that
-/// byte is a NUL, or is missing.
+/// The place after the byte at `at`; after a backslash, the place after the byte that it escapes.
+/// It is `None` if that byte is missing or a NUL.
 fn beyond(bytes: &[u8], at: usize) -> Option<usize>
     requires { at < length bytes.now }
     ensures next { IfSome result (λ next. IsBeyond bytes.now at next) }
@@ -91,7 +92,7 @@ fn beyond(bytes: &[u8], at: usize) -> Option<usize>
     Some(next + 1)
 }
 
-/// How far the word at the front goes.
+/// How far the word at the front extends.
 fn word_span(bytes: &[u8]) -> Span
     ensures { result ≡ word_span false bytes.now }
 {
@@ -108,7 +109,7 @@ fn word_span(bytes: &[u8]) -> Span
     Span::Ends(at)
 }
 
-/// How far the text after a quote goes, up to the next such quote.
+/// How far the text after an opening quote extends: up to the next such quote.
 fn quoted_span(quote: u8, bytes: &[u8]) -> Span
     ensures { result ≡ quoted_span quote false bytes.now }
 {
@@ -116,8 +117,8 @@ fn quoted_span(quote: u8, bytes: &[u8]) -> Span
     span_after(quote, bytes, front)
 }
 
-/// How many bytes at the front, by whole blocks, are neither a backslash nor anything that ends the
-/// quoted text.
+/// How many bytes at the front, in whole blocks, have no backslash and nothing that ends the quoted
+/// text.
 fn unmarked_front(quote: u8, bytes: &[u8]) -> usize
     ensures within { result ≤ length bytes.now }
     ensures unmarked { list_any (is_mark quote) (take result bytes.now) ≡ false }
@@ -132,7 +133,7 @@ fn unmarked_front(quote: u8, bytes: &[u8]) -> usize
     at
 }
 
-/// Whether a byte of the block is a backslash, or ends the quoted text.
+/// Whether a byte of the block is a backslash or ends the quoted text.
 fn has_mark(quote: u8, block: &[u8]) -> bool
     ensures { result ≡ list_any (is_mark quote) block.now }
 {
@@ -142,7 +143,8 @@ fn has_mark(quote: u8, block: &[u8]) -> bool
     ends | breaks | escapes
 }
 
-/// Whether the byte is in the block. It looks at each place, so that it can look at all at once.
+/// Whether the byte is in the block. It checks every place, so that the compiler can check all at
+/// once.
 fn has_byte(byte: u8, block: &[u8]) -> bool
     ensures { result ≡ list_any (λ b. b == byte) block.now }
 {
@@ -153,7 +155,8 @@ fn has_byte(byte: u8, block: &[u8]) -> bool
     found
 }
 
-/// How far the text after a quote goes, if it doesn't end within that many bytes at its front.
+/// How far the text after an opening quote extends. The first `front` bytes are known to be
+/// unmarked.
 fn span_after(quote: u8, bytes: &[u8], front: usize) -> Span
     requires within { front ≤ length bytes.now }
     requires unmarked { list_any (is_mark quote) (take front bytes.now) ≡ false }
@@ -176,7 +179,7 @@ fn span_after(quote: u8, bytes: &[u8], front: usize) -> Span
     Span::Breaks(at)
 }
 
-/// The token that a sign begins, given the byte that follows it, and the token's bytes.
+/// The token that a sign begins, and its length in bytes, given the byte after the sign's first.
 fn sign(first: u8, second: Option<u8>) -> Option<(Token<'static>, usize)>
     ensures sign { SignIs first second result }
     ensures clean { IfSome result (λ p. IsClean (token_of p.0)) }
@@ -225,7 +228,7 @@ fn byte_at(bytes: &[u8], i: usize) -> Option<u8>
     bytes.get(i).copied()
 }
 
-/// The front of a text that begins with this sign, or a NUL.
+/// The front of a text that begins with this sign or with a NUL.
 fn sign_front(first: u8, text: &str) -> Front<'_>
     requires nonempty { 0 < length text.now }
     requires first { slice_index text.now 0 ≡ first }
@@ -264,7 +267,7 @@ fn word_front(text: &str) -> Front<'_>
     }
 }
 
-/// The front of a text that is not empty.
+/// The front of a text that isn't empty.
 pub(crate) fn split_front(text: &str) -> Front<'_>
     requires { 0 < length text.now }
     ensures front { IsFront text.now result }

@@ -1,9 +1,9 @@
-//! The query language: texts and predicates in, trees of comparisons out.
+//! The query language: it turns texts and predicates into trees of comparisons.
 //!
-//! A query is a tree whose leaves compare an attribute with a literal and whose inner nodes are
-//! `&&` and `||`; `!` is carried down to the leaves while the tree is built. `parse` reads it from
-//! text, `from_rpn` from items in reverse Polish order, and `print` gives its canonical text.
-//! docs/QUERIES.md shows the language by example.
+//! A query is a tree whose leaves compare an attribute with a literal, and whose inner nodes are
+//! `&&` and `||`. A `!` is carried down to the leaves while the tree is built. `parse` reads a
+//! query from text, `from_rpn` from items in reverse Polish order, and `print` returns its
+//! canonical text. docs/QUERIES.md shows the language by example.
 #![tactic(auto)]
 
 pub mod laws;

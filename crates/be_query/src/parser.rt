@@ -1,7 +1,10 @@
-//! Reads the tokens of a query from the left. Each open `(` has one level: it keeps the sides of
-//! `||` and `&&` that wait for their right side, and the `!` that wait for their operand. A `!` is
-//! carried down while its operand is read: inside an odd number of them each comparison and each
-//! joint is made as its complement. So nothing here recurses, and no finished tree is passed again.
+//! Reads a query's tokens from the left. Each open `(` has a level. The level keeps the left sides
+//! of `||` and `&&` that wait for their right sides, and counts the `!` that wait for their
+//! operand.
+//!
+//! A `!` is applied while its operand is read: inside an odd number of them, each comparison and
+//! each joint is built as its complement. So nothing here recurses, and no finished tree is visited
+//! again.
 ghost use Rattle.std.specs.Prelude.{false, true, ℕ, ◌≡◌, MatchOption, IfNone, IfSome, [], ◌++◌};
 ghost use Rattle.std.specs.Prelude.{encode_utf8, string_bytes, Some, None};
 ghost use Rattle.std.specs.Prelude.{IfOk, IfErr, ◌<◌, ◌≤◌, ◌+◌, ◌^◌, length};
@@ -26,32 +29,32 @@ use be_value::{Name, Refusal};
 use std::alloc::{AllocError, Global};
 use std::mem;
 
-/// How many `(` and `!` may be open.
+/// How many `(` and `!` may be open at once.
 const MAX_OPEN: usize = 64;
 
-/// The longest name.
+/// The longest name, in bytes.
 const MAX_NAME: usize = 63;
 
 /// How many comparisons a query may have.
 pub(crate) const MAX_COMPARISONS: usize = 256;
 
-/// What waits for its right end inside one pair of parentheses.
+/// What is unfinished inside one pair of parentheses.
 #[derive(Drop)]
 pub(crate) struct Level {
     /// Whether an odd number of `!` applies to the level.
     negated: bool,
-    /// Whether an odd number applies to the operand that comes next.
+    /// Whether an odd number of `!` applies to the next operand.
     operand_negated: bool,
-    /// The left side of `||`.
+    /// The left side of an unfinished `||`.
     or_left: Option<Box<Tree>>,
-    /// The left side of `&&`.
+    /// The left side of an unfinished `&&`.
     and_left: Option<Box<Tree>>,
     /// How many `!` wait for their operand.
     negations: usize,
 }
 
-/// What may come next, with the comparison or the tree before it. A name is as the text has it: it
-/// is small to move, and is made once its comparison is.
+/// What may come next, with the name or tree read so far. A name is kept as the text has it,
+/// because that is cheap to move. The `Name` is made once its comparison is complete.
 #[derive(Drop)]
 pub(crate) enum Stage<'a> {
     Operand,
@@ -60,18 +63,18 @@ pub(crate) enum Stage<'a> {
     Joint(Box<Tree>),
 }
 
-/// What waits round the next token.
+/// What is open around the next token.
 #[derive(Drop)]
 pub(crate) struct Context {
     level: Level,
-    /// The levels round that one, from the outside.
+    /// The levels around the innermost one, outermost first.
     outer: Vec<Level>,
     /// How many `(` and `!` are open.
     depth: usize,
     comparisons: usize,
 }
 
-/// A query that was read up to a token.
+/// A query that has been read up to some token.
 #[derive(Drop)]
 pub(crate) struct Parser<'a> {
     pub(crate) stage: Stage<'a>,
@@ -79,7 +82,7 @@ pub(crate) struct Parser<'a> {
 }
 
 impl Level {
-    /// With nothing in it, inside an odd number of `!` or not.
+    /// An empty level, inside an odd number of `!` if `negated`.
     fn new(negated: bool) -> Level
         ensures { level_seen result ≡ fresh negated }
     {
@@ -97,7 +100,7 @@ impl<'a> Stage<'a> {
     ghost use Rattle.be_query.specs.Faults.{broken_at};
     ghost use Rattle.be_query.specs.Building.{awaited_at};
 
-    /// The fault of a name or value at a place that breaks off that many bytes after its first.
+    /// The error of a name or value that begins at `at` and breaks off `len` bytes after its first.
     pub(crate) fn broken(&self, at: usize, len: usize) -> Refusal
         requires { at + len < 2 ^ 64 }
         ensures { result ≡ Refusal.Syntax (broken_at (awaited_at (stage_of self.now)) at len) }
@@ -116,7 +119,7 @@ impl Context {
     ghost use Rattle.be_query.specs.Faults.{ends};
     ghost use Rattle.be_query.specs.View.{outer_of};
 
-    /// Takes a token at a place, whose text begins at another, and says what may come next.
+    /// Takes the token at `at`, whose text begins at `start`, and returns what may come next.
     pub(crate) fn take<'a>(
         &mut self,
         alloc: Global,
@@ -141,7 +144,7 @@ impl Context {
         }
     }
 
-    /// The tree at the end of a text of `len` bytes. Nothing more is taken.
+    /// Returns the tree at the end of a text of `len` bytes. No token may be taken after it.
     pub(crate) fn finish(
         &mut self,
         alloc: Global,
@@ -175,7 +178,7 @@ impl<'a> Parser<'a> {
     ghost use Rattle.be_query.specs.Building.{nothing_built};
     ghost use Rattle.be_query.specs.View.{parser_state};
 
-    /// At the start of a text.
+    /// The parser at the start of a text.
     pub(crate) fn new(alloc: Global) -> Parser<'a>
         ensures counted { IsCounted (stage_of result.stage) result.context }
         ensures start { parser_state result ≡ nothing_built }
@@ -229,7 +232,7 @@ fn take_operand<'a>(
             Ok(Stage::Operand)
         }
         Token::Text(raw) => {
-            if spells_name(alloc, raw)? {
+            if encodes_name(alloc, raw)? {
                 Ok(Stage::Operator(raw))
             } else {
                 Err(Refusal::Syntax(at))
@@ -239,7 +242,7 @@ fn take_operand<'a>(
     }
 }
 
-/// Takes a token where an operator is due.
+/// Takes a token where an operator has to come.
 fn take_operator<'a>(
     raw: &'a str,
     context: &mut Context,
@@ -259,7 +262,7 @@ fn take_operator<'a>(
     }
 }
 
-/// Takes a token where a value is due. Its text begins at a place.
+/// Takes a token where a value has to come. Its text begins at `start`.
 fn take_value<'a>(
     alloc: Global,
     name: &'a str,
@@ -341,9 +344,9 @@ fn take_joint<'a>(
 }
 
 #[tactic(auto, using(crate::proofs::Short::short_name))]
-/// Whether a text without a NUL encodes a name. Backslashes only make it shorter, so they are
-/// looked at in a long text alone.
-fn spells_name(alloc: Global, raw: &str) -> Result<bool, AllocError>
+/// Whether a text without a NUL encodes a name. Resolving backslashes only shortens a text, so a
+/// text of 1 to 63 bytes needn't be resolved.
+fn encodes_name(alloc: Global, raw: &str) -> Result<bool, AllocError>
     requires { has_nul raw.now ≡ false }
     ensures { IfOk result (λ b. is_name raw.now ≡ b) }
 {
@@ -358,7 +361,7 @@ fn spells_name(alloc: Global, raw: &str) -> Result<bool, AllocError>
     }
 }
 
-/// The name that a text encodes, if it is one.
+/// The name that a text encodes, if it encodes one.
 fn read_name(alloc: Global, raw: &str) -> Result<Option<Name>, AllocError>
     ensures { IfOk result (λ o. MatchOption o (is_name raw.now ≡ false)
         (λ n. (n ≡ plain raw.now) × (is_name raw.now ≡ true))) }
@@ -370,7 +373,7 @@ fn read_name(alloc: Global, raw: &str) -> Result<Option<Name>, AllocError>
     Ok(name_of(&text))
 }
 
-/// The name that a text is, if it is one.
+/// The text as a name, if it is one.
 fn name_of(text: &str) -> Option<Name>
     ensures { MatchOption result (is_ok (name_from text.now) ≡ false)
         (λ n. (n ≡ text.now) × (is_ok (name_from text.now) ≡ true)) }
@@ -388,7 +391,7 @@ fn is_plain(raw: &str) -> bool
     !raw.as_bytes().contains(&b'\\')
 }
 
-/// The first character after escapes are resolved, and the text after it.
+/// The first character, with its backslash resolved, and the text after it.
 fn split_plain(text: &str) -> Option<(char, &str)>
     ensures none { IfNone result (plain text.now ≡ []) }
     ensures some { IfSome result (λ p. plain text.now ≡ encode_utf8 p.0 ++ plain p.1.now) }
@@ -406,7 +409,7 @@ fn split_plain(text: &str) -> Option<(char, &str)>
     }
 }
 
-/// The text with its backslashes taken away.
+/// The text with its backslashes resolved.
 fn unescape(alloc: Global, raw: &str) -> Result<String, AllocError>
     ensures { IfOk result (λ s. string_bytes s ≡ plain raw.now) }
 {
@@ -422,7 +425,7 @@ fn unescape(alloc: Global, raw: &str) -> Result<String, AllocError>
     Ok(text)
 }
 
-/// The pattern that a value encodes, or the place of its fault.
+/// The pattern that a value encodes, or the place of its error.
 fn read_pattern(alloc: Global, raw: &str) -> Result<Result<Pattern, usize>, AllocError>
     ensures { IfOk result (λ r. (pattern (chars raw.now) ≡ r)
         × IfErr r (λ at. at ≤ length raw.now)) }
@@ -434,7 +437,7 @@ fn read_pattern(alloc: Global, raw: &str) -> Result<Result<Pattern, usize>, Allo
     }
 }
 
-/// The literal that a value encodes, or the place of its pattern's fault.
+/// The literal that a value encodes, or the place of its pattern's error.
 pub(crate) fn read_literal(
     alloc: Global,
     op: Cmp,
@@ -457,14 +460,14 @@ pub(crate) fn read_literal(
     }
 }
 
-/// A comparison's operator, or inside an odd number of `!` that of its complement.
+/// A comparison's operator, or its opposite inside an odd number of `!`.
 fn turned_operator(negated: bool, op: Cmp) -> Cmp
     ensures { result ≡ turned_operator negated op }
 {
     if negated { op.opposite() } else { op }
 }
 
-/// An operand has ended, and its `!` and its `&&` with it.
+/// Ends an operand, and with it the `!` and the `&&` that waited for it.
 fn end_operand(
     alloc: Global,
     level: &mut Level,
@@ -483,7 +486,7 @@ fn end_operand(
     }
 }
 
-/// A side of `||` has ended.
+/// Ends a side of `||`.
 fn end_side(alloc: Global, level: &mut Level, side: Box<Tree>) -> Result<Box<Tree>, AllocError>
     ensures tree { IfOk result (λ t. formula t.value
         ≡ with_side (formula side.value) (level_seen level.old)) }

@@ -1,4 +1,4 @@
-//! The canonical text of a query, with parentheses where the tree needs them and nowhere else.
+//! Prints a query's canonical text. It has parentheses only where the tree needs them.
 ghost use Rattle.std.specs.Prelude.{◌≡◌, ◌++◌, ◌<◌, [], length, IfOk, IfErr, string_bytes};
 ghost use Rattle.be_value.specs.declared.refusals.Refusal.TheVariants.{OutOfMemory};
 ghost use Rattle.be_query.specs.Printing.{or_text, leaf_text, cmp_text, literal_text};
@@ -12,27 +12,28 @@ use be_pattern::matching::split_first_char;
 use be_value::Refusal;
 use std::alloc::{AllocError, Global};
 
-/// Where a tree is printed.
+/// The place at which a tree is printed, which decides whether it needs parentheses.
 #[derive(Clone, Copy, Debug, PartialEq, Eq)]
 pub(crate) enum Place {
-    /// Alone, or left of `||`.
+    /// On its own, or to the left of `||`.
     Side,
-    /// Right of `||`, or left of `&&`.
+    /// To the right of `||`, or to the left of `&&`.
     Part,
-    /// Right of `&&`.
+    /// To the right of `&&`.
     Operand,
 }
 
-/// The canonical text of a query: each comparison as `"name"op"value"`, sides joined by ` && ` and
-/// ` || `. `parse` reads it back wherever it is within the limits of `parse`: it may have more than
-/// 4,096 bytes, or more than 64 parentheses round a comparison. It recurses on the tree's joints,
-/// of which a query has at most 255.
+/// The query's canonical text: each comparison as `"name"op"value"`, joined by ` && ` and ` || `.
+///
+/// `parse` reads the text back unless it exceeds a limit: it may have more than 4,096 bytes, or
+/// more than 64 parentheses around a comparison. Printing recurses on the tree's joints, of which a
+/// query has at most 255.
 pub fn print(alloc: Global, query: &Query) -> Result<String, Refusal>
-    // It is the canonical text of the tree,
+    // It is the tree's canonical text,
     ensures text { IfOk result (λ s. string_bytes s ≡ or_text query.now) }
-    // which encodes the tree,
-    ensures spells { IfOk result (λ s. IsTextOf (string_bytes s) query.now) }
-    // and no other.
+    // which encodes the tree
+    ensures parses { IfOk result (λ s. IsTextOf (string_bytes s) query.now) }
+    // and no other tree.
     ensures alone { IfOk result (λ s. (tree : Formula) → IsTextOf (string_bytes s) tree → tree
         ≡ query.now) }
     ensures err { IfErr result (λ e. e ≡ OutOfMemory) }
@@ -42,7 +43,7 @@ pub fn print(alloc: Global, query: &Query) -> Result<String, Refusal>
     Ok(text)
 }
 
-/// The canonical text of one comparison, as it is in that of a query.
+/// The canonical text of one comparison, as it appears in the query's.
 pub fn print_comparison(alloc: Global, comparison: &Comparison) -> Result<String, Refusal>
     ensures ok { IfOk result (λ s. string_bytes s
         ≡ leaf_text comparison.now.name comparison.now.op (literal comparison.now.literal)) }
@@ -53,7 +54,7 @@ pub fn print_comparison(alloc: Global, comparison: &Comparison) -> Result<String
     Ok(text)
 }
 
-/// Appends a tree that is printed in a place.
+/// Appends a tree, with the parentheses that it needs at this place.
 fn push_tree(alloc: Global, text: &mut String, tree: &Tree, place: Place) -> Result<(), Refusal>
     ensures ok { IfOk result (λ _. string_bytes text.new ≡ string_bytes text.old
         ++ printed_at place (formula tree.now)) }
@@ -82,7 +83,7 @@ fn push_tree(alloc: Global, text: &mut String, tree: &Tree, place: Place) -> Res
     }
 }
 
-/// Appends a text if it is to be shown.
+/// Appends a text if `shown`.
 fn push_if(text: &mut String, shown: bool, piece: &str) -> Result<(), AllocError>
     ensures { IfOk result (λ _. string_bytes text.new ≡ string_bytes text.old
         ++ only_if shown piece.now) }
@@ -110,7 +111,7 @@ fn push_comparison(alloc: Global, text: &mut String, comparison: &Comparison) ->
     Ok(())
 }
 
-/// How an operator is printed.
+/// The text of an operator.
 fn sign_of(op: Cmp) -> &'static str
     ensures { result.now ≡ cmp_text op }
 {
@@ -124,7 +125,7 @@ fn sign_of(op: Cmp) -> &'static str
     }
 }
 
-/// Appends what is compared with, without its quotes.
+/// Appends the value of a comparison, without its quotes.
 fn push_value(alloc: Global, text: &mut String, value: &Literal) -> Result<(), Refusal>
     ensures ok { IfOk result (λ _. string_bytes text.new ≡ string_bytes text.old
         ++ literal_text (literal value.now)) }

@@ -1,5 +1,5 @@
-//! Queries, and reading one from text: the text's tokens are taken one by one from the left, and
-//! the first that can't follow, or has a fault of its own, is named with its byte.
+//! Queries, and reading them from text. Tokens are read one by one from the left. The first that
+//! can't follow, or has an error of its own, is reported with its byte.
 ghost use Rattle.std.specs.Prelude.{◌≡◌, ◌≤◌, None, Some, IfOk, IfErr};
 ghost use Rattle.be_query.specs.Faults.{fault};
 ghost use Rattle.be_query.specs.Grammar.{IsTextOf, comparisons};
@@ -13,10 +13,10 @@ use be_value::Refusal;
 use std::alloc::Global;
 use std::marker::Model;
 
-/// The longest text of a query.
+/// The longest text of a query, in bytes.
 const MAX_LEN: usize = 4096;
 
-/// A query: a tree of at most 256 comparisons whose names and values canonical text can encode. A
+/// A query: a tree of at most 256 comparisons whose names and values a canonical text can encode. A
 /// contract sees the tree, without its place in memory.
 #[derive(Debug, Drop)]
 pub struct Query {
@@ -41,7 +41,7 @@ impl Model for Query {
 }
 
 impl Query {
-    /// The tree, lent.
+    /// The tree, borrowed.
     pub fn tree(&self) -> &Tree
         ensures tree { formula result.now ≡ self.now }
         ensures few { comparisons self.now ≤ 256 }
@@ -51,23 +51,25 @@ impl Query {
     }
 }
 
-/// The query that a text encodes.
+/// Reads the query that a text encodes.
 ///
-/// A text of more than 4,096 bytes is `TooLong`, whatever is in it. Otherwise the first fault from
-/// the left is returned, with its byte in the text: `Syntax` at a token that can't follow or at the
-/// end of a text that ends too soon, `BadPattern` at the `[` of a faulty set, `TooMany` at the
-/// 257th comparison, `TooDeep` at a `(` or `!` inside 64 open ones.
+/// A text of more than 4,096 bytes is `TooLong`, whatever it contains. Otherwise the first error
+/// from the left is returned, with its byte in the text. It is `Syntax` at a token that can't
+/// follow, or at the end of a text that ends too soon. It is `BadPattern` at the `[` of a faulty
+/// set, and `TooMany` at the 257th comparison. It is `TooDeep` at a `(` or `!` inside 64 open ones.
 ///
-/// The text is read in one pass, in a loop, and no tree is passed again: a `!` costs no more than
-/// any other token. Nothing recurses, whatever the text is, not even when a refusal drops the trees
-/// that were built. Memory is allocated per token: for the text of a name that has a backslash, and
-/// of one with more than 63 bytes before that, for the text of a value, for the tokens and each of
-/// the sets of a pattern that has a character of its notation, for a comparison, and for each joint
-/// that ends.
+/// The text is read once, in a loop, and no tree is visited again: a `!` costs no more than any
+/// other token. Nothing recurses, whatever the text is, not even when an error drops the trees
+/// built so far.
+///
+/// Memory is allocated for a name's text if it has a backslash, and also if it has more than 63
+/// bytes before backslashes are resolved. It is allocated for a value's text, and for a pattern
+/// that uses its notation: its tokens, and each set. It is allocated for each comparison, and for
+/// each joint when it ends.
 pub fn parse(alloc: Global, text: &str) -> Result<Query, Refusal>
-    // A text without a fault is a sentence of the grammar, and this is its tree.
+    // A text without an error is a sentence of the grammar, and this is its tree.
     ensures ok { IfOk result (λ q. (fault text.now ≡ None) × IsTextOf text.now q) }
-    // A refusal is the text's fault, unless memory ran out.
+    // The error is the text's, unless memory ran out.
     ensures err { IfErr result (λ e. IsMemory e (fault text.now ≡ Some e)) }
 {
     if text.len() > MAX_LEN {

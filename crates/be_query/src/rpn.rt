@@ -1,5 +1,4 @@
-//! Queries from items in reverse Polish order, which are worked on a stack (after `BQuery` of the
-//! Be Book).
+//! Builds queries from items in reverse Polish order, using a stack (like `BQuery` in the Be Book).
 ghost use Rattle.std.specs.Prelude.{◌≡◌, ◌≤◌, ℕ, ◌∷◌, Ok, Err, Some, None, IfOk, IfErr};
 ghost use Rattle.std.specs.Prelude.{MatchOption, map, string_bytes};
 ghost use Rattle.be_query.specs.Building.{conjunction};
@@ -21,7 +20,7 @@ use be_pattern::Pattern;
 use be_value::{Name, Refusal};
 use std::alloc::{AllocError, Global};
 
-/// How many things the stack may hold after an item.
+/// How many things may be on the stack after an item.
 const MAX_THINGS: usize = 64;
 
 /// An item of a predicate in reverse Polish order.
@@ -56,7 +55,7 @@ pub(crate) enum Thing {
     Whole(Tree),
 }
 
-/// The stack, and how many comparisons were built.
+/// The stack, and how many comparisons have been built.
 #[derive(Drop)]
 pub(crate) struct Stack {
     things: Vec<Thing>,
@@ -65,14 +64,17 @@ pub(crate) struct Stack {
 
 /// The query that the items build.
 ///
-/// `BadRpn` names the item that finds something else on the stack than it needs, or is a text with
-/// a NUL, or the number of items if they leave other than one query; `BadPattern` names the item of
-/// the comparison. At one item the order is `BadRpn`, `BadPattern`, `TooMany` (the 257th
-/// comparison), `TooDeep` (more than 64 things on the stack).
+/// `BadRpn` has the index of an item that doesn't find what it needs on the stack, or of a text
+/// with a NUL. If the items leave anything but one query, it has the number of items. `BadPattern`
+/// has the index of the comparison's item.
+///
+/// If one item has several errors, the first of these is returned: `BadRpn`, `BadPattern`,
+/// `TooMany`, `TooDeep`. `TooMany` means that it is the 257th comparison, and `TooDeep` that there
+/// are more than 64 things on the stack.
 pub fn from_rpn(alloc: Global, items: &[Item]) -> Result<Query, Refusal>
     // The tree is the one that the items build.
     ensures ok { IfOk result (λ q. rpn (map item_of items.now) ≡ Ok q) }
-    // A refusal is that of the items, unless memory ran out.
+    // The error is the items', unless memory ran out.
     ensures err { IfErr result (λ e. IsMemory e (rpn (map item_of items.now) ≡ Err e)) }
 {
     let mut stack = Stack {
@@ -88,7 +90,7 @@ pub fn from_rpn(alloc: Global, items: &[Item]) -> Result<Query, Refusal>
     Ok(Query { tree })
 }
 
-/// What every item is. It does nothing.
+/// States what holds of every item. It does nothing.
 fn know_item(item: &Item)
     ensures { ItemClean (item_of item.now) }
 {
@@ -118,14 +120,14 @@ fn know_item(item: &Item)
     }
 }
 
-/// What the decimal text of a number is. It does nothing.
+/// States what holds of a number's decimal text. It does nothing.
 fn know_uint(n: u64)
     ensures { ItemClean (Number (decimal n)) }
 {
     let _n = n;
 }
 
-/// The tree at the end of that many items.
+/// The tree that is left after `len` items.
 fn finish(stack: &mut Stack, len: usize) -> Result<Tree, Refusal>
     ensures ok { IfOk result (λ t. one_tree len (stack_of stack.old).1 ≡ Ok (formula t)) }
     ensures err { IfErr result (λ e. one_tree len (stack_of stack.old).1 ≡ Err e) }
@@ -139,7 +141,7 @@ fn finish(stack: &mut Stack, len: usize) -> Result<Tree, Refusal>
     Err(Refusal::BadRpn(len))
 }
 
-/// Applies an item, and checks that the stack is not too high after it.
+/// Applies an item, and then checks that the stack isn't too high.
 fn take_item(alloc: Global, stack: &mut Stack, at: usize, item: &Item) -> Result<(), Refusal>
     ensures ok { IfOk result (λ _. shallow
         (work at (stack_of stack.old).0 (stack_of stack.old).1 (item_of item.now))
@@ -158,7 +160,7 @@ fn take_item(alloc: Global, stack: &mut Stack, at: usize, item: &Item) -> Result
     Ok(())
 }
 
-/// Works an item on the stack.
+/// Applies an item to the stack.
 fn work(alloc: Global, stack: &mut Stack, at: usize, item: &Item) -> Result<(), Refusal>
     ensures ok { IfOk result (λ _. work at (stack_of stack.old).0 (stack_of stack.old).1
         (item_of item.now) ≡ Ok (stack_of stack.new)) }
@@ -197,7 +199,7 @@ fn has_nul(text: &str) -> bool
     text.as_bytes().contains(&0)
 }
 
-/// Lays a thing on the stack.
+/// Pushes a thing onto the stack.
 fn push(stack: &mut Stack, thing: Thing) -> Result<(), Refusal>
     ensures ok { IfOk result (λ _. stack_of stack.new
         ≡ ((stack_of stack.old).0, thing_of thing ∷ (stack_of stack.old).1)) }
@@ -207,7 +209,7 @@ fn push(stack: &mut Stack, thing: Thing) -> Result<(), Refusal>
     Ok(())
 }
 
-/// Lays one comparison more on the stack.
+/// Pushes a comparison onto the stack, and counts it.
 fn push_comparison(stack: &mut Stack, comparison: Comparison) -> Result<(), Refusal>
     ensures ok { IfOk result (λ _. counts (stack_of stack.old).0
         (Leaf comparison.name comparison.op (literal comparison.literal)) (stack_of stack.old).1
@@ -224,7 +226,7 @@ fn push_comparison(stack: &mut Stack, comparison: Comparison) -> Result<(), Refu
     Ok(())
 }
 
-/// Compares the attribute with the value above it.
+/// Compares the attribute on the stack with the value above it.
 fn compare(alloc: Global, stack: &mut Stack, at: usize, op: Cmp) -> Result<(), Refusal>
     ensures ok { IfOk result (λ _. compares at (stack_of stack.old).0 op
         (top_comparison (stack_of stack.old).1) ≡ Ok (stack_of stack.new)) }
@@ -241,8 +243,8 @@ fn compare(alloc: Global, stack: &mut Stack, at: usize, op: Cmp) -> Result<(), R
     push_comparison(stack, Comparison { name, op, literal })
 }
 
-/// What a text is compared as: a pattern, or the place of its fault; by an order operator the text
-/// as it is.
+/// The literal that a text is compared as. `==` and `!=` take a pattern, or return the place of its
+/// error. An order operator takes the text as it is.
 fn given_literal(alloc: Global, op: Cmp, text: String) -> Result<Result<Literal, usize>, AllocError>
     ensures ok { IfOk result (λ r. IfOk r
         (λ l. (literal l ≡ given_literal op (string_bytes text))
@@ -256,8 +258,8 @@ fn given_literal(alloc: Global, op: Cmp, text: String) -> Result<Result<Literal,
     }
 }
 
-/// Compares the attribute with the literal text above it, which may have a `*` before it and after
-/// it.
+/// Compares the attribute with the literal text above it, with a `*` before it if `before` and
+/// after it if `beyond`.
 fn surround(
     alloc: Global,
     stack: &mut Stack,
@@ -279,7 +281,7 @@ fn surround(
     push_comparison(stack, Comparison { name, op, literal })
 }
 
-/// Joins the two trees on the top, by `||` or by `&&`.
+/// Joins the two trees on top, by `||` or by `&&`.
 fn join(alloc: Global, stack: &mut Stack, at: usize, either: bool) -> Result<(), Refusal>
     ensures ok { IfOk result (λ _. joins at (stack_of stack.old).0 (conjunction either)
         (top_trees (stack_of stack.old).1) ≡ Ok (stack_of stack.new)) }
@@ -294,7 +296,7 @@ fn join(alloc: Global, stack: &mut Stack, at: usize, either: bool) -> Result<(),
     push(stack, Thing::Whole(tree))
 }
 
-/// Turns the tree on the top into its complement.
+/// Replaces the tree on top by its complement.
 fn turn(alloc: Global, stack: &mut Stack, at: usize) -> Result<(), Refusal>
     ensures ok { IfOk result (λ _. complements at (stack_of stack.old).0
         (top_tree (stack_of stack.old).1) ≡ Ok (stack_of stack.new)) }
@@ -308,7 +310,7 @@ fn turn(alloc: Global, stack: &mut Stack, at: usize) -> Result<(), Refusal>
     push(stack, Thing::Whole(tree))
 }
 
-/// Takes the value off the top.
+/// Pops a value.
 fn pop_value(things: &mut Vec<Thing>) -> Option<String>
     ensures { MatchOption result (top_value (things_of things.old.items) ≡ None)
         (λ text. top_value (things_of things.old.items)
@@ -321,7 +323,7 @@ fn pop_value(things: &mut Vec<Thing>) -> Option<String>
     }
 }
 
-/// Takes the attribute off the top.
+/// Pops an attribute.
 fn pop_attribute(things: &mut Vec<Thing>) -> Option<Name>
     ensures { MatchOption result (top_attribute (things_of things.old.items) ≡ None)
         (λ name. top_attribute (things_of things.old.items)
@@ -334,7 +336,7 @@ fn pop_attribute(things: &mut Vec<Thing>) -> Option<Name>
     }
 }
 
-/// Takes the tree off the top.
+/// Pops a tree.
 fn pop_tree(things: &mut Vec<Thing>) -> Option<Tree>
     ensures { MatchOption result (top_tree (things_of things.old.items) ≡ None)
         (λ tree. top_tree (things_of things.old.items)
@@ -347,7 +349,7 @@ fn pop_tree(things: &mut Vec<Thing>) -> Option<Tree>
     }
 }
 
-/// Takes the value off the top, and the attribute below it.
+/// Pops a value, and then the attribute below it.
 fn pop_comparison(things: &mut Vec<Thing>) -> Option<(Name, String)>
     ensures { MatchOption result (top_comparison (things_of things.old.items) ≡ None)
         (λ p. top_comparison (things_of things.old.items)
@@ -358,7 +360,7 @@ fn pop_comparison(things: &mut Vec<Thing>) -> Option<(Name, String)>
     Some((name, text))
 }
 
-/// Takes the two trees off the top, the lower one first.
+/// Pops two trees, and returns the lower one first.
 fn pop_trees(things: &mut Vec<Thing>) -> Option<(Tree, Tree)>
     ensures { MatchOption result (top_trees (things_of things.old.items) ≡ None)
         (λ p. top_trees (things_of things.old.items)

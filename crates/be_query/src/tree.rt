@@ -1,5 +1,6 @@
-//! The tree of a query: comparisons under `&&` and `||`. A `!` is never in it, since the complement
-//! of a tree is one.
+//! A query's tree: comparisons under `&&` and `||`.
+//!
+//! It never contains a `!`, because the complement of a tree is also a tree.
 ghost use Rattle.std.specs.Prelude.{◌≡◌, ◌<◌, true, false, IfOk};
 ghost use Rattle.be_query.specs.Grammar.{And, complement, opposite};
 ghost use Rattle.be_query.specs.Turning.{rounds, IsLeaf, BeginsWithLeaf};
@@ -24,13 +25,13 @@ pub enum Cmp {
 /// What an attribute is compared with.
 #[derive(Debug, Drop)]
 pub enum Literal {
-    /// Of `==` and `!=`.
+    /// For `==` and `!=`.
     Pattern(Pattern),
-    /// Of the order operators.
+    /// For the order operators.
     Text(String),
 }
 
-/// A comparison of an attribute.
+/// A comparison of an attribute with a literal.
 #[derive(Debug, Drop)]
 pub struct Comparison {
     pub name: Name,
@@ -38,8 +39,8 @@ pub struct Comparison {
     pub literal: Literal,
 }
 
-/// Comparisons under `&&` and `||`. It is dropped in a loop: no tree makes that recurse, however
-/// deep it is.
+/// Comparisons under `&&` and `||`. It is dropped in a loop: dropping never recurses, however deep
+/// the tree is.
 #[derive(Debug)]
 pub enum Tree {
     Leaf(Comparison),
@@ -64,8 +65,8 @@ impl Cmp {
 }
 
 impl Drop for Tree {
-    /// The joints on the left are turned to the right one by one, and each comparison that becomes
-    /// a left side is dropped: at most two rounds for each joint.
+    /// Turns the joints on the left to the right, one by one, and drops each comparison that
+    /// becomes a left side. This takes at most two rounds for each joint.
     fn drop(mut self) {
         'joints: loop {
             if turn(&mut self) {
@@ -86,8 +87,8 @@ impl Drop for Tree {
     }
 }
 
-/// Makes the joint on the left of a joint, if there is one, the joint on its right, and says
-/// whether it did. The comparisons keep their order, but the joints do not keep what they join.
+/// If a joint's left side is a joint, makes that the joint's right side. It returns whether it did.
+/// The comparisons keep their order, but the joints no longer join the same trees.
 fn turn(tree: &mut Tree) -> bool
     ensures turned { result ≡ true → rounds (formula tree.new) < rounds (formula tree.old) }
     ensures kept { result ≡ false → formula tree.new ≡ formula tree.old }
@@ -100,7 +101,7 @@ fn turn(tree: &mut Tree) -> bool
     }
 }
 
-/// Does so for the sides of a joint.
+/// Does this for the two sides of a joint.
 fn turn_sides(left: &mut Box<Tree>, right: &mut Box<Tree>) -> bool
     ensures turned { result ≡ true → rounds (And (formula left.new.value) (formula right.new.value))
         < rounds (And (formula left.old.value) (formula right.old.value)) }
@@ -141,7 +142,7 @@ impl Tree {
         }
     }
 
-    /// Lets a comparison go.
+    /// Drops a comparison.
     fn end(self)
         requires { IsLeaf (formula self) }
     {
@@ -152,7 +153,7 @@ impl Tree {
     }
 
     /// The tree that is true exactly if this one is false. It recurses on the tree's joints, of
-    /// which `from_rpn` allows up to 255, and makes each anew.
+    /// which `from_rpn` allows at most 255, and builds each of them anew.
     pub(crate) fn complement(self, alloc: Global) -> Result<Tree, AllocError>
         ensures { IfOk result (λ t. formula t ≡ complement (formula self)) }
     {

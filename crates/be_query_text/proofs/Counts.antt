@@ -67,7 +67,7 @@ complement_counts (Leaf name op value) = refl
 complement_counts (And l r) = λ i. complement_counts l i + complement_counts r i
 complement_counts (Or l r) = λ i. complement_counts l i + complement_counts r i
 
--- two sides that are joined
+-- two sides of a joint
 joined_counts : (xs ys : List Bool) (m n : ℕ) (ms : List Bool) → ((more : List Bool) → threes (xs ++ more) ≡ m + threes more) → ((more : List Bool) → threes (ys ++ more) ≡ n + threes more) → threes ((xs ++ ys) ++ ms) ≡ (m + n) + threes ms
 joined_counts xs ys m n ms h k = ap threes (append_assoc xs ys ms) ∙ h (ys ++ ms) ∙ ap (λ c. m + c) (k ms) ∙ omega arith
 

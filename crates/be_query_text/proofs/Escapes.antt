@@ -18,7 +18,7 @@ use Rattle.be_value.specs.Name.{has_nul}
 use Rattle.be_query_text.specs.Encoded.{Encodes, escaped, escaped_char, is_special}
 use Rattle.be_query_text.proofs.Passing.{Passes, none_passes, both_pass, byte_passes, taken_passes, passed_token, IsBare}
 
--- What is special.
+-- Special characters.
 
 is_at : (b n : ℕ) → n < 128 → (b == n) ≡ true → b < 128
 is_at b n l h = let e = eqb-true b n h in omega arith
@@ -32,7 +32,7 @@ special_ascii b h =
     (is_at b 63 (omega arith)) (or_cases _ _ h3))
     (is_at b 91 (omega arith)) (or_cases _ _ h)
 
--- what a character is that needs no backslash
+-- what holds for a character that needs no backslash
 pub plain_parts : (c : ℕ) → is_special c ≡ false → (((is_separator c || is_quote c) || is_sign c) ≡ false) × ((c == 92) ≡ false) × ((c == 42) ≡ false) × ((c == 63) ≡ false) × ((c == 91) ≡ false)
 plain_parts c h =
     let p3 = or_parts _ _ h in
@@ -76,7 +76,7 @@ pub bytes_escaped : (cs : List ℕ) → escaped (encode_utf8_all cs) ≡ encode_
 bytes_escaped [] = refl
 bytes_escaped (c ∷ cs) = char_escaped c (encode_utf8_all cs) ∙ ap (λ l. encode_utf8_all (escaped_char c) ++ l) (bytes_escaped cs) ∙ sym (encodes-append (escaped_char c) (escaped cs))
 
--- The bytes are a token, and are the text again.
+-- The bytes are a token, and are read as the text again.
 
 pub byte_escapes : (b : ℕ) → (b == 0) ≡ false → Passes (escaped_char b)
 byte_escapes b z = cond_both (is_special b) (92 ∷ b ∷ []) (b ∷ []) Passes (λ w. taken_passes b z) (λ w. byte_passes b (plain_bare b w z))

@@ -1,4 +1,4 @@
--- The characters that fold to one, as the members of a set.
+-- The characters that fold to one character, as the members of a set.
 use Rattle.std.proofs.Common.{◌≡◌, ◌⊎◌, ℕ, zero, suc, Bool, true, false, ◌||◌, ◌&&◌, nat_le, List, [], ◌∷◌, map, filter, Contains, inl, inr, refl, sym, ap, ◌∙◌, arith}
 use Rattle.std.specs.Prelude.{not}
 use Rattle.std.specs.Bool.{◌==◌}
@@ -18,8 +18,8 @@ abbrev pub others_among : ℕ → List (ℕ × ℕ) → List ℕ
 others_among folded ps = map (λ p. p.1) (filter (λ p. p.0 == folded) ps)
 
 -- a member that is one character
-abbrev pub twin : ℕ → ℕ × ℕ
-twin c = (c, c)
+abbrev pub single : ℕ → ℕ × ℕ
+single c = (c, c)
 
 pub others_step : (f : ℕ) (p : ℕ × ℕ) (ps : List (ℕ × ℕ)) → (p.0 == f) ≡ true → others_among f (p ∷ ps) ≡ p.1 ∷ others_among f ps
 others_step f p ps h = ap (map (λ q. q.1)) (cond-true (p.0 == f) (p ∷ filter (λ q. q.0 == f) ps) (filter (λ q. q.0 == f) ps) h)
@@ -27,17 +27,17 @@ others_step f p ps h = ap (map (λ q. q.1)) (cond-true (p.0 == f) (p ∷ filter 
 pub others_skip : (f : ℕ) (p : ℕ × ℕ) (ps : List (ℕ × ℕ)) → (p.0 == f) ≡ false → others_among f (p ∷ ps) ≡ others_among f ps
 others_skip f p ps h = ap (map (λ q. q.1)) (cond-false (p.0 == f) (p ∷ filter (λ q. q.0 == f) ps) (filter (λ q. q.0 == f) ps) h)
 
-within_twin : (c d : ℕ) → is_within c (twin d) ≡ true → d ≡ c
-within_twin c d h =
+within_single : (c d : ℕ) → is_within c (single d) ≡ true → d ≡ c
+within_single c d h =
     let p = and_parts (nat_le d c) (nat_le c d) h in
     omega (arith, leb-true d c p.0, leb-true c d p.1)
 
-pub twin_within : (c : ℕ) → is_within c (twin c) ≡ true
-twin_within c = and_from (nat_le c c) (nat_le c c) (le-leb c c (omega arith)) (le-leb c c (omega arith))
+pub single_within : (c : ℕ) → is_within c (single c) ≡ true
+single_within c = and_from (nat_le c c) (nat_le c c) (le-leb c c (omega arith)) (le-leb c c (omega arith))
 
--- c is among the characters
+-- c is one of the characters
 abbrev pub is_member : ℕ → List ℕ → Bool
-is_member c ds = list_any (is_within c) (map twin ds)
+is_member c ds = list_any (is_within c) (map single ds)
 
 later : (p : ℕ × ℕ) (ps : List (ℕ × ℕ)) (x : ℕ × ℕ) → Contains ps x → Contains (p ∷ ps) x
 later p ps x (k, lt, at) = (suc k, omega arith, at)
@@ -48,9 +48,9 @@ from_member f c (p ∷ ps) h = ⊎_elim
     (λ w.
     let k : is_member c (p.1 ∷ others_among f ps) ≡ true = sym (ap (is_member c) (others_step f p ps w)) ∙ h in
     ⊎_elim
-    (λ v. (zero, omega arith, λ i. (eqb-true p.0 f w i, within_twin c p.1 v i)))
+    (λ v. (zero, omega arith, λ i. (eqb-true p.0 f w i, within_single c p.1 v i)))
     (λ v. later p ps (f, c) (from_member f c ps v))
-    (or_cases (is_within c (twin p.1)) (is_member c (others_among f ps)) k))
+    (or_cases (is_within c (single p.1)) (is_member c (others_among f ps)) k))
     (λ w. later p ps (f, c) (from_member f c ps (sym (ap (is_member c) (others_skip f p ps w)) ∙ h)))
     (cases_Bool (p.0 == f))
 
@@ -65,21 +65,21 @@ to_member : (f c : ℕ) (ps : List (ℕ × ℕ)) → Contains ps (f, c) → is_m
 to_member f c [] (k, lt, at) = absurd (omega arith)
 to_member f c (p ∷ ps) (zero, lt, at) =
     let same : p.1 ≡ c = ap (λ q. q.1) at in
-    ap (is_member c) (others_step f p ps (eq-eqb p.0 f (ap (λ q. q.0) at))) ∙ left_or _ _ (ap (λ d. is_within c (twin d)) same ∙ twin_within c)
+    ap (is_member c) (others_step f p ps (eq-eqb p.0 f (ap (λ q. q.0) at))) ∙ left_or _ _ (ap (λ d. is_within c (single d)) same ∙ single_within c)
 to_member f c (p ∷ ps) (suc k, lt, at) =
     let rest = to_member f c ps (k, omega arith, at) in
     cond_both (p.0 == f) (p ∷ filter (λ q. q.0 == f) ps) (filter (λ q. q.0 == f) ps) (λ l. is_member c (map (λ q. q.1) l) ≡ true) (λ w. right_or _ _ rest) (λ w. rest)
 
--- what folds to a character that folds to itself: the character, and the others
+-- what folds to a character that folds to itself is that character or one of the others
 pub fold_member : (f c : ℕ) → IsFoldPairs fold_pairs → simple_fold f ≡ f → is_member c (f ∷ others f) ≡ true → simple_fold c ≡ f
 fold_member f c pairs idem h = ⊎_elim
-    (λ v. ap simple_fold (sym (within_twin c f v)) ∙ idem)
+    (λ v. ap simple_fold (sym (within_single c f v)) ∙ idem)
     (λ v. sym ((pairs f c).0 (from_member f c fold_pairs v)).1 ∙ idem)
-    (or_cases (is_within c (twin f)) (is_member c (others f)) h)
+    (or_cases (is_within c (single f)) (is_member c (others f)) h)
 
 pub member_fold : (f c : ℕ) → IsFoldPairs fold_pairs → simple_fold f ≡ f → simple_fold c ≡ f → is_member c (f ∷ others f) ≡ true
 member_fold f c pairs idem e = ⊎_elim
-    (λ v. left_or _ _ (ap (λ d. is_within c (twin d)) (eqb-true f c v) ∙ twin_within c))
+    (λ v. left_or _ _ (ap (λ d. is_within c (single d)) (eqb-true f c v) ∙ single_within c))
     (λ v. right_or _ _ (to_member f c fold_pairs ((pairs f c).1 ((λ k. true≢false (sym (eq-eqb f c k) ∙ v)), idem ∙ sym e))))
     (cases_Bool (f == c))
 
@@ -95,7 +95,7 @@ pub pairs_plain : are_plain_pairs fold_pairs ≡ true
 unfolding fold_pairs fold_other_rows
 pairs_plain = refl
 
--- each other character is plain, and so is the first if there are others
+-- each of the others is plain, and so is the first character if there are others
 pub others_plain : (f : ℕ) (ps : List (ℕ × ℕ)) → are_plain_pairs ps ≡ true → list_all is_plain_char (others_among f ps) ≡ true
 others_plain f [] h = refl
 others_plain f (p ∷ ps) h =
@@ -122,7 +122,7 @@ contained_plain a b (p ∷ ps) h (zero, lt, at) =
 contained_plain a b (p ∷ ps) h (suc k, lt, at) =
     contained_plain a b ps (and_parts (is_plain_char p.0 && is_plain_char p.1) (are_plain_pairs ps) h).1 (k, omega arith, at)
 
--- a character is its folding, or that is plain
+-- a character is its own folding, or its folding is plain
 pub folded_plain : (c : ℕ) → IsFoldPairs fold_pairs → simple_fold (simple_fold c) ≡ simple_fold c → (simple_fold c ≡ c) ⊎ (is_plain_char (simple_fold c) ≡ true)
 folded_plain c pairs idem = ⊎_elim
     (λ v. inl (sym (eqb-true c (simple_fold c) v)))

@@ -1,5 +1,5 @@
--- Bytes that are one token, in quotes or not. Where a word or a quoted text ends after n bytes is written as `shifted n` of where an
--- empty word ends.
+-- Bytes that are one token, in quotes or not. If a word or a quoted text ends after n bytes, this is written as `shifted n` of
+-- the end of an empty word.
 use Rattle.std.proofs.Common.{◌≡◌, ℕ, ◌+◌, ◌<◌, ◌≤◌, Bool, true, false, suc, List, [], ◌∷◌, ◌++◌, length, take, get_or, ◌||◌, refl, sym, ap, ◌∙◌, subst, arith, append_assoc, append-nil, length-append}
 use Rattle.std.specs.Prelude.{encode_utf8, not}
 use Rattle.std.specs.Bool.{◌==◌}
@@ -9,7 +9,7 @@ use Rattle.std.proofs.lemmas.Str.{inside_one}
 use Rattle.be_query.specs.Lexing.{Takes, Whole, further, front, is_separator, is_quote, is_sign, is_word, quoted_span, word_span}
 use Rattle.be_query.specs.Tokens.{Text}
 use Rattle.be_query.proofs.Spans.{shifted}
-use Rattle.be_query.proofs.Fronts.{quoted_stands, word_ascii, word_stands}
+use Rattle.be_query.proofs.Fronts.{front_quoted, word_ascii, front_word}
 use Rattle.be_query_text.specs.Encoded.{EndsWord, IsOneToken}
 
 moved : (m n : ℕ) → m ≡ n → shifted m (word_span false []) ≡ shifted n (word_span false [])
@@ -18,7 +18,7 @@ moved m n e = ap (λ k. shifted k (word_span false [])) e
 one_more : (n : ℕ) → further (shifted n (word_span false [])) ≡ shifted (1 + n) (word_span false [])
 one_more n = let same : n + 0 + 1 ≡ 1 + n + 0 = omega arith in cc
 
--- the bytes are passed over whole, in quotes and in a word, and can begin one
+-- the bytes are passed as a whole, in quotes and in a word, and can begin a word
 pub record Passes (xs : List ℕ) : Type 0 where
   pub quoted : (q : ℕ) (bs : List ℕ) (n : ℕ) → is_quote q ≡ true → quoted_span q false bs ≡ shifted n (word_span false []) → quoted_span q false (xs ++ bs) ≡ shifted (length xs + n) (word_span false [])
   pub word : (bs : List ℕ) (n : ℕ) → word_span false bs ≡ shifted n (word_span false []) → word_span false (xs ++ bs) ≡ shifted (length xs + n) (word_span false [])
@@ -46,7 +46,7 @@ both_pass xs ys h k = record {
   first = λ b bs e. first_of xs ys h k b bs e;
 }
 
--- what a word has, and no backslash
+-- the byte can be in a word, and isn't a backslash
 abbrev pub IsBare : ℕ → Type 0
 IsBare b = (is_word b ≡ true) × ((b == 92) ≡ false)
 
@@ -54,7 +54,7 @@ not_true : (x : Bool) → not x ≡ true → x ≡ false
 not_true true h = absurd (true≢false (sym h))
 not_true false h = refl
 
--- what a byte of a word is not
+-- what a byte of a word isn't
 pub record IsOfWord (b : ℕ) : Type 0 where
   pub separator : is_separator b ≡ false
   pub quote : is_quote b ≡ false
@@ -90,7 +90,7 @@ bare_pass (x ∷ xs) h = both_pass (x ∷ []) xs (byte_passes x (h 0 (omega arit
 pair_first : (b c : ℕ) (bs : List ℕ) → 92 ∷ b ∷ [] ≡ c ∷ bs → is_word c ≡ true
 pair_first b c bs e = let same : c ≡ 92 = cc in ap is_word same
 
--- a backslash and the byte that it takes
+-- a backslash and the byte that it escapes
 pub taken_passes : (b : ℕ) → (b == 0) ≡ false → Passes (92 ∷ b ∷ [])
 taken_passes b h = record {
   quoted = λ q bs n e f. cond-false _ _ _ (not_the_quote 92 q refl e) ∙ ap further (cond-false _ _ _ h ∙ ap further f ∙ one_more n) ∙ one_more (1 + n) ∙ moved (1 + (1 + n)) (2 + n) (omega arith);
@@ -104,11 +104,11 @@ wide_bare b h = (⊎_elim (λ w. w) (λ w. let l = word_ascii b w in absurd (ome
 byte_same : (c k : ℕ) → k < length (encode_utf8 c) → get_or (encode_utf8 c) k 0 < 128 → c ≡ get_or (encode_utf8 c) k 0
 byte_same c k l w = inside_one c [] (encode_utf8 c) k (sym (append-nil (encode_utf8 c))) l w
 
--- the bytes of a character that a word has
+-- the bytes of a character that can be in a word
 pub char_passes : (c : ℕ) → IsBare c → Passes (encode_utf8 c)
 char_passes c h = bare_pass (encode_utf8 c) (λ k l. ⊎_elim (λ w. subst IsBare (byte_same c k l w) h) (wide_bare _) (cases_lt (get_or (encode_utf8 c) k 0) 128))
 
--- What is passed over is one token.
+-- What is passed is one token.
 
 take_front : (xs ys : List ℕ) → take (length xs) (xs ++ ys) ≡ xs
 take_front [] ys = refl
@@ -125,7 +125,7 @@ quoted_token : (xs rest : List ℕ) (q : ℕ) → Passes xs → is_quote q ≡ t
 quoted_token xs rest q h e =
     let s = h.quoted q (q ∷ rest) 0 e (cond-true _ _ _ (eq-eqb q q refl)) in
     let n : length xs + 0 + 0 ≡ length xs = omega arith in
-    quoted_stands q (xs ++ q ∷ rest) (shifted (length xs + 0) (word_span false [])) (quote_no_separator q e) e (sym s)
+    front_quoted q (xs ++ q ∷ rest) (shifted (length xs + 0) (word_span false [])) (quote_no_separator q e) e (sym s)
     ∙ ap (λ k. Takes (Whole (Text (take k (xs ++ q ∷ rest)))) (k + 2) 1) n
     ∙ ap (λ l. Takes (Whole (Text l)) (length xs + 2) 1) (take_front xs (q ∷ rest))
 
@@ -135,7 +135,7 @@ word_token xs b bs rest h e k =
     let s = h.word rest 0 (ends_word rest k) in
     let whole : xs ++ rest ≡ b ∷ (bs ++ rest) = ap (λ l. l ++ rest) e in
     let n : length xs + 0 + 0 ≡ length xs = omega arith in
-    word_stands b (bs ++ rest) (shifted (length xs + 0) (word_span false [])) w.separator w.quote w.sign w.nul (sym s ∙ ap (word_span false) whole)
+    front_word b (bs ++ rest) (shifted (length xs + 0) (word_span false [])) w.separator w.quote w.sign w.nul (sym s ∙ ap (word_span false) whole)
     ∙ ap (λ i. Takes (Whole (Text (take i (b ∷ (bs ++ rest))))) i 0) n
     ∙ ap (λ l. Takes (Whole (Text (take (length xs) l))) (length xs) 0) (sym whole)
     ∙ ap (λ l. Takes (Whole (Text l)) (length xs) 0) (take_front xs rest)

@@ -22,9 +22,9 @@ use Rattle.be_query_text.specs.Encoded.{IsOneToken, escaped_char, is_special}
 use Rattle.be_query_text.specs.Cases.{MatchesAnyCase, others, set_text, any_case_char, any_case}
 use Rattle.be_query_text.proofs.Passing.{Passes, none_passes, both_pass, char_passes, taken_passes, passed_token}
 use Rattle.be_query_text.proofs.Escapes.{special_ascii, plain_bare, char_read, char_ends, char_scalars}
-use Rattle.be_query_text.proofs.Folds.{twin, is_member, fold_member, member_fold, is_plain_char, pairs_plain, others_plain, first_plain, folded_plain}
+use Rattle.be_query_text.proofs.Folds.{single, is_member, fold_member, member_fold, is_plain_char, pairs_plain, others_plain, first_plain, folded_plain}
 
--- What a plain character is not.
+-- What a plain character isn't.
 
 record IsPlain (c : ℕ) : Type 0 where
   special : is_special c ≡ false
@@ -75,7 +75,7 @@ front_letter (m ∷ ms) at more h =
     let p = plain_char m (and_parts (is_plain_char m) (list_all is_plain_char ms) h).0 in
     (record { at = at; escaped = false; char = m }, letters false (at + len_utf8 m) (ms ++ 93 ∷ more), bare_letter m at (ms ++ 93 ∷ more) p, and_left _ _ p.dash)
 
-members_read : (ms : List ℕ) (at : ℕ) (more : List ℕ) → list_all is_plain_char ms ≡ true → (next : ℕ) × (members_after (letters false at (inside ms more)) ≡ Some (map twin ms, letters false next more))
+members_read : (ms : List ℕ) (at : ℕ) (more : List ℕ) → list_all is_plain_char ms ≡ true → (next : ℕ) × (members_after (letters false at (inside ms more)) ≡ Some (map single ms, letters false next more))
 unfolding inside
 members_read [] at more h = (at + len_utf8 93, closes (record { at = at; escaped = false; char = 93 }) (letters false (at + len_utf8 93) more) refl)
 members_read (m ∷ ms) at more h =
@@ -91,17 +91,17 @@ members_read (m ∷ ms) at more h =
           ∙ ap (ahead ((m, m) ∷ [])) r.1,
     )
 
-none_falls : (ds : List ℕ) → falls (map twin ds) ≡ false
+none_falls : (ds : List ℕ) → falls (map single ds) ≡ false
 none_falls [] = refl
-none_falls (d ∷ ds) = ap (λ b. b || falls (map twin ds)) (le-ltb d d (omega arith)) ∙ none_falls ds
+none_falls (d ∷ ds) = ap (λ b. b || falls (map single ds)) (le-ltb d d (omega arith)) ∙ none_falls ds
 
-twins_are_members : (d : ℕ) (ds : List ℕ) → are_members (map twin (d ∷ ds)) ≡ true
-twins_are_members d ds = ap not (none_falls (d ∷ ds))
+singles_are_members : (d : ℕ) (ds : List ℕ) → are_members (map single (d ∷ ds)) ≡ true
+singles_are_members d ds = ap not (none_falls (d ∷ ds))
 
--- the token of a set, or of a character alone
+-- the token of a set, or of a single character
 abbrev case_part : ℕ → List ℕ → Part
 case_part f [] = Only f
-case_part f (d ∷ ds) = Among false (map twin (f ∷ d ∷ ds))
+case_part f (d ∷ ds) = Among false (map single (f ∷ d ∷ ds))
 
 set_read : (f d : ℕ) (ds : List ℕ) (at : ℕ) (more : List ℕ) → list_all is_plain_char (f ∷ d ∷ ds) ≡ true → (next : ℕ) × (parts_after 0 (letters false at (set_text f (d ∷ ds) ++ more)) ≡ and_then (case_part f (d ∷ ds)) (parts_after 0 (letters false next more)))
 unfolding inside
@@ -117,7 +117,7 @@ set_read f d ds at more h =
       ap (λ l. parts_after 0 (letters false at (91 ∷ f ∷ d ∷ l))) (append_assoc ds (93 ∷ []) more)
           ∙ one_token head (letters false a text) (letters false r.0 more) (case_part f (d ∷ ds))
           (token_set head (letters false a text) refl refl refl ∙ ap set_after first ∙ no_caret front (letters false (a + len_utf8 f) (d ∷ (ds ++ 93 ∷ more))) (and_left _ _ p.hat) ∙ ap (λ ls. with_members false (members_after ls)) (sym first) ∙ ap (with_members false) r.1
-          ∙ set_taken false (map twin (f ∷ d ∷ ds)) (letters false r.0 more) (twins_are_members f (d ∷ ds))),
+          ∙ set_taken false (map single (f ∷ d ∷ ds)) (letters false r.0 more) (singles_are_members f (d ∷ ds))),
     )
 
 plain_ends : (ms : List ℕ) (at : ℕ) (more : List ℕ) → list_all is_plain_char ms ≡ true → (next : ℕ) × (ending_backslash false at (ms ++ more) ≡ ending_backslash false next more)
@@ -188,8 +188,8 @@ folds_from (c ∷ cs) (o ∷ os) pairs h =
 
 -- The text of all characters.
 
--- what stands for one character, in a form that goes over the others
-record StandsFor (f : ℕ) (ds : List ℕ) : Type 0 where
+-- the text of one character, in a form that allows for what comes after it
+record Represents (f : ℕ) (ds : List ℕ) : Type 0 where
   read : (at : ℕ) (more : List ℕ) → (next : ℕ) × (parts_after 0 (letters false at (set_text f ds ++ more)) ≡ and_then (case_part f ds) (parts_after 0 (letters false next more)))
   ends : (at : ℕ) (more : List ℕ) → (next : ℕ) × (ending_backslash false at (set_text f ds ++ more) ≡ ending_backslash false next more)
   scalars : (more : List ℕ) → all_scalars (f ∷ []) ≡ true → all_scalars more ≡ true → all_scalars (set_text f ds ++ more) ≡ true
@@ -197,9 +197,9 @@ record StandsFor (f : ℕ) (ds : List ℕ) : Type 0 where
 all_plain : (f d : ℕ) (ds : List ℕ) → others f ≡ d ∷ ds → list_all is_plain_char (f ∷ d ∷ ds) ≡ true
 all_plain f d ds e = and_from _ _ (first_plain f d ds fold_pairs pairs_plain e) (ap (list_all is_plain_char) (sym e) ∙ others_plain f fold_pairs pairs_plain)
 
-stands : (f : ℕ) (ds : List ℕ) → others f ≡ ds → StandsFor f ds
-stands f [] e = record { read = λ at more. char_read f at more; ends = λ at more. char_ends f at more; scalars = λ more h k. char_scalars f more h k }
-stands f (d ∷ ds) e =
+is_there : (f : ℕ) (ds : List ℕ) → others f ≡ ds → Represents f ds
+is_there f [] e = record { read = λ at more. char_read f at more; ends = λ at more. char_ends f at more; scalars = λ more h k. char_scalars f more h k }
+is_there f (d ∷ ds) e =
     let p = all_plain f d ds e in
     record { read = λ at more. set_read f d ds at more p; ends = λ at more. set_ends f d ds at more p; scalars = λ more h k. set_scalars f d ds more p k }
 
@@ -207,14 +207,14 @@ each_read : (cs : List ℕ) (at : ℕ) → parts_after 0 (letters false at (any_
 each_read [] at = refl
 each_read (c ∷ cs) at =
     let f = simple_fold c in
-    let w = (stands f (others f) refl).read at (any_case cs) in
+    let w = (is_there f (others f) refl).read at (any_case cs) in
     w.1 ∙ ap (and_then (case_part f (others f))) (each_read cs w.0)
 
 each_ends : (cs : List ℕ) (at : ℕ) → ending_backslash false at (any_case cs) ≡ None
 each_ends [] at = refl
 each_ends (c ∷ cs) at =
     let f = simple_fold c in
-    let w = (stands f (others f) refl).ends at (any_case cs) in
+    let w = (is_there f (others f) refl).ends at (any_case cs) in
     w.1 ∙ each_ends cs w.0
 
 any_case_pattern : (cs : List ℕ) → pattern (any_case cs) ≡ Ok (case_parts cs)
@@ -233,7 +233,7 @@ each_scalars [] h = refl
 each_scalars (c ∷ cs) h =
     let f = simple_fold c in
     let p = and_parts _ _ h in
-    (stands f (others f) refl).scalars (any_case cs) (folded_scalar c (and_from _ _ p.0 refl)) (each_scalars cs p.1)
+    (is_there f (others f) refl).scalars (any_case cs) (folded_scalar c (and_from _ _ p.0 refl)) (each_scalars cs p.1)
 
 pub matches_any_case : (bytes text : List ℕ) → IsUtf8 text → bytes ≡ encode_utf8_all (any_case (chars text)) → MatchesAnyCase bytes text
 matches_any_case bytes text u e =

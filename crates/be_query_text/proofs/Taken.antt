@@ -6,14 +6,14 @@ use Rattle.std.proofs.lemmas.List.{drop-drop}
 use Rattle.be_query.specs.Lexing.{Lexeme, Whole, Broken, Odd, Takes, is_separator, is_quote, is_sign, all_whole, word_span, quoted_span, word_front, quoted_front}
 use Rattle.be_query.specs.Tokens.{Token, Text}
 use Rattle.be_query.specs.View.{HasLexeme, second_of}
-use Rattle.be_query.proofs.Loop.{taken, taken_shorter, separated, separated_shorter, stands}
-use Rattle.be_query.proofs.Fronts.{sign_at, second_byte, begins_separated, split_first, stands_from, word_stands, quoted_stands}
+use Rattle.be_query.proofs.Loop.{taken, taken_shorter, separated, separated_shorter, is_there}
+use Rattle.be_query.proofs.Fronts.{sign_at, second_byte, begins_separated, split_first, front_at, front_word, front_quoted}
 use Rattle.be_query_text.specs.Places.{pieces, pieces_of}
 use Rattle.be_query_text.specs.Steps.{SignIs, left, GoesOn, token_of}
 use Rattle.be_query_text.specs.declared.places.Piece as code
 use Rattle.be_query_text.specs.declared.places.Sign.{Sign}
 
--- the pieces of what is left are these before those of what lies beyond
+-- the pieces of the rest are these, followed by the pieces beyond
 abbrev pub Leaves : ℕ → List ℕ → List code.Piece → List ℕ → Type 0
 Leaves total rest taken beyond = (pieces (left total rest) ≡ taken ++ pieces (left total beyond)) × GoesOn total rest beyond
 
@@ -31,12 +31,12 @@ separator_passed total rest beyond l s d k =
     let e = separated rest beyond total b k in
     (ap pieces e, (ap all_whole e, separated_shorter rest beyond b))
 
--- a name or a value that breaks off, or no token, is nothing that a query has
+-- a query has no name or value that breaks off, and nothing that isn't a token
 pub breaks_off : (total : ℕ) (rest : List ℕ) (n width : ℕ) → HasLexeme rest (Broken n) width 0 → all_whole (left total rest) ≡ false
-breaks_off total rest n width h = ap all_whole (stands rest (total - length rest) width 0 (Broken n) h).1
+breaks_off total rest n width h = ap all_whole (is_there rest (total - length rest) width 0 (Broken n) h).1
 
 pub is_odd : (total : ℕ) (rest : List ℕ) (width : ℕ) → HasLexeme rest Odd width 0 → all_whole (left total rest) ≡ false
-is_odd total rest width h = ap all_whole (stands rest (total - length rest) width 0 Odd h).1
+is_odd total rest width h = ap all_whole (is_there rest (total - length rest) width 0 Odd h).1
 
 take_one_le : (xs : List ℕ) → length (take 1 xs) ≤ length xs
 take_one_le [] = omega arith
@@ -77,7 +77,7 @@ word_lexeme : (rest : List ℕ) (x : Lexeme) (width : ℕ) → 0 < length rest �
     → word_front rest (word_span false rest) ≡ Takes x width 0 → HasLexeme rest x width 0
 word_lexeme rest x width l h q g z f =
     let whole = split_first rest l in
-    stands_from rest x width 0 l (word_stands (get_or rest 0 0) (drop 1 rest) (word_span false rest) h q g z (ap (word_span false) whole) ∙ ap (λ v. word_front v (word_span false rest)) (sym whole) ∙ f)
+    front_at rest x width 0 l (front_word (get_or rest 0 0) (drop 1 rest) (word_span false rest) h q g z (ap (word_span false) whole) ∙ ap (λ v. word_front v (word_span false rest)) (sym whole) ∙ f)
 
 pub word_taken : (total : ℕ) (rest beyond : List ℕ) (n : ℕ) → length rest ≤ total → 0 < length rest → is_separator (get_or rest 0 0) ≡ false → is_quote (get_or rest 0 0) ≡ false → is_sign (get_or rest 0 0) ≡ false → (get_or rest 0 0 == 0) ≡ false
     → word_front rest (word_span false rest) ≡ Takes (Whole (Text (take n rest))) n 0 → 1 ≤ n → n ≤ length rest → beyond ≡ drop n rest → Leaves total rest (text_piece (total - length rest) (total - length rest) (total - length beyond) (total - length beyond) ∷ []) beyond
@@ -98,7 +98,7 @@ quoted_lexeme : (rest inside : List ℕ) (quote : ℕ) (x : Lexeme) (width shift
     → quoted_front inside (quoted_span quote false inside) ≡ Takes x width shift → HasLexeme rest x width shift
 quoted_lexeme rest inside quote x width shift l h q e i f =
     let span : quoted_span quote false inside ≡ quoted_span (get_or rest 0 0) false (drop 1 rest) = ap (quoted_span quote false) i ∙ ap (λ v. quoted_span v false (drop 1 rest)) (sym e) in
-    stands_from rest x width shift l (quoted_stands (get_or rest 0 0) (drop 1 rest) (quoted_span quote false inside) h q span ∙ ap (λ v. quoted_front v (quoted_span quote false inside)) (sym i) ∙ f)
+    front_at rest x width shift l (front_quoted (get_or rest 0 0) (drop 1 rest) (quoted_span quote false inside) h q span ∙ ap (λ v. quoted_front v (quoted_span quote false inside)) (sym i) ∙ f)
 
 pub quoted_taken : (total : ℕ) (rest inside tail beyond : List ℕ) (quote n : ℕ) → length rest ≤ total → 0 < length rest → is_separator (get_or rest 0 0) ≡ false → is_quote (get_or rest 0 0) ≡ true → get_or rest 0 0 ≡ quote
     → inside ≡ drop 1 rest → quoted_front inside (quoted_span quote false inside) ≡ Takes (Whole (Text (take n inside))) (n + 2) 1 → n < length inside → tail ≡ drop n inside → beyond ≡ drop 1 tail

@@ -1,4 +1,4 @@
--- Texts that are equal but for upper and lower case: by Unicode's simple case folding, character
+-- Texts that are equal except for upper and lower case, by Unicode's simple case folding, character
 -- by character.
 use Rattle.std.specs.Prelude.{◌≡◌, ◌↔◌, ℕ, true, ◌==◌, List, [], ◌∷◌, ◌++◌, map, filter}
 use Rattle.std.specs.Prelude.{Ok}
@@ -9,7 +9,7 @@ use Rattle.be_pattern.specs.Parse.{pattern}
 use Rattle.ucd_case.specs.CaseFolding.{fold_pairs, simple_fold}
 use Rattle.be_query_text.specs.Encoded.{escaped_char}
 
--- the bytes are a pattern that matches the texts equal to this one but for their case, and no other
+-- the bytes are a pattern that matches exactly the texts that equal this one except for case
 abbrev pub MatchesAnyCase : List ℕ → List ℕ → Type 0
 MatchesAnyCase bytes text = (parts : List Part) × (pattern (chars bytes) ≡ Ok parts)
     × ((cs : List ℕ) → (matches parts cs ≡ true) ↔ (map simple_fold cs
@@ -19,7 +19,7 @@ MatchesAnyCase bytes text = (parts : List Part) × (pattern (chars bytes) ≡ Ok
 abbrev pub others : ℕ → List ℕ
 others folded = map (λ p. p.1) (filter (λ p. p.0 == folded) fold_pairs)
 
--- a set of the characters, if there are others
+-- the set of the characters if there are others, otherwise the escaped character
 abbrev pub set_text : ℕ → List ℕ → List ℕ
 set_text folded [] = escaped_char folded
 set_text folded (c ∷ cs) = 91 ∷ folded ∷ c ∷ (cs ++ 93 ∷ [])

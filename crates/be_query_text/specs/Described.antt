@@ -1,4 +1,4 @@
--- What is said of the comparisons of a query.
+-- What is reported about a query's comparisons.
 use Rattle.std.specs.Prelude.{ℕ, List, [], ◌∷◌, ◌++◌, Some, None, if◌then◌else◌, string_bytes}
 use Rattle.std.specs.Prelude.{encode_utf8_all}
 use Rattle.std.specs.declared.option.Option.{Option}
@@ -32,7 +32,7 @@ pub record Description : Type 0 where
   pub words : List ℕ
   pub place : Place
 
--- a pattern without a wildcard is a text
+-- a pattern without a wildcard counts as a text
 abbrev pub form_without_number : Literal → Form
 form_without_number (Exact words) = Text
 form_without_number (Wild parts) = if is_plain parts then Text else Pattern
@@ -41,7 +41,7 @@ abbrev pub form_of : Literal → Option ℤ → Form
 form_of literal (Some n) = Number
 form_of literal None = form_without_number literal
 
--- a text, or of a pattern with a wildcard its canonical text
+-- the text, or for a pattern with a wildcard its canonical text
 abbrev pub words_of : Literal → List ℕ
 words_of (Exact words) = words
 words_of (Wild parts) = encode_utf8_all (if is_plain parts then literal_prefix parts
@@ -63,9 +63,9 @@ described [] places = []
 described (c ∷ cs) [] = []
 described (c ∷ cs) (place ∷ places) = description c place ∷ described cs places
 
--- the same of the code's value
-abbrev pub told : code.Compared → Description
-told c = record {
+-- the same for the code's value
+abbrev pub reported : code.Compared → Description
+reported c = record {
   name = c.name;
   op = c.op;
   form = c.form;

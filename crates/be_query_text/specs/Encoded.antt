@@ -1,4 +1,4 @@
--- A text as a name or a value of a query.
+-- A text as a name or a value in a query.
 use Rattle.std.specs.Prelude.{◌≡◌, ℕ, ◌+◌, Bool, true, false, ◌||◌, ◌==◌, List, [], ◌∷◌, ◌++◌}
 use Rattle.std.specs.Prelude.{length, map, Ok}
 use Rattle.std.specs.List.{flat_map}
@@ -9,13 +9,13 @@ use Rattle.be_pattern.specs.Parse.{pattern}
 use Rattle.be_query.specs.Lexing.{Takes, Whole, front, is_quote, is_separator, is_sign, is_word}
 use Rattle.be_query.specs.Tokens.{Text, plain}
 
--- the end, or a byte that no word has
+-- the end, or a byte that can't be in a word
 abbrev pub EndsWord : List ℕ → Type 0
 EndsWord [] = Unit {0}
 EndsWord (b ∷ bs) = is_word b ≡ false
 
--- The bytes are one name or value between quotes of either kind, and without quotes too if they are
--- some.
+-- The bytes are one name or value between quotes of either kind, and also without quotes if there
+-- are any bytes.
 pub record IsOneToken (bytes : List ℕ) : Type 0 where
   pub quoted : (quote : ℕ) (rest : List ℕ) → is_quote quote ≡ true
       → front quote (bytes ++ quote ∷ rest) ≡ Takes (Whole (Text bytes)) (length bytes + 2) 1
@@ -30,7 +30,7 @@ pub record Encodes (bytes text : List ℕ) : Type 0 where
   -- as the value of `==` and `!=`
   pub literal : pattern (chars bytes) ≡ Ok (map Only (chars text))
 
--- a query or a pattern takes the character for more than itself
+-- the character has a special meaning in a query or a pattern
 abbrev pub is_special : ℕ → Bool
 is_special c = (is_separator c || is_quote c || is_sign c) || (c == 92) || (c == 42) || (c == 63)
     || (c == 91)
@@ -38,6 +38,6 @@ is_special c = (is_separator c || is_quote c || is_sign c) || (c == 92) || (c ==
 abbrev pub escaped_char : ℕ → List ℕ
 escaped_char c = marked (is_special c) c
 
--- the text with a backslash before each such character
+-- the text with a backslash before each special character
 abbrev pub escaped : List ℕ → List ℕ
 escaped = flat_map escaped_char

@@ -4,4 +4,4 @@ pub mod Described
 pub mod Ranges
 pub mod Encoded
 pub mod Cases
-pub mod Spelled
+pub mod EncodedComparisons

@@ -12,12 +12,12 @@ use std::alloc::{AllocError, Global};
 use std::char;
 use ucd_case::{fold_pairs, simple_fold};
 
-/// A pattern that matches exactly the texts that are equal to this one by Unicode's simple case
-/// folding, character by character: `[gG][üÜ]n` for `Gün`. A character without another case is
-/// there as `escaped` has it, so the pattern can be put where that can.
+/// A pattern that matches exactly the texts that equal this one by Unicode's simple case folding,
+/// character by character: `[gG][üÜ]n` for `Gün`. A character without another case is written as
+/// `escaped` writes it, so the pattern can be used wherever an escaped text can.
 ///
-/// Simple folding has three characters in some sets, as `k`, `K` and the Kelvin sign. It doesn't
-/// make `ß` equal to `ss`. Each character is looked for among 3,134 pairs.
+/// With simple folding some sets have three characters, such as `k`, `K` and the Kelvin sign. It
+/// doesn't make `ß` equal to `ss`. Each character is searched for among 3,134 pairs.
 pub fn any_case(alloc: Global, text: &str) -> Result<String, AllocError>
     ensures matches { IfOk result (λ s. MatchesAnyCase (string_bytes s) text.now) }
     ensures token { IfOk result (λ s. has_nul text.now ≡ false → IsOneToken (string_bytes s)) }
@@ -31,7 +31,7 @@ pub fn any_case(alloc: Global, text: &str) -> Result<String, AllocError>
     Ok(pattern)
 }
 
-/// Appends the set of the characters that fold to this one, which folds to itself.
+/// Appends the set of the characters that fold to this one; it folds to itself.
 fn push_any_case(alloc: Global, pattern: &mut String, folded: char) -> Result<(), AllocError>
     ensures { IfOk result (λ _. string_bytes pattern.new ≡ string_bytes pattern.old
         ++ encode_utf8_all (set_text folded (others folded))) }
@@ -63,7 +63,7 @@ fn others(alloc: Global, folded: char) -> Result<String, AllocError>
     Ok(others)
 }
 
-/// The first pair and the pairs after it.
+/// The first pair, and the pairs after it.
 fn split_pair(pairs: &[(u32, u32)]) -> Option<((u32, u32), &[(u32, u32)])>
     ensures some { IfSome result (λ p. pairs.now ≡ p.0 ∷ p.1.now) }
     ensures none { IfNone result (pairs.now ≡ []) }
@@ -75,7 +75,7 @@ fn split_pair(pairs: &[(u32, u32)]) -> Option<((u32, u32), &[(u32, u32)])>
     }
 }
 
-/// Appends the character with this number.
+/// Appends the character with this code.
 fn push_code(text: &mut String, code: u32) -> Result<(), AllocError>
     requires { IsScalar code }
     ensures { IfOk result (λ _. string_bytes text.new ≡ string_bytes text.old ++ encode_utf8 code) }

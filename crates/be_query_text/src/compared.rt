@@ -7,7 +7,7 @@ ghost use Rattle.be_query.specs.View.{IsMemory, formula, literal as literal_of};
 ghost use Rattle.be_value.specs.declared.refusals.Refusal.TheVariants.{OutOfMemory};
 ghost use Rattle.be_volume.specs.Query.{literal_number};
 ghost use Rattle.be_query_text.specs.Described.{Comparison as AnyComparison, described};
-ghost use Rattle.be_query_text.specs.Described.{description, form_of, leaves, told, words_of};
+ghost use Rattle.be_query_text.specs.Described.{description, form_of, leaves, reported, words_of};
 ghost use Rattle.be_query_text.specs.Places.{places};
 
 use crate::places::{Place, places};
@@ -31,24 +31,25 @@ pub enum Form {
 #[derive(Debug, Drop)]
 pub struct Compared {
     pub name: Name,
-    /// As the tree has it: turned by each `!` round the comparison.
+    /// The operator in the tree: each `!` around the comparison inverts it.
     pub op: Cmp,
     pub form: Form,
-    /// The number, if it is one.
+    /// The number, if it encodes one.
     pub number: Option<i128>,
-    /// What is compared with, without quotes and backslashes; of a pattern its canonical text.
+    /// What is compared with, without quotes and backslashes; for a pattern its canonical text.
     pub words: String,
-    /// The place of the comparison, and its operator there.
+    /// The place of the comparison, and its operator in the text.
     pub place: Place,
 }
 
-/// The comparisons of a query's text, from left to right, or the refusal of `parse`. It takes what
-/// `parse` takes, and memory for the comparisons.
+/// The comparisons of a query's text, from left to right, or the error of `parse`. It costs what
+/// `parse` costs, and memory for the comparisons.
 pub fn comparisons(alloc: Global, text: &str) -> Result<Vec<Compared>, Refusal>
     // They are the comparisons of the tree that the text encodes, each with its place in the text.
     ensures ok { IfOk result (λ v. (fault text.now ≡ None) × (tree : Formula)
-        × IsTextOf text.now tree × (map told v.items ≡ described (leaves tree) (places text.now))) }
-    // A text that isn't a query is refused as `parse` refuses it.
+        × IsTextOf text.now tree × (map reported v.items
+        ≡ described (leaves tree) (places text.now))) }
+    // For a text that isn't a query, the error is that of `parse`.
     ensures err { IfErr result (λ e. IsMemory e (fault text.now ≡ Some e)) }
 {
     let query = parse(alloc, text)?;
@@ -58,8 +59,8 @@ pub fn comparisons(alloc: Global, text: &str) -> Result<Vec<Compared>, Refusal>
     Ok(compared)
 }
 
-/// Appends the comparisons of a part of a query, which are at the first places, and returns the
-/// places of those after it.
+/// Appends the comparisons of a part of a query, which are at the first places. Returns the places
+/// after those.
 fn push_each<'a>(
     alloc: Global,
     tree: &Tree,
@@ -67,9 +68,10 @@ fn push_each<'a>(
     compared: &mut Vec<Compared>,
 ) -> Result<&'a [Place], Refusal>
     requires { comparisons (formula tree.now) ≤ length places.now }
-    ensures told { IfOk result (λ rest. (more : List AnyComparison)
-        → map told compared.new.items ++ described more rest.now
-        ≡ map told compared.old.items ++ described (leaves (formula tree.now) ++ more) places.now) }
+    ensures reported { IfOk result (λ rest. (more : List AnyComparison)
+        → map reported compared.new.items ++ described more rest.now
+        ≡ map reported compared.old.items
+        ++ described (leaves (formula tree.now) ++ more) places.now) }
     ensures left { IfOk result (λ rest. comparisons (formula tree.now) + length rest.now
         ≡ length places.now) }
     ensures memory { IfErr result (λ e. e ≡ OutOfMemory) }
@@ -89,9 +91,9 @@ fn push_each<'a>(
     }
 }
 
-/// What is said of a comparison at a place.
+/// What is reported about a comparison at a place.
 fn describe(alloc: Global, comparison: &Comparison, place: Place) -> Result<Compared, Refusal>
-    ensures ok { IfOk result (λ c. told c ≡ description (record {
+    ensures ok { IfOk result (λ c. reported c ≡ description (record {
       name = comparison.now.name;
       op = comparison.now.op;
       literal = literal_of comparison.now.literal;
@@ -109,7 +111,7 @@ fn describe(alloc: Global, comparison: &Comparison, place: Place) -> Result<Comp
     })
 }
 
-/// The form of a literal that encodes this number, or none.
+/// The form of a literal, given the number that it encodes, if any.
 fn form_of(literal: &Literal, number: Option<i128>) -> Form
     ensures { result ≡ form_of (literal_of literal.now) number }
 {

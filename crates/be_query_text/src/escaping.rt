@@ -1,4 +1,4 @@
-//! A text as a name or a value of a query.
+//! A text as a name or a value in a query.
 ghost use Rattle.std.specs.Prelude.{◌≡◌, ◌++◌, ◌||◌, false, IfOk, encode_utf8_all, string_bytes};
 ghost use Rattle.be_pattern.specs.Canonical.{marked};
 ghost use Rattle.be_query.specs.Lexing.{is_quote, is_separator, is_sign};
@@ -8,9 +8,9 @@ ghost use Rattle.be_query_text.specs.Encoded.{Encodes, escaped_char, is_special}
 use be_pattern::matching::split_first_char;
 use std::alloc::{AllocError, Global};
 
-/// The text with a backslash before each character that a query or a pattern takes for more than
-/// itself. A query reads it back as the text, as a name or as a value, in quotes of either kind or
-/// as a word, and as a part of a pattern too. An empty text needs quotes.
+/// The text with a backslash before each character that has a special meaning in a query or a
+/// pattern. A query reads the result as the original text: as a name or a value, in quotes of
+/// either kind or as a word, and also as a part of a pattern. An empty text needs quotes.
 pub fn escaped(alloc: Global, text: &str) -> Result<String, AllocError>
     ensures { IfOk result (λ s. has_nul text.now ≡ false → Encodes (string_bytes s) text.now) }
 {
@@ -23,7 +23,7 @@ pub fn escaped(alloc: Global, text: &str) -> Result<String, AllocError>
     Ok(escaped)
 }
 
-/// Appends a character, with its backslash if it needs one.
+/// Appends a character, with a backslash if it needs one.
 pub(crate) fn push_escaped(text: &mut String, c: char) -> Result<(), AllocError>
     ensures { IfOk result (λ _. string_bytes text.new ≡ string_bytes text.old
         ++ encode_utf8_all (escaped_char c)) }
@@ -31,7 +31,7 @@ pub(crate) fn push_escaped(text: &mut String, c: char) -> Result<(), AllocError>
     push_marked(text, c, is_special(c))
 }
 
-/// Appends a character, after a backslash if the flag says so.
+/// Appends a character, after a backslash if `backslash` is true.
 fn push_marked(text: &mut String, c: char, backslash: bool) -> Result<(), AllocError>
     ensures { IfOk result (λ _. string_bytes text.new ≡ string_bytes text.old
         ++ encode_utf8_all (marked backslash c)) }
@@ -43,7 +43,7 @@ fn push_marked(text: &mut String, c: char, backslash: bool) -> Result<(), AllocE
     text.push(c)
 }
 
-/// Whether a query takes the character for more than itself.
+/// Whether the character has a special meaning in a query or a pattern.
 fn is_special(c: char) -> bool
     ensures { result ≡ is_special c }
 {

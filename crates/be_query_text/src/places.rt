@@ -1,8 +1,8 @@
-//! The places of a query's comparisons in its text.
+//! Where a query's comparisons are in its text.
 //!
-//! be_query keeps its lexer to itself, and a tree has no places. So the lexemes of the text are
-//! found once more here. They are those of be_query's definition, and of a text that `parse` has
-//! taken none breaks off.
+//! be_query's lexer is private, and a tree has no places. So the text's lexemes are found here a
+//! second time. They are those of be_query's definition, and in a text that `parse` has accepted
+//! none breaks off.
 ghost use Rattle.std.specs.Prelude.{◌≡◌, ◌<◌, ◌≤◌, ◌+◌, ◌∷◌, ◌||◌, ◌==◌, ℕ, [], true, false};
 ghost use Rattle.std.specs.Prelude.{length, slice_get, slice_index, take, IfNone, IfOk, IfSome};
 ghost use Rattle.be_query.specs.Lexing.{IsBeyond, IsLone, all_whole, is_quote, is_separator};
@@ -19,13 +19,13 @@ use std::alloc::{AllocError, Global};
 /// The place of a name or a value in a text, in bytes.
 #[derive(Clone, Copy, Debug, PartialEq, Eq)]
 pub struct TextPlace {
-    /// The first byte, of its quote if it has one.
+    /// The offset of the first byte, including an opening quote.
     pub at: usize,
-    /// The first byte without its quote.
+    /// The offset of the first byte after an opening quote.
     pub start: usize,
-    /// The byte after the last without its quote.
+    /// The offset after the last byte, excluding a closing quote.
     pub stop: usize,
-    /// The byte after the last, with its quote if it has one.
+    /// The offset after the last byte, including a closing quote.
     pub end: usize,
 }
 
@@ -33,12 +33,12 @@ pub struct TextPlace {
 #[derive(Clone, Copy, Debug, PartialEq, Eq)]
 pub struct Place {
     pub name: TextPlace,
-    /// As the text has it: a `!` before the comparison doesn't turn it.
+    /// The operator in the text: a `!` before the comparison doesn't invert it.
     pub op: Cmp,
     pub value: TextPlace,
 }
 
-/// What a comparison is made of.
+/// A part of a comparison.
 #[derive(Clone, Copy)]
 pub(crate) enum Piece {
     Text(TextPlace),
@@ -56,7 +56,7 @@ enum Sign {
     Compares(Cmp),
 }
 
-/// What the front of a text leaves.
+/// What a step takes from the front of a text.
 #[derive(Clone, Copy)]
 enum Step<'a> {
     /// No piece, and the bytes after it.
@@ -81,7 +81,7 @@ fn is_quote(b: u8) -> bool
     b == b'"' || b == b'\''
 }
 
-/// Whether a token other than a name or value begins with the byte.
+/// Whether a token other than a name or a value begins with the byte.
 fn is_sign(b: u8) -> bool
     ensures { result ≡ is_sign b }
 {
@@ -102,7 +102,7 @@ fn is_word(b: u8) -> bool
     !(is_separator(b) || is_quote(b) || is_sign(b) || b == 0)
 }
 
-/// The place after a byte; of a backslash, the place after the byte that it escapes.
+/// The place after a byte. For a backslash, it is the place after the byte that it escapes.
 fn beyond(bytes: &[u8], at: usize) -> Option<usize>
     requires { at < length bytes.now }
     ensures next { IfSome result (λ next. IsBeyond bytes.now at next) }
@@ -122,7 +122,7 @@ fn beyond(bytes: &[u8], at: usize) -> Option<usize>
     Some(next + 1)
 }
 
-/// How long the word at the front is, if it doesn't break off.
+/// The length of the word at the front, if it doesn't break off.
 fn word_len(bytes: &[u8]) -> Option<usize>
     requires nonempty { 0 < length bytes.now }
     requires word { is_word (slice_index bytes.now 0) ≡ true }
@@ -145,7 +145,7 @@ fn word_len(bytes: &[u8]) -> Option<usize>
     Some(at)
 }
 
-/// How long the text after a quote is, up to the next such quote, if it doesn't break off.
+/// The length of the text after a quote, up to the next such quote, if it doesn't break off.
 fn quoted_len(quote: u8, bytes: &[u8]) -> Option<usize>
     ensures ends { IfSome result (λ n. quoted_front bytes.now (quoted_span quote false bytes.now)
         ≡ Takes (Whole (Text (take n bytes.now))) (n + 2) 1) }
@@ -170,7 +170,7 @@ fn quoted_len(quote: u8, bytes: &[u8]) -> Option<usize>
     None
 }
 
-/// The token that a sign begins, given the byte that follows it, and the token's bytes.
+/// The token that begins with this sign, given the byte after it, and the token's length.
 fn read_sign(first: u8, second: Option<u8>) -> Option<(Sign, usize)>
     ensures { SignIs first second result }
 {
@@ -214,7 +214,7 @@ fn byte_at(bytes: &[u8], i: usize) -> Option<u8>
     bytes.get(i).copied()
 }
 
-/// Takes the sign at the front of what is left of a text of `total` bytes.
+/// Takes the sign at the front of the rest of a text of `total` bytes.
 fn take_sign(total: usize, rest: &[u8]) -> Step<'_>
     requires within { length rest.now ≤ total }
     requires nonempty { 0 < length rest.now }
@@ -233,7 +233,7 @@ fn take_sign(total: usize, rest: &[u8]) -> Step<'_>
     }
 }
 
-/// Takes the quoted text at the front of what is left of a text of `total` bytes.
+/// Takes the quoted text at the front of the rest of a text of `total` bytes.
 fn take_quoted(total: usize, rest: &[u8]) -> Step<'_>
     requires within { length rest.now ≤ total }
     requires nonempty { 0 < length rest.now }
@@ -257,7 +257,7 @@ fn take_quoted(total: usize, rest: &[u8]) -> Step<'_>
     Step::Found(Piece::Text(place), beyond)
 }
 
-/// Takes the word at the front of what is left of a text of `total` bytes.
+/// Takes the word at the front of the rest of a text of `total` bytes.
 fn take_word(total: usize, rest: &[u8]) -> Step<'_>
     requires within { length rest.now ≤ total }
     requires nonempty { 0 < length rest.now }
@@ -282,7 +282,7 @@ fn take_word(total: usize, rest: &[u8]) -> Step<'_>
     Step::Found(Piece::Text(place), beyond)
 }
 
-/// Takes what is at the front of what is left of a text of `total` bytes.
+/// Takes whatever is at the front of the rest of a text of `total` bytes.
 fn take_front(total: usize, rest: &[u8]) -> Step<'_>
     requires within { length rest.now ≤ total }
     requires nonempty { 0 < length rest.now }
@@ -302,7 +302,7 @@ fn take_front(total: usize, rest: &[u8]) -> Step<'_>
     take_word(total, rest)
 }
 
-/// The next piece of what is left of a text of `total` bytes, and the bytes after it.
+/// The next piece in the rest of a text of `total` bytes, and the bytes after it.
 fn next_piece(total: usize, bytes: &[u8]) -> Option<(Piece, &[u8])>
     requires within { length bytes.now ≤ total }
     requires whole { all_whole (left total bytes.now) ≡ true }
@@ -322,7 +322,7 @@ fn next_piece(total: usize, bytes: &[u8]) -> Option<(Piece, &[u8])>
     None
 }
 
-/// The next comparison of what is left of a text of `total` bytes, and the bytes after it.
+/// The next comparison in the rest of a text of `total` bytes, and the bytes after it.
 fn next_place(total: usize, bytes: &[u8]) -> Option<(Place, &[u8])>
     requires within { length bytes.now ≤ total }
     requires whole { all_whole (left total bytes.now) ≡ true }

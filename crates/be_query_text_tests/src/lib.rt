@@ -1,4 +1,4 @@
-//! Texts of queries, by the public calls of be_query_text.
+//! Texts of queries, by be_query_text's public calls.
 #![tactic(auto)]
 
 #[cfg(test)]

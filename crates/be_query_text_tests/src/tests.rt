@@ -1,8 +1,10 @@
-//! Texts of queries, a line `REQUEST => REPLY` each: `compares` lists the comparisons of a text as
-//! bytes from and to, name, operator, operator in the text, form and value; `escapes` and `cases`
-//! are what is put into a query; `never` is whether a comparison is true of no value of a kind.
+//! Texts of queries, each in a line `REQUEST => REPLY`. `compares` lists a text's comparisons: the
+//! bytes from and to, name, operator, operator in the text, form and value. `escapes` and `cases`
+//! show what is put into a query. `never` shows whether a comparison is true of no value of a kind.
 use be_query::{Cmp, parse};
-use be_query_text::{Compared, Form, any_case, comparisons, escaped, is_never_true, spelled};
+use be_query_text::{
+    Compared, Form, any_case, comparisons, encoded_comparisons, escaped, is_never_true,
+};
 use be_test_tools::{Answers, check_lines};
 use be_value::{Kind, Refusal};
 use std::alloc::Global;
@@ -55,7 +57,7 @@ never n!=1.5 => yes yes yes yes
 never n==5* => yes yes yes yes
 never n<\\5 => no no no no";
 
-/// What is asked of texts.
+/// Replies to requests about texts.
 #[derive(Drop)]
 struct Texts;
 
@@ -71,7 +73,7 @@ impl Answers for Texts {
     }
 }
 
-/// A line for each comparison, or one for the refusal.
+/// A line for each comparison, or one for the error.
 fn compared_lines(alloc: Global, text: &str) -> Result<String, Refusal> {
     let compared = match comparisons(alloc, text) {
         Ok(compared) => compared,
@@ -129,40 +131,41 @@ fn never_line(alloc: Global, text: &str) -> Result<String, Refusal> {
     Ok(String::from_str(alloc, line.as_str().trim_end())?)
 }
 
-/// Names, operators, values and their places.
+/// Names, operators and values, and where they are.
 #[test]
 fn comparisons_are_found(rt: HostRuntime) -> Result<(), Fail> {
     check_lines(rt.alloc(), &mut Texts, COMPARED)
 }
 
-/// What is escaped, and what has another case.
+/// What is escaped, and what matches in both cases.
 #[test]
 fn texts_are_put_into_queries(rt: HostRuntime) -> Result<(), Fail> {
     check_lines(rt.alloc(), &mut Texts, MADE)
 }
 
-/// The ends of each kind of integers, and the numbers beside them.
+/// The lowest and highest number of each kind of integer, and the numbers next to them.
 #[test]
 fn integers_have_ranges(rt: HostRuntime) -> Result<(), Fail> {
     check_lines(rt.alloc(), &mut Texts, NEVER)
 }
 
-/// Whether a query of so many comparisons has as many places, and bytes of all names and values.
+/// Whether a query of `count` comparisons has as many places, and all the bytes of names and
+/// values.
 fn has_all(alloc: Global, count: usize) -> Result<bool, Refusal> {
     let mut text = String::from_str(alloc, "n<1")?;
     for _ in 1..count {
         text.push_str("&&n<1")?;
     }
     let compared = comparisons(alloc, text.as_str())?;
-    let spelling = spelled(alloc, compared.as_slice())?;
+    let encoding = encoded_comparisons(alloc, compared.as_slice())?;
     Ok(
         compared.len() == count
-            && spelling.comparisons.len() == count
-            && spelling.bytes.len() == 2 * count,
+            && encoding.comparisons.len() == count
+            && encoding.bytes.len() == 2 * count,
     )
 }
 
-/// Each size at and beside a power of two, to the most that a query may have.
+/// Sizes at and next to each power of two, up to the maximum in a query.
 #[test]
 fn as_many_as_a_query_has(rt: HostRuntime) -> Result<(), Fail> {
     let alloc = rt.alloc();
@@ -181,7 +184,8 @@ fn as_many_as_a_query_has(rt: HostRuntime) -> Result<(), Fail> {
     }
 }
 
-/// Whether a text is read back, escaped, as a name and as a value, in quotes and without.
+/// Whether a text is read back once it is escaped, as a name and as a value, with and without
+/// quotes.
 fn is_read_back(alloc: Global, text: &str) -> Result<bool, Refusal> {
     let name = escaped(alloc, text)?;
     for quote in ["\"", "'", ""] {
@@ -214,7 +218,7 @@ fn escaped_texts_are_read_back(rt: HostRuntime) -> Result<(), Fail> {
     Ok(())
 }
 
-/// Whether a text of so many stars has as many backslashes.
+/// Whether a text of `count` stars gets as many backslashes.
 fn are_escaped(alloc: Global, count: usize) -> Result<bool, Refusal> {
     let mut stars = String::new(alloc);
     for _ in 0..count {
@@ -223,7 +227,7 @@ fn are_escaped(alloc: Global, count: usize) -> Result<bool, Refusal> {
     Ok(escaped(alloc, stars.as_str())?.len() / 2 == count)
 }
 
-/// Each size at and beside a power of two, to the bytes of the longest query.
+/// Sizes at and next to each power of two, up to the length of the longest query.
 #[test]
 fn texts_of_each_size(rt: HostRuntime) -> Result<(), Fail> {
     let alloc = rt.alloc();

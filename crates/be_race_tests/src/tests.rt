@@ -1,4 +1,4 @@
-//! Scripts that run at once, each on a thread of its own.
+//! Scripts that run concurrently, each on its own thread.
 
 mod gates;
 mod races;

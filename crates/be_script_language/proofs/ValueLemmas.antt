@@ -1,4 +1,4 @@
--- How hexadecimal digits are read on.
+-- Reading hexadecimal digits, byte by byte.
 use Rattle.std.proofs.Common.{◌≡◌, ℕ, List, [], ◌∷◌, ◌++◌, refl, sym, ap, ◌∙◌, append_assoc, Some, None}
 use Rattle.std.specs.declared.option.Option.{Option}
 use Rattle.std.specs.Option.{option_map, option_and_then}
@@ -18,13 +18,13 @@ hex-first (c ∷ d ∷ word) rest' byte h = by (byte_in c d) h
     by None g = cc
     by (Some b) g = ap (λ (p : ℕ × List ℕ). option_map (λ bytes. p.0 ∷ bytes) (hex_in p.1)) (same_inside (b, word) (byte, rest') g)
 
--- bytes before a byte before others
+-- bytes, then a byte, then others
 before_both : (bytes : List ℕ) (byte : ℕ) (more : Option (List ℕ)) →
     option_map (λ ys. bytes ++ ys) (option_map (λ ys. byte ∷ ys) more) ≡ option_map (λ ys. (bytes ++ byte ∷ []) ++ ys) more
 before_both bytes byte None = refl
 before_both bytes byte (Some ys) = ap Some (sym (append_assoc bytes (byte ∷ []) ys))
 
--- a byte more
+-- one more byte
 pub more_bytes : (word rest rest' bytes bytes' : List ℕ) (byte : ℕ) → hex_in word ≡ option_map (λ more. bytes ++ more) (hex_in rest) →
     first_byte_in rest ≡ Some (byte, rest') → bytes' ≡ bytes ++ byte ∷ [] → hex_in word ≡ option_map (λ more. bytes' ++ more) (hex_in rest')
 more_bytes word rest rest' bytes bytes' byte h e b =

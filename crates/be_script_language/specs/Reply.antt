@@ -1,4 +1,4 @@
--- The replies, and their texts.
+-- Replies and their texts.
 use Rattle.std.specs.Prelude.{ℕ, Bool, List, [], ◌∷◌, ◌++◌, Some, None, codes, length}
 use Rattle.std.specs.Prelude.{if◌then◌else◌}
 use Rattle.std.specs.List.{flat_map}
@@ -13,7 +13,7 @@ use Rattle.be_volume.specs.declared.ops.Done.{Done}
 use Rattle.be_journal.specs.Text.{quoted, value_text, done_text}
 use Rattle.be_script_language.specs.Page.{PageFound}
 
--- the reply to a line; `none` is that of a line without one
+-- the reply to a line; a blank line or comment has the reply `none`
 pub data Reply : Type 0 where
   none : Reply
   bad_line : Reply
@@ -38,11 +38,11 @@ pub data Reply : Type 0 where
   committed : ℕ → List Done → Reply
   refused : Refusal → Reply
 
--- a space and a number for each
+-- a space and the number, for each number
 abbrev pub numbers : List ℕ → List ℕ
 numbers ns = flat_map (λ n. 32 ∷ decimal n) ns
 
--- a word, and then a space and a number for each
+-- a word, and a space and the number for each number
 abbrev pub numbers_line : List ℕ → List ℕ → List ℕ
 numbers_line word ns = (word ++ numbers ns) ++ codes "\n"
 
@@ -53,13 +53,13 @@ kind_and_value v = kind_name (kind_of v) ++ (codes " " ++ value_text v)
 abbrev pub more_word : Bool → List ℕ
 more_word more = if more then codes "more" else codes "end"
 
--- ` after KIND VALUE NODE`, where the next page begins; nothing after an empty page
+-- ` after KIND VALUE NODE`, which is where the next page begins; nothing after an empty page
 abbrev pub after_text : Option (Value × ℕ) → List ℕ
 after_text None = []
 after_text (Some pair) = codes " after "
     ++ (kind_and_value pair.0 ++ (codes " " ++ decimal pair.1))
 
--- the nodes in a line, and in the next one whether there are more, and where they begin
+-- a line with the nodes, then a line that says whether there are more, and where they begin
 abbrev pub page_text : PageFound → List ℕ
 page_text p = ((numbers_line (codes "nodes") p.nodes ++ more_word p.more) ++ after_text p.last)
     ++ codes "\n"
@@ -79,11 +79,11 @@ kind_line i = quoted i.0 ++ (codes " " ++ (kind_name i.1 ++ codes "\n"))
 abbrev pub done_line : Done → List ℕ
 done_line done = done_text done ++ codes "\n"
 
--- a word and a number in the first line, and then a line for each
+-- a line with a word and the number of elements, then a line for each element
 abbrev pub listed : {A : Type 0} → List ℕ → ℕ → (A → List ℕ) → List A → List ℕ
 listed word n line_of xs = (word ++ (decimal n ++ codes "\n")) ++ flat_map line_of xs
 
--- the text of a reply, with its line ends
+-- the text of a reply, including line ends
 abbrev pub text_of : Reply → List ℕ
 text_of none = []
 text_of bad_line = codes "bad line\n"

@@ -1,4 +1,4 @@
--- What a line of a script asks for.
+-- What a line of a script requests.
 use Rattle.std.specs.Prelude.{ℕ, Bool, false, is_none, ◌||◌, List, [], ◌∷◌, nat_eq, Some, None}
 use Rattle.std.specs.Prelude.{codes, if◌then◌else◌, unwrap_or, take, drop, ◌==◌}
 use Rattle.std.specs.List.{list_all, slice_split}
@@ -23,8 +23,7 @@ use Rattle.be_script_language.specs.Values.{same, kind_in, value_in}
 use Rattle.be_script_language.specs.Words.{is_blank, is_empty, skip, end_of_word, bytes_of}
 use Rattle.be_script_language.specs.Words.{first_word, one_word, two_words, text_in}
 
--- What a line asks for. A name or a value may be one that no store takes: then its refusal takes
--- its place.
+-- What a line requests. If no store takes its name or value, the request has the error instead.
 pub data Request : Type 0 where
   silent : Request
   malformed : Request
@@ -43,12 +42,12 @@ pub data Request : Type 0 where
   commit : Request
   abort : Request
 
--- an operation of a name, or the name's refusal
+-- an operation on a name, or the name's error
 abbrev pub named : (List ℕ → Op) → List ℕ → Result Op Refusal
 named op name = result_map_both op (λ e. e) (name_from name)
 
--- the operation that sets an attribute, or the refusal of its name, or that of its value if the
--- name is taken
+-- the operation that sets an attribute, or the name's error, or the value's error if the name is
+-- valid
 abbrev pub set_op : ℕ → Result (List ℕ) Refusal → Result Value Refusal → Result Op Refusal
 set_op node (Ok name) (Ok value) = Ok (Set node name value)
 set_op node (Ok name) (Err e) = Err e
@@ -61,7 +60,7 @@ set_from node name kind value =
     (λ k. option_map (λ v. write (set_op n (name_from name) v)) (value_in k value))
     (kind_in kind)) (word_in node)
 
--- what follows each command word
+-- the text after a command word, for each command
 
 abbrev pub bare : Request → List ℕ → Option Request
 bare request rest = if is_empty rest then Some request else None
@@ -71,14 +70,14 @@ set_in rest = option_and_then (λ node. option_and_then
     (λ name. option_and_then (λ last. set_from node.0 name.0 last.0 last.1)
     (two_words name.1)) (first_word node.1)) (first_word rest)
 
--- the only word, a number
+-- the number that the only word encodes
 abbrev pub only_number_in : List ℕ → Option ℕ
 only_number_in rest = option_and_then word_in (one_word rest)
 
 abbrev pub drop_in : List ℕ → Option Request
 drop_in rest = option_map (λ node. write (Ok (Drop node))) (only_number_in rest)
 
--- the only two words, a number and another one
+-- the only two words: a number and any word
 abbrev pub number_and_word_in : List ℕ → Option (ℕ × List ℕ)
 number_and_word_in rest = option_and_then
     (λ words. option_map (λ n. (n, words.1)) (word_in words.0)) (two_words rest)
@@ -103,7 +102,7 @@ attrs_in rest = option_map attrs (only_number_in rest)
 abbrev pub page_in : List ℕ → Option Request
 page_in rest = option_map (λ asked. page asked.0 asked.1) (asked_in rest)
 
--- the command of this name
+-- the command with this name
 abbrev pub command_named : List ℕ → Option Command
 command_named word =
     if same word (codes "new") then Some commands.New
@@ -127,7 +126,7 @@ command_named word =
     else if same word (codes "abort") then Some commands.Abort
     else None
 
--- what a command and what follows its word ask for
+-- what a command and the text after it request
 abbrev pub command_in : Command → List ℕ → Option Request
 command_in commands.New rest = bare (write (Ok New)) rest
 command_in commands.Drop rest = drop_in rest
@@ -149,32 +148,32 @@ command_in commands.Begin rest = bare begin rest
 command_in commands.Commit rest = bare commit rest
 command_in commands.Abort rest = bare abort rest
 
--- what a line with a command asks for, as characters from its first word on
+-- what a line with a command requests, from its first word on
 abbrev pub command_of : List ℕ → Request
 command_of line =
     unwrap_or (option_and_then (λ command. command_in command (drop (end_of_word line) line))
     (command_named (bytes_of (take (end_of_word line) line)))) malformed
 
--- '#' is the first byte
+-- the first byte is '#'
 abbrev pub is_comment : List ℕ → Bool
 is_comment [] = false
 is_comment (c ∷ line) = nat_eq c 35
 
--- bytes as text, if they are UTF-8
+-- bytes as text, if they are valid UTF-8
 abbrev pub utf8 : List ℕ → Option (List ℕ)
 utf8 bytes = if is_utf8 bytes then Some bytes else None
 
--- what a line without its end asks for
+-- what a line requests, given without its LF or CR
 abbrev pub request_in : List ℕ → Request
 request_in line =
     if is_none (utf8 line) then malformed
     else if list_all is_blank line || is_comment line then silent
     else command_of (skip (chars line))
 
--- the lines of a script, without their ends
+-- a script's lines, without their LFs
 abbrev pub lines_of : List ℕ → List (List ℕ)
 lines_of script = slice_split (λ c. c == 10) script
 
--- what a line of a script asks for
+-- what a line of a script requests
 abbrev pub asked : List ℕ → Request
 asked line = request_in (strip_carriage_return line)

@@ -1,4 +1,4 @@
--- Kinds and values as words of a line encode them.
+-- Kinds and values, as words of a line encode them.
 use Rattle.std.specs.Prelude.{ℕ, ◌+◌, ◌*◌, ◌-◌, ◌^◌, Bool, List, [], ◌∷◌, length, nat_eq, nat_lt}
 use Rattle.std.specs.Prelude.{nat_le, ◌&&◌, if◌then◌else◌, Some, None, Ok, codes, pos, negsuc}
 use Rattle.std.specs.Option.{option_and_then, option_map}
@@ -19,7 +19,7 @@ use Rattle.be_value.specs.declared.values.Value.TheVariants.{Ullg}
 abbrev pub same : List ℕ → List ℕ → Bool
 same a b = pointwise nat_eq a b
 
--- the kind of this name
+-- the kind with this name
 abbrev pub kind_in : List ℕ → Option Kind
 kind_in word =
     if same word (codes "CSTR") then Some kinds.Cstr
@@ -40,7 +40,7 @@ unsigned_part (c ∷ word) = if nat_eq c 45 then word else c ∷ word
 abbrev pub signed_in : List ℕ → Option ℤ
 signed_in word = if nat_le (length (unsigned_part word)) 19 then number_in word else None
 
--- a number of this many bits with a sign, where `half` is 2 to one bit less
+-- a signed number, if it fits: `half` is 2 to the power of one less than its bits
 abbrev pub within : ℕ → ℤ → Option ℤ
 within half (pos n) = if nat_lt n half then Some (pos n) else None
 within half (negsuc n) = if nat_lt n half then Some (negsuc n) else None
@@ -51,11 +51,11 @@ int32_in word = option_and_then (within (2 ^ 31)) (signed_in word)
 abbrev pub int64_in : List ℕ → Option ℤ
 int64_in word = option_and_then (within (2 ^ 63)) (signed_in word)
 
--- 1 to 20 digits, within 32 bits
+-- 1 to 20 digits that encode a number of 32 bits
 abbrev pub uint32_in : List ℕ → Option ℕ
 uint32_in word = option_and_then (λ n. if nat_lt n (2 ^ 32) then Some n else None) (word_in word)
 
--- what a hexadecimal digit of either case stands for
+-- the number that a hexadecimal digit of either case stands for
 abbrev pub hex_digit_in : ℕ → Option ℕ
 hex_digit_in c =
     if nat_le 48 c && nat_le c 57 then Some (c - 48)
@@ -63,12 +63,12 @@ hex_digit_in c =
     else if nat_le 65 c && nat_le c 70 then Some (c - 55)
     else None
 
--- the byte of two hexadecimal digits
+-- the byte that two hexadecimal digits encode
 abbrev pub byte_in : ℕ → ℕ → Option ℕ
 byte_in c d = option_and_then (λ high. option_map (λ low. 16 * high + low) (hex_digit_in d))
     (hex_digit_in c)
 
--- the byte of the first two digits, and what follows them
+-- the byte that the first two digits encode, and what follows them
 abbrev pub first_byte_in : List ℕ → Option (ℕ × List ℕ)
 first_byte_in [] = None
 first_byte_in (c ∷ []) = None
@@ -81,8 +81,8 @@ hex_in (c ∷ []) = None
 hex_in (c ∷ d ∷ word) = option_and_then (λ byte. option_map (λ bytes. byte ∷ bytes) (hex_in word))
     (byte_in c d)
 
--- The value of this kind that a word encodes, or why the store takes no such value. None if the
--- word encodes none.
+-- The value of this kind that a word encodes, or the error if no store takes that value. None if
+-- the word encodes no value.
 abbrev pub value_in : Kind → List ℕ → Option (Result Value Refusal)
 value_in kinds.Cstr word = Some (result_map_both Cstr (λ e. e) (text_from word))
 value_in kinds.Long word = option_map (λ n. Ok (Long n)) (int32_in word)

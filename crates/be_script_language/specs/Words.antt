@@ -1,4 +1,4 @@
--- The words of a line, which is a list of characters here. A word is given as its bytes.
+-- The words of a line. Here a line is a list of characters, and a word is given as its bytes.
 use Rattle.std.specs.Prelude.{ℕ, Bool, true, List, [], ◌∷◌, ◌++◌, length, nat_eq, take, drop}
 use Rattle.std.specs.Prelude.{position, unwrap_or, ◌||◌, if◌then◌else◌, Some, None}
 use Rattle.std.specs.List.{list_all, flat_map}
@@ -6,15 +6,15 @@ use Rattle.std.specs.Option.{option_and_then, option_map}
 use Rattle.std.specs.Char.{encode_utf8}
 use Rattle.std.specs.declared.option.Option.{Option}
 
--- space and tab
+-- a space or a tab
 abbrev pub is_blank : ℕ → Bool
 is_blank c = nat_eq c 32 || nat_eq c 9
 
--- nothing but blanks
+-- only blanks
 abbrev pub is_empty : List ℕ → Bool
 is_empty text = list_all is_blank text
 
--- a text without the blanks at its front
+-- a text without the blanks at its start
 abbrev pub skip : List ℕ → List ℕ
 skip [] = []
 skip (c ∷ text) = if is_blank c then skip text else c ∷ text
@@ -27,11 +27,11 @@ end_of_word text = unwrap_or (position is_blank text) (length text)
 abbrev pub bytes_of : List ℕ → List ℕ
 bytes_of text = flat_map encode_utf8 text
 
--- the text that follows the blanks, to the line's end
+-- the text after the blanks, up to the line's end
 abbrev pub text_in : List ℕ → List ℕ
 text_in rest = bytes_of (skip rest)
 
--- what a backslash and this character stand for in a quoted word
+-- the character that a backslash and this character stand for in a quoted word
 abbrev pub meaning_of : ℕ → Option ℕ
 meaning_of c =
     if nat_eq c 34 then Some 34
@@ -40,7 +40,7 @@ meaning_of c =
     else if nat_eq c 114 then Some 13
     else None
 
--- a word and what follows it, with more of the word before
+-- a word and what follows it, with more of the word before it
 abbrev pub beyond : List ℕ → Option (List ℕ × List ℕ) → Option (List ℕ × List ℕ)
 beyond bytes parts = option_map (λ p. (bytes ++ p.0, p.1)) parts
 
@@ -62,8 +62,8 @@ ends_word (c ∷ text) = is_blank c
 abbrev pub if_ended : List ℕ × List ℕ → Option (List ℕ × List ℕ)
 if_ended parts = if ends_word parts.1 then Some parts else None
 
--- the word at the front of a text, and what follows it; none if there is no word, or a malformed
--- one
+-- the word at the start of a text, and what follows it; None if there is no word, or it is
+-- malformed
 abbrev pub word_at : List ℕ → Option (List ℕ × List ℕ)
 word_at [] = None
 word_at (c ∷ text) =
@@ -77,12 +77,12 @@ word_at (c ∷ text) =
 abbrev pub first_word : List ℕ → Option (List ℕ × List ℕ)
 first_word text = word_at (skip text)
 
--- the only word of a text
+-- the word of a text that has exactly one
 abbrev pub one_word : List ℕ → Option (List ℕ)
 one_word text = option_and_then (λ first. if is_empty first.1 then Some first.0 else None)
     (first_word text)
 
--- the two words of a text
+-- the words of a text that has exactly two
 abbrev pub two_words : List ℕ → Option (List ℕ × List ℕ)
 two_words text = option_and_then (λ first. option_map (λ second. (first.0, second))
     (one_word first.1)) (first_word text)

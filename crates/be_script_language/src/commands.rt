@@ -2,7 +2,7 @@
 ghost use Rattle.std.specs.Prelude.{◌≡◌};
 ghost use Rattle.be_script_language.specs.Request as spec;
 
-/// A command of a script, which is the first word of a line.
+/// A command: the first word of a line.
 #[derive(Clone, Copy, Debug, PartialEq, Eq)]
 pub enum Command {
     New,
@@ -26,7 +26,7 @@ pub enum Command {
     Abort,
 }
 
-/// The command of this name.
+/// The command with this name.
 pub fn command_named(word: &str) -> Option<Command>
     ensures { result ≡ spec.command_named word.now }
 {

@@ -1,9 +1,9 @@
-//! The language of scripts, as text.
+//! The script language, as text.
 //!
-//! A script is a text with a command a line; each line but a blank one and a comment has a reply.
-//! [`read_line`] reads what a line asks for, and [`reply_text`] writes a reply. Neither knows what
-//! serves a script. From the bottom up: the words of a line, the values that they encode, the
-//! commands, the page that a line asks for, the request of a line; and replies with their texts.
+//! A script is a text with one command per line. Each line has a reply, except blank lines and
+//! comments. [`read_line`] reads what a line requests, and [`reply_text`] writes a reply. Neither
+//! knows what runs the script. The modules, from the bottom up, are about words, the values that
+//! they encode, commands, lines `page`, requests, and replies.
 #![tactic(auto)]
 
 mod commands;

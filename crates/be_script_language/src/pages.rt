@@ -1,7 +1,7 @@
-//! What a line `page` asks for, and what it finds.
+//! What a line `page` requests, and what it finds.
 //!
-//! The words come in one order: `by NAME`, `descending` if the order is the reverse, `after KIND
-//! VALUE NODE` if the page isn't the first, and `limit N`. What follows these is the query's text.
+//! The words come in this order: `by NAME`, `descending` for the reverse order, `after KIND VALUE
+//! NODE` for any page but the first, and `limit N`. The query's text follows them.
 ghost use Rattle.std.specs.Option.{option_map};
 ghost use Rattle.std.specs.Prelude.{◌≡◌, IfErr, IfOk, false, string_bytes, true};
 ghost use Rattle.be_value.specs.Name.{name_from};
@@ -14,22 +14,22 @@ use arrayvec::ArrayVec;
 use be_value::{Kind, Name, Refusal, Value, key_of, word_of};
 use std::alloc::{AllocError, Global};
 
-/// The page that a line asks for, of the answer to its query.
+/// The page of the query's answer that a line requests.
 #[derive(Debug, Drop)]
 pub struct Paging {
-    /// The name of the index whose order it is.
+    /// The name of the index whose order it has.
     pub by: Name,
-    /// Whether the order is exactly the reverse.
+    /// Whether the order is reversed.
     pub descending: bool,
-    /// The value and the node after which the page begins; the first page has none.
+    /// The value and the node after which the page begins, or `None` for the first page.
     pub after: Option<(Value, u64)>,
-    /// The most nodes, at least 1.
+    /// The maximum number of nodes, at least 1.
     pub most: u64,
 }
 
 impl Paging {
-    /// The key after which the page begins in an index of this kind; the first page has none.
-    /// NoSuchIndex if there is no index, or if its kind isn't that of the value.
+    /// The key after which the page begins in an index of this kind, or `None` for the first page.
+    /// The error is `NoSuchIndex` if there is no index, or if its kind isn't the value's.
     pub fn cursor(&self, kind: Option<Kind>) -> Result<Option<ArrayVec<u8, 264>>, Refusal>
         ensures begins { IfOk result (λ _. spec.may_begin kind self.now.after ≡ true) }
         ensures key { IfOk result (λ cursor. option_map (λ key. key.items) cursor
@@ -56,15 +56,15 @@ impl Paging {
 /// The page that a line finds.
 #[derive(Debug, Drop)]
 pub struct Page {
-    /// Its nodes, in the order of the index.
+    /// Its nodes, in the index's order.
     pub nodes: Vec<u64>,
-    /// Whether others come after them.
+    /// Whether more nodes come after them.
     pub more: bool,
-    /// The value of the last one, and its number, after which the next page begins.
+    /// The last node's value and number, after which the next page begins.
     pub last: Option<(Value, u64)>,
 }
 
-/// What follows a word, if that is the first one.
+/// The text after the first word, if that word is the expected one.
 fn past<'a>(
     alloc: Global,
     expected: &str,
@@ -83,7 +83,7 @@ fn past<'a>(
     }
 }
 
-/// `by NAME`, and what follows.
+/// Reads `by NAME`, and returns the name and the text after it.
 fn name_part(alloc: Global, text: &[char]) -> Result<Option<(String, &[char])>, AllocError>
     ensures { IfOk result (λ name. option_map (λ p. (string_bytes p.0, p.1.now)) name
         ≡ spec.name_in text.now) }
@@ -94,7 +94,7 @@ fn name_part(alloc: Global, text: &[char]) -> Result<Option<(String, &[char])>, 
     }
 }
 
-/// Whether `descending` comes first, and what follows.
+/// Whether `descending` comes first, and the text after it.
 fn direction_part(alloc: Global, text: &[char]) -> Result<(bool, &[char]), AllocError>
     ensures { IfOk result (λ direction. (direction.0, direction.1.now)
         ≡ spec.direction_in text.now) }
@@ -105,7 +105,7 @@ fn direction_part(alloc: Global, text: &[char]) -> Result<(bool, &[char]), Alloc
     }
 }
 
-/// The value and the node that three words encode, or the value's refusal.
+/// The value and the node that three words encode, or the value's error. `None` if the line is bad.
 fn pair_of(
     alloc: Global,
     kind: &str,
@@ -129,7 +129,7 @@ fn pair_of(
     }
 }
 
-/// `KIND VALUE NODE`, and what follows.
+/// Reads `KIND VALUE NODE`, and returns the text after it too.
 fn pair_part(
     alloc: Global,
     text: &[char],
@@ -152,7 +152,7 @@ fn pair_part(
     }
 }
 
-/// `after KIND VALUE NODE`, if `after` comes first, and what follows.
+/// Reads `after KIND VALUE NODE`, if `after` comes first, and returns the text after it too.
 fn after_part(
     alloc: Global,
     text: &[char],
@@ -166,7 +166,7 @@ fn after_part(
     }
 }
 
-/// The number of a word, unless it is 0.
+/// The number that a word encodes, unless it is 0.
 fn most_of(word: &str) -> Option<u64>
     ensures { result ≡ spec.most_from word.now }
 {
@@ -174,7 +174,7 @@ fn most_of(word: &str) -> Option<u64>
     if most == 0 { None } else { Some(most) }
 }
 
-/// `limit N`, and what follows.
+/// Reads `limit N`, and returns the number and the text after it.
 fn limit_part(alloc: Global, text: &[char]) -> Result<Option<(u64, &[char])>, AllocError>
     ensures { IfOk result (λ limit. option_map (λ p. (p.0, p.1.now)) limit
         ≡ spec.limit_in text.now) }
@@ -191,7 +191,7 @@ fn limit_part(alloc: Global, text: &[char]) -> Result<Option<(u64, &[char])>, Al
     }
 }
 
-/// The name is looked at before the value.
+/// The page of these parts. An error of the name comes before one of the value.
 fn paging_of(
     name: &str,
     descending: bool,
@@ -210,8 +210,8 @@ fn paging_of(
     })
 }
 
-/// The page that the words after `page` ask for, or why its name or its value is none; and the
-/// query's text. None if the line is bad.
+/// The page that the words after `page` request, or the error of its name or value; and the query's
+/// text. `None` if the line is bad.
 pub(crate) fn page_asked(
     alloc: Global,
     text: &[char],

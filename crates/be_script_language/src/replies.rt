@@ -1,7 +1,7 @@
 //! Replies and their texts.
 //!
-//! A reply is a line or several, each with its LF. Its whole text is made before any of it is
-//! written, so out of memory never leaves half a reply written.
+//! A reply has one or more lines, each with its LF. Its whole text is made before any of it is
+//! written, so running out of memory never leaves half a reply written.
 ghost use Rattle.std.specs.Prelude.{◌≡◌, ◌++◌, ◌∷◌, IfOk, OnOk, codes, decimal, flat_map};
 ghost use Rattle.std.specs.String.{string_bytes};
 ghost use Rattle.be_script_language.specs.Page.{page_found};
@@ -22,21 +22,21 @@ pub enum Reply {
     BadLine,
     Done,
     Node(u64),
-    /// What a query finds.
+    /// The nodes that a query finds.
     Nodes(Vec<u64>),
-    /// What `page` finds.
+    /// The page that `page` finds.
     Page(Page),
-    /// What `get` finds.
+    /// The value that `get` finds.
     Value(Option<Value>),
     Attributes(Vec<(Name, Value)>),
     Kinds(Vec<(Name, Kind)>),
-    /// What `explain` says.
+    /// The plan that `explain` shows.
     Cover(String),
-    /// The number of the version that is now pinned.
+    /// The number of the newly pinned version.
     Pinned(u64),
     AlreadyPinned,
     NotPinned,
-    /// What `refresh` finds: the nodes that came, and those that went.
+    /// What `refresh` finds: the nodes that joined the answer, and those that left it.
     Updates(Vec<u64>, Vec<u64>),
     NoLiveQuery,
     Queued,
@@ -44,14 +44,14 @@ pub enum Reply {
     EmptyBatch,
     AlreadyBegun,
     NotBegun,
-    /// The number of a commit, and an answer for each of its operations.
+    /// The commit number, and an outcome for each of the operations.
     Committed(u64, ArrayVec<Done, 64>),
     Refused(Refusal),
 }
 
 ghost use Rattle.be_script_language.specs.View.{reply_of};
 
-/// The reply as it is written.
+/// The reply's text, as it is written.
 pub fn reply_text(alloc: Global, reply: &Reply) -> Result<String, AllocError>
     ensures { IfOk result (λ text. string_bytes text ≡ spec.text_of (reply_of reply.now)) }
 {
@@ -81,7 +81,7 @@ pub fn reply_text(alloc: Global, reply: &Reply) -> Result<String, AllocError>
     }
 }
 
-/// A word, and then a space and a number for each.
+/// A word, and a space and the number for each number.
 fn numbers_line(alloc: Global, word: &str, numbers: &[u64]) -> Result<String, AllocError>
     ensures { IfOk result (λ text. string_bytes text ≡ spec.numbers_line word.now numbers.now) }
 {

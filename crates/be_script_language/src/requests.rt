@@ -1,8 +1,8 @@
-//! What a line asks for.
+//! What a line requests.
 //!
-//! A line is looked at in a fixed order: is it a text at all, has it a reply at all, then its
-//! command word and the words after it. Whatever doesn't fit makes it a bad line. Names and values
-//! that fit and that no store takes leave their refusal in the request.
+//! The order of checks is fixed: whether the line is valid UTF-8, whether it has a reply at all,
+//! its command word, and the words after that. Anything that doesn't fit makes it a bad line. If a
+//! name or value fits but no store takes it, the request has its error.
 ghost use Rattle.std.specs.List.{list_all};
 ghost use Rattle.std.specs.Option.{option_map};
 ghost use Rattle.std.specs.Prelude.{◌≡◌, IfOk, string_bytes};
@@ -21,20 +21,20 @@ use be_volume::Op;
 use std::alloc::{AllocError, Global};
 use std::str;
 
-/// What a line asks for.
+/// What a line requests.
 #[derive(Debug, Drop)]
 pub enum Request {
     /// The line has no reply.
     Silent,
     /// The line is a bad line.
     Malformed,
-    /// An operation, or why its name or its value is none.
+    /// An operation, or the error of its name or value.
     Write(Result<Op, Refusal>),
     /// A query's text.
     Query(String),
-    /// The page that is asked for, or why its name or its value is none; and the query's text.
+    /// The requested page, or the error of its name or value; and the query's text.
     Page(Result<Paging, Refusal>, String),
-    /// The text of a query that is to be explained.
+    /// The text of a query to explain.
     Explain(String),
     Get(u64, Result<Name, Refusal>),
     Attrs(u64),
@@ -51,7 +51,7 @@ pub enum Request {
 
 ghost use Rattle.be_script_language.specs.View.{request_of};
 
-/// A request that takes no words.
+/// This request, if no words follow the command.
 fn bare(request: Request, rest: &[char]) -> Option<Request>
     ensures { option_map request_of result ≡ spec.bare (request_of request) rest.now }
 {
@@ -76,7 +76,7 @@ fn rmindex_op(name: &str) -> Result<Op, Refusal>
     Ok(Op::RmIndex(Name::new(name)?))
 }
 
-/// The name is looked at before the value.
+/// The operation that sets an attribute. An error of the name comes before one of the value.
 fn set_op(node: u64, name: &str, value: Result<Value, Refusal>) -> Result<Op, Refusal>
     ensures { result ≡ spec.set_op node (name_from name.now) value }
 {
@@ -84,7 +84,7 @@ fn set_op(node: u64, name: &str, value: Result<Value, Refusal>) -> Result<Op, Re
     Ok(Op::Set(node, name, value?))
 }
 
-/// `set N NAME KIND VALUE`, in its words.
+/// The request of `set N NAME KIND VALUE`, from its four words. `None` if the line is bad.
 fn set_from(
     alloc: Global,
     node: &str,
@@ -107,8 +107,7 @@ fn set_from(
     }
 }
 
-/// The request of a line `set`, from the words after the command: node, name, kind and value. None
-/// if the line is bad.
+/// The request of a line `set`, from the text after the command. `None` if the line is bad.
 fn set_request(alloc: Global, rest: &[char]) -> Result<Option<Request>, AllocError>
     ensures { IfOk result (λ request. option_map request_of request ≡ spec.set_in rest.now) }
 {
@@ -130,7 +129,7 @@ fn set_request(alloc: Global, rest: &[char]) -> Result<Option<Request>, AllocErr
     }
 }
 
-/// The only word, a number.
+/// The number that the only word encodes.
 fn only_number(alloc: Global, rest: &[char]) -> Result<Option<u64>, AllocError>
     ensures { IfOk result (λ number. number ≡ spec.only_number_in rest.now) }
 {
@@ -158,7 +157,7 @@ fn attrs_request(alloc: Global, rest: &[char]) -> Result<Option<Request>, AllocE
     }
 }
 
-/// The only two words, the number of a node and a name.
+/// The only two words: a node's number and a name.
 fn node_and_name(alloc: Global, rest: &[char]) -> Result<Option<(u64, String)>, AllocError>
     ensures { IfOk result (λ words. option_map (λ p. (p.0, string_bytes p.1)) words
         ≡ spec.number_and_word_in rest.now) }
@@ -220,7 +219,7 @@ fn page_request(alloc: Global, rest: &[char]) -> Result<Option<Request>, AllocEr
     }
 }
 
-/// What a command and what follows its word ask for.
+/// What a command and the text after it request.
 fn command_request(
     alloc: Global,
     command: Command,
@@ -252,7 +251,7 @@ fn command_request(
     }
 }
 
-/// What a line with a command asks for, as characters from its first word on.
+/// What a line with a command requests, from its first word on.
 fn command_of(alloc: Global, line: &[char]) -> Result<Request, AllocError>
     ensures { IfOk result (λ request. request_of request ≡ spec.command_of line.now) }
 {
@@ -283,7 +282,7 @@ fn is_comment(line: &[u8]) -> bool
     }
 }
 
-/// The bytes as text.
+/// The bytes as text, if they are valid UTF-8.
 fn utf8(bytes: &[u8]) -> Option<&str>
     ensures { option_map (λ s. s.now) result ≡ spec.utf8 bytes.now }
 {
@@ -300,7 +299,7 @@ fn characters(alloc: Global, text: &str) -> Result<Vec<char>, AllocError>
     text.chars().collect(alloc)
 }
 
-/// The line without one CR at its end.
+/// The line without a CR at its end; at most one is removed.
 fn without_cr(line: &[u8]) -> &[u8]
     ensures { result.now ≡ strip_carriage_return line.now }
 {
@@ -310,7 +309,7 @@ fn without_cr(line: &[u8]) -> &[u8]
     }
 }
 
-/// What a line asks for, given without its LF.
+/// What a line requests, given without its LF.
 pub fn read_line(alloc: Global, line: &[u8]) -> Result<Request, AllocError>
     ensures { IfOk result (λ request. request_of request ≡ spec.asked line.now) }
 {

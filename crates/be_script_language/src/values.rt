@@ -1,8 +1,8 @@
 //! Kinds and values, as the words of a line encode them.
 //!
-//! A word that encodes no value of its kind makes a bad line. One that does may still be no value
-//! that a store takes (a text of more than 255 bytes): that is a refusal, which comes after all
-//! causes of a bad line.
+//! A word that encodes no value of its kind makes a bad line. A word may also encode a value that
+//! no store takes, such as a text of more than 255 bytes. That is an error of the value, which is
+//! reported only if nothing makes the line bad.
 ghost use Rattle.std.specs.Option.{option_map};
 ghost use Rattle.std.specs.Prelude.{◌≡◌, ◌<◌, IfOk, IfSome};
 ghost use Rattle.be_script_language.specs.Values as spec;
@@ -10,7 +10,7 @@ ghost use Rattle.be_script_language.specs.Values as spec;
 use be_value::{Kind, Refusal, Value, number_of, word_of};
 use std::alloc::{AllocError, Global};
 
-/// The kind of this name.
+/// The kind with this name.
 pub fn kind_of(word: &str) -> Option<Kind>
     ensures { result ≡ spec.kind_in word.now }
 {
@@ -36,7 +36,7 @@ fn unsigned_part(word: &[u8]) -> &[u8]
     }
 }
 
-/// The number of an optional `-` and 1 to 19 digits.
+/// The number that an optional `-` and 1 to 19 digits encode.
 fn signed_of(word: &str) -> Option<i128>
     ensures { result ≡ spec.signed_in word.now }
 {
@@ -76,7 +76,7 @@ fn hex_digit_of(c: u8) -> Option<u8>
     }
 }
 
-/// The byte of two hexadecimal digits.
+/// The byte that two hexadecimal digits encode.
 fn byte_of(c: u8, d: u8) -> Option<u8>
     ensures { result ≡ spec.byte_in c d }
 {
@@ -85,7 +85,7 @@ fn byte_of(c: u8, d: u8) -> Option<u8>
     Some(16 * high + low)
 }
 
-/// The byte of the first two digits, and what follows them.
+/// The byte that the first two digits encode, and the digits after them.
 fn first_byte(word: &[u8]) -> Option<(u8, &[u8])>
     ensures { option_map (λ p. (p.0, p.1.now)) result ≡ spec.first_byte_in word.now }
 {
@@ -111,8 +111,8 @@ fn bytes_of(alloc: Global, word: &[u8]) -> Result<Option<Vec<u8>>, AllocError>
     }
 }
 
-/// The value of this kind that a word encodes, or why the store takes no such value. None if the
-/// word encodes none.
+/// The value of this kind that a word encodes, or the error if no store takes that value. `None` if
+/// the word encodes no value.
 pub fn value_of(
     alloc: Global,
     kind: Kind,

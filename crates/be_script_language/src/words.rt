@@ -1,10 +1,10 @@
 //! The words of a line.
 //!
-//! A line is a list of characters here. Blanks (spaces and tabs) part its words. A word that begins
-//! with a quote goes to the next quote without a backslash, which a blank or the end must follow.
-//! In it a backslash may come before `"`, `\`, `n` (LF) and `r` (CR) only. Any other word is taken
-//! as it is. A word is returned as the text that it stands for, so what reads numbers, names and
-//! values doesn't see how a word was written.
+//! Here a line is a list of characters. Blanks (spaces and tabs) separate its words. A word that
+//! begins with a quote ends at the next quote that has no backslash. After it comes a blank or the
+//! end of the line. Inside it, a backslash may come only before `"`, `\`, `n` (LF) and `r` (CR).
+//! Any other word is taken as it is. A word is returned as the text it stands for, so code that
+//! reads numbers, names and values doesn't see how the word was written.
 ghost use Rattle.std.specs.Option.{option_map};
 ghost use Rattle.std.specs.Prelude.{◌≡◌, IfOk, position, take, drop};
 ghost use Rattle.std.specs.String.{string_bytes};
@@ -12,21 +12,21 @@ ghost use Rattle.be_script_language.specs.Words as spec;
 
 use std::alloc::{AllocError, Global};
 
-/// Space and tab.
+/// Whether the character is a space or a tab.
 pub fn is_blank(c: char) -> bool
     ensures { result ≡ spec.is_blank c }
 {
     c == ' ' || c == '\t'
 }
 
-/// Whether nothing but blanks is left.
+/// Whether only blanks are left.
 pub fn is_empty(text: &[char]) -> bool
     ensures { result ≡ spec.is_empty text.now }
 {
     text.iter().all(|c| is_blank(*c))
 }
 
-/// The text without the blanks at its front.
+/// The text without the blanks at its start.
 pub fn skip(text: &[char]) -> &[char]
     ensures { result.now ≡ spec.skip text.now }
 {
@@ -47,7 +47,7 @@ fn first_blank(text: &[char]) -> Option<usize>
     text.iter().position(|c| is_blank(*c))
 }
 
-/// The text up to its first blank, and what follows.
+/// The text up to its first blank, and the text after it.
 pub fn split_word(text: &[char]) -> (&[char], &[char])
     ensures word { result.0.now ≡ take (spec.end_of_word text.now) text.now }
     ensures rest { result.1.now ≡ drop (spec.end_of_word text.now) text.now }
@@ -69,7 +69,7 @@ pub fn text_of(alloc: Global, text: &[char]) -> Result<String, AllocError>
     Ok(bytes)
 }
 
-/// What a backslash and this character stand for in a quoted word.
+/// The character that a backslash and this character stand for in a quoted word.
 fn meaning_of(c: char) -> Option<char>
     ensures { result ≡ spec.meaning_of c }
 {
@@ -91,8 +91,8 @@ fn ends_word(text: &[char]) -> bool
     }
 }
 
-/// What a quoted word stands for, and what follows its closing quote, from the text after its
-/// opening quote.
+/// The text that a quoted word stands for, and what follows its closing quote. It is given the text
+/// after the opening quote.
 fn quoted_word(alloc: Global, text: &[char]) -> Result<Option<(String, &[char])>, AllocError>
     ensures { IfOk result (λ parts. option_map (λ p. (string_bytes p.0, p.1.now)) parts
         ≡ spec.quoted_in text.now) }
@@ -121,7 +121,7 @@ fn quoted_word(alloc: Global, text: &[char]) -> Result<Option<(String, &[char])>
     Ok(None)
 }
 
-/// The first word, and what follows it. None if no word is left, or a malformed one.
+/// The first word, and the text after it. `None` if no word is left, or it is malformed.
 pub fn first_word(alloc: Global, text: &[char]) -> Result<Option<(String, &[char])>, AllocError>
     ensures { IfOk result (λ parts. option_map (λ p. (string_bytes p.0, p.1.now)) parts
         ≡ spec.first_word text.now) }
@@ -140,7 +140,7 @@ pub fn first_word(alloc: Global, text: &[char]) -> Result<Option<(String, &[char
     }
 }
 
-/// The only word.
+/// The word of a text that has exactly one.
 pub fn one_word(alloc: Global, text: &[char]) -> Result<Option<String>, AllocError>
     ensures { IfOk result (λ word. option_map string_bytes word ≡ spec.one_word text.now) }
 {
@@ -150,7 +150,7 @@ pub fn one_word(alloc: Global, text: &[char]) -> Result<Option<String>, AllocErr
     }
 }
 
-/// The two words.
+/// The words of a text that has exactly two.
 pub fn two_words(alloc: Global, text: &[char]) -> Result<Option<(String, String)>, AllocError>
     ensures { IfOk result (λ words. option_map (λ p. (string_bytes p.0, string_bytes p.1)) words
         ≡ spec.two_words text.now) }

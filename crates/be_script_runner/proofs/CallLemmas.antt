@@ -1,4 +1,4 @@
--- The calls of a pass, line by line.
+-- A pass's calls, line by line.
 use Rattle.std.proofs.Common.{◌≡◌, ℕ, List, [], ◌∷◌, ◌++◌, length, refl, sym, ap, ◌∙◌, subst, append_assoc, append-nil, arith}
 use Rattle.std.specs.Prelude.{IfErr, IfOk, Ok, Err}
 use Rattle.std.specs.declared.option.Option.{Option}
@@ -27,7 +27,7 @@ use Rattle.be_script_runner.proofs.EndLemmas.{nothing_asked}
 use Rattle.be_script_runner.proofs.ReplyLemmas.{serves_at_once}
 use Rattle.be_script_runner.proofs.RunLemmas.{none_written, written_both}
 
--- one call more, and none
+-- one more call, and none
 pub leads_more : (a b : Knowledge) (s : Step volume) (c : Knowledge) → LeadTo a b → Call b s c → LeadTo a c
 leads_more a b s c h k = (h.0 ++ s ∷ [], calls_more a h.0 b s c h.1 k)
 
@@ -37,19 +37,19 @@ leads_both a b c h k = (h.0 ++ k.0, calls_both a h.0 b k.0 c h.1 k.1)
 pub leads_nowhere : (a : Knowledge) → LeadTo a a
 leads_nowhere a = ([], refl)
 
--- a read is a call, whatever it answers
+-- a read is a call, whatever its answer
 pub leads_read : (a b c : Knowledge) → LeadTo a b → HasRead b c → LeadTo a c
 leads_read a b c h k = leads_more a b (Learn (entries c.seen)) c h (read_learns b c k)
 
--- a write is one, accepted or refused
-pub writes_call : {X : Type 0} (a c : Knowledge) (tries : ℕ) (dones_of : X → List Done) (ops : List Op) (r : Result (ℕ × X) Refusal) → IfOk r (λ x. Accepts a c ops x.0 (dones_of x.1)) →
+-- a write is a call, accepted or refused
+pub writes_call : {X : Type 0} (a c : Knowledge) (tries : ℕ) (outcomes_of : X → List Done) (ops : List Op) (r : Result (ℕ × X) Refusal) → IfOk r (λ x. Accepts a c ops x.0 (outcomes_of x.1)) →
     IfErr r (λ e. Learns a c × IsLastReason tries a c ops e) → LeadTo a c
-writes_call a c tries dones_of ops (Ok x) ok err = (Apply (entry_by a ops (dones_of x.1)) x.0 ∷ [], (c, (ops, dones_of x.1, refl, ok), refl))
-writes_call a c tries dones_of ops (Err e) ok err = (Learn (entries c.seen) ∷ [], (c, (err.0, refl), refl))
+writes_call a c tries outcomes_of ops (Ok x) ok err = (Apply (entry_by a ops (outcomes_of x.1)) x.0 ∷ [], (c, (ops, outcomes_of x.1, refl, ok), refl))
+writes_call a c tries outcomes_of ops (Err e) ok err = (Learn (entries c.seen) ∷ [], (c, (err.0, refl), refl))
 
 -- ## Lines
 
--- a line of a pass: what serves it begins with what the pass knew, and ends with what it knows then
+-- a pass's line: its server begins with what the pass knew, and ends with what it knows afterwards
 pub line_served : (a first last c : Knowledge) (client after : Client) (line : List ℕ) (old new : Option (List ℕ)) → first ≡ a → c ≡ last → LeadTo a c →
     Wrote old new (Answered (session (known first) client) line (session (known last) after)) →
     Wrote old new (IsAnsweredBy a (session (known a) client) line c (session (known c) after))
@@ -66,7 +66,7 @@ line_served a first last c client after line old new begun ended calls w =
       };
     }
 
--- lines, and one more
+-- some lines, and one more
 answered_more : (a : Knowledge) (s : Session) (lines : List (List ℕ)) (c : Knowledge) (mid : Session) (line : List ℕ) (d : Knowledge) (after : Session) (out reply : List ℕ) →
     AreAnsweredBy a s lines c mid out → IsAnsweredBy c mid line d after reply → AreAnsweredBy a s (lines ++ line ∷ []) d after (out ++ reply)
 answered_more a s [] c mid line d after out reply h k = (
@@ -103,7 +103,7 @@ none_served a script s held e shows = record {
   is = record { lines = []; is = refl; output = (refl, e, refl); shows = shows };
 }
 
--- one line more
+-- one more line
 pub one_served : (a : Knowledge) (script left line left' : List ℕ) (c d : Knowledge) (s after : Session) (old mid new : Option (List ℕ)) → lines_of left ≡ line ∷ lines_of left' →
     Wrote old mid (HasAnswered a script c s left) → Wrote mid new (IsAnsweredBy c s line d after) → Wrote old new (HasAnswered a script d after left')
 one_served a script left line left' c d s after old mid new e w r = record {
@@ -131,7 +131,7 @@ last_served a script left c d s after old mid new e w r = record {
   };
 }
 
--- nothing is left after the last LF
+-- nothing follows the last LF
 pub none_left : (a : Knowledge) (script left : List ℕ) (c : Knowledge) (s : Session) (old new : Option (List ℕ)) → length left ≡ 0 →
     Wrote old new (HasAnswered a script c s left) → Wrote old new (IsServedBy a script c)
 none_left a script [] c s old new empty w =

@@ -1,4 +1,4 @@
--- What the script of a journal is answered, and which store it leaves.
+-- The replies to a journal's script, and the store that it leaves.
 use Rattle.std.proofs.Common.{◌≡◌, ◌≤◌, ◌<◌, ◌+◌, ℕ, Bool, true, false, cond, nat_lt, List, [], ◌∷◌, ◌++◌, All, map, length, codes, refl, sym, ap, subst, ◌∙◌, append_assoc, length-append, arith, inl, None, Ok, Err}
 use Rattle.std.proofs.lemmas.Bool.Decides.{nat_tests}
 use Rattle.std.proofs.lemmas.List.{append-nil, length-map, length_push, map-append}
@@ -22,25 +22,25 @@ use Rattle.be_volume.specs.declared.ops.Done.{Done}
 use Rattle.be_volume.specs.declared.ops.Op.{Op}
 use Rattle.be_script_runner.specs.Output.{IsOutputTo, Outputs, Serves, Session, done_reply, opening}
 use Rattle.be_script_runner.specs.Store.{MayWrite, Store, entered, start, written, written_by}
-use Rattle.be_script_runner.specs.Telling.{dump_output, made, write_output}
+use Rattle.be_script_runner.specs.JournalRuns.{dump_output, made, write_output}
 use Rattle.be_script_runner.specs.View.{batched}
 use Rattle.be_script_runner.proofs.EndLemmas.{nothing_asked}
 use Rattle.be_script_runner.proofs.JoinLemmas.{at_once}
 use Rattle.be_script_runner.proofs.LineLemmas.{begin_asked, commit_asked, line_before}
 use Rattle.be_script_runner.proofs.ReplyLemmas.{commit_accepted, serves_at_once, write_accepted}
 
--- a line more, with its reply
+-- one more line, with its reply
 one_more : (s after last : Session) (line more out : List ℕ) (request : Request) (reply : Reply) → list_all in_line line ≡ true → asked line ≡ request →
     Serves s request reply after → Outputs after (lines_of more) last out → Outputs s (lines_of (line ++ 10 ∷ more)) last (text_of reply ++ out)
 one_more s after last line more out request reply inside is serves next =
     subst (λ (lines : List (List ℕ)). Outputs s lines last (text_of reply ++ out)) (sym (line_before line more inside))
     (after, text_of reply, out, (reply, subst (λ (q : Request). Serves s q reply after) (sym is) serves, refl), next, refl)
 
--- the line of an operation is within one line
+-- an operation's text has no LF
 op_inside : (op : Op) → CanBeOp op → list_all in_line (op_text op) ≡ true
 op_inside op can = part_line (op_text op) (op_part 10 refl refl op can)
 
--- the first of several operations' lines
+-- the line of the first of several operations
 op_first : (op : Op) (ops : List Op) (more : List ℕ) → flat_map op_line (op ∷ ops) ++ more ≡ op_text op ++ 10 ∷ (flat_map op_line ops ++ more)
 op_first op ops more =
     ap (λ (l : List ℕ). l ++ more) (flat_map-cons op_line op ops)
@@ -53,13 +53,13 @@ queued_first : (op : Op) (ops : List Op) (out : List ℕ) → flat_map queued_te
 queued_first op ops out =
     ap (λ (l : List ℕ). l ++ out) (flat_map-cons queued_text op ops) ∙ append_assoc (text_of queued) (flat_map queued_text ops) out
 
--- an operation is queued where a batch has room
+-- an operation is queued if the batch has room
 queues : (store : Store) (ops : List Op) (op : Op) → length ops < 64 → Serves (batched store ops None) (write (Ok op)) queued (batched store (ops ++ op ∷ []) None)
 queues store ops op few =
     let room : nat_lt (length ops) 64 ≡ true = grind (arith, nat_tests, few) in
     serves_at_once (batched store ops None) (batched store (ops ++ op ∷ []) None) (write (Ok op)) queued (inl (rw room refl))
 
--- the lines of operations, queued one after the other
+-- the lines of operations, queued one after another
 all_queued : (store : Store) (ops todo : List Op) (more out : List ℕ) (last : Session) → All CanBeOp todo → length ops + length todo ≤ 64 →
     Outputs (batched store (ops ++ todo) None) (lines_of more) last out →
     Outputs (batched store ops None) (lines_of (flat_map op_line todo ++ more)) last (flat_map queued_text todo ++ out)
@@ -75,13 +75,13 @@ all_queued store ops (op ∷ todo) more out last can few next =
     (one_more (batched store ops None) after last (op_text op) (flat_map op_line todo ++ more) (flat_map queued_text todo ++ out) (write (Ok op)) queued (op_inside op op_can) (op_asked op op_can)
     (queues store ops op (omega (arith, few))) beyond))
 
--- One write, which makes a new store of the old one; the lines after it are answered from the new one.
+-- One write, which makes the new store from the old one; the lines after it are answered from the new one.
 module _ (old new : Store) (last : Session) (dones : List Done) (more out : List ℕ) (next : Outputs (opening new) (lines_of more) last out) where
   abbrev number : ℕ
   number = length new.journal
 
-  abbrev same_dones : List Done → List Done
-  same_dones d = d
+  abbrev same_outcomes : List Done → List Done
+  same_outcomes d = d
 
   -- a write of one operation
   single : (ops : List Op) → 1 ≤ length ops → length ops ≤ 1 → All CanBeOp ops → written old ops ≡ Ok (new, dones) →
@@ -91,7 +91,7 @@ module _ (old new : Store) (last : Session) (dones : List Done) (more out : List
       let op_can = All-head CanBeOp op [] can in
       subst (λ (text : List ℕ). Outputs (opening old) (lines_of text) last (text_of (done_reply dones) ++ out)) (sym (op_first op [] more))
       (one_more (opening old) (opening new) last (op_text op) more out (write (Ok op)) (done_reply dones) (op_inside op op_can) (op_asked op op_can)
-      (write_accepted same_dones old new None op number dones (done_reply dones) refl (at_once old (λ s. MayWrite same_dones s (op ∷ []) (Ok (number, dones)) new) (w, refl))) next)
+      (write_accepted same_outcomes old new None op number dones (done_reply dones) refl (at_once old (λ s. MayWrite same_outcomes s (op ∷ []) (Ok (number, dones)) new) (w, refl))) next)
   single (op ∷ other ∷ ops) some few can w = absurd (omega (arith, few))
 
   abbrev batch_lines : List Op → List ℕ
@@ -109,7 +109,7 @@ module _ (old new : Store) (last : Session) (dones : List Done) (more out : List
       let end = text_of (committed number dones) in
       let ended : Outputs (batched old ops None) (lines_of (codes "commit" ++ 10 ∷ more)) last (end ++ out) =
       one_more (batched old ops None) (opening new) last (codes "commit") more out commit (committed number dones) refl commit_asked
-      (commit_accepted same_dones old new None ops number dones some (at_once old (λ s. MayWrite same_dones s ops (Ok (number, dones)) new) (w, refl))) next in
+      (commit_accepted same_outcomes old new None ops number dones some (at_once old (λ s. MayWrite same_outcomes s ops (Ok (number, dones)) new) (w, refl))) next in
       let filled : Outputs (batched old [] None) (lines_of (lines ++ (codes "commit" ++ 10 ∷ more))) last (replies ++ (end ++ out)) =
       all_queued old [] ops (codes "commit" ++ 10 ∷ more) (end ++ out) last can (omega (arith, few)) ended in
       let begun : Outputs (opening old) (lines_of (codes "begin" ++ 10 ∷ (lines ++ (codes "commit" ++ 10 ∷ more)))) last (text_of ok ++ (replies ++ (end ++ out))) =
@@ -132,7 +132,7 @@ module _ (old new : Store) (last : Session) (dones : List Done) (more out : List
       by true e = batch ops some few can w
       by false e = single ops some (grind (arith, nat_tests, e)) can w
 
--- the volume accepts a legal entry, and it is entered where the journal has room
+-- the volume accepts a legal entry, which the journal gets if it has room
 entry_written : (limit : ℕ) (front : List Entry) (entry : Entry) → Agrees (replay front) entry → length front < limit →
     written (made limit front) entry.ops ≡ Ok (made limit (front ++ entry ∷ []), entry.dones)
 entry_written limit front entry agrees room =
@@ -145,7 +145,7 @@ entry_written limit front entry agrees room =
     ∙ (ap (λ (b : Bool). cond b (Ok (entered (made limit front) entry.ops agrees.0 entry.dones, entry.dones)) (Err CommitsSpent)) short
     ∙ ap (λ (s : Store). Ok (s, entry.dones)) same)
 
--- the entry has 1 to 64 operations, each one of the program
+-- the entry has 1 to 64 valid operations
 abbrev pub HasWrite : Entry → Type 0
 HasWrite entry = IsEntry entry × All CanBeOp entry.ops
 
@@ -182,12 +182,12 @@ entries_made limit front (entry ∷ rest) are legal short =
     (subst (λ (n : ℕ). Outputs (opening old) (lines_of (write_lines entry.ops ++ dump rest)) last (write_output n entry ++ dump_output (length front + 1 + 1) rest)) (sym numbered)
     (one_write old new last entry.dones (dump rest) (dump_output (length front + 1 + 1) rest) beyond entry.ops w.0.0 w.0.1 w.1 accepted))
 
--- the lines of writes make their journal
+-- the lines of writes rebuild their journal
 pub writes_made : (limit : ℕ) (entries : List Entry) → All HasWrite entries → IsLegal entries → length entries ≤ limit →
     IsOutputTo (start limit) (dump entries) (made limit entries) (dump_output 1 entries)
 writes_made limit entries are legal short = (opening (made limit entries), entries_made limit [] entries are legal short, refl)
 
--- the script of a journal makes it again
+-- a journal's script rebuilds it
 pub dump_made : (limit : ℕ) (entries : List Entry) → CanBeJournal entries → IsLegal entries → length entries ≤ limit →
     IsOutputTo (start limit) (dump entries) (made limit entries) (dump_output 1 entries)
 dump_made limit entries are legal short =

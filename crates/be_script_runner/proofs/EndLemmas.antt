@@ -15,7 +15,7 @@ pub nothing_asked : asked [] ≡ silent
 unfolding is_utf8 chars
 nothing_asked = refl
 
--- nothing is left after the last LF
+-- nothing follows the last LF
 pub finish_empty : (store : Store) (script left : List ℕ) (s : Session) (old new : Option (List ℕ)) → length left ≡ 0 → Wrote old new (HasReplied store script s left) →
     Wrote old new (IsOutputTo store script s.store)
 finish_empty store script [] s old new empty w =

@@ -1,8 +1,8 @@
--- One more script that is not too long.
+-- One more script that isn't too long.
 use Rattle.std.proofs.Common.{◌≡◌, Bool, true, false, ◌||◌, List, [], ◌∷◌, ◌++◌, refl}
 use Rattle.std.specs.List.{list_any}
 
--- what is so of no element, and not of one more, is so of none
+-- what holds for no element, nor for one more, holds for none of them
 pub none_pushed : {X : Type 0} (P : X → Bool) (xs : List X) (x : X) → list_any P xs ≡ false → P x ≡ false → list_any P (xs ++ x ∷ []) ≡ false
 none_pushed P [] x h g = by (P x) g
   where

@@ -19,4 +19,4 @@ pub mod ScanLemmas
 pub mod StateDumpLemmas
 pub mod StateTextLemmas
 pub mod StrictLemmas
-pub mod TellLemmas
+pub mod JournalRunLemmas

@@ -1,4 +1,4 @@
--- Which faults come of limits out of their ranges.
+-- Which errors come from limits that are out of range.
 use Rattle.std.proofs.Common.{◌≡◌, ℕ, List, inl, inr, refl, ap, ◌∙◌, subst, arith}
 use Rattle.std.specs.Prelude.{◌↔◌, Result, Ok, Err, IfErr, OnErr}
 use Rattle.std.specs.declared.option.Option.{Option}
@@ -9,7 +9,7 @@ use Rattle.be_store.specs.Passes.{IsPassOf}
 use Rattle.be_table.specs.Place.{Opened, SeatFacts}
 use Rattle.be_table.specs.Rule.{AreBad, IsWithin, entries}
 use Rattle.be_table.specs.Steps.{IsPass}
-use Rattle.be_table.specs.Versions.{CanSpellEach}
+use Rattle.be_table.specs.Versions.{CanEncodeEach}
 use Rattle.be_table.specs.declared.pass.Knowledge.{Knowledge}
 use Rattle.be_table.specs.Works.{IsOpenRefused}
 use Rattle.be_script_runner.specs.Race.{AreFirstPasses, IsRaceInPart, RaceLeaves}
@@ -17,15 +17,15 @@ use Rattle.be_script_runner.specs.Run.{IsLate, Wrote}
 use Rattle.be_script_runner.specs.declared.faults.RunFault.{RunFault}
 use Rattle.be_script_runner.specs.declared.faults.RunFault.TheVariants.{Limits, Read, TooLong, Write, Memory}
 
--- an answer of which P holds is not refused by what P excludes
+-- a result whose errors satisfy P isn't an error that P excludes
 pub not_by : {A : Type 0} (r : Result A RunFault) (P : RunFault → Type 0) (e : RunFault) → (P e → ⊥) → IfErr r P → r ≡ Err e → ⊥
 not_by {A} r P e never all is = never (subst (λ (x : Result A RunFault). IfErr x P) is all)
 
--- within the ranges the fault Limits doesn't come
+-- if the limits are within their ranges, the error isn't Limits
 pub no_fault : {A : Type 0} (limits : StoreLimits) (r : Result A RunFault) → IsWithin limits → (r ≡ Err Limits → ⊥) → (r ≡ Err Limits) ↔ AreBad limits
 no_fault limits r within never = (λ is. absurd (never is), λ bad. absurd (bad within))
 
--- limits that are within their ranges are so with one pass
+-- limits within their ranges stay so with one pass
 pub for_one : (limits : StoreLimits) → IsWithin limits → IsWithin (record limits { passes = 1 })
 for_one limits w = record {
   some_pages = w.some_pages;
@@ -36,12 +36,12 @@ for_one limits w = record {
   short = w.short;
 }
 
--- a store of one pass is refused for want of memory alone
+-- opening a store with one pass can only fail because memory runs out
 pub only_memory : (limits : StoreLimits) (e : Refusal) → IsWithin limits → IsOpenRefused (record limits { passes = 1 }) e → e ≡ OutOfMemory
 only_memory limits e within (inl bad) = absurd (bad.1 (for_one limits within))
 only_memory limits e within (inr want) = want.0
 
--- a fault after the scripts were looked at leaves a part of the whole, and for want of memory whole passes
+-- an error after the scripts were read leaves a prefix of the whole, and if memory ran out, whole passes
 pub late_stops : {A : Type 0} (r : Result A RunFault) (limits : StoreLimits) (scripts : List (List ℕ)) (old new : Option (List ℕ)) → IfErr r IsLate →
     OnErr r (Wrote old new (IsRaceInPart limits scripts)) → IfErr r (λ e. e ≡ Memory → Wrote old new (AreFirstPasses limits scripts)) →
     IfErr r (λ e. RaceLeaves limits scripts e old new)
@@ -52,13 +52,13 @@ late_stops (Err TooLong) limits scripts old new late w whole = absurd late
 late_stops (Err Write) limits scripts old new late w whole = w
 late_stops (Err Memory) limits scripts old new late w whole = whole refl
 
--- as many pages as the store has can spell each volume that a pass of it has seen
-seen_spelt : (pages : ℕ) (store : Opened) (pass : SeatFacts) (a : Knowledge) → IsPassOf store pass → store.limits.pages ≡ pages → pass.knows ≡ a → IsPass pass.knows → CanSpellEach pages (entries a.seen)
-seen_spelt pages store pass a of_store is same h =
-    subst (λ (k : Knowledge). CanSpellEach pages (entries k.seen)) same
-    (subst (λ n. CanSpellEach n (entries pass.knows.seen)) (ap (λ (l : StoreLimits). l.pages) of_store.0.2 ∙ is) h.volumes)
+-- each volume that a pass has seen fits into as many pages as the store has
+seen_encoded : (pages : ℕ) (store : Opened) (pass : SeatFacts) (a : Knowledge) → IsPassOf store pass → store.limits.pages ≡ pages → pass.knows ≡ a → IsPass pass.knows → CanEncodeEach pages (entries a.seen)
+seen_encoded pages store pass a of_store is same h =
+    subst (λ (k : Knowledge). CanEncodeEach pages (entries k.seen)) same
+    (subst (λ n. CanEncodeEach n (entries pass.knows.seen)) (ap (λ (l : StoreLimits). l.pages) of_store.0.2 ∙ is) h.volumes)
 
--- the same of a pass that a server of the store gives back
-pub served_spelt : (pages : ℕ) (store kept : Opened) (pass : SeatFacts) (a : Knowledge) → kept ≡ store → IsPassOf kept pass → store.limits.pages ≡ pages → pass.knows ≡ a → IsPass pass.knows →
-    CanSpellEach pages (entries a.seen)
-served_spelt pages store kept pass a same of_kept is knows h = seen_spelt pages store pass a (subst (λ (s : Opened). IsPassOf s pass) same of_kept) is knows h
+-- the same for a pass that a server of the store gives back
+pub served_encoded : (pages : ℕ) (store kept : Opened) (pass : SeatFacts) (a : Knowledge) → kept ≡ store → IsPassOf kept pass → store.limits.pages ≡ pages → pass.knows ≡ a → IsPass pass.knows →
+    CanEncodeEach pages (entries a.seen)
+served_encoded pages store kept pass a same of_kept is knows h = seen_encoded pages store pass a (subst (λ (s : Opened). IsPassOf s pass) same of_kept) is knows h

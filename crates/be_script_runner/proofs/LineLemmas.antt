@@ -1,4 +1,4 @@
--- Lines that end with an LF, and what the words of a batch ask for.
+-- Lines that end with an LF, and what the batch commands ask for.
 use Rattle.std.proofs.Common.{◌≡◌, ℕ, Bool, true, false, not, List, [], ◌∷◌, ◌++◌, nat_eq, codes, refl, ap, ◌∙◌}
 use Rattle.std.proofs.lemmas.Bool.{and_parts}
 use Rattle.std.proofs.lemmas.List.Splits.{slice_split-cons_no}

@@ -12,7 +12,7 @@ use Rattle.be_store.specs.History.{Accepts, Pins}
 use Rattle.be_store.specs.Passes.{volume_pinned, volume_seen}
 use Rattle.be_store.proofs.Applied.{entries_append}
 use Rattle.be_store.proofs.Calls.{calls_seen, starts_trans}
-use Rattle.be_store.proofs.Told.{current_later}
+use Rattle.be_store.proofs.Learned.{current_later}
 use Rattle.be_table.specs.History.{StartsWith}
 use Rattle.be_table.specs.Rule.{entries}
 use Rattle.be_table.specs.Steps.{KeepsSeen, entry_by}
@@ -31,7 +31,7 @@ use Rattle.be_script_runner.specs.Order.{AreInOneOrder, FollowOneOrder, IsMoment
 grown : {A : Type 0} (x y : A) (xs ys rest : List A) → x ≡ y → ys ≡ xs ++ rest → y ∷ ys ≡ x ∷ (xs ++ rest)
 grown x y xs ys rest heads is = cc
 
--- of two prefixes of a list one is a prefix of the other
+-- of two prefixes of a list, one is a prefix of the other
 either_front : {A : Type 0} (xs ys more rest : List A) → xs ++ more ≡ ys ++ rest → StartsWith ys xs ⊎ StartsWith xs ys
 either_front [] ys more rest same = inl (ys, refl)
 either_front (x ∷ xs) [] more rest same = inr (x ∷ xs, refl)
@@ -61,7 +61,7 @@ moment_writes journal (z ∷ passes) a c ops n dones all (inl h) accepted = All-
 moment_writes journal (z ∷ passes) a c ops n dones all (inr h) accepted =
     moment_writes journal passes a c ops n dones (All-tail (HasWrites journal) z passes all) h accepted
 
--- a prefix is the first so many elements
+-- a prefix consists of the list's first elements
 first_elements : {A : Type 0} (log xs : List A) → StartsWith log xs → xs ≡ take (length xs) log
 first_elements log xs h =
     sym (ap (take (length xs)) h.1 ∙ (take-append-le (length xs) xs h.0 (omega arith) ∙ take-length xs))

@@ -1,4 +1,4 @@
--- The writes of a pass are some of its script's write lines.
+-- A pass's writes are some of its script's write lines.
 use Rattle.std.proofs.Common.{◌≡◌, ℕ, Bool, true, false, nat_lt, List, [], ◌∷◌, ◌++◌, Some, None, inl, inr, refl, sym, ap, ◌∙◌, subst, append_assoc, length}
 use Rattle.std.specs.Prelude.{Option, Result, Ok, Err, if◌then◌else◌}
 use Rattle.std.specs.List.{flat_map}
@@ -40,11 +40,11 @@ abbrev queued : Option (List Op) → List Op
 queued None = []
 queued (Some ops) = ops
 
--- what the pass has written, and then what it has queued
+-- what the pass has written, followed by what it has queued
 abbrev mine : Session → List Op
 mine s = own_ops s.store ++ queued s.batch
 
--- the pass is the same, of as many, and what is its own now is part of what it was, with these operations more
+-- the pass and the number of passes are the same, and its own operations are now part of what they were and these
 record Adds (s after : Session) (ops : List Op) : Type 0 where
   pub pass : after.store.pass ≡ s.store.pass
   pub passes : after.store.passes ≡ s.store.passes
@@ -53,7 +53,7 @@ record Adds (s after : Session) (ops : List Op) : Type 0 where
 nothing_added : (s : Session) (ops : List Op) → Adds s s ops
 nothing_added s ops = record { pass = refl; passes = refl; part = part_front (mine s) ops }
 
--- what is queued is lost
+-- the queue is dropped
 queue_lost : (s : Session) (ops : List Op) → Adds s (with_batch s None) ops
 queue_lost s ops = record {
   pass = refl;
@@ -70,13 +70,13 @@ abbrev store_in : Store → Result (Store × List Done) Refusal → Store
 store_in d (Ok x) = x.0
 store_in d (Err e) = d
 
--- the operations of a write are the pass's
+-- a write's operations are the pass's
 own_entered : (s : Store) (ops : List Op) (volume : State) (dones : List Done) → own_ops (entered s ops volume dones) ≡ own_ops s ++ ops
 own_entered s ops volume dones =
     let e : Entry = record { by = s.pass; ops = ops; dones = dones } in
     ap operations (by_pass-own s.pass s.journal e refl) ∙ (flat_map-append (λ (e : Entry). e.ops) (by_pass s.pass s.journal) (e ∷ []) ∙ ap (λ l. own_ops s ++ l) (flat_map-cons (λ (e : Entry). e.ops) e [] ∙ append-nil ops))
 
--- what an accepted write makes of the store
+-- the store after an accepted write
 record IsWritten (s t : Store) (ops : List Op) : Type 0 where
   pub pass : t.pass ≡ s.pass
   pub passes : t.passes ≡ s.passes
@@ -111,7 +111,7 @@ written_adds s op closed (Err f) e = nothing_added s (op ∷ [])
 abbrev queued_if : Session → List Op → Op → Bool → Reply × Session
 queued_if s ops op b = if b then (queued_word, with_batch s (Some (ops ++ op ∷ []))) else (full_batch, s)
 
--- a write line, which is queued where a batch is open
+-- a write line, which is queued if a batch is open
 taken_adds : (s : Session) (op : Op) (b : Option (List Op)) → s.batch ≡ b → Adds s (taken s b op).1 (op ∷ [])
 taken_adds s op None e = written_adds s op e (written s.store (op ∷ [])) refl
 taken_adds s op (Some ops) e = by (nat_lt (length ops) 64)
@@ -127,7 +127,7 @@ taken_adds s op (Some ops) e = by (nat_lt (length ops) 64)
     by true = longer
     by false = nothing_added s (op ∷ [])
 
--- a commit, whose batch is written as one
+-- a commit, whose batch is written as one transaction
 committed_adds : (s : Session) (ops : List Op) → s.batch ≡ Some ops → (r : Result (Store × List Done) Refusal) → written s.store ops ≡ r → Adds s (commit_reply s r).1 []
 committed_adds s ops batch (Ok x) e =
     let w : IsWritten s.store x.0 ops = write_written s.store x.0 ops x.1 e in record {
@@ -201,7 +201,7 @@ may_reply_to_adds : (s : Session) (request : Request) (text : List ℕ) (answer 
 may_reply_to_adds s request text answer reply after ops h (inl e) = same_left (answer e.0) reply after s ops e.2 (h e.0)
 may_reply_to_adds s request text answer reply after ops h (inr w) = subst (λ (z : Session). Adds s z ops) (sym w.0) (unwritten_adds s request ops)
 
--- a line adds to the pass's own at most what it writes
+-- a line adds at most what it writes to the pass's own operations
 replies_add : (s : Session) (request : Request) (reply : Reply) (after : Session) → Replies s request reply after → Adds s after (write_op request)
 replies_add s silent reply after h = same_left _ reply after s [] h (nothing_added s [])
 replies_add s malformed reply after h = may_reply_adds s malformed _ reply after [] (nothing_added s []) h
@@ -222,7 +222,7 @@ replies_add s begin reply after h = may_reply_adds s begin _ reply after [] (beg
 replies_add s commit reply after h = may_reply_adds s commit _ reply after [] (committing_adds s s.batch refl) h
 replies_add s abort reply after h = may_reply_adds s abort _ reply after [] (aborting_adds s s.batch) h
 
--- what others write is not the pass's
+-- what others write isn't the pass's
 joined_own : (a b : Store) → Joins a b → (b.pass ≡ a.pass) × (own_ops b ≡ own_ops a)
 joined_own a b h =
     let theirs : by_pass a.pass h.others ≡ [] = none_own a.pass h.others (λ k d lt. (h.theirs k d lt).1) in (
@@ -240,7 +240,7 @@ serves_add s request reply after h =
       part = subst (λ l. IsPartOf (mine after) ((l ++ queued s.batch) ++ write_op request)) joined.1 adds.part;
     }
 
--- a line of a store of one pass is answered from the store as it is, and leaves one of one pass
+-- in a store with one pass a line is answered from the store as it is, and leaves a store with one pass
 pub answered_alone : (s after : Session) (request : Request) (reply : Reply) → s.store.passes ≡ 1 → s.store.pass ≡ 0 → Serves s request reply after →
     Replies s request reply after × (after.store.passes ≡ 1) × (after.store.pass ≡ 0)
 answered_alone s after request reply one first h =
@@ -253,7 +253,7 @@ answered_alone s after request reply one first h =
 abbrev line_ops : List ℕ → List Op
 line_ops line = write_op (asked line)
 
--- so do lines, one after the other
+-- the same for several lines, one after another
 outputs_add : (s : Session) (lines : List (List ℕ)) (last : Session) (out : List ℕ) → Outputs s lines last out → Adds s last (flat_map line_ops lines)
 outputs_add s [] last out h = subst (λ (z : Session). Adds s z []) (sym h.0) (nothing_added s [])
 outputs_add s (line ∷ lines) last out h = by h.0 h.3.1 (outputs_add h.0 lines last h.2 h.4)
@@ -279,14 +279,14 @@ own_writes store new script out h =
           (subst (λ l. IsPartOf (mine h.0) (l ++ write_ops script)) (append-nil (own_ops store)) adds.part)),
     )
 
--- what a pass wrote that had seen nothing
+-- what a pass wrote that had seen nothing before
 pub pass_writes : (a c : Knowledge) (script out : List ℕ) → a.seen ≡ [] → IsPass c → IsOutputTo (known a) script (known c) out → IsPartOf (operations c.mine) (write_ops script)
 pass_writes a c script out fresh beyond h =
     let part : IsPartOf (own_ops (known c)) (own_ops (known a) ++ write_ops script) = (own_writes (known a) (known c) script out h).1 in
     subst (λ l. IsPartOf (operations l) (write_ops script)) beyond.mine
     (subst (λ (seen : List Commit). IsPartOf (own_ops (known c)) (operations (by_pass a.number (entries seen)) ++ write_ops script)) fresh part)
 
--- what a script was replied that was served from such a pass, and what the pass wrote
+-- the replies to a script that such a pass served, and what the pass wrote
 pub pass_served : (a c : Knowledge) (script old text : List ℕ) → a.seen ≡ [] → IsPass c → old ≡ [] → Wrote (Some old) (Some text) (IsServedBy a script c) →
     IsServedBy a script c text × IsPartOf (operations c.mine) (write_ops script)
 pass_served a c script old text fresh beyond empty w =

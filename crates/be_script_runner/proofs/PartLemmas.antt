@@ -16,7 +16,7 @@ part_both a c [] d h g = subst (λ l. IsPartOf (l ++ c) d) (sym h) g
 part_both a c (y ∷ ys) d (inl h) g = inl (part_both a c ys d h g)
 part_both a c (y ∷ ys) d (inr h) g = inr (h.0 ++ c, ap (λ l. l ++ c) h.1, part_both h.0 c ys d h.2 g)
 
--- a part of a front
+-- a list's prefix is part of it
 pub part_front : {A : Type 0} (xs ys : List A) → IsPartOf xs (xs ++ ys)
 part_front [] ys = nothing_part ys
 part_front (x ∷ xs) ys = inr (xs, refl, part_front xs ys)

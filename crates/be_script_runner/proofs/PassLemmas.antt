@@ -1,4 +1,4 @@
--- What a pass knows before and after a call, as the store that it shows.
+-- What a pass knows before and after a call, and the store that it shows accordingly.
 use Rattle.std.proofs.Common.{◌≡◌, ◌≢◌, ◌⊎◌, ◌<◌, ◌≤◌, ◌+◌, ℕ, Bool, true, false, cond, eqb, nat_lt, List, [], ◌∷◌, ◌++◌, All, length, take, Option, Some, None, IsOk, inl, inr, refl, sym, ap, ◌∙◌, subst, append_assoc, arith, length-append}
 use Rattle.std.specs.Prelude.{Result, Ok, Err, IfOk, IfErr, IsSome}
 use Rattle.std.specs.Option.{option_map, option_map_or}
@@ -18,7 +18,7 @@ use Rattle.be_table.specs.declared.pass.Knowledge.{Knowledge}
 use Rattle.be_table.specs.History.{AreOfPasses}
 use Rattle.be_table.specs.Rule.{announce_word, entries}
 use Rattle.be_table.specs.Seats.{pinned_number}
-use Rattle.be_table.specs.Steps.{IsPass, entry_by, least_found}
+use Rattle.be_table.specs.Steps.{IsPass, entry_by, lowest_found}
 use Rattle.be_table.specs.Works.{HasNoRoom}
 use Rattle.be_table.proofs.Histories.{by_pass-append, below-front}
 use Rattle.be_value.specs.declared.refusals.Refusal.{Refusal}
@@ -40,7 +40,7 @@ pin_of es phase = option_map {T = ℕ} {U = PinnedVolume} (λ n. record { number
 abbrev some_pin : PinnedVolume → Option PinnedVolume
 some_pin p = Some p
 
--- a pin stays where more is seen
+-- a pin stays when the pass sees more
 pin_stays : (es more : List Entry) (phase : Phase) → InTime (length es) phase → pin_of (es ++ more) phase ≡ pin_of es phase
 pin_stays es more Idle h = refl
 pin_stays es more (Looked x) h = refl
@@ -50,7 +50,7 @@ pin_stays es more (Pinned x n) h = ap (λ (l : List Entry). some_pin (record { n
 seen_count : (seen : List Commit) → length (entries seen) ≡ length seen
 seen_count seen = length-map seen (λ (c : Commit). c.entry)
 
--- what a pass shows that has seen this, with the pin of the pass a
+-- what a pass that has seen this shows, with the pin of the pass a
 abbrev seen_by : Knowledge → List Entry → Store
 seen_by a log = record (known a) { journal = log; volume = replay log }
 
@@ -59,7 +59,7 @@ unfolding AreOfPasses
 below_after passes [] more b = b
 below_after passes (e ∷ log) more b = below_after passes log more b.1
 
--- entries of passes of the store, of which none is by the pass k, are by others
+-- if all entries are by passes of the store, and none by pass k, they are by others
 all_theirs : (passes k : ℕ) (es : List Entry) → AreOfPasses passes es → by_pass k es ≡ [] → All (λ (e : Entry). (e.by < passes) × (e.by ≢ k)) es
 unfolding AreOfPasses
 all_theirs passes k [] b none = All-nil (λ (e : Entry). (e.by < passes) × (e.by ≢ k))
@@ -73,7 +73,7 @@ all_theirs passes k (e ∷ es) b none = by (eqb e.by k) refl none (all_theirs pa
         differs : eqb e.by k ≡ false → e.by ≢ k
         differs h = λ same. absurd (let t : eqb e.by k ≡ true = grind (arith, nat_tests, same) in cc)
 
--- where more was seen, and none of it by the pass, others have joined
+-- if the pass has seen more, and none of it is its own, others have joined
 joins_more : (a : Knowledge) (more : List Entry) → by_pass a.number more ≡ [] → AreOfPasses a.limits.passes (entries a.seen ++ more) → Joins (known a) (seen_by a (entries a.seen ++ more))
 joins_more a more none below = record {
   others = more;
@@ -95,7 +95,7 @@ is_pinned_to a b e h = by (pinned_number a.phase) refl (subst (λ (k : Knowledge
         never e = cc
     by (Some n) g k = (n, g)
 
--- a list that the volume accepts, where the journal has room, and where it has none
+-- a list that the volume accepts, if the journal has room, and if it has none
 accepted_with_room : (s : Store) (ops : List Op) (r : Result (State × List Done) Refusal) → IsOk r → length s.journal < s.limit → IsOk (written_by s ops r)
 accepted_with_room s ops (Ok answer) ok h = let t : nat_lt (length s.journal) s.limit ≡ true = grind (arith, nat_tests) in rw t refl
 accepted_with_room s ops (Err e) ok h = cc
@@ -107,21 +107,21 @@ refused_at_limit s ops (Err e) ok h = cc
 written_with_room : (s : Store) (ops : List Op) (volume : State) (dones : List Done) → length s.journal < s.limit → written_by s ops (Ok (volume, dones)) ≡ Ok (entered s ops volume dones, dones)
 written_with_room s ops volume dones h = let t : nat_lt (length s.journal) s.limit ≡ true = grind (arith, nat_tests) in rw t refl
 
--- the least that a pass finds at most, and finds where it is the only one, as the version that is read
-least_shown : (passes : ℕ) (seen : List Commit) (phase : Phase) (least : ℕ) → IsBetweenCalls passes phase → InTime (length seen) phase
-    → (least ≤ least_found (length seen) (announce_word phase)) × (passes ≡ 1 → least ≡ least_found (length seen) (announce_word phase))
+-- the lowest version that a pass finds is at most the one that reads see; it is that one if the pass is the only one
+lowest_shown : (passes : ℕ) (seen : List Commit) (phase : Phase) (least : ℕ) → IsBetweenCalls passes phase → InTime (length seen) phase
+    → (least ≤ lowest_found (length seen) (announce_word phase)) × (passes ≡ 1 → least ≡ lowest_found (length seen) (announce_word phase))
     → let shown = option_map_or (λ (p : PinnedVolume). p.number) (pin_of (entries seen) phase) (length (entries seen)) in (least ≤ shown) × (passes ≡ 1 → least ≡ shown)
-least_shown passes seen Idle least settled time own = (omega (arith, seen_count seen, own.0), λ one. own.1 one ∙ sym (seen_count seen))
-least_shown passes seen (Looked x) least settled time own = absurd settled
-least_shown passes seen (Announced x) least settled time own = absurd settled
-least_shown passes seen (Pinned x n) least settled time own = (omega (arith, time.0, own.0), λ one. let same = settled one in let found = own.1 one in omega (arith, time.1, same, found))
+lowest_shown passes seen Idle least settled time own = (omega (arith, seen_count seen, own.0), λ one. own.1 one ∙ sym (seen_count seen))
+lowest_shown passes seen (Looked x) least settled time own = absurd settled
+lowest_shown passes seen (Announced x) least settled time own = absurd settled
+lowest_shown passes seen (Pinned x n) least settled time own = (omega (arith, time.0, own.0), λ one. let same = settled one in let found = own.1 one in omega (arith, time.1, same, found))
 
 -- a call of a pass
 module _ (a c : Knowledge) (before : IsPass a) (beyond : IsPass c) (limits : c.limits ≡ a.limits) where
   in_time : InTime (length (entries a.seen)) a.phase
   in_time = subst (λ m. InTime m a.phase) (sym (seen_count a.seen)) before.pin
 
-  -- of what it sees more, none is its own
+  -- none of what it newly sees is its own
   none_new : (more : List Commit) → c.seen ≡ a.seen ++ more → c.mine ≡ a.mine → c.number ≡ a.number → by_pass a.number (entries more) ≡ []
   none_new more seen mine number = nothing_more a.mine (by_pass a.number (entries more))
       (ap (λ l. l ++ by_pass a.number (entries more)) (sym before.mine)
@@ -129,14 +129,14 @@ module _ (a c : Knowledge) (before : IsPass a) (beyond : IsPass c) (limits : c.l
       ∙ (ap (by_pass a.number) (sym (ap entries seen ∙ entries_append a.seen more))
       ∙ (ap (λ k. by_pass k (entries c.seen)) (sym number) ∙ (beyond.mine ∙ mine)))))
 
-  -- others have joined what it sees then, but for its pin
+  -- others have joined what it now sees, except for its pin
   joins_seen : (more : List Commit) → c.seen ≡ a.seen ++ more → c.mine ≡ a.mine → c.number ≡ a.number → Joins (known a) (seen_by a (entries c.seen))
   joins_seen more seen mine number =
       let log : entries c.seen ≡ entries a.seen ++ entries more = ap entries seen ∙ entries_append a.seen more in
       subst (λ l. Joins (known a) (seen_by a l)) (sym log) (joins_more a (entries more) (none_new more seen mine number)
       (subst (λ l. AreOfPasses a.limits.passes l) log (subst (λ k. AreOfPasses k (entries c.seen)) (ap (λ l. l.passes) limits) beyond.by_passes)))
 
-  -- what the pass shows, by its journal alone, where its phase is the same
+  -- what the pass shows depends only on its journal, if its phase is the same
   shown : (more : List Entry) → entries c.seen ≡ entries a.seen ++ more → c.number ≡ a.number → c.phase ≡ a.phase → known c ≡ seen_by a (entries c.seen)
   shown more log number phase =
       let pin : pin_of (entries c.seen) c.phase ≡ pin_of (entries a.seen) a.phase =
@@ -179,10 +179,10 @@ module _ (a c : Knowledge) (before : IsPass a) (beyond : IsPass c) (limits : c.l
         );
       }
 
-  accepts_meanwhile : {X : Type 0} (dones_of : X → List Done) (ops : List Op) (n : ℕ) (x : X) → Accepts a c ops n (dones_of x) →
-      Meanwhile (known a) (λ s. MayWrite dones_of s ops (Ok (n, x)) (known c))
-  accepts_meanwhile dones_of ops n x h =
-      let dones : List Done = dones_of x in
+  accepts_meanwhile : {X : Type 0} (outcomes_of : X → List Done) (ops : List Op) (n : ℕ) (x : X) → Accepts a c ops n (outcomes_of x) →
+      Meanwhile (known a) (λ s. MayWrite outcomes_of s ops (Ok (n, x)) (known c))
+  accepts_meanwhile outcomes_of ops n x h =
+      let dones : List Done = outcomes_of x in
       let e : Entry = entry_by a ops dones in
       let log : List Entry = entries (a.seen ++ h.others) in
       let now : Store = seen_by a log in
@@ -223,18 +223,18 @@ module _ (a c : Knowledge) (before : IsPass a) (beyond : IsPass c) (limits : c.l
       unroomed (inl spent) = inl (refused_at_limit (known c) ops (steps (volume_seen c) ops) h.0 (seen_count c.seen ∙ spent.1) ∙ ap Err (sym spent.0))
       unroomed (inr want) = inr (inl (inl want.0, accepted_with_room (known c) ops (steps (volume_seen c) ops) h.0 (omega (arith, seen_count c.seen, want.1))))
   refused_as tries ops e settled number (inr (inr (inr h), locks)) =
-      inr (inl (inr (h.2.0, h.2.1, least_shown c.limits.passes c.seen c.phase h.2.0 settled beyond.pin h.2.2.spent.2), accepted_with_room (known c) ops (steps (volume_seen c) ops) h.0 (omega (arith, seen_count c.seen, h.1))))
+      inr (inl (inr (h.2.0, h.2.1, lowest_shown c.limits.passes c.seen c.phase h.2.0 settled beyond.pin h.2.2.spent.2), accepted_with_room (known c) ops (steps (volume_seen c) ops) h.0 (omega (arith, seen_count c.seen, h.1))))
 
-  pub writes_meanwhile : {X : Type 0} (tries : ℕ) (dones_of : X → List Done) (ops : List Op) (r : Result (ℕ × X) Refusal) → IsBetweenCalls c.limits.passes c.phase → IfOk r (λ x. Accepts a c ops x.0 (dones_of x.1)) →
-      IfErr r (λ e. Learns a c × IsLastReason tries a c ops e) → Meanwhile (known a) (λ s. MayWrite dones_of s ops r (known c))
-  writes_meanwhile tries dones_of ops (Ok x) settled ok err = accepts_meanwhile dones_of ops x.0 x.1 ok
-  writes_meanwhile tries dones_of ops (Err e) settled ok err = record { now = known c; joins = learns_joins err.0; is = (refl, refused_as tries ops e settled err.0.pass err.1) }
+  pub writes_meanwhile : {X : Type 0} (tries : ℕ) (outcomes_of : X → List Done) (ops : List Op) (r : Result (ℕ × X) Refusal) → IsBetweenCalls c.limits.passes c.phase → IfOk r (λ x. Accepts a c ops x.0 (outcomes_of x.1)) →
+      IfErr r (λ e. Learns a c × IsLastReason tries a c ops e) → Meanwhile (known a) (λ s. MayWrite outcomes_of s ops r (known c))
+  writes_meanwhile tries outcomes_of ops (Ok x) settled ok err = accepts_meanwhile outcomes_of ops x.0 x.1 ok
+  writes_meanwhile tries outcomes_of ops (Err e) settled ok err = record { now = known c; joins = learns_joins err.0; is = (refl, refused_as tries ops e settled err.0.pass err.1) }
 
--- a write leaves the pass its number, and its refusal has a reason
-pub same_number : {X : Type 0} (a c : Knowledge) (tries : ℕ) (dones_of : X → List Done) (ops : List Op) (r : Result (ℕ × X) Refusal) → IfOk r (λ x. Accepts a c ops x.0 (dones_of x.1)) →
+-- after a write the pass has the same number, and an error has a reason
+pub same_number : {X : Type 0} (a c : Knowledge) (tries : ℕ) (outcomes_of : X → List Done) (ops : List Op) (r : Result (ℕ × X) Refusal) → IfOk r (λ x. Accepts a c ops x.0 (outcomes_of x.1)) →
     IfErr r (λ e. Learns a c × IsLastReason tries a c ops e) → c.number ≡ a.number
-same_number a c tries dones_of ops (Ok x) ok err = ok.pass
-same_number a c tries dones_of ops (Err e) ok err = err.0.pass
+same_number a c tries outcomes_of ops (Ok x) ok err = ok.pass
+same_number a c tries outcomes_of ops (Err e) ok err = err.0.pass
 
 pub last_reason : {X : Type 0} (a c : Knowledge) (tries : ℕ) (ops : List Op) (r : Result X Refusal) → IfErr r (λ e. Learns a c × IsLastReason tries a c ops e) → IfErr r (λ e. IsLastReason tries a c ops e)
 last_reason a c tries ops (Ok x) err = tt

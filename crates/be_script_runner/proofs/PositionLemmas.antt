@@ -1,4 +1,4 @@
--- The position of a page's last node is the cursor that the page leaves.
+-- The position of a page's last node gives the cursor that the page leaves.
 use Rattle.std.proofs.Common.{◌≡◌, ◌≢◌, ◌∙◌, ◌-◌, ℕ, suc, Bool, true, false, List, [], ◌∷◌, Option, Some, None, refl, sym, ap, subst, arith, length, take, if◌then◌else◌}
 use Rattle.std.specs.Prelude.{Result, Ok, Err, slice_get}
 use Rattle.std.specs.FinMap as fin
@@ -30,7 +30,7 @@ abbrev page_or : Page → Result Page Refusal → Page
 page_or p (Ok q) = q
 page_or p (Err e) = p
 
--- the attribute of a node whose pair an index has
+-- the attribute of a node whose pair is in an index
 seen_attribute : (s : State) → IsSound s → (by : List ℕ) (n : ℕ) (value : Value) → sees s n by ≡ Some value → attribute s n by ≡ Some value
 seen_attribute s sound by n value seen = at (fin.get s.indices by) refl seen
   where

@@ -30,7 +30,7 @@ use Rattle.be_script_runner.proofs.CallLemmas.{served_output}
 use Rattle.be_script_runner.proofs.RunLemmas.{none_written, written_both}
 use Rattle.be_script_runner.specs.Race.{HaveServed, AreRepliesOf, IsOutcome, IsRace, IsRaceInPart, IsReplied, AreFirstPasses, AreFirstTexts, pass_line, replies_text}
 
--- what is so of each element, and of one more at its place, is so of all
+-- what holds for each element, and for one more at its place, holds for all
 pub each_pushed : {X : Type 0} (P : ℕ → X → Type 0) (xs : List X) (x : X) → ((k : ℕ) (d : X) → k < length xs → P k (get_or xs k d)) → P (length xs) x →
     (k : ℕ) (d : X) → k < length (xs ++ x ∷ []) → P k (get_or (xs ++ x ∷ []) k d)
 each_pushed P [] x each last zero d h = last
@@ -53,12 +53,12 @@ each_promised {H} {S} store_of number_of script_of gate_of store scripts gate th
     let whole : (n : ℕ) (h : H) → n < length more → P n (get_or more n h) = subst (λ hs. (n : ℕ) (h : H) → n < length hs → P n (get_or hs n h)) (sym is) all in
     whole k t below s
 
--- what two facts of an answer give
+-- what two facts about a result imply
 pub on_both : {X E : Type 0} {P Q R : X → Type 0} (r : Result X E) → IfOk r P → IfOk r Q → ((x : X) → P x → Q x → R x) → IfOk r R
 on_both (Ok x) p q f = f x p q
 on_both (Err e) p q f = tt
 
--- what is so where there is an answer is so of this one
+-- what holds for every answer holds for this one
 pub on_at_ok : {X E : Type 0} {r : Result X E} {x : X} (P : Type 0) → r ≡ Ok x → OnOk r P → P
 on_at_ok P is h = subst (λ r. OnOk r P) is h
 
@@ -74,7 +74,7 @@ from_new text limits k a c script (Ok x) is number mine own replies = record {
 }
 from_new text limits k a c script (Err e) is number mine own replies = tt
 
--- a journal that keeps what a pass has seen and written is that of its script's replies
+-- a journal that has what a pass has seen and written is that of its script's replies
 replied_by : (limits : Limits) (journal : List Entry) (k : ℕ) (script text : List ℕ) (a : Knowledge) → a.number ≡ k → IsOutcome limits k script a text → StartsWith journal (entries a.seen) →
     by_pass a.number journal ≡ a.mine → IsReplied limits journal k script text
 replied_by limits journal k script text a number o seen own = record {
@@ -84,28 +84,28 @@ replied_by limits journal k script text a number o seen own = record {
   own = subst (λ n. by_pass n journal ≡ a.mine) number own ∙ sym o.mine;
 }
 
--- what was told of one script more
-told_each : (Told : ℕ → List ℕ → Type 0) (k : ℕ) (script : List ℕ) (scripts : List (List ℕ)) → Told k script →
-    ((i : ℕ) → i < length scripts → Told ((k + 1) + i) (slice_index_or scripts i [])) →
-    (i : ℕ) → i < length (script ∷ scripts) → Told (k + i) (slice_index_or (script ∷ scripts) i [])
-told_each Told k script scripts here beyond zero below = subst (λ n. Told n script) (sym (add-zero k)) here
-told_each Told k script scripts here beyond (suc i) below =
-    let e : (k + 1) + i ≡ k + suc i = omega arith in subst (λ n. Told n (slice_index_or scripts i [])) e (beyond i (omega (arith, below)))
+-- what holds for one more script
+reported_each : (Reported : ℕ → List ℕ → Type 0) (k : ℕ) (script : List ℕ) (scripts : List (List ℕ)) → Reported k script →
+    ((i : ℕ) → i < length scripts → Reported ((k + 1) + i) (slice_index_or scripts i [])) →
+    (i : ℕ) → i < length (script ∷ scripts) → Reported (k + i) (slice_index_or (script ∷ scripts) i [])
+reported_each Reported k script scripts here beyond zero below = subst (λ n. Reported n script) (sym (add-zero k)) here
+reported_each Reported k script scripts here beyond (suc i) below =
+    let e : (k + 1) + i ≡ k + suc i = omega arith in subst (λ n. Reported n (slice_index_or scripts i [])) e (beyond i (omega (arith, below)))
 
-module _ {V E : Type 0} (store : Opened) (items : V → List ℕ) (Told : ℕ → List ℕ → Type 0) where
-  -- what the thread of the pass k has promised
+module _ {V E : Type 0} (store : Opened) (items : V → List ℕ) (Reported : ℕ → List ℕ → Type 0) where
+  -- what pass k's thread has promised
   abbrev pub EndsAs : ℕ → V → SeatFacts × Result V E → Type 0
   EndsAs k script o =
-      IsPassOf store o.0 × (o.0.knows.number ≡ k) × IfOk o.1 (λ text. IsOutcome store.limits k (items script) o.0.knows (items text)) × OnOk o.1 (Told k (items script))
+      IsPassOf store o.0 × (o.0.knows.number ≡ k) × IfOk o.1 (λ text. IsOutcome store.limits k (items script) o.0.knows (items text)) × OnOk o.1 (Reported k (items script))
 
-  -- the outcomes from the number k on, none of which is a fault
+  -- the outcomes from number k on, none of which is an error
   pub served_from : (k : ℕ) (scripts : List V) (outcomes : List (SeatFacts × Result V E)) (texts : List V) → length outcomes ≡ length scripts →
       ((i : ℕ) (o : SeatFacts × Result V E) (s : V) → i < length scripts → EndsAs (k + i) (get_or scripts i s) (get_or outcomes i o)) →
       map Ok texts ≡ map (λ (o : SeatFacts × Result V E). o.1) outcomes →
       HaveServed store k (map items scripts) (map (λ (o : SeatFacts × Result V E). o.0) outcomes)
       × AreRepliesOf store.limits k (map items scripts) (map (λ (o : SeatFacts × Result V E). o.0) outcomes) (map items texts)
       × AreServedBy store.limits k (map items scripts) (map knows_of (map (λ (o : SeatFacts × Result V E). o.0) outcomes)) (map items texts)
-      × ((i : ℕ) → i < length (map items scripts) → Told (k + i) (slice_index_or (map items scripts) i []))
+      × ((i : ℕ) → i < length (map items scripts) → Reported (k + i) (slice_index_or (map items scripts) i []))
   served_from k [] [] [] count each all = (tt, λ journal keeps. tt, tt, λ i below. absurd (omega (arith, below)))
   served_from k [] [] (t ∷ ts) count each all = cc
   served_from k [] (o ∷ os) texts count each all = absurd (omega (arith, count))
@@ -115,29 +115,29 @@ module _ {V E : Type 0} (store : Opened) (items : V → List ℕ) (Told : ℕ �
       let here = subst (λ n. EndsAs n s o) (add-zero k) (each 0 o s (omega arith)) in
       let first : Ok t ≡ o.1 = cc in
       let rest : map Ok ts ≡ map (λ (o : SeatFacts × Result V E). o.1) os = cc in
-      let told : IsOutcome store.limits k (items s) o.0.knows (items t) = IfOk-at_ok (λ text. IsOutcome store.limits k (items s) o.0.knows (items text)) (sym first) here.2 in
+      let reported : IsOutcome store.limits k (items s) o.0.knows (items t) = IfOk-at_ok (λ text. IsOutcome store.limits k (items s) o.0.knows (items text)) (sym first) here.2 in
       let beyond = served_from (k + 1) ss os ts (omega (arith, count)) (λ i d u below.
       let e : k + suc i ≡ (k + 1) + i = omega arith in subst (λ n. EndsAs n (get_or ss i u) (get_or os i d)) e (each (suc i) d u (omega arith))) rest in (
-        (record { pass = here.0; number = here.1; own = told.own }, beyond.0),
-        (λ journal keeps. (replied_by store.limits journal k (items s) (items t) o.0.knows here.1 told keeps.0 keeps.1, beyond.1 journal keeps.2)),
-        (told.served, beyond.2),
-        told_each Told k (items s) (map items ss) (on_at_ok (Told k (items s)) (sym first) here.3) beyond.3,
+        (record { pass = here.0; number = here.1; own = reported.own }, beyond.0),
+        (λ journal keeps. (replied_by store.limits journal k (items s) (items t) o.0.knows here.1 reported keeps.0 keeps.1, beyond.1 journal keeps.2)),
+        (reported.served, beyond.2),
+        reported_each Reported k (items s) (map items ss) (on_at_ok (Reported k (items s)) (sym first) here.3) beyond.3,
       )
 
--- an end is one by equal promises
-pub same_end : {V E X : Type 0} (items : V → List ℕ) (Told : X → ℕ → List ℕ → Type 0) (store store' : Opened) (k k' : ℕ) (script script' : V) (gate gate' : X)
+-- a thread's outcome satisfies an equal promise
+pub same_end : {V E X : Type 0} (items : V → List ℕ) (Reported : X → ℕ → List ℕ → Type 0) (store store' : Opened) (k k' : ℕ) (script script' : V) (gate gate' : X)
     (o : SeatFacts × Result V E) → store ≡ store' → k ≡ k' → script ≡ script' → gate ≡ gate' →
-    EndsAs store items (Told gate) k script o → EndsAs store' items (Told gate') k' script' o
-same_end items Told store store' k k' script script' gate gate' o of_store of_number of_script of_gate end =
-    subst (λ g. EndsAs store' items (Told g) k' script' o) of_gate
-    (subst (λ s. EndsAs s items (Told gate) k' script' o) of_store
-    (subst (λ n. EndsAs store items (Told gate) n script' o) of_number (subst (λ v. EndsAs store items (Told gate) k v o) of_script end)))
+    EndsAs store items (Reported gate) k script o → EndsAs store' items (Reported gate') k' script' o
+same_end items Reported store store' k k' script script' gate gate' o of_store of_number of_script of_gate end =
+    subst (λ g. EndsAs store' items (Reported g) k' script' o) of_gate
+    (subst (λ s. EndsAs s items (Reported gate) k' script' o) of_store
+    (subst (λ n. EndsAs store items (Reported gate) n script' o) of_number (subst (λ v. EndsAs store items (Reported gate) k v o) of_script end)))
 
--- nothing of a text was written
+-- nothing of the text was written
 pub none_of_text : (bytes : List ℕ) (known : Option (List ℕ)) → Wrote known known (IsFrontOf bytes)
 none_of_text bytes known = record { out = []; appended = none_written known; is = (bytes, refl) }
 
--- the first part of a text was written, and a front of the next
+-- the first part of a text was written, and a prefix of the next
 pub next_in_part : (a b c : Option (List ℕ)) (first next rest whole : List ℕ) → whole ≡ first ++ (next ++ rest) → Appends a b first → Wrote b c (IsFrontOf next) → Wrote a c (IsFrontOf whole)
 next_in_part a b c first next rest whole is written w = record {
   out = first ++ w.out;
@@ -145,7 +145,7 @@ next_in_part a b c first next rest whole is written w = record {
   is = (w.is.0 ++ rest, is ∙ (ap (λ l. first ++ (l ++ rest)) w.is.1 ∙ (ap (λ l. first ++ l) (append_assoc w.out w.is.0 rest) ∙ sym (append_assoc first w.out (w.is.0 ++ rest)))));
 }
 
--- the text of the replies from a place on is that of the replies there, and of those after it
+-- the replies' text from a place on is that of the replies there, and then that of those after it
 next_at : {V : Type 0} (items : V → List ℕ) (n k : ℕ) (texts : List V) (t : V) → k < length texts → t ≡ get_or texts k t →
     replies_text n (drop k (map items texts)) ≡ (pass_line n ++ items t) ++ replies_text (n + 1) (drop (suc k) (map items texts))
 next_at items n k [] t below is = absurd (omega (arith, below))
@@ -158,7 +158,7 @@ done_at items n (suc k) [] past = refl
 done_at items n zero (x ∷ xs) past = absurd (omega (arith, past))
 done_at items n (suc k) (x ∷ xs) past = done_at items n k xs (omega (arith, past))
 
--- the text of the replies is that of the first ones, and of those after them
+-- the replies' text is that of the first ones, and then that of those after them
 replies_split : (n k : ℕ) (texts : List (List ℕ)) → replies_text n texts ≡ replies_text n (take k texts) ++ replies_text (n + k) (drop k texts)
 replies_split n zero [] = refl
 replies_split n zero (t ∷ ts) = ap (λ m. replies_text m (t ∷ ts)) (sym (add-zero n))
@@ -169,7 +169,7 @@ replies_split n (suc k) (t ∷ ts) =
     ap (λ z. (pass_line n ++ t) ++ z) (replies_split (n + 1) k ts ∙ ap (λ m. first ++ replies_text m (drop k ts)) e)
     ∙ sym (append_assoc (pass_line n ++ t) first (replies_text (n + suc k) (drop k ts)))
 
--- the replies of all passes are those of the first ones
+-- all replies were written
 pub all_texts : (replies : List (List ℕ)) (old mid new : Option (List ℕ)) → Appends old mid (replies_text 0 replies) → new ≡ mid → Wrote old new (AreFirstTexts replies)
 all_texts replies old mid new written same = record {
   out = replies_text 0 replies;
@@ -179,7 +179,7 @@ all_texts replies old mid new written same = record {
 
 module _ {V : Type 0} (items : V → List ℕ) (texts : List V) (k : ℕ) (old mid : Option (List ℕ))
     (w : Wrote old mid (λ out. replies_text 0 (map items texts) ≡ out ++ replies_text k (drop k (map items texts)))) where
-  -- the replies of one more pass are written
+  -- the replies of one more pass were written
   pub replies_more : (near new : Option (List ℕ)) (t : V) (line text : List ℕ) → k < length texts → t ≡ get_or texts k t → line ≡ pass_line k → text ≡ items t →
       Appends mid near line → Appends near new text → Wrote old new (λ out. replies_text 0 (map items texts) ≡ out ++ replies_text (k + 1) (drop (k + 1) (map items texts)))
   replies_more near new t line text below at of_line of_text first second =
@@ -194,11 +194,11 @@ module _ {V : Type 0} (items : V → List ℕ) (texts : List V) (k : ℕ) (old m
         is = subst (λ m. replies_text 0 (map items texts) ≡ (w.out ++ (line ++ text)) ++ replies_text (k + 1) (drop m (map items texts))) (sym (add-one k)) (next ∙ split);
       }
 
-  -- those before are a front
+  -- what was written is a prefix
   pub replies_before : Wrote old mid (IsFrontOf (replies_text 0 (map items texts)))
   replies_before = record { out = w.out; appended = w.appended; is = (replies_text k (drop k (map items texts)), w.is) }
 
-  -- those before are whole
+  -- what was written is whole replies
   pub replies_whole : Wrote old mid (AreFirstTexts (map items texts))
   replies_whole =
       let all = map items texts in
@@ -211,7 +211,7 @@ module _ {V : Type 0} (items : V → List ℕ) (texts : List V) (k : ℕ) (old m
         is = (k, append_cancel_right w.out (replies_text 0 (take k all)) beyond (sym w.is ∙ split));
       }
 
-  -- the next pass's line, its replies, and those after it
+  -- the next pass's line, its replies, and what follows them
   next_parts : (t : V) (line text : List ℕ) → k < length texts → t ≡ get_or texts k t → line ≡ pass_line k → text ≡ items t →
       replies_text 0 (map items texts) ≡ w.out ++ (line ++ (text ++ replies_text (k + 1) (drop (suc k) (map items texts))))
   next_parts t line text below at of_line of_text =
@@ -221,14 +221,14 @@ module _ {V : Type 0} (items : V → List ℕ) (texts : List V) (k : ℕ) (old m
       ∙ (ap (λ z. w.out ++ z) (append_assoc (pass_line k) (items t) rest)
       ∙ (ap (λ l. w.out ++ (l ++ (items t ++ rest))) (sym of_line) ∙ ap (λ u. w.out ++ (line ++ (u ++ rest))) (sym of_text))))
 
-  -- a front of the next pass's line after them
+  -- a prefix of the next pass's line was written after that
   pub line_in_part : (new : Option (List ℕ)) (t : V) (line : List ℕ) → k < length texts → t ≡ get_or texts k t → line ≡ pass_line k → Wrote mid new (IsFrontOf line) →
       Wrote old new (IsFrontOf (replies_text 0 (map items texts)))
   line_in_part new t line below at of_line front =
       next_in_part old mid new w.out line (items t ++ replies_text (k + 1) (drop (suc k) (map items texts))) (replies_text 0 (map items texts))
       (next_parts t line (items t) below at of_line refl) w.appended front
 
-  -- that line, and a front of its replies
+  -- that line was written, and a prefix of its replies
   pub text_in_part : (near new : Option (List ℕ)) (t : V) (line text : List ℕ) → k < length texts → t ≡ get_or texts k t → line ≡ pass_line k → text ≡ items t →
       Appends mid near line → Wrote near new (IsFrontOf text) → Wrote old new (IsFrontOf (replies_text 0 (map items texts)))
   text_in_part near new t line text below at of_line of_text first front =
@@ -236,11 +236,11 @@ module _ {V : Type 0} (items : V → List ℕ) (texts : List V) (k : ℕ) (old m
       next_in_part old near new (w.out ++ line) text rest (replies_text 0 (map items texts))
       (next_parts t line text below at of_line of_text ∙ sym (append_assoc w.out line (text ++ rest))) (written_both old mid near w.out line w.appended first) front
 
-  -- all replies are written
+  -- all replies were written
   pub replies_all : length texts ≤ k → Appends old mid (replies_text 0 (map items texts))
   replies_all past = subst (Appends old mid) (sym (w.is ∙ (ap (λ z. w.out ++ z) (done_at items k k texts past) ∙ append-nil w.out))) w.appended
 
--- the passes are of the store
+-- the passes are the store's
 pub all_at : (store : Opened) (k : ℕ) (scripts : List (List ℕ)) (passes : List SeatFacts) → HaveServed store k scripts passes → AllAt store.id passes
 all_at store k [] [] h = tt
 all_at store k [] (p ∷ ps) h = absurd h
@@ -255,7 +255,7 @@ has_each store k (s ∷ ss) (p ∷ ps) h zero below = inl (h.0.number ∙ omega 
 has_each store k (s ∷ ss) (p ∷ ps) h (suc n) below =
     let e : (k + 1) + n ≡ k + suc n = omega arith in inr (subst (Has (map knows_of ps)) e (has_each store (k + 1) ss ps h.1 n (omega (arith, below))))
 
--- what a journal that keeps the passes' writes has of each number is of that number's script
+-- if a journal has the passes' writes, its entries by each number are of that number's script
 pub own_of : (store : Opened) (k : ℕ) (scripts : List (List ℕ)) (passes : List SeatFacts) (log : List Entry) → HaveServed store k scripts passes → KeepsSeen log (map knows_of passes) →
     (n : ℕ) → n < length scripts → IsPartOf (operations (by_pass (k + n) log)) (write_ops (slice_index_or scripts n []))
 own_of store k [] passes log h keeps n below = absurd (omega (arith, below))
@@ -267,18 +267,18 @@ own_of store k (s ∷ ss) (p ∷ ps) log h keeps (suc n) below =
     let e : (k + 1) + n ≡ k + suc n = omega arith in
     subst (λ m. IsPartOf (operations (by_pass m log)) (write_ops (slice_index_or ss n []))) e (own_of store (k + 1) ss ps log h.1 keeps.2 n (omega (arith, below)))
 
--- the journal's length, its lines and the result of its check, one after the other
+-- the journal's length, its lines and the result of its check, one after another
 pub result_is : (log : List Entry) (head text last : List ℕ) → head ≡ codes "journal " ++ (decimal (length log) ++ codes "\n") → text ≡ lines_from 1 log →
     last ≡ codes "replay ok\n" → head ++ (text ++ last) ≡ result_text log
 result_is log head text last of_head of_text of_last =
     ap (λ h. h ++ (text ++ last)) of_head
     ∙ ap (λ t. (codes "journal " ++ (decimal (length log) ++ codes "\n")) ++ t) (ap (λ t. t ++ last) of_text ∙ ap (λ l. lines_from 1 log ++ l) of_last)
 
--- a race of which nothing was written
+-- a race that has written nothing
 pub nothing_raced : (limits : Limits) (scripts : List (List ℕ)) (held : Option (List ℕ)) → Wrote held held (AreFirstPasses limits scripts)
 nothing_raced limits scripts held = record { out = []; appended = none_written held; is = inl refl }
 
--- a race of which a front was written
+-- a race that has written a prefix
 pub raced_in_part : (limits : Limits) (scripts : List (List ℕ)) (whole : List ℕ) (old new : Option (List ℕ)) → IsRace limits scripts whole → Wrote old new (IsFrontOf whole) →
     Wrote old new (IsRaceInPart limits scripts)
 raced_in_part limits scripts whole old new race w = record {
@@ -287,7 +287,7 @@ raced_in_part limits scripts whole old new race w = record {
   is = (w.is.0, subst (IsRace limits scripts) w.is.1 race);
 }
 
--- a race of whose passes the first ones were written whole
+-- a race that has written whole replies of its first passes
 pub raced_to_pass : (limits : Limits) (scripts replies : List (List ℕ)) (whole : List ℕ) (old new : Option (List ℕ)) (race : IsRace limits scripts whole) →
     race.replies ≡ replies → Wrote old new (AreFirstTexts replies) → Wrote old new (AreFirstPasses limits scripts)
 raced_to_pass limits scripts replies whole old new race same w = record {

@@ -1,4 +1,4 @@
--- How the parts of a run join.
+-- How the parts of a run fit together.
 use Rattle.std.proofs.Common.{◌≡◌, ℕ, IfErr, ◌<◌, ◌≤◌, ◌+◌, ◌^◌, Bool, true, false, cond, not, nat_lt, take, drop, position, IfSome, OnOk, OnErr, length-append, List, [], ◌∷◌, ◌++◌, length, refl, sym, ap, ◌∙◌, subst, append_assoc, arith, inl, inr, Some, None}
 use Rattle.std.specs.declared.option.Option.{Option}
 use Rattle.std.specs.Io.KnownBytes.{Appends, Consumes, Keeps}
@@ -16,7 +16,7 @@ use Rattle.be_script_language.specs.Request.{Request, silent, malformed, write, 
 use Rattle.be_script_language.specs.Reply.{Reply, bad_line, none, refused, text_of}
 use Rattle.be_script_runner.specs.Output.{Session, Replies, Serves, Answered, Outputs, IsOutputTo, IsFrontOfOutput, aborting, beginning, committing, got, opening, pinning, refreshing, taken, unpinning}
 use Rattle.be_script_runner.proofs.ReplyLemmas.{serves_at_once}
-use Rattle.be_table.specs.Versions.{CanSpellEach}
+use Rattle.be_table.specs.Versions.{CanEncodeEach}
 use Rattle.be_table.specs.declared.limits.Limits.{Limits as StoreLimits}
 use Rattle.be_script_runner.specs.Run.{Wrote, IsRun, IsFrontOf, IsFrontOfAnswer, AreFirstReplies, HasReplied, RunLeaves, ReadFault, ReadsAll, IsLate, IsNotLimits, is_line_end}
 
@@ -28,21 +28,21 @@ pub none_written : (known : Option (List ℕ)) → Appends known known []
 none_written None = tt
 none_written (Some xs) = sym (append_nothing xs)
 
--- one write after another
+-- two writes in sequence
 pub written_both : (a b c : Option (List ℕ)) (xs ys : List ℕ) → Appends a b xs → Appends b c ys → Appends a c (xs ++ ys)
 written_both None b c xs ys h g = tt
 written_both (Some a) None c xs ys h g = absurd h
 written_both (Some a) (Some b) None xs ys h g = absurd g
 written_both (Some a) (Some b) (Some c) xs ys h g = g ∙ ap (λ z. z ++ ys) h ∙ append_assoc a xs ys
 
--- one read after another
+-- two reads in sequence
 pub read_both : (a b c : Option (List ℕ)) (xs ys : List ℕ) → Consumes a b xs → Consumes b c ys → Consumes a c (xs ++ ys)
 read_both None b c xs ys h g = tt
 read_both (Some a) None c xs ys h g = absurd h
 read_both (Some a) (Some b) None xs ys h g = absurd g
 read_both (Some a) (Some b) (Some c) xs ys h g = h ∙ ap (λ z. xs ++ z) g ∙ sym (append_assoc xs ys c)
 
--- more of the bytes is written
+-- more of the bytes were written
 pub more_written : (old mid new : Option (List ℕ)) (bytes left front left' : List ℕ) → Wrote old mid (λ out. bytes ≡ out ++ left) → Appends mid new front → left ≡ front ++ left' →
     Wrote old new (λ out. bytes ≡ out ++ left')
 more_written old mid new bytes left front left' w a e = record {
@@ -51,7 +51,7 @@ more_written old mid new bytes left front left' w a e = record {
   is = w.is ∙ ap (λ z. w.out ++ z) e ∙ sym (append_assoc w.out front left');
 }
 
--- a reply that any request may get, and the session after it
+-- a possible reply to any request, and the session after it
 abbrev some_reply : Session → Request → Reply × Session
 some_reply s silent = (none, s)
 some_reply s malformed = (bad_line, s)
@@ -92,18 +92,18 @@ may_reply s begin = inl refl
 may_reply s commit = inl refl
 may_reply s abort = inl refl
 
--- the session after some answer to a line, and its text
+-- the session after a possible answer to a line, and its text
 abbrev after_some : Session → List ℕ → Session
 after_some s line = (some_reply s (asked line)).1
 
 abbrev some_text : Session → List ℕ → List ℕ
 some_text s line = text_of (some_reply s (asked line)).0
 
--- some text answers a line
+-- each line has a possible answer
 some_answer : (s : Session) (line : List ℕ) → Answered s line (after_some s line) (some_text s line)
 some_answer s line = ((some_reply s (asked line)).0, serves_at_once s (after_some s line) (asked line) (some_reply s (asked line)).0 (may_reply s (asked line)), refl)
 
--- some text is an output of any lines, and some session is left
+-- any lines have a possible output, and leave a session
 some_output : (s : Session) (lines : List (List ℕ)) → (last : Session) × (out : List ℕ) × Outputs s lines last out
 some_output s [] = (s, [], (refl, refl))
 some_output s (line ∷ lines) =
@@ -112,20 +112,20 @@ some_output s (line ∷ lines) =
     let text = some_text s line in
     (next.0, text ++ next.1, (after, text, next.1, some_answer s line, next.2, refl))
 
--- lines, and then those after them
+-- some lines, and then those after them
 outputs_both : (s mid last : Session) (lines beyond : List (List ℕ)) (out more : List ℕ) → Outputs s lines mid out → Outputs mid beyond last more → Outputs s (lines ++ beyond) last (out ++ more)
 outputs_both s mid last [] beyond out more h g =
     subst (λ (text : List ℕ). Outputs s beyond last (text ++ more)) (sym h.1) (subst (λ (z : Session). Outputs z beyond last more) h.0 g)
 outputs_both s mid last (line ∷ lines) beyond out more h g =
     (h.0, h.1, h.2 ++ more, h.3, outputs_both h.0 mid last lines beyond h.2 more h.4 g, ap (λ text. text ++ more) h.5 ∙ append_assoc h.1 h.2 more)
 
--- what was replied, and an output of the lines left, is one of the script
+-- the replies so far and an output of the lines left are an output of the script
 completed : (store : Store) (script left : List ℕ) (s last : Session) (out more : List ℕ) → HasReplied store script s left out → Outputs s (lines_of left) last more →
     Outputs (opening store) (lines_of script) last (out ++ more)
 completed store script left s last out more r h =
     subst (λ (lines : List (List ℕ)). Outputs (opening store) lines last (out ++ more)) (sym r.is) (outputs_both (opening store) s last r.lines (lines_of left) out more r.output h)
 
--- what was replied so far is the replies to the first lines
+-- the replies so far are those to the first lines
 pub first_replies : (store : Store) (script left : List ℕ) (s : Session) (old new : Option (List ℕ)) → Wrote old new (HasReplied store script s left) → Wrote old new (AreFirstReplies store script)
 first_replies store script left s old new w = record {
   out = w.out;
@@ -133,7 +133,7 @@ first_replies store script left s old new w = record {
   is = record { lines = w.is.lines; rest = lines_of left; is = w.is.is; last = s; output = w.is.output };
 }
 
--- a line more is answered
+-- one more line is answered
 pub advance : (store : Store) (script left line left' : List ℕ) (s s' : Session) (old mid new : Option (List ℕ)) → lines_of left ≡ line ∷ lines_of left' →
     Wrote old mid (HasReplied store script s left) → Wrote mid new (Answered s line s') → Wrote old new (HasReplied store script s' left')
 advance store script left line left' s s' old mid new e w r = record {
@@ -159,7 +159,7 @@ finish store script left s s' old mid new e w r = record {
   );
 }
 
--- a fault in the middle of a reply
+-- an error in the middle of a reply
 pub stop : (store : Store) (script left line : List ℕ) (lines : List (List ℕ)) (s : Session) (old mid new : Option (List ℕ)) → lines_of left ≡ line ∷ lines →
     Wrote old mid (HasReplied store script s left) → Wrote mid new (IsFrontOfAnswer s line) → Wrote old new (IsFrontOfOutput store script)
 stop store script left line lines s old mid new e w r =
@@ -175,17 +175,17 @@ stop store script left line lines s old mid new e w r =
       is = (rest, (next.0.store, (next.0, subst (Outputs (opening store) (lines_of script) next.0) (sym (append_assoc w.out r.out rest)) output, refl)));
     }
 
--- a script of which nothing was answered
+-- nothing of a script was answered
 pub none_answered : (store : Store) (script : List ℕ) (known : Option (List ℕ)) → Wrote known known (IsFrontOfOutput store script)
 none_answered store script known =
     let some = some_output (opening store) (lines_of script) in
     record { out = []; appended = none_written known; is = (some.1, (some.0.store, (some.0, some.2, refl))) }
 
--- a line that was not run
+-- a line that didn't run
 pub none_of_line : (s : Session) (line : List ℕ) (known : Option (List ℕ)) → Wrote known known (IsFrontOfAnswer s line)
 none_of_line s line known = record { out = []; appended = none_written known; is = (after_some s line, some_text s line, some_answer s line) }
 
--- a reply of which nothing was written
+-- a reply that wasn't written at all
 pub none_of_reply : (s s' : Session) (line : List ℕ) (request : Request) (reply : Reply) (known : Option (List ℕ)) → request ≡ asked line → Serves s request reply s' →
     Wrote known known (IsFrontOfAnswer s line)
 none_of_reply s s' line request reply known e r = record {
@@ -194,7 +194,7 @@ none_of_reply s s' line request reply known e r = record {
   is = (s', text_of reply, (reply, subst (λ (q : Request). Serves s q reply s') e r, refl));
 }
 
--- a front of a reply's text was written
+-- a prefix of a reply's text was written
 pub front_of_reply : (s s' : Session) (line text : List ℕ) (request : Request) (reply : Reply) (old new : Option (List ℕ)) → request ≡ asked line → Serves s request reply s' →
     text ≡ text_of reply → Wrote old new (IsFrontOf text) → Wrote old new (IsFrontOfAnswer s line)
 front_of_reply s s' line text request reply old new e r t w = record {
@@ -203,7 +203,7 @@ front_of_reply s s' line text request reply old new e r t w = record {
   is = (s', w.is.0, (reply, subst (λ (q : Request). Serves s q reply s') e r, sym w.is.1 ∙ t));
 }
 
--- a script of which nothing was answered yet
+-- nothing of a script was answered yet
 pub nothing_yet : (store : Store) (script : List ℕ) (s : Session) (known : Option (List ℕ)) → s ≡ opening store → Wrote known known (HasReplied store script s script)
 nothing_yet store script s known e = record {
   out = [];
@@ -244,7 +244,7 @@ none_answered_if store (Some script) known = record {
   is = record { lines = []; rest = lines_of script; is = refl; last = opening store; output = (refl, refl) };
 }
 
--- what a fault of the reading leaves
+-- what an error while reading leaves
 pub left_by : (e : RunFault) (store : Store) (old new known : Option (List ℕ)) → ReadFault e old new → RunLeaves e store old known known
 left_by Limits store old new known h = absurd h
 left_by Read store old new known h = keeps known
@@ -257,7 +257,7 @@ all_read None left bytes P h p = tt
 all_read (Some xs) None bytes P h p = absurd h.0
 all_read (Some xs) (Some ys) bytes P h p = subst P (sym (h.0 ∙ ap (λ z. bytes ++ z) h.1 ∙ append_nothing bytes)) p
 
--- what a fault after the reading leaves
+-- what an error after reading leaves
 pub left_late : {T : Type 0} (r : Result T RunFault) (store : Store) (input left old new : Option (List ℕ)) (bytes : List ℕ) → IfErr r IsLate → ReadsAll input left bytes →
     OnErr r (Wrote old new (IsFrontOfOutput store bytes)) → IfErr r (λ e. e ≡ Memory → Wrote old new (AreFirstReplies store bytes)) → IfErr r (λ e. RunLeaves e store input old new)
 left_late (Ok x) store input left old new bytes l h w whole = tt
@@ -267,12 +267,12 @@ left_late (Err TooLong) store input left old new bytes l h w whole = absurd l
 left_late (Err Write) store input left old new bytes l h w whole = all_read input left bytes (λ script. Wrote old new (IsFrontOfOutput store script)) h w
 left_late (Err Memory) store input left old new bytes l h w whole = all_read input left bytes (λ script. Wrote old new (AreFirstReplies store script)) h (whole refl)
 
--- a fault that is Write is not Memory
+-- an error that is Write isn't Memory
 pub is_not_memory : {T : Type 0} (r : Result T RunFault) (P : Type 0) → IfErr r (λ e. e ≡ Write) → IfErr r (λ e. e ≡ Memory → P)
 is_not_memory (Ok x) P h = tt
 is_not_memory (Err e) P h = λ is. absurd (let both : Write ≡ Memory = sym h ∙ is in cc)
 
--- where a line found no memory, nothing more was written
+-- if a line ran out of memory, nothing more was written
 pub none_further : (e : RunFault) (store : Store) (script left : List ℕ) (s : Session) (old mid new : Option (List ℕ)) → Wrote old mid (HasReplied store script s left) →
     (e ≡ Memory → new ≡ mid) → e ≡ Memory → Wrote old new (AreFirstReplies store script)
 none_further e store script left s old mid new w same is = subst (λ (held : Option (List ℕ)). Wrote old held (AreFirstReplies store script)) (sym (same is)) (first_replies store script left s old mid w)
@@ -281,11 +281,11 @@ pub each_err : {T E : Type 0} {P Q : E → Type 0} (r : Result T E) → ((e : E)
 each_err (Ok x) f p = tt
 each_err (Err e) f p = f e p
 
--- what a want of memory leaves, by what it left before
+-- what holds after running out of memory, by what held before
 pub on_memory : {A B : Type 0} (e : RunFault) → (A → B) → (e ≡ Memory → A) → e ≡ Memory → B
 on_memory e f left is = f (left is)
 
--- a fault that is passed on
+-- an error that is passed on
 pub passed_up : {T E : Type 0} (r : Result T E) (e : E) (P : E → Type 0) → IsErrAnd r (λ y. y ≡ e) → P e → IfErr r P
 passed_up (Ok x) e P is p = tt
 passed_up (Err y) e P is p = subst P (sym is) p
@@ -294,8 +294,8 @@ pub whole_output : (store store' : Store) (input left old new : Option (List ℕ
     IfSome input (λ script. Wrote old new (IsOutputTo store script store'))
 whole_output store store' input left old new bytes h w = all_read input left bytes (λ script. Wrote old new (IsOutputTo store script store')) h w
 
--- an output that leaves a store whose volumes the pages can spell is that of a run
-pub run_output : (limits : StoreLimits) (input old new : Option (List ℕ)) (first last : Store) → first ≡ start limits.commits → CanSpellEach limits.pages last.journal →
+-- an output that leaves a store whose volumes fit into the pages is that of a run
+pub run_output : (limits : StoreLimits) (input old new : Option (List ℕ)) (first last : Store) → first ≡ start limits.commits → CanEncodeEach limits.pages last.journal →
     IfSome input (λ script. Wrote old new (IsOutputTo first script last)) → IfSome input (λ script. Wrote old new (IsRun limits script))
 run_output limits None old new first last is volumes w = tt
 run_output limits (Some script) old new first last is volumes w = record {
@@ -329,7 +329,7 @@ first_line xs i h = by (nat_lt (position_or_len is_line_end xs) (length xs)) ref
         let at : position_or_len is_line_end xs ≡ i = cc in
         slice_split_first is_line_end xs 0 (grind (arith, nat_tests)) ∙ ap (λ n. take n xs ∷ lines_of (drop (n + 1) xs)) at
 
--- where no LF is, the text is the one line
+-- a text without an LF is one line
 one_line : (xs : List ℕ) → length xs ≤ position_or_len is_line_end xs → lines_of xs ≡ xs ∷ []
 one_line [] h = refl
 one_line (x ∷ xs) h = by (is_line_end x) h (λ g. one_line xs g)

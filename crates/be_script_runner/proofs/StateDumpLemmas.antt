@@ -1,4 +1,4 @@
--- What the script of a volume's state makes, and in how many writes.
+-- What the script of a volume's state makes, and with how many writes.
 use Rattle.std.proofs.Common.{◌≡◌, ◌<◌, ◌≤◌, ◌+◌, ◌*◌, ◌-◌, ◌^◌, ℕ, zero, suc, Bool, false, true, List, [], ◌∷◌, ◌++◌, All, fold, length, take, drop, take-append-drop, append_assoc, length-append, IsOk, refl, sym, ap, subst, ◌∙◌, arith}
 use Rattle.std.proofs.lemmas.Grind.{fold-append}
 use Rattle.std.proofs.lemmas.List.{append-nil, length-drop, length-map, length-take}
@@ -29,13 +29,13 @@ use Rattle.be_volume.specs.declared.ops.Op.{Op}
 use Rattle.be_volume.proofs.StepLemmas.{refused_stays}
 use Rattle.be_script_runner.specs.Output.{IsOutputTo}
 use Rattle.be_script_runner.specs.Store.{start}
-use Rattle.be_script_runner.specs.Telling.{MakesVolume, dump_output, made}
+use Rattle.be_script_runner.specs.JournalRuns.{MakesVolume, dump_output, made}
 use Rattle.be_script_runner.proofs.DumpLemmas.{HasWrite, writes_made}
 
 abbrev Outcome : Type 0
 Outcome = Result (State × List Done) Refusal
 
--- both are refused, or both reach one state
+-- both are refused, or both reach the same state
 abbrev Alike : Outcome → Outcome → Type 0
 Alike (Ok a) (Ok b) = a.0 ≡ b.0
 Alike (Ok a) (Err f) = ⊥
@@ -64,7 +64,7 @@ never_ok e ok = absurd (no ok)
     no : false ≡ true → ⊥
     no h = cc
 
--- the same state is reached, whatever was answered before
+-- the same state is reached, whatever the outcomes before were
 reached_alike : (s t : State) (r q : Outcome) → Alike r q → IsOk r → IsOk q × (reached s r ≡ reached t q)
 reached_alike s t (Ok a) (Ok b) same ok = (refl, same)
 reached_alike s t (Ok a) (Err f) same ok = absurd same
@@ -151,7 +151,7 @@ built (suc most) front (op ∷ ops) few legal ok can =
       count = ap suc r.count;
     }
 
--- the operations of those writes that the volume accepts
+-- the operations of writes that the volume accepts
 record Makes (s : State) (most : ℕ) : Type 0 where
   ops : List Op
   dones : List Done
@@ -189,7 +189,7 @@ makes_all s most (entry ∷ entries) are m =
 nothing_made : Makes empty 0
 nothing_made = record { ops = []; dones = []; is = refl; few = omega arith }
 
--- no more operations than the entries have room for
+-- there are no more operations than the entries have room for
 few_ops : (entries : List Entry) → All HasOperations entries → length (state_ops (replay entries)) ≤ 64 * length entries
 few_ops entries are =
     let m = makes_all empty 0 entries are nothing_made in
@@ -207,7 +207,7 @@ has_operations entry w = (w.is.1, All-weaker CanBeOp IsOperation (λ op can. can
 none_legal : IsLegal []
 none_legal i entry short is = absurd (omega (arith, short))
 
--- operations that the empty volume accepts make what they leave, where they are written in lists of 64
+-- operations that the empty volume accepts make what they leave, if they are written in lists of 64
 list_made : (limit most : ℕ) (ops : List Op) (volume : State) → IsOk (steps empty ops) → state_after empty ops ≡ volume → All CanBeOp ops →
     length ops ≤ 64 * most → most ≤ limit → MakesVolume limit (cut_lines ops) volume most
 list_made limit most ops volume accepted same can few short =
@@ -223,7 +223,7 @@ list_made limit most ops volume accepted same can few short =
       few = omega (arith, lists, count, length-map b.entries by_only_pass);
     }
 
--- the script of a volume's state makes the volume
+-- the script of a volume's state rebuilds the volume
 pub state_dump_made : (limit : ℕ) (entries : List Entry) → CanBeJournal entries → All CanBeOp (state_ops (replay entries)) → length entries ≤ limit →
     MakesVolume limit (state_dump (replay entries)) (replay entries) (length entries)
 state_dump_made limit entries are can short =

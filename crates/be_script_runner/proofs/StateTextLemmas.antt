@@ -1,4 +1,4 @@
--- The script of a pass's pinned version, over reads of that pass.
+-- The script of a pass's pinned version, made by reads of that pass.
 use Rattle.std.proofs.Common.{◌≡◌, ℕ, Bool, true, false, Option, Some, None, refl, sym, ap, ◌∙◌, take}
 use Rattle.std.specs.Prelude.{IsSome, if◌then◌else◌}
 use Rattle.std.specs.Option.{option_map, option_map_or}
@@ -11,11 +11,11 @@ use Rattle.be_script_runner.specs.Served.{known, pin_at}
 use Rattle.be_script_runner.specs.Store.{PinnedVolume, Store, unpinned, viewed}
 use Rattle.be_volume.specs.Volume.{State, empty}
 
--- a read leaves the pinned version
+-- a read doesn't change the pinned version
 pub same_pinned : (a c : Knowledge) → HasRead a c → volume_pinned c ≡ volume_pinned a
 same_pinned a c h = ap volume_pinned h
 
--- and the pin
+-- nor the pin
 pub stays_pinned : (a c : Knowledge) → HasRead a c → (n : ℕ) × IsPinnedTo a n → (n : ℕ) × IsPinnedTo c n
 stays_pinned a c h p = (p.0, ap (λ (k : Knowledge). pinned_number k.phase) h ∙ p.1)
 
@@ -34,15 +34,15 @@ viewed_at a None h = absurd (never h)
     never e = cc
 viewed_at a (Some n) h = refl
 
--- what a pinned pass reads is what is read of its store
+-- what a pinned pass reads is what its store shows
 pub viewed_pinned : (a : Knowledge) → IsSome (known a).pin → volume_pinned a ≡ viewed (known a)
 viewed_pinned a h = viewed_at a (pinned_number a.phase) h
 
--- a read leaves the store as it is shown
+-- a read doesn't change the store that the pass shows
 pub same_known : (a c : Knowledge) → HasRead a c → known c ≡ known a
 same_known a c h = ap known h
 
--- what is read between a pin for one read and the end of that read is what is read of the store then
+-- what is read between a pin for one read and the read's end is what the store then shows
 pub pinned_view : (inside begun read ended : Knowledge) (made : Bool) → inside ≡ begun → IsSome (known begun).pin → HasRead inside read →
     viewed (known begun) ≡ viewed (if made then unpinned (known begun) else known begun) → known ended ≡ (if made then unpinned (known read) else known read) →
     volume_pinned inside ≡ viewed (known ended)

@@ -1,8 +1,8 @@
--- Which calls the gate of a race gets.
+-- Which calls a race makes to its gate.
 use Rattle.std.specs.Prelude.{◌≡◌, ◌⊎◌, ◌≤◌, ℕ, ◌+◌, ◌<◌, List, [], ◌∷◌, length, slice_index_or}
 use Rattle.be_script_language.specs.Request.{lines_of}
 
--- the number of lines that what follows the last LF makes: one if it isn't empty, otherwise none
+-- how many lines there are after the last LF: one if something follows it, otherwise none
 abbrev pub last_count : List ℕ → ℕ
 last_count [] = 0
 last_count (c ∷ line) = 1
@@ -21,10 +21,10 @@ abbrev pub IsNext : (ℕ → Type 0) → ℕ → Type 0
 IsNext ended line = (line ≡ 1) ⊎ ((before : ℕ) × (line ≡ before + 1) × ended before)
 
 -- each line up to this number has begun and has ended
-abbrev pub AreTold : (ℕ → Type 0) → (ℕ → Type 0) → ℕ → Type 0
-AreTold begun ended count = (line : ℕ) → 1 ≤ line → line ≤ count → begun line × ended line
+abbrev pub AreReported : (ℕ → Type 0) → (ℕ → Type 0) → ℕ → Type 0
+AreReported begun ended count = (line : ℕ) → 1 ≤ line → line ≤ count → begun line × ended line
 
--- the same for the lines of each script, by the calls of its pass
-abbrev pub AreAllTold : (ℕ → ℕ → Type 0) → (ℕ → ℕ → Type 0) → List (List ℕ) → Type 0
-AreAllTold begun ended scripts = (k : ℕ) → k < length scripts
-    → AreTold (begun k) (ended k) (line_count (slice_index_or scripts k []))
+-- the same for each script's lines, by its pass's calls
+abbrev pub AreAllReported : (ℕ → ℕ → Type 0) → (ℕ → ℕ → Type 0) → List (List ℕ) → Type 0
+AreAllReported begun ended scripts = (k : ℕ) → k < length scripts
+    → AreReported (begun k) (ended k) (line_count (slice_index_or scripts k []))

@@ -9,5 +9,5 @@ pub mod Run
 pub mod Served
 pub mod Store
 pub mod Strict
-pub mod Telling
+pub mod JournalRuns
 pub mod View

@@ -10,23 +10,23 @@ use Rattle.be_script_language.specs.Request.{lines_of}
 use Rattle.be_script_runner.specs.Output.{Answered, Session, opening}
 use Rattle.be_script_runner.specs.Served.{known}
 
--- calls of a pass lead from what it knew to what it knows then
+-- calls of a pass lead from what it knew to what it knows now
 abbrev pub LeadTo : Knowledge → Knowledge → Type 0
 LeadTo a c = (steps : List (Step volume)) × Calls a steps c
 
--- a pass of this store, to which calls led from what it was at first
+-- this pass of the store got here from the first one by calls
 abbrev pub IsLedFrom : SeatFacts → Opened → SeatFacts → Type 0
 IsLedFrom first store pass = IsPassOf store pass × LeadTo first.knows pass.knows
 
--- The text that a line is replied by a pass that knows `a` and then `c`: its calls lead from one to
--- the other, and the line is answered by the store that it then shows.
+-- The reply to a line by a pass that knows `a` before and `c` after: calls lead from one to the
+-- other, and the line is answered from the store that the pass then shows.
 pub record IsAnsweredBy (a : Knowledge) (s : Session) (line : List ℕ) (c : Knowledge)
     (after : Session) (reply : List ℕ) : Type 0 where
   pub calls : LeadTo a c
   pub answered : Answered s line after reply
   pub shows : after.store ≡ known c
 
--- the same of lines, one after the other: at last the pass knows `z`
+-- the same for several lines in order: at last the pass knows `z`
 abbrev pub AreAnsweredBy : Knowledge → Session → List (List ℕ) → Knowledge → Session → List ℕ
     → Type 0
 AreAnsweredBy a s [] z last out = (z ≡ a) × (last ≡ s) × (out ≡ [])
@@ -35,7 +35,7 @@ AreAnsweredBy a s (line ∷ lines) z last out =
     × IsAnsweredBy a s line c after reply × AreAnsweredBy c after lines z last rest
     × (out ≡ reply ++ rest)
 
--- The script is replied this text, line by line, by a pass that knew `a` at first and knows `z` at
+-- The script gets these replies, line by line, from a pass that knew `a` at first and knows `z` at
 -- last.
 pub record IsServedBy (a : Knowledge) (script : List ℕ) (z : Knowledge) (out : List ℕ) : Type 0
   where
@@ -43,8 +43,8 @@ pub record IsServedBy (a : Knowledge) (script : List ℕ) (z : Knowledge) (out :
     pub lines : AreAnsweredBy a (opening (known a)) (lines_of script) z last out
     pub shows : last.store ≡ known z
 
--- The text is the replies to the lines of a script up to those of what is left; the pass knew `a`
--- at first and knows `c` now, and `s` is the session that the lines leave.
+-- The text has the replies to a script's lines up to those that are left. The pass knew `a` at
+-- first and knows `c` now, and `s` is the session after those lines.
 pub record HasAnswered (a : Knowledge) (script : List ℕ) (c : Knowledge) (s : Session)
     (left out : List ℕ) : Type 0 where
   pub lines : List (List ℕ)

@@ -6,7 +6,7 @@ use Rattle.be_journal.specs.declared.entries.Entry.{Entry}
 use Rattle.be_store.specs.Calls.{AreInOneTrace, HasWrites}
 use Rattle.be_store.specs.History.{Accepts, Pins}
 use Rattle.be_store.specs.Passes.{volume_pinned}
-use Rattle.be_store.specs.Told.{EndedBefore}
+use Rattle.be_store.specs.Learned.{EndedBefore}
 use Rattle.be_table.specs.History.{StartsWith}
 use Rattle.be_table.specs.Rule.{entries, newcomer}
 use Rattle.be_table.specs.Steps.{KeepsSeen, entry_by}
@@ -18,8 +18,8 @@ use Rattle.be_script_runner.specs.Lines.{IsServedBy, LeadTo}
 use Rattle.be_script_runner.specs.Served.{known}
 use Rattle.be_script_runner.specs.Store.{viewed}
 
--- The scripts were replied these texts by passes of which these know as much at last, by their
--- numbers from k on. At first each of them had seen and written nothing.
+-- The scripts got these texts from passes that know these things at last, numbered from k on. At
+-- first each pass had seen and written nothing.
 abbrev pub AreServedBy : StoreLimits → ℕ → List (List ℕ) → List Knowledge → List (List ℕ) → Type 0
 AreServedBy limits k [] [] [] = Unit {0}
 AreServedBy limits k (script ∷ scripts) (z ∷ passes) (text ∷ texts) =
@@ -27,24 +27,24 @@ AreServedBy limits k (script ∷ scripts) (z ∷ passes) (text ∷ texts) =
     × AreServedBy limits (k + 1) scripts passes texts
 AreServedBy limits k scripts passes texts = ⊥
 
--- The journal keeps what the passes have seen and written, at the numbers that their writes were
--- replied, and their moves lie in one list.
+-- The journal has what the passes have seen and written, each write at the number in its reply. All
+-- their moves are in one list.
 pub record AreInOneOrder (limits : StoreLimits) (journal : List Entry) (passes : List Knowledge) :
     Type 0 where
   pub kept : KeepsSeen journal passes
   pub writes : All (HasWrites journal) passes
   pub moves : AreInOneTrace limits passes
 
--- `c` is what one of these passes knew after some of its calls: others led from there to what it
--- knows at last
+-- `c` is what one of these passes knew after some of its calls: further calls led from there to
+-- what it knows at last
 abbrev pub IsMoment : List Knowledge → Knowledge → Type 0
 IsMoment [] c = ⊥
 IsMoment (z ∷ passes) c = LeadTo c z ⊎ IsMoment passes c
 
--- What holds of the calls of passes that are in one order. Of any two moments of theirs, one comes
--- before the other. What a pass has seen at a moment is a prefix of the journal, and what it shows
--- a script then is the volume after one. An accepted write is the journal's entry of its number. A
--- pin reads the volume after as many entries as it says, and has each write that comes before it.
+-- What holds for the calls of passes that follow one order. Of any two moments, one comes before
+-- the other. At each moment a pass has seen a prefix of the journal, and shows a script the volume
+-- after a prefix. An accepted write is the journal's entry with its number. A pin reads the volume
+-- after as many entries as its number says, and sees each write that comes before it.
 pub record FollowOneOrder (journal : List Entry) (passes : List Knowledge) : Type 0 where
   pub total : (c d : Knowledge) → IsMoment passes c → IsMoment passes d
       → EndedBefore c d ⊎ EndedBefore d c

@@ -1,4 +1,4 @@
--- What a script may be answered.
+-- Which replies a script may get.
 use Rattle.std.specs.Prelude.{◌≡◌, ◌⊎◌, ℕ, ◌<◌, List, [], ◌∷◌, ◌++◌, Some, None, IsOk, IsSome}
 use Rattle.std.specs.Prelude.{length, nat_lt, if◌then◌else◌}
 use Rattle.std.specs.declared.option.Option.{Option}
@@ -7,7 +7,7 @@ use Rattle.std.specs.declared.result.Result.TheVariants.{Ok, Err}
 use Rattle.be_value.specs.declared.refusals.Refusal.{Refusal}
 use Rattle.be_value.specs.declared.refusals.Refusal.TheVariants.{Busy, OutOfMemory, Full}
 use Rattle.be_query.specs.Faults.{fault}
-use Rattle.be_query.specs.Grammar.{Formula, Spells}
+use Rattle.be_query.specs.Grammar.{Formula, ParsesTo}
 use Rattle.be_query.specs.Lexing.{tokens}
 use Rattle.be_plan.specs.Cover.{chosen}
 use Rattle.be_plan.specs.Explain.{explanation}
@@ -28,11 +28,12 @@ use Rattle.be_script_language.specs.Request.{explain, get, attrs, indices, pin, 
 use Rattle.be_script_language.specs.Request.{refresh, begin, commit, abort, asked, lines_of}
 use Rattle.be_script_language.specs.declared.pages.Paging.{Paging}
 use Rattle.be_script_runner.specs.Pages.{page_read}
-use Rattle.be_script_runner.specs.Store.{PinnedVolume, Store, Meanwhile, IsLeastOf, IsOther, viewed}
+use Rattle.be_script_runner.specs.Store.{PinnedVolume, Store, Meanwhile, IsLowestOf, IsOther}
+use Rattle.be_script_runner.specs.Store.{viewed}
 use Rattle.be_script_runner.specs.Store.{pinned, unpinned, written}
 
--- a script under way: its store, the operations of its batch if one is open, and its live query if
--- it has one
+-- a running script: its store, the operations of its batch if one is open, and its live query if it
+-- has one
 pub record Session : Type 0 where
   pub store : Store
   pub batch : Option (List Op)
@@ -42,7 +43,7 @@ pub record Session : Type 0 where
 abbrev pub opening : Store → Session
 opening store = record { store = store; batch = None; live = None }
 
--- the session on another store, with another batch, and with another live query
+-- the session with another store, another batch, or another live query
 abbrev pub with_store : Session → Store → Session
 with_store s store = record { store = store; batch = s.batch; live = s.live }
 
@@ -62,7 +63,7 @@ abbrev pub write_reply : Session → Result (Store × List Done) Refusal → Rep
 write_reply s (Ok answer) = (done_reply answer.1, with_store s answer.0)
 write_reply s (Err e) = (refused e, s)
 
--- An operation is written, or queued if a batch is open, which takes 64.
+-- An operation is written, or queued if a batch is open; a batch has room for 64.
 abbrev pub taken : Session → Option (List Op) → Op → Reply × Session
 taken s None op = write_reply s (written s.store (op ∷ []))
 taken s (Some ops) op =
@@ -76,7 +77,7 @@ commit_reply s (Ok answer) = (
 )
 commit_reply s (Err e) = (refused e, with_batch s None)
 
--- The batch is written as one. It ends then, refused or not.
+-- The batch is written as one transaction. This ends it, refused or not.
 abbrev pub committing : Session → Option (List Op) → Reply × Session
 committing s None = (not_begun, s)
 committing s (Some []) = (empty_batch, s)
@@ -90,7 +91,7 @@ abbrev pub aborting : Session → Option (List Op) → Reply × Session
 aborting s None = (not_begun, s)
 aborting s (Some ops) = (ok, with_batch s None)
 
--- A pin names the version after all writes so far, by their count.
+-- The reply to a pin is the number of writes so far.
 abbrev pub pinning : Session → Option PinnedVolume → Reply × Session
 pinning s None = (pinned_at (length s.store.journal), with_store s (pinned s.store))
 pinning s (Some p) = (already_pinned, s)
@@ -99,12 +100,12 @@ abbrev pub unpinning : Session → Option PinnedVolume → Reply × Session
 unpinning s None = (not_pinned, s)
 unpinning s (Some p) = (ok, with_store s (unpinned s.store))
 
--- A live query is taken as it is, whatever it rests on; it was answered nothing so far.
+-- A live query is accepted whether or not indices cover it; so far it has found nothing.
 abbrev pub watching : Session → Result Formula Refusal → Reply × Session
 watching s (Ok f) = (ok, with_live s (record { query = f; last = []; table = None }))
 watching s (Err e) = (refused e, s)
 
--- what came and what went since the last answer, which is now this one
+-- the nodes that have joined and left since the last answer, which is replaced by this one
 abbrev pub updating : Session → LiveQuery → Result (List ℕ) Refusal → Reply × Session
 updating s l (Ok now) = (
   updates (without now l.last) (without l.last now),
@@ -116,22 +117,22 @@ abbrev pub refreshing : Session → Option LiveQuery → Reply × Session
 refreshing s None = (no_live_query, s)
 refreshing s (Some l) = updating s l (scan (viewed s.store) l.query)
 
--- what an answer or a refusal is as a reply
+-- an answer or an error as a reply
 abbrev pub replied : {X : Type 0} → (X → Reply) → Result X Refusal → Reply
 replied reply (Ok x) = reply x
 replied reply (Err e) = refused e
 
--- the reply to the query of a text, or to a text that is no query
+-- the reply to a query's text, or to a text that isn't a query
 abbrev pub queried : State → Result Formula Refusal → Reply
 queried volume (Ok f) = replied nodes (scan volume f)
 queried volume (Err e) = refused e
 
--- the reply to the query of a text if a page is asked for, or to a text that is no query
+-- the reply to a query's text that asks for a page, or to a text that isn't a query
 abbrev pub turned : State → Paging → Result Formula Refusal → Reply
 turned volume paging (Ok f) = replied paged (page_read volume paging f)
 turned volume paging (Err e) = refused e
 
--- the reply to a text whose cover is asked: what is picked by the volume's indices, and its score
+-- the reply if a text's plan is asked for: what is looked up in the volume's indices, and its cost
 abbrev pub explained : State → Result Formula Refusal → Reply
 explained volume (Ok f) = replied (λ c. cover (explanation f c)) (chosen (has_index volume) f)
 explained volume (Err e) = refused e
@@ -140,12 +141,12 @@ abbrev pub got : State → ℕ → Result (List ℕ) Refusal → Reply
 got volume n (Ok name) = value (attribute volume n name)
 got volume n (Err e) = refused e
 
--- what a text is as a query: the query, or its fault
+-- what a text is as a query: the query, or its error
 abbrev pub IsQuery : List ℕ → Result Formula Refusal → Type 0
-IsQuery text (Ok f) = (fault text ≡ None) × Spells (tokens text) f
+IsQuery text (Ok f) = (fault text ≡ None) × ParsesTo (tokens text) f
 IsQuery text (Err e) = fault text ≡ Some e
 
--- the session after a line that memory ran out for, or whose write was held up: only a commit ends
+-- the session after a line that ran out of memory or whose write was held up: only a commit ends
 -- its batch
 abbrev pub unwritten : Session → Request → Session
 unwritten s silent = s
@@ -165,13 +166,13 @@ unwritten s begin = s
 unwritten s commit = with_batch s None
 unwritten s abort = s
 
--- There was no page for these operations, which the volume accepts, and the reply gives the least
--- version that is read; or another pass was writing.
+-- No page was left for these operations, which the volume accepts, and the reply has the oldest
+-- version that is read. Or another pass was writing.
 abbrev pub IsHeldUp : Store → List Op → Reply → Type 0
-IsHeldUp store ops reply = ((least : ℕ) × (reply ≡ refused (Full least)) × IsLeastOf store least
+IsHeldUp store ops reply = ((least : ℕ) × (reply ≡ refused (Full least)) × IsLowestOf store least
     × IsOk (written store ops)) ⊎ ((pass : ℕ) × (reply ≡ refused (Busy pass)) × IsOther store pass)
 
--- the same of the operations that a line writes to the store; no other line is held up
+-- the same for the operations that a line writes to the store; no other line is held up
 abbrev pub IsHeldUpAt : Session → Option (List Op) → Request → Reply → Type 0
 IsHeldUpAt s None (write (Ok op)) reply = IsHeldUp s.store (op ∷ []) reply
 IsHeldUpAt s (Some (op ∷ ops)) commit reply = IsHeldUp s.store (op ∷ ops) reply
@@ -189,7 +190,7 @@ CommitTakesMemory s None = ⊥
 CommitTakesMemory s (Some []) = ⊥
 CommitTakesMemory s (Some (op ∷ ops)) = IsOk (written s.store (op ∷ ops))
 
--- the lines that take memory: those, and the ones that read a query or list what they find
+-- the lines that take memory: these, and those that parse a query or list what they find
 abbrev pub TakesMemory : Session → Request → Type 0
 TakesMemory s silent = ⊥
 TakesMemory s malformed = ⊥
@@ -210,30 +211,29 @@ TakesMemory s begin = ⊥
 TakesMemory s commit = CommitTakesMemory s s.batch
 TakesMemory s abort = ⊥
 
--- There was no memory for a line that takes some, or a write was held up; nothing was written.
+-- A line that takes memory ran out of it, or a write was held up; nothing was written.
 abbrev pub IsWanting : Session → Request → Reply → Session → Type 0
 IsWanting s request reply after = (after ≡ unwritten s request)
     × (((reply ≡ refused OutOfMemory) × TakesMemory s request) ⊎ IsHeldUpAt s s.batch request reply)
 
--- exactly this reply, and the session that it leaves
+-- exactly this reply, and the session after it
 abbrev pub Gives : Reply × Session → Reply → Session → Type 0
 Gives answer reply after = answer ≡ (reply, after)
 
--- the reply that is meant and the session that it leaves; or the refusal of a line that memory ran
--- out for, or whose write was held up
+-- the intended reply and the session after it; or the error of a line that ran out of memory or
+-- whose write was held up
 abbrev pub MayReply : Session → Request → Reply × Session → Reply → Session → Type 0
 MayReply s request answer reply after = Gives answer reply after ⊎ IsWanting s request reply after
 
--- what is replied to the query of a text or to its fault; or the refusal of a line that memory ran
--- out for
+-- the reply to a text's query or to its error; or the error of a line that ran out of memory
 abbrev pub MayReplyTo : Session → Request → List ℕ → (Result Formula Refusal → Reply × Session)
     → Reply → Session → Type 0
 MayReplyTo s request text answer reply after =
     ((parsed : Result Formula Refusal) × IsQuery text parsed × Gives (answer parsed) reply after)
     ⊎ IsWanting s request reply after
 
--- What a request may be replied, and the session that it leaves. Reads are of the pinned version,
--- or of the volume after all writes if none is pinned.
+-- What a request may be replied, and the session after it. Reads see the pinned version, or the
+-- volume after all writes if none is pinned.
 abbrev pub Replies : Session → Request → Reply → Session → Type 0
 Replies s silent reply after = Gives (none, s) reply after
 Replies s malformed reply after = MayReply s malformed (bad_line, s) reply after
@@ -261,34 +261,34 @@ Replies s begin reply after = MayReply s begin (beginning s s.batch) reply after
 Replies s commit reply after = MayReply s commit (committing s s.batch) reply after
 Replies s abort reply after = MayReply s abort (aborting s s.batch) reply after
 
--- What a request may be replied, and the session that it leaves, if the store has other passes: the
--- reply is to the store as they left it. A store of one pass has no others, and it is then the
--- store as it was.
+-- What a request may be replied, and the session after it, if the store has other passes: the reply
+-- is about the store as they left it. A store with one pass has no others, so there it is the store
+-- as it was.
 abbrev pub Serves : Session → Request → Reply → Session → Type 0
 Serves s request reply after = Meanwhile s.store
     (λ now. Replies (with_store s now) request reply after)
 
--- the text that a line may be replied, and the session that it leaves
+-- a line's possible reply as text, and the session after it
 abbrev pub Answered : Session → List ℕ → Session → List ℕ → Type 0
 Answered s line after out = (reply : Reply) × Serves s (asked line) reply after
     × (out ≡ text_of reply)
 
--- the text that lines may be replied, one after the other, and the session that they leave
+-- the possible replies to several lines as text, one after another, and the session after them
 abbrev pub Outputs : Session → List (List ℕ) → Session → List ℕ → Type 0
 Outputs s [] last out = (last ≡ s) × (out ≡ [])
 Outputs s (line ∷ lines) last out =
     (after : Session) × (reply : List ℕ) × (rest : List ℕ) × Answered s line after reply
     × Outputs after lines last rest × (out ≡ reply ++ rest)
 
--- the text is an output of the script, run from this store on, which is then the new one
+-- the text is an output of the script: it ran from the first store on, and left the second
 abbrev pub IsOutputTo : Store → List ℕ → Store → List ℕ → Type 0
 IsOutputTo store script new out = (last : Session)
     × Outputs (opening store) (lines_of script) last out × (last.store ≡ new)
 
--- the text is an output of the script, run from this store on
+-- the text is an output of the script from this store on
 abbrev pub IsOutputFrom : Store → List ℕ → List ℕ → Type 0
 IsOutputFrom store script out = (new : Store) × IsOutputTo store script new out
 
--- the text is the front of one
+-- the text is a prefix of one
 abbrev pub IsFrontOfOutput : Store → List ℕ → List ℕ → Type 0
 IsFrontOfOutput store script front = (rest : List ℕ) × IsOutputFrom store script (front ++ rest)

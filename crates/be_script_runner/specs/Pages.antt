@@ -15,13 +15,13 @@ use Rattle.be_order.specs.Ordered.{Page, page}
 use Rattle.be_script_language.specs.Page.{PageFound, key_at, may_begin}
 use Rattle.be_script_language.specs.declared.pages.Paging.{Paging}
 
--- the value of the last of the nodes, and its number
+-- the value and the number of the last of the nodes
 abbrev pub last_pair : State → List ℕ → List ℕ → Option (Value × ℕ)
 last_pair volume by nodes = option_and_then
     (λ node. option_map (λ value. (value, node)) (attribute volume node by))
     (slice_get nodes (length nodes - 1))
 
--- a page of an answer, with the value by which its last node is in the order
+-- a page of an answer, with its last node's value at the order's name
 abbrev pub found_at : State → List ℕ → Page → PageFound
 found_at volume by p = record {
   nodes = p.nodes;
@@ -34,8 +34,8 @@ abbrev pub page_after : State → Paging → Option (List ℕ) → Formula → R
 page_after volume asked cursor f = result_map_both (found_at volume asked.by) (λ e. e)
     (page volume f asked.by asked.descending cursor asked.most)
 
--- The page that is asked for. There is none without an index of that name, or if the value after
--- which it begins is of another kind.
+-- The page that a line asks for. There is none without an index of that name, or if the value after
+-- which the page begins has another kind.
 abbrev pub page_read : State → Paging → Formula → Result PageFound Refusal
 page_read volume asked f = if may_begin (index_kind volume asked.by) asked.after
     then page_after volume asked (option_map key_at asked.after) f else Err NoSuchIndex

@@ -5,31 +5,31 @@ use Rattle.std.specs.declared.option.Option.{Option}
 use Rattle.be_script_runner.specs.Output.{Session, opening, Answered, Outputs, IsOutputTo}
 use Rattle.be_script_runner.specs.Output.{IsFrontOfOutput}
 use Rattle.be_script_language.specs.Request.{lines_of}
-use Rattle.be_table.specs.Versions.{CanSpellEach}
+use Rattle.be_table.specs.Versions.{CanEncodeEach}
 use Rattle.be_table.specs.declared.limits.Limits.{Limits as StoreLimits}
 use Rattle.be_script_runner.specs.Store.{Store, start}
 use Rattle.be_script_runner.specs.declared.faults.RunFault.{RunFault}
 use Rattle.be_script_runner.specs.declared.faults.RunFault.TheVariants.{Limits, Read, TooLong}
 use Rattle.be_script_runner.specs.declared.faults.RunFault.TheVariants.{Write, Memory}
 
--- what a writer holds grew by a text of which P holds
+-- what the writer has was extended by a text for which P holds
 pub record Wrote (old new : Option (List ℕ)) (P : List ℕ → Type 0) : Type 0 where
   pub out : List ℕ
   pub appended : Appends old new out
   pub is : P out
 
--- What a run writes: an output of the script, from an empty store of one pass on. After each of its
--- writes the volume fits into as many pages as the limits say.
+-- What a run writes: an output of the script, from an empty store with one pass on. After each of
+-- its writes the volume fits into as many pages as the limits say.
 pub record IsRun (limits : StoreLimits) (script out : List ℕ) : Type 0 where
   pub last : Store
   pub output : IsOutputTo (start limits.commits) script last out
-  pub volumes : CanSpellEach limits.pages last.journal
+  pub volumes : CanEncodeEach limits.pages last.journal
 
--- a front of the bytes
+-- a prefix of the bytes
 abbrev pub IsFrontOf : List ℕ → List ℕ → Type 0
 IsFrontOf bytes front = (rest : List ℕ) × (bytes ≡ front ++ rest)
 
--- a front of a text by which a line may be answered
+-- a prefix of a possible reply to a line
 abbrev pub IsFrontOfAnswer : Session → List ℕ → List ℕ → Type 0
 IsFrontOfAnswer s line front = (after : Session) × (rest : List ℕ)
     × Answered s line after (front ++ rest)
@@ -37,23 +37,23 @@ IsFrontOfAnswer s line front = (after : Session) × (rest : List ℕ)
 abbrev pub is_line_end : ℕ → Bool
 is_line_end c = c == 10
 
--- these are all the bytes that the reader had
+-- these are all the bytes that the reader had left
 abbrev pub ReadsAll : Option (List ℕ) → Option (List ℕ) → List ℕ → Type 0
 ReadsAll old new bytes = Consumes old new bytes × IsAtEnd new
 
--- a reader was read at most once more than a script may have bytes
+-- the reader was read at most once more than a script may have bytes
 abbrev pub HasFewReads : (ℕ → Type 0) → (ℕ → Type 0) → Type 0
 HasFewReads old new = (before : ℕ) → old before → (times : ℕ) × (times ≤ 2 ^ 20 + 1)
     × new (before + times)
 
--- at most as many bytes were read as a script may have; and more than these
+-- the reads took at most as many bytes as a script may have; or they took more
 abbrev pub ReadsFew : Option (List ℕ) → Option (List ℕ) → Type 0
 ReadsFew old new = (bytes : List ℕ) × Consumes old new bytes × (length bytes ≤ 2 ^ 20)
 
 abbrev pub ReadsMany : Option (List ℕ) → Option (List ℕ) → Type 0
 ReadsMany old new = (bytes : List ℕ) × Consumes old new bytes × (2 ^ 20 < length bytes)
 
--- What was read if a script was not: too many bytes if and only if it is too long.
+-- What was read if reading the script failed: too many bytes exactly if it is too long.
 abbrev pub ReadFault : RunFault → Option (List ℕ) → Option (List ℕ) → Type 0
 ReadFault Limits old new = ⊥
 ReadFault Read old new = ReadsFew old new
@@ -61,12 +61,12 @@ ReadFault TooLong old new = ReadsMany old new
 ReadFault Write old new = ⊥
 ReadFault Memory old new = ReadsFew old new
 
--- What was read if a run stopped: too many bytes if and only if the script is too long.
+-- What was read if a run ended with an error: too many bytes exactly if the script is too long.
 abbrev pub HasReadScript : RunFault → Option (List ℕ) → Option (List ℕ) → Type 0
 HasReadScript TooLong old new = ReadsMany old new
 HasReadScript e old new = ReadsFew old new
 
--- the text is the replies to the first lines of a script, each of them whole
+-- the text has whole replies to a script's first lines
 pub record AreFirstReplies (store : Store) (script out : List ℕ) : Type 0 where
   pub lines : List (List ℕ)
   pub rest : List (List ℕ)
@@ -74,8 +74,9 @@ pub record AreFirstReplies (store : Store) (script out : List ℕ) : Type 0 wher
   pub last : Session
   pub output : Outputs (opening store) lines last out
 
--- What a fault leaves. If the script was not read whole or was too long, nothing was written. After
--- a failed write, the front of an output. Out of memory leaves the replies to the first lines.
+-- What an error leaves. If the script couldn't be read completely or was too long, nothing was
+-- written. After a failed write, a prefix of an output. If memory ran out, the replies to the first
+-- lines.
 abbrev pub RunLeaves : RunFault → Store → Option (List ℕ) → Option (List ℕ) → Option (List ℕ)
     → Type 0
 RunLeaves Limits store input old new = Keeps old new
@@ -87,7 +88,7 @@ RunLeaves Write store input old new = IfSome input
 RunLeaves Memory store input old new = IfSome input
     (λ script. Wrote old new (AreFirstReplies store script))
 
--- a fault of the reading
+-- an error while the script is read
 abbrev pub IsEarly : RunFault → Type 0
 IsEarly Limits = ⊥
 IsEarly Read = Unit {0}
@@ -95,7 +96,7 @@ IsEarly TooLong = Unit {0}
 IsEarly Write = ⊥
 IsEarly Memory = Unit {0}
 
--- a fault after the script was read
+-- an error after the script was read
 abbrev pub IsLate : RunFault → Type 0
 IsLate Limits = ⊥
 IsLate Read = ⊥
@@ -103,7 +104,7 @@ IsLate TooLong = ⊥
 IsLate Write = Unit {0}
 IsLate Memory = Unit {0}
 
--- a fault other than a limit out of range
+-- any error but Limits
 abbrev pub IsNotLimits : RunFault → Type 0
 IsNotLimits Limits = ⊥
 IsNotLimits Read = Unit {0}
@@ -111,8 +112,8 @@ IsNotLimits TooLong = Unit {0}
 IsNotLimits Write = Unit {0}
 IsNotLimits Memory = Unit {0}
 
--- The text is the replies to the lines of a script up to those of what is left, and `s` is the
--- session that they leave.
+-- The text has the replies to a script's lines up to those that are left, and `s` is the session
+-- after them.
 pub record HasReplied (store : Store) (script : List ℕ) (s : Session) (left out : List ℕ) : Type 0
   where
     pub lines : List (List ℕ)

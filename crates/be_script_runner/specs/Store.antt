@@ -1,4 +1,4 @@
--- What serves a script.
+-- The store that a script runs on.
 use Rattle.std.specs.Prelude.{◌≡◌, ◌≢◌, ◌⊎◌, ◌<◌, ◌≤◌, ℕ, List, [], ◌∷◌, ◌++◌, All, fold, length}
 use Rattle.std.specs.Prelude.{nat_lt, if◌then◌else◌, IsOk, Some, None, refl}
 use Rattle.std.specs.Coded.{Coded, code_by, coded_ℕ, coded_list, coded_option, coded×}
@@ -16,14 +16,14 @@ use Rattle.be_volume.specs.declared.ops.Op.{Op}
 use Rattle.be_journal.specs.declared.entries.Entry.{Entry}
 use Rattle.be_journal.specs.Journal.{coded_entry}
 
--- a pinned version: how many writes were accepted before it, and its volume
+-- a pinned version: how many writes it includes, and its volume
 pub record PinnedVolume : Type 0 where
   pub number : ℕ
   pub volume : State
 
--- A store as the pass sees it that serves: the accepted writes, the volume after them, how many
--- writes there may be, how many passes the store has, which of them this is, and the version that
--- it pinned, if it did.
+-- A store as its serving pass sees it. It has the accepted writes, the volume after them, and the
+-- limit on their number. It also has the number of passes, this pass's own number, and the version
+-- that it has pinned, if any.
 pub record Store : Type 0 where
   pub journal : List Entry
   pub volume : State
@@ -50,7 +50,7 @@ coded_store = code_by _ (coded× (coded_list coded_entry)
       pin = q.1.1.1.1.1;
     }) (λ _. refl)
 
--- a store of one pass before its first write, with no pin
+-- a new store with one pass and no pin
 abbrev pub start : ℕ → Store
 start limit = record {
   journal = [];
@@ -61,11 +61,11 @@ start limit = record {
   pin = None;
 }
 
--- the store has a pass of this number, and it is another one than this
+-- the store has a pass with this number, and it isn't this one
 abbrev pub IsOther : Store → ℕ → Type 0
 IsOther s k = (k < s.passes) × (k ≢ s.pass)
 
--- What the other passes may have made of the store: they append entries, and the volume is the one
+-- What the other passes may have done to the store: they append entries, and the volume is the one
 -- after these entries.
 pub record Joins (old new : Store) : Type 0 where
   pub others : List Entry
@@ -76,13 +76,13 @@ pub record Joins (old new : Store) : Type 0 where
     volume = fold (λ v e. state_after v e.ops) old.volume others;
   }
 
--- The other passes may have written meanwhile, and P is true of the store as they left it.
+-- The other passes may have written in the meantime, and P holds for the store as they left it.
 pub record Meanwhile (old : Store) (P : Store → Type 0) : Type 0 where
   pub now : Store
   pub joins : Joins old now
   pub is : P now
 
--- the volume that is read: the pinned one, or the one after all writes if none is pinned
+-- the volume that reads see: the pinned one, or the one after all writes if none is pinned
 abbrev pub viewed : Store → State
 viewed s = option_map_or (λ (p : PinnedVolume). p.volume) s.pin s.volume
 
@@ -90,11 +90,11 @@ viewed s = option_map_or (λ (p : PinnedVolume). p.volume) s.pin s.volume
 abbrev pub pinned : Store → Store
 pinned s = record s { pin = Some (record { number = length s.journal; volume = s.volume }) }
 
--- the store with no pin
+-- the store without a pin
 abbrev pub unpinned : Store → Store
 unpinned s = record s { pin = None }
 
--- the store after a write by the pass that the volume accepts, with its answers; a pin stays
+-- the store after this pass's write, which the volume accepts, with its outcomes; a pin stays
 abbrev pub entered : Store → List Op → State → List Done → Store
 entered s ops volume dones = record s {
   journal = s.journal ++ record { by = s.pass; ops = ops; dones = dones }
@@ -102,7 +102,7 @@ entered s ops volume dones = record s {
   volume = volume;
 }
 
--- A write: a refusal by the volume comes before the refusal of a journal at its limit.
+-- A write: the volume's error comes before that of a journal at its limit.
 abbrev pub written_by : Store → List Op → Result (State × List Done) Refusal
     → Result (Store × List Done) Refusal
 written_by s ops (Ok answer) = if nat_lt (length s.journal) s.limit
@@ -112,29 +112,29 @@ written_by s ops (Err e) = Err e
 abbrev pub written : Store → List Op → Result (Store × List Done) Refusal
 written s ops = written_by s ops (steps s.volume ops)
 
--- the version that is read, as the number of writes accepted before it: the pinned one, or the one
+-- the version that reads see, as the number of writes that it includes: the pinned one, or the one
 -- after all writes if none is pinned
 abbrev pub viewed_number : Store → ℕ
 viewed_number s = option_map_or (λ (p : PinnedVolume). p.number) s.pin (length s.journal)
 
--- The least version that a full store reports is no later than the version that is read; and if no
+-- The oldest version that a full store reports is no later than the version that reads see. If no
 -- other pass reads, it is that version.
-abbrev pub IsLeastOf : Store → ℕ → Type 0
-IsLeastOf s least = (least ≤ viewed_number s) × (s.passes ≡ 1 → least ≡ viewed_number s)
+abbrev pub IsLowestOf : Store → ℕ → Type 0
+IsLowestOf s least = (least ≤ viewed_number s) × (s.passes ≡ 1 → least ≡ viewed_number s)
 
--- a refusal because memory ran out, or because the pages ran out, with the least version
+-- an error because memory ran out, or because pages ran out, with the oldest version that is read
 abbrev pub IsWant : Store → Refusal → Type 0
-IsWant s e = (e ≡ OutOfMemory) ⊎ ((least : ℕ) × (e ≡ Full least) × IsLeastOf s least)
+IsWant s e = (e ≡ OutOfMemory) ⊎ ((least : ℕ) × (e ≡ Full least) × IsLowestOf s least)
 
 -- another pass was writing
 abbrev pub IsBusy : Store → Refusal → Type 0
 IsBusy s e = (pass : ℕ) × (e ≡ Busy pass) × IsOther s pass
 
--- An accepted write has the outcomes that the volume gives, and the number of its commit. Out of
--- memory and Full come only for a write that the volume accepts. A refused write changes nothing.
+-- An accepted write has the outcomes that the volume gives, and its commit number. OutOfMemory and
+-- Full come only for a write that the volume accepts. A refused write changes nothing.
 abbrev pub MayWrite : {X : Type 0} → (X → List Done) → Store → List Op → Result (ℕ × X) Refusal
     → Store → Type 0
-MayWrite dones_of old ops (Ok answer) new = (written old ops ≡ Ok (new, dones_of answer.1))
+MayWrite outcomes_of old ops (Ok answer) new = (written old ops ≡ Ok (new, outcomes_of answer.1))
     × (answer.0 ≡ length new.journal)
-MayWrite dones_of old ops (Err e) new = (new ≡ old)
+MayWrite outcomes_of old ops (Err e) new = (new ≡ old)
     × ((written old ops ≡ Err e) ⊎ (IsWant old e × IsOk (written old ops)) ⊎ IsBusy old e)

@@ -1,4 +1,4 @@
--- What a run is answered that ends at the first line that is refused.
+-- The replies of a run that ends at the first refused line.
 use Rattle.std.specs.Prelude.{◌≡◌, ℕ, ◌+◌, Bool, true, false, List, [], ◌∷◌, ◌++◌, Some, None}
 use Rattle.std.specs.Prelude.{length, if◌then◌else◌}
 use Rattle.std.specs.Option.{option_map}
@@ -11,13 +11,13 @@ use Rattle.be_script_language.specs.Reply.{not_pinned, updates, no_live_query, q
 use Rattle.be_script_language.specs.Reply.{empty_batch, already_begun, not_begun, committed}
 use Rattle.be_script_language.specs.Reply.{refused, text_of}
 use Rattle.be_script_language.specs.Request.{asked, lines_of}
-use Rattle.be_table.specs.Versions.{CanSpellEach}
+use Rattle.be_table.specs.Versions.{CanEncodeEach}
 use Rattle.be_table.specs.declared.limits.Limits.{Limits as StoreLimits}
 use Rattle.be_script_runner.specs.Output.{Session, Serves, opening}
 use Rattle.be_script_runner.specs.Store.{Store, start}
 use Rattle.be_script_runner.specs.declared.strict_runs.RefusedLine.{RefusedLine}
 
--- the replies that say that a line was not done
+-- the replies that say that a line wasn't carried out
 abbrev pub is_refusal : Reply → Bool
 is_refusal none = false
 is_refusal bad_line = true
@@ -46,27 +46,27 @@ is_refusal (refused r) = true
 abbrev pub line_refused : RefusedLine → ℕ × List ℕ
 line_refused line = (line.number, string_bytes line.reply)
 
--- a reply as that of the line with this number
+-- a reply with its line's number
 abbrev pub numbered : ℕ → Option (List ℕ) → Option (ℕ × List ℕ)
 numbered number None = None
 numbered number (Some text) = Some (number, text)
 
--- The text that a line may be replied, the session that it leaves, and the text again if it says
--- that the line is refused.
+-- A line's possible reply as text, the session after it, and the text again if it says that the
+-- line was refused.
 abbrev pub Judged : Session → List ℕ → Session → Option (List ℕ) → List ℕ → Type 0
 Judged s line after found out = (reply : Reply) × Serves s (asked line) reply after
     × (out ≡ text_of reply) × (found ≡ (if is_refusal reply then Some out else None))
 
--- the text that lines may be replied, one after the other, none of which is refused, and the
--- session that they leave
+-- the possible replies to several lines as text, none of which is refused, and the session after
+-- them
 abbrev pub Accepts : Session → List (List ℕ) → Session → List ℕ → Type 0
 Accepts s [] last out = (last ≡ s) × (out ≡ [])
 Accepts s (line ∷ lines) last out =
     (after : Session) × (reply : List ℕ) × (rest : List ℕ) × Judged s line after None reply
     × Accepts after lines last rest × (out ≡ reply ++ rest)
 
--- the first lines of a script were accepted, and the next one, which has this number, was refused
--- by this text
+-- the script's first lines were accepted, and the next one, which has this number, was refused with
+-- this text
 pub record StopsAt (store : Store) (script : List ℕ) (number : ℕ) (text : List ℕ) (new : Store)
     (out : List ℕ) : Type 0 where
   pub lines : List (List ℕ)
@@ -82,24 +82,24 @@ pub record StopsAt (store : Store) (script : List ℕ) (number : ℕ) (text : Li
   pub out_is : out ≡ front ++ text
   pub leaves : after.store ≡ new
 
--- The replies to a script up to its first line that is refused, or to the whole script if none is.
--- The refused line is given as its number and its reply.
+-- The replies to a script up to its first refused line, or to the whole script if none is refused.
+-- `found` is the refused line's number and its reply.
 abbrev pub IsStrictOutput : Store → List ℕ → Option (ℕ × List ℕ) → Store → List ℕ → Type 0
 IsStrictOutput store script None new out = (last : Session)
     × Accepts (opening store) (lines_of script) last out × (last.store ≡ new)
 IsStrictOutput store script (Some found) new out = StopsAt store script found.0 found.1 new out
 
--- What such a run writes, from an empty store of one pass on, and the journal that it leaves. After
--- each of its writes the volume fits into as many pages as the limits say.
+-- What such a run writes, from an empty store with one pass on, and the journal that it leaves.
+-- After each of its writes the volume fits into as many pages as the limits say.
 pub record IsStrictRun (limits : StoreLimits) (script : List ℕ) (found : Option (ℕ × List ℕ))
     (journal : List Entry) (out : List ℕ) : Type 0 where
   pub last : Store
   pub output : IsStrictOutput (start limits.commits) script found last out
   pub journal_is : journal ≡ last.journal
-  pub volumes : CanSpellEach limits.pages journal
+  pub volumes : CanEncodeEach limits.pages journal
 
--- The text is the replies to the lines of a script up to those of what is left, none of them
--- refused; `s` is the session that they leave, and `number` that of the next line.
+-- The text has the replies to a script's lines up to those that are left, none of them refused. `s`
+-- is the session after them, and `number` is that of the next line.
 pub record HasAccepted (store : Store) (script : List ℕ) (s : Session) (left : List ℕ) (number : ℕ)
     (out : List ℕ) : Type 0 where
   pub lines : List (List ℕ)

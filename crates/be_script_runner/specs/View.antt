@@ -1,4 +1,4 @@
--- What a script has beside its store, as a session.
+-- A store and what a script keeps beside it, as a session.
 use Rattle.std.specs.Prelude.{List, [], Some, None, unwrap_or}
 use Rattle.std.specs.Option.{option_map}
 use Rattle.std.specs.declared.option.Option.{Option}
@@ -17,17 +17,17 @@ queue client = option_map (λ ops. ops.items) client.batch
 abbrev pub queued_ops : Client → List Op
 queued_ops client = unwrap_or (queue client) []
 
--- a store, and what a script has beside it, as a session
+-- a store and what a script keeps beside it, as a session
 abbrev pub session : Store → Client → Session
 session store client = record { store = store; batch = queue client; live = client.live }
 
--- what is replied to this request is said of the store, whatever the script has beside it: both are
--- left as they are
+-- the reply to this request depends only on the store, whatever the script keeps beside it, and the
+-- request changes neither
 abbrev pub RepliesToAny : Store → Request → Reply → Type 0
 RepliesToAny store request reply = (client : Client)
     → Replies (session store client) request reply (session store client)
 
--- a session from its parts: with no batch open, with these operations queued, and with this live
+-- a session from its parts: with no open batch, with these operations queued, or with this live
 -- query
 abbrev pub unbatched : Store → Option LiveQuery → Session
 unbatched store l = record { store = store; batch = None; live = l }

@@ -1,10 +1,10 @@
-//! The reply to each line.
+//! Answers each line.
 //!
-//! A session is what serves the script and what the script has beside it: a batch if one is open,
-//! which is the operations queued for one write, and a live query. A line that is refused or bad
-//! leaves both as they were, but a commit ends its batch, refused or not. If other passes write, a
-//! line is run on the store as they left it: a read leaves that store, and its reply is one of that
-//! store.
+//! A session is the server that the script runs on, and what the script keeps beside it: a live
+//! query, and a batch if one is open, that is, the operations queued for one write. A refused or
+//! bad line leaves both as they were, except that a commit ends its batch even if it is refused. If
+//! other passes write, a line runs on the store as they left it. A read leaves that store as it is,
+//! and its reply is about that store.
 ghost use Rattle.std.specs.Prelude.{◌≡◌, ◌≤◌, Ok, List, Option, length, vec_len};
 ghost use Rattle.be_script_runner.specs.Output as spec;
 ghost use Rattle.be_script_language.specs.Request as requests;
@@ -24,7 +24,7 @@ use be_value::{Name, Refusal};
 use be_volume::{Done, Op};
 use std::alloc::Global;
 
-/// The most operations of a batch.
+/// The largest number of operations in a batch.
 const MAX_BATCH: usize = 64;
 
 fn begin(alloc: Global, client: &mut Client) -> Reply
@@ -74,7 +74,7 @@ fn write<S: Server>(server: &mut S, op: Op) -> Reply
     }
 }
 
-/// Queues an operation if there is a place for it.
+/// Queues an operation, if the batch has room for it.
 fn enqueue(ops: &mut Vec<Op>, op: Op) -> Reply
     requires few { vec_len ops.old ≤ 64 }
     ensures replies { (store : Store) (live : Option LiveQuery) →
@@ -106,7 +106,7 @@ fn take<S: Server>(server: &mut S, client: &mut Client, op: Op) -> Reply
     }
 }
 
-/// Writes or queues the operation of a write line, if the line gives one.
+/// Writes or queues a write line's operation, if the line has a valid one.
 fn write_line<S: Server>(server: &mut S, client: &mut Client, op: Result<Op, Refusal>) -> Reply
     requires few { length (queued_ops client.old) ≤ 64 }
     ensures replies { spec.Serves (session (S.shows server.old) client.old) (requests.write op)
@@ -120,7 +120,7 @@ fn write_line<S: Server>(server: &mut S, client: &mut Client, op: Result<Op, Ref
     }
 }
 
-/// Writes the operations of the batch as one. It ends then, refused or not.
+/// Writes the batch's operations as one transaction. This ends the batch, refused or not.
 fn commit<S: Server>(server: &mut S, client: &mut Client) -> Reply
     requires few { length (queued_ops client.old) ≤ 64 }
     ensures replies { spec.Serves (session (S.shows server.old) client.old) requests.commit
@@ -172,7 +172,7 @@ fn page_of<S: Server>(alloc: Global, server: &mut S, paging: &Paging, text: &str
     }
 }
 
-/// The same, or why the page's name or its value is none, which comes first.
+/// The same. If the page's name or value is invalid, that error comes first.
 fn page<S: Server>(
     alloc: Global,
     server: &mut S,
@@ -190,7 +190,7 @@ fn page<S: Server>(
     }
 }
 
-/// What a query would be answered from. The query's own faults come before the cover's refusal.
+/// Which indices would answer a query. Errors in the query's text come before the plan's.
 fn explain_query<S: Server>(alloc: Global, server: &mut S, text: &str) -> Reply
     ensures replies { RepliesToAny (S.shows server.new) (requests.explain text.now)
         (reply_of result) }
@@ -244,7 +244,7 @@ fn indices<S: Server>(server: &mut S) -> Reply
     }
 }
 
-/// Pins the version after all writes so far, if none is pinned.
+/// Pins the version after all writes so far, unless a version is pinned already.
 fn pin<S: Server>(server: &mut S) -> Reply
     ensures replies { (client : Client) →
         spec.Serves (session (S.shows server.old) client) requests.pin (reply_of result)
@@ -270,7 +270,7 @@ fn unpin<S: Server>(server: &mut S) -> Reply
     Reply::Done
 }
 
-/// Takes a live query in place of an earlier one. It doesn't matter what the query rests on.
+/// Replaces the live query. It doesn't matter whether indices cover the query.
 fn watch(alloc: Global, client: &mut Client, text: &str) -> Reply
     ensures replies { (store : Store) → spec.Replies (session store client.old)
         (requests.live text.now) (reply_of result) (session store client.new) }
@@ -285,7 +285,7 @@ fn watch(alloc: Global, client: &mut Client, text: &str) -> Reply
     }
 }
 
-/// What came and what went since the live query was asked last.
+/// The nodes that have joined the live query's answer since it last ran, and those that have left.
 fn update<S: Server>(server: &mut S, live: &mut Live) -> Reply
     ensures replies { (batch : Option (List Op)) →
         spec.Replies (watched (S.shows server.new) batch live.old) requests.refresh
@@ -303,7 +303,7 @@ fn update<S: Server>(server: &mut S, live: &mut Live) -> Reply
     }
 }
 
-/// Asks the live query, if there is one.
+/// Runs the live query, if there is one.
 fn refresh<S: Server>(server: &mut S, client: &mut Client) -> Reply
     ensures replies { spec.Replies (session (S.shows server.new) client.old) requests.refresh
         (reply_of result) (session (S.shows server.new) client.new) }
@@ -317,7 +317,7 @@ fn refresh<S: Server>(server: &mut S, client: &mut Client) -> Reply
     }
 }
 
-/// Runs what a line asks for, and gives its reply.
+/// Runs what a line asks for, and returns its reply.
 pub fn answer<S: Server>(
     alloc: Global,
     server: &mut S,

@@ -13,10 +13,10 @@ pub enum RunFault {
     /// The script has more than 1,048,576 bytes. Nothing was written.
     #[error("the script is too long")]
     TooLong,
-    /// A write failed or took nothing. What was written is the front of an output.
+    /// A write failed or took no bytes. A prefix of an output was written.
     #[error("a reply can't be written")]
     Write,
-    /// The store, a line or a reply found no memory. What was written is the front of an output.
+    /// The store, a line or a reply ran out of memory. A prefix of an output was written.
     #[error("out of memory")]
     Memory,
 }

@@ -1,4 +1,4 @@
-//! The scripts of files.
+//! Reads scripts from files.
 ghost use Rattle.std.specs.Prelude.{◌≡◌, ◌≤◌, ◌<◌, ◌^◌, false, length, nat_lt, vec_len, IfOk};
 ghost use Rattle.std.specs.Prelude.{IfErr};
 ghost use Rattle.std.specs.List.{list_any};
@@ -10,8 +10,8 @@ use std::alloc::Global;
 use std::fs;
 use std::rt::Files;
 
-/// Reads a file whole, as a script; `-` is standard input. A file that can't be opened is one that
-/// can't be read.
+/// Reads a whole file as a script; `-` is standard input. A file that can't be opened counts as one
+/// that can't be read.
 fn read_file<R: Files + Input>(rt: &R, alloc: Global, file: &str) -> Result<Vec<u8>, RunFault>
     ensures fits { IfOk result (λ script. vec_len script ≤ 2 ^ 20) }
     ensures early { IfErr result IsEarly }
@@ -25,8 +25,8 @@ fn read_file<R: Files + Input>(rt: &R, alloc: Global, file: &str) -> Result<Vec<
     }
 }
 
-/// What ends the reading if the file at this place is too long: the first later file that can't be
-/// read, or this one if all can be read.
+/// The error to return if the file at this place is too long: that of the first later file that
+/// can't be read, otherwise TooLong for this file.
 fn stop_at<R: Files + Input>(
     rt: &R,
     alloc: Global,
@@ -45,10 +45,10 @@ fn stop_at<R: Files + Input>(
     (place, RunFault::TooLong)
 }
 
-/// Reads the scripts of these files, in their order; `-` is standard input, and a second `-` reads
-/// as empty. The first file that can't be read ends it: the error is its place, from 0, and Read or
-/// Memory. If all can be read and some are too long, the error is the place of the first of these,
-/// and TooLong.
+/// Reads the scripts in these files, in order; `-` is standard input, and a second `-` reads as
+/// empty. It stops at the first file that can't be read, and returns that file's place, from 0, and
+/// Read or Memory. If all can be read but some are too long, it returns the place of the first of
+/// these, and TooLong.
 pub fn read_files<R: Files + Input>(
     rt: &R,
     alloc: Global,

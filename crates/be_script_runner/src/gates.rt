@@ -1,22 +1,22 @@
-//! What a race lets in between the lines of its scripts.
+//! Calls that a race makes between the lines of its scripts.
 //!
-//! A gate reports to a test which line each script is at. It can hold a script back, so that the
-//! test can see that the scripts run at once. A race without a test takes the open gate.
+//! A gate reports to a test which line each script is at. It can hold a script back, so the test
+//! can see that the scripts run at the same time. A race without a test uses the open gate.
 ghost use Rattle.std.specs.Prelude.{ℕ};
 ghost use Rattle.be_script_runner.specs.Gates.{IsNext};
 
-/// A race calls it for each line, once before the line and once after it, on the thread that runs
-/// the line. It may keep that thread waiting. Lines count from 1 over all lines of a script, blank
-/// ones and comments too; what follows the last LF is a line only if it isn't empty.
+/// A race calls its gate before and after each line, on the thread that runs the line. The gate may
+/// keep that thread waiting. Lines are numbered from 1 and include blank ones and comments. What
+/// follows the last LF is a line only if it isn't empty.
 ///
-/// The two ghosts say which line of which pass has begun and has ended. A gate needn't define them:
-/// code that has any gate knows them from the calls alone, so a clause about them says which calls
-/// it made.
+/// The two ghosts say which line of which pass has begun and which has ended. A gate needn't define
+/// them: code over an arbitrary gate learns them only from its own calls. So a clause about them
+/// says which calls the code made.
 pub trait Gate {
-    /// This gate was called before the pass runs the line.
+    /// This gate was called before the pass ran the line.
     ghost begun: { Self → ℕ → ℕ → Type 0 } = { λ _ _ _. Unit {0} };
 
-    /// This gate was called after the pass has run the line.
+    /// This gate was called after the pass ran the line.
     ghost ended: { Self → ℕ → ℕ → Type 0 } = { λ _ _ _. Unit {0} };
 
     /// The pass is about to run this line.
@@ -30,7 +30,7 @@ pub trait Gate {
         ensures { ended self.now pass line };
 }
 
-/// A gate at which nothing waits.
+/// A gate that never waits.
 #[derive(Clone, Copy)]
 pub struct OpenGate;
 

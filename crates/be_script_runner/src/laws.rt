@@ -1,4 +1,4 @@
-//! Laws of the definitions. Each does nothing; its contract is the law.
+//! Laws of the definitions. Each function's body is empty; its contract is the law.
 ghost use Rattle.std.specs.Prelude.{◌≡◌, ◌≢◌, ◌≤◌, ◌∷◌, [], ◌++◌, ℕ, All, Bool, List, Ok, Some};
 ghost use Rattle.std.specs.Prelude.{None, length};
 ghost use Rattle.std.specs.Option.{option_map};
@@ -27,33 +27,33 @@ ghost use Rattle.be_script_language.specs.Reply.{Reply};
 ghost use Rattle.be_script_language.specs.Request.{Request, lines_of};
 ghost use Rattle.be_script_runner.specs.Store.{Store, Joins, start};
 ghost use Rattle.be_script_runner.specs.Strict.{IsStrictOutput};
-ghost use Rattle.be_script_runner.specs.Telling.{MakesVolume, dump_output, made};
+ghost use Rattle.be_script_runner.specs.JournalRuns.{MakesVolume, dump_output, made};
 ghost use Rattle.be_volume_state.specs.Rebuilding.{state_ops};
 
-/// A store of one pass has no others: it is always as its pass left it.
+/// In a store with one pass, nobody else writes: the store is always as its pass left it.
 pub fn nobody_joins()
     ensures { (old new : Store) → old.passes ≡ 1 → old.pass ≡ 0 → Joins old new → new ≡ old }
 {}
 
-/// A line of such a store is answered from the store as it is, and leaves such a store: so what
-/// `run` writes is said of one pass alone.
+/// A line in such a store is answered from the store as it is, and leaves such a store. So what
+/// `run` writes depends on only one pass.
 pub fn answered_alone()
     ensures { (s after : Session) (request : Request) (reply : Reply) → s.store.passes ≡ 1
         → s.store.pass ≡ 0 → Serves s request reply after →
         Replies s request reply after × (after.store.passes ≡ 1) × (after.store.pass ≡ 0) }
 {}
 
-/// The script of a journal makes it again: a run of it, if memory and pages suffice, has the same
-/// journal but for the numbers of passes, and the same volume.
+/// The script of a journal rebuilds it. If memory and pages suffice, a run of the script has the
+/// same journal, except for the passes' numbers, and the same volume.
 pub fn dump_makes_journal()
     ensures { (limit : ℕ) (entries : List AnyEntry) → CanBeJournal entries → IsLegal entries
         → length entries ≤ limit →
         IsOutputTo (start limit) (dump entries) (made limit entries) (dump_output 1 entries) }
 {}
 
-/// The script of the state that a journal leaves makes this state: a run of it, if memory and pages
-/// suffice, leaves the journal's volume, by no more writes than the journal has. Of the operations
-/// of a volume at hand be_journal_text's `dump_state` says that they are such of the program.
+/// The script of the state that a journal leaves rebuilds this state. If memory and pages suffice,
+/// a run of the script leaves the journal's volume, in no more writes than the journal has.
+/// be_journal_text's `dump_state` says that the operations of a loaded volume satisfy `CanBeOp`.
 pub fn state_dump_makes_volume()
     ensures { (limit : ℕ) (entries : List AnyEntry) → CanBeJournal entries
         → All CanBeOp (state_ops (replay entries)) → length entries ≤ limit →
@@ -61,7 +61,7 @@ pub fn state_dump_makes_volume()
 {}
 
 /// What a strict run writes is an output: of the whole script if no line is refused, otherwise of
-/// its first lines, the last of which is the one that was refused.
+/// its first lines up to the refused one.
 pub fn strict_output_is_output()
     ensures whole { (store new : Store) (script out : List ℕ)
         → IsStrictOutput store script None new out → IsOutputTo store script new out }
@@ -72,17 +72,17 @@ pub fn strict_output_is_output()
         × Outputs (opening store) lines last out × (last.store ≡ new) }
 {}
 
-/// The calls of a race's passes follow one order, which is that of the moves in `IsRace`: so a
-/// query's answer is the scan of the volume after a prefix of the journal, an accepted write is
-/// replied what the volume says at its place, and whoever pins has the writes that come before.
+/// The calls of a race's passes follow one order, that of the moves in `IsRace`. So a query's
+/// answer is the scan of the volume after a prefix of the journal. An accepted write's reply is
+/// what the volume says at its place, and a pin sees all writes that come before it.
 pub fn race_follows_one_order()
     ensures { (limits : Limits) (scripts : List (List ℕ)) (out : List ℕ)
         → (race : IsRace limits scripts out) → FollowOneOrder race.journal race.passes }
 {}
 
-/// What a script was replied line by line is an output of it, from the store that the pass showed
-/// at first to the one that it shows at last. Calls led from what the pass knew at first to what it
-/// knows at last, and what it knew after each line lies between.
+/// The replies to a script, line by line, are an output of it. The output begins with the store
+/// that the pass showed at first, and leaves the one that it shows at last. Calls led from what the
+/// pass knew at first to what it knows at last, through what it knew after each line.
 pub fn served_is_output()
     ensures output { (a z : Knowledge) (script out : List ℕ) → IsServedBy a script z out
         → IsOutputTo (known a) script (known z) out }
@@ -90,9 +90,9 @@ pub fn served_is_output()
         → LeadTo a z }
 {}
 
-/// The value and the number of a page's last node are at the cursor that the page leaves. So pages
-/// of one version, each after the position that the one before it printed, are those of be_order's
-/// `pages_are_the_whole`: the whole list, and each node once.
+/// The value and number of a page's last node give the cursor that the page leaves. So pages of one
+/// version, each after the position that the one before printed, are those of be_order's
+/// `pages_are_the_whole`: together they are the whole list, with each node once.
 pub fn position_is_the_cursor()
     ensures { (s : State) (f : Formula) (by : List ℕ) (kind : Kind) (descending : Bool)
         (cursor : Option (List ℕ)) (most : ℕ) (p : Page) → IsSound s → index_kind s by ≡ Some kind

@@ -1,16 +1,18 @@
-//! What runs scripts.
+//! Runs scripts.
 //!
-//! [`run`] reads a script whole, runs its lines in order on a shared store of its own, from that
-//! store's one pass, and writes the replies. What a script may be answered is one definition
-//! (`Output` in specs/), and `run` is proved to write nothing else. [`race`] runs several scripts
-//! at once, each on a thread of its own and from a pass of its own of one store. It writes their
-//! replies and the store's journal, which is proved to be legal and to have nothing that the
-//! scripts don't ask for. [`run_and_tell`] is a run that writes its journal too. [`read_files`]
-//! reads the scripts of a race. [`run_strictly`] is a run that ends at the first line that is
-//! refused. [`answer`] answers one line, for callers that have the lines from elsewhere, and
-//! [`save_state`] writes the script of the version that is read. From the bottom up: the script of
-//! a version, what serves a line, the reply to it, the run, the race, the run that writes its
-//! journal, the strict run, and the files.
+//! [`run`] reads a whole script, runs its lines in order on a new shared store with one pass, and
+//! writes the replies. One definition (`Output` in specs/) says which replies a script may get, and
+//! `run` is proved to write nothing else.
+//!
+//! [`race`] runs several scripts at the same time on one store, each on its own thread and from its
+//! own pass. It writes their replies and the store's journal. The journal is proved to be legal,
+//! and to have only writes that the scripts ask for.
+//!
+//! [`run_with_journal`] runs a script and writes its journal too. [`run_strictly`] ends a run at
+//! the
+//! first refused line. [`read_files`] reads a race's scripts. [`answer`] answers one line, for
+//! callers that get lines from elsewhere. [`save_state`] writes the script of the current or pinned
+//! version.
 #![tactic(auto)]
 
 mod answers;
@@ -18,6 +20,7 @@ mod client;
 mod faults;
 mod files;
 mod gates;
+mod journal_runs;
 pub mod laws;
 mod pages;
 mod passes;
@@ -28,7 +31,6 @@ mod script_readers;
 mod states;
 mod stores;
 mod strict_runs;
-mod tellings;
 
 pub use answers::answer;
 pub use be_journal::Journal;
@@ -37,10 +39,10 @@ pub use client::Client;
 pub use faults::RunFault;
 pub use files::read_files;
 pub use gates::{Gate, OpenGate};
+pub use journal_runs::{close_alone, run_with_journal};
 pub use races::{put_result, race};
 pub use runs::{put, run, serve};
 pub use saves::save_state;
 pub use script_readers::ScriptReader;
 pub use stores::{PassServer, Server, open_for_one};
 pub use strict_runs::{RefusedLine, run_strictly};
-pub use tellings::{close_alone, run_and_tell};

@@ -1,10 +1,10 @@
-//! Scripts served from a pass of a shared store, line by line.
+//! Serves a script from a pass of a shared store, line by line.
 //!
-//! Between two lines there is the pass alone, so what it knows after each line is a fact of its
-//! own: calls of the store led there from what it knew before the line, and the reply is one of the
-//! store that it then shows.
+//! Between two lines there is only the pass. So what it knows after each line is a fact of its own:
+//! calls of the store led there from what it knew before, and the reply is about the store that it
+//! then shows.
 ghost use Rattle.std.specs.Prelude.{◌≡◌, ◌≤◌, OnOk, Some, length};
-ghost use Rattle.be_script_runner.specs.Gates.{AreTold, line_count};
+ghost use Rattle.be_script_runner.specs.Gates.{AreReported, line_count};
 ghost use Rattle.be_script_runner.specs.Lines.{IsAnsweredBy, IsServedBy};
 ghost use Rattle.be_script_runner.specs.Run.{Wrote};
 ghost use Rattle.be_script_runner.specs.Served.{known};
@@ -19,7 +19,7 @@ use crate::stores::PassServer;
 use be_store::{Pass, Store};
 use std::alloc::Global;
 
-/// Runs a line from the pass, and appends its reply. The pass comes back in either case.
+/// Runs a line from the pass, and appends its reply. It returns the pass even after an error.
 fn serve_line(
     alloc: Global,
     store: &Store,
@@ -42,8 +42,8 @@ fn serve_line(
     (server.at_last(), ran)
 }
 
-/// Runs the lines of a script from the pass as `run_lines` does, each between two calls of the
-/// gate, and appends the replies. The pass comes back in either case.
+/// Runs a script's lines from the pass as `run_lines` does, each between two calls of the gate, and
+/// appends the replies. It returns the pass even after an error.
 pub(crate) fn serve_lines<G: Gate>(
     alloc: Global,
     store: &Store,
@@ -57,7 +57,7 @@ pub(crate) fn serve_lines<G: Gate>(
     ensures number { result.0.knows.number ≡ pass.knows.number }
     ensures served { OnOk result.1 (Wrote (Some replies.old.items) (Some replies.new.items)
         (IsServedBy pass.knows script.now result.0.knows)) }
-    ensures told { OnOk result.1 (AreTold (G.begun gate.now pass.knows.number)
+    ensures reported { OnOk result.1 (AreReported (G.begun gate.now pass.knows.number)
         (G.ended gate.now pass.knows.number) (line_count script.now)) }
 {
     let place = pass.number();

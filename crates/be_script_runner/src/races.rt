@@ -1,22 +1,22 @@
-//! Races: several scripts at once on one shared store, each on a thread of its own.
+//! Races several scripts on one shared store, each on its own thread.
 //!
-//! Script k is served from pass k of the store, and its replies are kept. Nobody waits for the lock
-//! inside the store, so scripts meet there alone, and each write takes its place in one journal.
-//! Once all threads have ended the store is closed. Then the replies are written, script by script,
-//! and after them the journal and the result of its check.
+//! Script k runs from pass k of the store, and its replies are kept. Nobody waits for the lock
+//! inside the store, so the scripts meet only there, and each write takes its place in one journal.
+//! When all threads have ended, the store is closed. Then the replies are written, script by
+//! script, and after them the journal and the result of its check.
 //!
-//! A thread promises what it returns ([`Served`]): a pass of the store, with the script's number,
+//! A thread promises what it returns ([`Served`]): a pass of the store with the script's number,
 //! and replies. The pass's own writes are some of those that the script asks for. The replies are
-//! ones that the script may get of what the pass has seen, if others write too. So every pass is
-//! there when the store is closed. The journal's entries of a pass are writes of its script, and
-//! the replies to each script agree with that journal.
+//! ones that the script may get from what the pass has seen, if others write too. So all passes are
+//! back when the store is closed. A pass's entries in the journal are writes of its script, and the
+//! replies to each script agree with that journal.
 ghost use Rattle.std.specs.Prelude.{◌≡◌, ◌≤◌, ◌<◌, ℕ, ◌^◌, ◌++◌, ◌↔◌, true, false, length, vec_len};
 ghost use Rattle.std.specs.Prelude.{map, IfOk, IfErr, OnOk, OnErr, Ok, Err, get_or, nat_lt};
 ghost use Rattle.std.specs.Io.KnownBytes.{Appends};
 ghost use Rattle.std.specs.List.{list_any};
 ghost use Rattle.be_journal.specs.Journal.{IsLegal};
 ghost use Rattle.be_journal.specs.Text.{result_text};
-ghost use Rattle.be_script_runner.specs.Gates.{AreAllTold, AreTold, line_count};
+ghost use Rattle.be_script_runner.specs.Gates.{AreAllReported, AreReported, line_count};
 ghost use Rattle.be_script_runner.specs.Race.{IsOutcome, AreFirstTexts, AreServed, IsNew, IsRace};
 ghost use Rattle.be_script_runner.specs.Race.{RaceLeaves, pass_line, replies_text};
 ghost use Rattle.be_script_runner.specs.Run.{Wrote, IsFrontOf, IsLate};
@@ -40,9 +40,10 @@ use std::thread::{Promise, PromisedHandle, Scope, Threads};
 /// A pass that has served a script, and the replies.
 type Outcome = (Pass, Result<Vec<u8>, RunFault>);
 
-/// What a thread promises of its outcome. The pass is of this store and has this number. If there
-/// are replies, they are an output of this script that leaves what the pass has seen; its own
-/// writes are some of those that the script asks for; and this gate was called for each line.
+/// What a thread promises about its outcome. The pass is of this store and has this number. If
+/// there are replies, they are an output of this script that leaves what the pass has seen. The
+/// pass's own writes are some of those that the script asks for, and this gate was called for each
+/// line.
 #[derive(Drop)]
 struct Served<G> {
     store: Snapshot<Store>,
@@ -57,7 +58,8 @@ impl<G: Gate> Promise<(Pass, Result<Vec<u8>, RunFault>)> for Served<G> {
         × (outcome.0.knows.number ≡ p.number)
         × IfOk outcome.1 (λ replies. IsOutcome p.store.value.limits p.number p.script.value.items
         outcome.0.knows replies.items)
-        × OnOk outcome.1 (AreTold (G.begun p.gate.value p.number) (G.ended p.gate.value p.number)
+        × OnOk outcome.1 (AreReported (G.begun p.gate.value p.number)
+        (G.ended p.gate.value p.number)
         (line_count p.script.value.items)) };
 }
 
@@ -68,14 +70,14 @@ fn serve_new<G: Gate>(alloc: Global, store: &Store, pass: Pass, gate: &G, script
     ensures number { result.0.knows.number ≡ pass.knows.number }
     ensures replies { IfOk result.1 (λ replies. IsOutcome store.now.limits pass.knows.number
         script.now result.0.knows replies.items) }
-    ensures told { OnOk result.1 (AreTold (G.begun gate.now pass.knows.number)
+    ensures reported { OnOk result.1 (AreReported (G.begun gate.now pass.knows.number)
         (G.ended gate.now pass.knows.number) (line_count script.now)) }
 {
     serve_pass(alloc, store, pass, gate, script)
 }
 
-/// Starts a thread for each pass, which serves the script of its number. Memory if one can't be
-/// started.
+/// Starts a thread for each pass, which serves the script with its number. Returns Memory if a
+/// thread can't be started.
 fn start<'s, E, G: Gate + Sync>(
     scope: &Scope<'s, E>,
     alloc: Global,
@@ -112,7 +114,8 @@ fn start<'s, E, G: Gate + Sync>(
                 ensures replies { IfOk result.1 (λ replies.
                     IsOutcome store.entry.now.limits pass.knows.number script.entry.now.items
                     result.0.knows replies.items) }
-                ensures told { OnOk result.1 (AreTold (G.begun gate.entry.now pass.knows.number)
+                ensures reported { OnOk result.1
+                    (AreReported (G.begun gate.entry.now pass.knows.number)
                     (G.ended gate.entry.now pass.knows.number)
                     (line_count script.entry.now.items)) }
             { serve_new(alloc, store, pass, gate, script) },
@@ -127,7 +130,7 @@ fn start<'s, E, G: Gate + Sync>(
     Ok(threads)
 }
 
-/// The passes, and the replies of each. Memory if one has none.
+/// The passes, and the replies of each. Memory if one of them has no replies.
 fn part(alloc: Global, outcomes: Vec<Outcome>) -> Result<(Vec<Pass>, Vec<Vec<u8>>), RunFault>
     ensures passes { IfOk result (λ r. r.0.items ≡ map (λ o. o.0) outcomes.items) }
     ensures replies { IfOk result (λ r. map Ok r.1.items ≡ map (λ o. o.1) outcomes.items) }
@@ -146,7 +149,7 @@ fn part(alloc: Global, outcomes: Vec<Outcome>) -> Result<(Vec<Pass>, Vec<Vec<u8>
     Ok((passes, replies))
 }
 
-/// Serves each script on a thread of this scope, and waits for the threads if all could be started.
+/// Serves each script on a thread in this scope, and waits for the threads if all could be started.
 fn serve_in<'s, E, R: Threads, G: Gate + Sync>(
     scope: &Scope<'s, E>,
     rt: &R,
@@ -159,7 +162,7 @@ fn serve_in<'s, E, R: Threads, G: Gate + Sync>(
     requires { AreNew store.now 0 passes.items × (length passes.items ≡ length scripts.now.items) }
     ensures served { IfOk result (λ r. AreServed store.now (map (λ s. s.items) scripts.now.items)
         r.0.items (map (λ s. s.items) r.1.items)) }
-    ensures told { OnOk result (AreAllTold (G.begun gate.now) (G.ended gate.now)
+    ensures reported { OnOk result (AreAllReported (G.begun gate.now) (G.ended gate.now)
         (map (λ s. s.items) scripts.now.items)) }
     ensures fault { IfErr result (λ e. e ≡ RunFault.Memory) }
 {
@@ -170,8 +173,8 @@ fn serve_in<'s, E, R: Threads, G: Gate + Sync>(
     }
 }
 
-/// Serves each script on a thread of its own. All threads have ended when it returns, after a fault
-/// too.
+/// Serves each script on its own thread. All threads have ended when it returns, also after an
+/// error.
 fn serve_at_once<R: Threads + Wait, G: Gate + Sync>(
     rt: &R,
     alloc: Global,
@@ -183,7 +186,7 @@ fn serve_at_once<R: Threads + Wait, G: Gate + Sync>(
     requires { AreNew store.now 0 passes.items × (length passes.items ≡ length scripts.now.items) }
     ensures served { IfOk result (λ r. AreServed store.now (map (λ s. s.items) scripts.now.items)
         r.0.items (map (λ s. s.items) r.1.items)) }
-    ensures told { OnOk result (AreAllTold (G.begun gate.now) (G.ended gate.now)
+    ensures reported { OnOk result (AreAllReported (G.begun gate.now) (G.ended gate.now)
         (map (λ s. s.items) scripts.now.items)) }
     ensures fault { IfErr result (λ e. e ≡ RunFault.Memory) }
 {
@@ -196,14 +199,14 @@ fn serve_at_once<R: Threads + Wait, G: Gate + Sync>(
             ensures served { IfOk result (λ r. AreServed store.entry.now
                 (map (λ s. s.items) scripts.entry.now.items) r.0.items
                 (map (λ s. s.items) r.1.items)) }
-            ensures told { OnOk result (AreAllTold (G.begun gate.entry.now) (G.ended gate.entry.now)
-                (map (λ s. s.items) scripts.entry.now.items)) }
+            ensures reported { OnOk result (AreAllReported (G.begun gate.entry.now)
+                (G.ended gate.entry.now) (map (λ s. s.items) scripts.entry.now.items)) }
             ensures fault { IfErr result (λ e. e ≡ RunFault.Memory) }
         { serve_in(scope, rt, alloc, store, passes, scripts, gate) },
     )
 }
 
-/// Whether some script is longer than a script may be.
+/// Whether any script is too long.
 fn is_some_too_long(scripts: &[Vec<u8>]) -> bool
     ensures { result ≡ list_any (λ s. nat_lt (2 ^ 20) (vec_len s)) scripts.now }
 {
@@ -216,8 +219,8 @@ fn line_of(alloc: Global, pass: usize) -> Result<String, AllocError>
     format!(in alloc; "pass {pass}\n")
 }
 
-/// Writes each pass's line and its replies. A failed write leaves a front of the whole text, and
-/// out of memory leaves whole replies of the first passes.
+/// Writes each pass's line and its replies. After a failed write, a prefix of the whole text is
+/// written; if memory runs out, whole replies of the first passes.
 fn put_replies<W: Write>(alloc: Global, writer: &mut W, replies: &[Vec<u8>]) -> Result<(), RunFault>
     ensures ok { OnOk result (Appends (W.contents writer.old) (W.contents writer.new)
         (replies_text 0 (map (λ t. t.items) replies.now))) }
@@ -238,7 +241,7 @@ fn put_replies<W: Write>(alloc: Global, writer: &mut W, replies: &[Vec<u8>]) -> 
     Ok(())
 }
 
-/// Writes three texts, one after the other. A fault leaves a front of the whole text.
+/// Writes three texts, one after another. After an error, a prefix of the whole text is written.
 fn put_parts<W: Write>(
     writer: &mut W,
     first: &[u8],
@@ -257,9 +260,9 @@ fn put_parts<W: Write>(
     put(writer, third)
 }
 
-/// Writes how many entries the journal has, their text, and the result of its check. Returns that
-/// result, which is always true: the journal is legal. Out of memory leaves nothing written, and a
-/// failed write a front.
+/// Writes the journal's length, its text, and the result of its check. Returns that result, which
+/// is always true, since the journal is legal. If memory runs out, nothing is written; after a
+/// failed write, a prefix.
 pub fn put_result<W: Write>(
     alloc: Global,
     writer: &mut W,
@@ -288,9 +291,9 @@ pub fn put_result<W: Write>(
     Ok(legal)
 }
 
-/// Writes each pass's line and its replies, and after them the journal. Returns the result of the
-/// journal's check. A failed write leaves a front of the whole text, and out of memory whole
-/// replies alone.
+/// Writes each pass's line and its replies, and then the journal. Returns the result of the
+/// journal's check. After a failed write, a prefix of the whole text is written; if memory runs
+/// out, only whole replies.
 fn put_race<W: Write>(
     alloc: Global,
     writer: &mut W,
@@ -313,8 +316,8 @@ fn put_race<W: Write>(
     put_result(alloc, writer, journal)
 }
 
-/// Serves the scripts at once on a store of its own, which is closed then: the replies to each, and
-/// the journal.
+/// Serves the scripts at the same time on a new store, and closes it. Returns each script's
+/// replies, and the journal.
 fn serve_on_new<R: Threads + Wait, G: Gate + Sync>(
     rt: &R,
     alloc: Global,
@@ -327,7 +330,7 @@ fn serve_on_new<R: Threads + Wait, G: Gate + Sync>(
         (replies_text 0 (map (λ t. t.items) r.0.items) ++ result_text r.1.entries))
         × (race.replies ≡ map (λ t. t.items) r.0.items)) }
     ensures legal { IfOk result (λ r. IsLegal r.1.entries) }
-    ensures told { OnOk result (AreAllTold (G.begun gate.now) (G.ended gate.now)
+    ensures reported { OnOk result (AreAllReported (G.begun gate.now) (G.ended gate.now)
         (map (λ s. s.items) scripts.items)) }
     ensures fault { IfErr result (λ e. e ≡ RunFault.Memory) }
 {
@@ -338,20 +341,20 @@ fn serve_on_new<R: Threads + Wait, G: Gate + Sync>(
     Ok((replies, store.close(passes)))
 }
 
-/// Races two to four scripts against one another on an empty store, which has the pages and commits
-/// of the limits and a pass for each script, and returns whether the journal is legal, which is
-/// always true.
+/// Races two to four scripts on an empty store, which has the pages and commits of the limits and a
+/// pass for each script. Returns whether the journal is legal, which is always true.
 ///
-/// The limits are looked at first, then the lengths of the scripts, of at most 1,048,576 bytes
-/// each; if one of these is invalid, nothing is written. Script k is run from pass k, on a thread
-/// of its own. A write that finds another pass writing is tried again, in all up to 10,000,000
-/// times, and its refusal is the reply then. It returns once all threads have ended. The replies
-/// are written after a line `pass K` for each pass; then `journal N`, the journal's text, and
-/// `replay ok`. The journal is of the store that replied: it begins with what each pass has seen,
-/// and has its writes just as they were answered. The error is Memory if memory or a thread is
-/// missing: nothing was written then, or the lines and the replies of the first passes, each of
-/// them whole. Any error of a write, and a write of no bytes, is Write, and leaves a front of what
-/// a race of these scripts writes.
+/// It checks the limits first, and then the scripts' lengths, of up to 1,048,576 bytes each. If any
+/// is invalid, nothing is written. Script k runs from pass k, on its own thread. A write that finds
+/// another pass writing is tried again, up to 10,000,000 times in all. After the last try its reply
+/// is the error. When all threads have ended, it writes the replies, each pass's after a line `pass
+/// K`. Then it writes `journal N`, the journal's text, and `replay ok`. The journal is that of the
+/// store which gave the replies: it begins with what each pass has seen, and has its writes with
+/// the outcomes that were replied.
+///
+/// It returns Memory if memory runs out or a thread can't be started. Then nothing was written, or
+/// the lines and whole replies of the first passes. If a write fails or takes no bytes, it returns
+/// Write, and a prefix of what a race of these scripts writes was written.
 pub fn race<R: Threads + Wait, G: Gate + Sync, W: Write>(
     rt: &R,
     alloc: Global,
@@ -368,7 +371,7 @@ pub fn race<R: Threads + Wait, G: Gate + Sync, W: Write>(
     ensures ok { IfOk result (λ legal. (legal ≡ true)
         × Wrote (W.contents writer.old) (W.contents writer.new)
         (IsRace limits (map (λ s. s.items) scripts.items))) }
-    ensures told { OnOk result (AreAllTold (G.begun gate.now) (G.ended gate.now)
+    ensures reported { OnOk result (AreAllReported (G.begun gate.now) (G.ended gate.now)
         (map (λ s. s.items) scripts.items)) }
     ensures fault { IfErr result (λ e. RaceLeaves limits (map (λ s. s.items) scripts.items) e
         (W.contents writer.old) (W.contents writer.new)) }

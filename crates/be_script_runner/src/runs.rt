@@ -1,14 +1,14 @@
-//! Whole runs: the bytes of a script in, the replies out.
+//! Runs a whole script: its bytes in, the replies out.
 //!
-//! A script is read whole before its first line is run, so a script that can't be read or is too
-//! long writes nothing. Then each line is run, its reply is made as a text, and the text is
-//! written: a fault leaves the front of an output, which ends after a whole reply if no write has
-//! failed.
+//! The whole script is read before its first line runs. So nothing is written for a script that
+//! can't be read or is too long. Then each line runs, its reply is made as a text, and the text is
+//! written. After an error, a prefix of an output is written, which ends after a whole reply if no
+//! write has failed.
 ghost use Rattle.std.specs.Prelude.{◌≡◌, ◌<◌, ◌≤◌, ◌^◌, ◌↔◌, ◌∷◌, [], length, vec_len, position};
 ghost use Rattle.std.specs.Prelude.{IfOk, OnOk, IfErr, IfSome, OnErr, IfNone, Err};
 ghost use Rattle.std.specs.Io.KnownBytes.{Appends};
 ghost use Rattle.be_journal.specs.Journal.{by_pass};
-ghost use Rattle.be_script_runner.specs.Gates.{AreTold, line_count};
+ghost use Rattle.be_script_runner.specs.Gates.{AreReported, line_count};
 ghost use Rattle.be_script_runner.specs.Lines.{IsServedBy};
 ghost use Rattle.be_script_runner.specs.Output as outputs;
 ghost use Rattle.be_script_runner.specs.Own.{IsPartOf, operations, write_ops};
@@ -31,13 +31,13 @@ use be_store::{Pass, Store};
 use std::alloc::Global;
 use std::io::Write;
 
-/// The longest script in bytes.
+/// The largest number of bytes in a script.
 pub(crate) const MAX_SCRIPT: usize = 1 << 20;
 
-/// The most reads of a script: each gives a byte at least, the end or a fault.
+/// The largest number of reads for a script: each returns at least one byte, the end, or an error.
 const MAX_READS: u64 = (1 << 20) + 1;
 
-/// Writes all the bytes. After a fault their front was written.
+/// Writes all the bytes. After an error, a prefix of them is written.
 pub fn put<W: Write>(writer: &mut W, bytes: &[u8]) -> Result<(), RunFault>
     ensures ok { OnOk result (Appends (W.contents writer.old) (W.contents writer.new) bytes.now) }
     ensures err { OnErr result (spec.Wrote (W.contents writer.old) (W.contents writer.new)
@@ -55,7 +55,7 @@ pub fn put<W: Write>(writer: &mut W, bytes: &[u8]) -> Result<(), RunFault>
     Ok(())
 }
 
-/// Runs a line, and then writes its reply. Nothing of it was written if memory is missing.
+/// Runs a line, and then writes its reply. If memory runs out, none of the reply is written.
 pub(crate) fn run_line<S: Server, W: Write>(
     alloc: Global,
     server: &mut S,
@@ -91,7 +91,7 @@ fn end_of_line(script: &[u8]) -> Option<usize>
     script.iter().position(|c| *c == b'\n')
 }
 
-/// The first line without its LF, and what follows it, if there is an LF.
+/// The first line without its LF, and what follows the LF, if there is one.
 pub(crate) fn split_line(script: &[u8]) -> Option<(&[u8], &[u8])>
     ensures first { IfSome result (λ parts. lines_of script.now ≡ parts.0.now
         ∷ lines_of parts.1.now) }
@@ -104,8 +104,8 @@ pub(crate) fn split_line(script: &[u8]) -> Option<(&[u8], &[u8])>
     }
 }
 
-/// Runs the lines of a script in turn, each between two calls of the gate, which get the pass's
-/// number and the line's. What follows the last LF is a line only if it isn't empty.
+/// Runs a script's lines in order, each between two calls of the gate, which get the pass's and the
+/// line's numbers. What follows the last LF is a line only if it isn't empty.
 pub(crate) fn run_lines<S: Server, G: Gate, W: Write>(
     alloc: Global,
     server: &mut S,
@@ -122,7 +122,7 @@ pub(crate) fn run_lines<S: Server, G: Gate, W: Write>(
         spec.Wrote (W.contents writer.old) (W.contents writer.new)
         (spec.AreFirstReplies (S.shows server.old) script.now)) }
     ensures late { IfErr result spec.IsLate }
-    ensures told { OnOk result (AreTold (G.begun gate.now pass) (G.ended gate.now pass)
+    ensures reported { OnOk result (AreReported (G.begun gate.now pass) (G.ended gate.now pass)
         (line_count script.now)) }
     ensures stays { S.kept server.new ≡ S.kept server.old }
 {
@@ -146,10 +146,10 @@ pub(crate) fn run_lines<S: Server, G: Gate, W: Write>(
     ran
 }
 
-/// Serves a script from a pass that has seen nothing, while the other passes of the store may
-/// write. The gate is called before and after each line, with the pass's number and the line's;
-/// lines count from 1 over all lines. The replies are kept: Memory is the only fault. The pass
-/// comes back in either case.
+/// Serves a script from a pass that has seen nothing, while the store's other passes may write.
+/// Calls the gate before and after each line, with the pass's and the line's numbers; lines are
+/// numbered from 1, all of them. The replies are kept, so Memory is the only error. It returns the
+/// pass even after an error.
 pub fn serve_pass<G: Gate>(
     alloc: Global,
     store: &Store,
@@ -166,7 +166,7 @@ pub fn serve_pass<G: Gate>(
     ensures own { OnOk result.1 (IsPartOf (operations result.0.knows.mine) (write_ops script.now)) }
     ensures replies { IfOk result.1 (λ replies. IsServedBy pass.knows script.now result.0.knows
         replies.items) }
-    ensures told { OnOk result.1 (AreTold (G.begun gate.now pass.knows.number)
+    ensures reported { OnOk result.1 (AreReported (G.begun gate.now pass.knows.number)
         (G.ended gate.now pass.knows.number) (line_count script.now)) }
     ensures fault { IfErr result.1 (λ e. e ≡ RunFault.Memory) }
 {
@@ -211,8 +211,9 @@ pub(crate) fn read_script<R: ScriptReader>(
     unreachable!()
 }
 
-/// Runs a script on what serves it. If the reader's bytes and the writer's are known, what is
-/// written is an output of the script from there on, and leaves what then serves.
+/// Runs a script on a server. If the reader's and the writer's bytes are known, it writes an output
+/// of the script. The output begins with what the server shows, and leaves what it shows
+/// afterwards.
 pub fn serve<S: Server, R: ScriptReader, W: Write>(
     alloc: Global,
     server: &mut S,
@@ -238,16 +239,17 @@ pub fn serve<S: Server, R: ScriptReader, W: Write>(
     }
 }
 
-/// Runs a script on an empty store of its own, which has the pages and commits of the limits and
-/// one pass.
+/// Runs a script on an empty store of its own, with the pages and commits of the limits and one
+/// pass.
 ///
-/// The limits are looked at first, and then the store is opened. The script is read whole, in at
-/// most 1,048,577 reads, before its first line is run; any error of a read is `Read`. Each line is
-/// run before its reply is written; any error of a write, and a write of no bytes, is `Write`.
-/// `TooLong` comes if more than 1,048,576 bytes were read, and no other fault comes then. If the
-/// reader's bytes and the writer's are known, as those of a slice and a vector are, what is written
-/// is an output of the script. After `Write` it is the front of one, after `Memory` the replies to
-/// the script's first lines, each of them whole, and after any other fault nothing was written.
+/// It checks the limits first, and then opens the store. It reads the whole script, in at most
+/// 1,048,577 reads, before it runs the first line. It runs each line before it writes its reply. It
+/// returns `Read` if a read fails, and `Write` if a write fails or takes no bytes. It returns
+/// `TooLong` if it has read more than 1,048,576 bytes, and then no other error.
+///
+/// If the reader's and the writer's bytes are known, as a slice's and a vector's are, it writes an
+/// output of the script. After `Write`, a prefix of one was written; after `Memory`, whole replies
+/// to the script's first lines; after any other error, nothing.
 pub fn run<R: ScriptReader, W: Write>(
     alloc: Global,
     reader: &mut R,

@@ -1,4 +1,4 @@
-//! A version that is written as a script.
+//! Writes a version as a script.
 ghost use Rattle.std.specs.Io.KnownBytes.{Appends};
 ghost use Rattle.std.specs.Prelude.{◌≡◌, All, IfErr, OnOk, OnErr};
 ghost use Rattle.be_journal_text.specs.Dump.{state_dump};
@@ -12,12 +12,12 @@ use crate::runs::put;
 use crate::stores::Server;
 use std::io::Write;
 
-/// Writes the script that makes the version again that is read, the pinned one or the one after all
-/// writes: what `bestore dump --state` prints of a journal that leaves it. An open batch is no part
-/// of it.
+/// Writes the script that rebuilds the version that reads see: the pinned one, or the one after all
+/// writes. It is what `bestore dump --state` prints for a journal that leaves this version. An open
+/// batch isn't part of it.
 ///
-/// `Memory` if there is none for the script; nothing was written then. Any error of a write, and a
-/// write of no bytes, is `Write`, and leaves a front of the script written. It doesn't flush.
+/// It returns `Memory` if there is none for the script; then nothing was written. If a write fails
+/// or takes no bytes, it returns `Write`, and a prefix of the script was written. It doesn't flush.
 pub fn save_state<S: Server, W: Write>(server: &mut S, writer: &mut W) -> Result<(), RunFault>
     ensures saved { OnOk result (Appends (W.contents writer.old) (W.contents writer.new)
         (state_dump (viewed (S.shows server.new)))) }

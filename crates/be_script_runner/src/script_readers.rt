@@ -1,4 +1,4 @@
-//! Where the bytes of a script come from.
+//! Where a script's bytes come from.
 ghost use Rattle.std.specs.Io.{ReadsAtMost};
 ghost use Rattle.std.specs.Io.KnownBytes.{ReadConsumes};
 ghost use Rattle.std.specs.Prelude.{ℕ, ◌+◌, List};
@@ -7,18 +7,19 @@ ghost use Rattle.std.specs.declared.option.Option.{Option};
 use std::io;
 use std::io::Read;
 
-/// What gives the bytes of a script: whatever can be read.
+/// A source of a script's bytes: anything that can be read.
 ///
-/// The ghost `was_read` says how often it was. A reader needn't define it: code that has any reader
-/// knows the number from its own reads alone, so a clause about it says how many it made.
+/// The ghost `was_read` says how often it was read. A reader needn't define it: code over an
+/// arbitrary reader learns the number only from its own reads. So a clause about it says how many
+/// reads the code made.
 pub trait ScriptReader {
-    /// The bytes that reads will give from here on, if they are known.
+    /// The bytes that further reads will return, if they are known.
     ghost remaining: { Self → Option (List ℕ) };
 
-    /// It was read so many times.
+    /// The number of times that it was read.
     ghost was_read: { Self → ℕ → Type 0 } = { λ _ _. Unit {0} };
 
-    /// One read, as that of `Read`.
+    /// One read, as `Read` does it.
     fn read_once(&mut self, buf: &mut [u8]) -> io::Result<usize>
         ensures bound { ReadsAtMost result buf.new }
         ensures bytes { ReadConsumes (remaining self.old) (remaining self.new) result buf.new }

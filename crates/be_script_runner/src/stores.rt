@@ -1,10 +1,10 @@
-//! What serves a script.
+//! Servers, on which scripts run.
 //!
-//! A script's lines need few calls. [`Server`] names them. One ghost member says what the calls
-//! work on: a journal, the volume that it stands for, the limit on its entries, and the pinned
-//! version. Other passes may write between two calls, and a call works on the store as they left
-//! it. What runs scripts is proved over that trait, so it holds for whatever serves. [`PassServer`]
-//! is a shared store with one of its passes.
+//! A script's lines need only the calls of the trait [`Server`]. A ghost member says what the calls
+//! work on: a journal, the volume after it, the limit on its entries, and the pinned version. Other
+//! passes may write between two calls, and a call works on the store as they left it. Scripts are
+//! proved over the trait, so the proofs hold for every server. [`PassServer`] is a shared store
+//! with one of its passes.
 ghost use Rattle.std.specs.Prelude.{◌≡◌, ◌≤◌, true, All, List, Ok, None, IsSome, is_some, length};
 ghost use Rattle.std.specs.Prelude.{IfOk, IfErr, OnOk, if◌then◌else◌};
 ghost use Rattle.std.specs.String.{string_bytes};
@@ -46,8 +46,8 @@ use std::snapshot::Snapshot;
 /// How often a write is tried while another pass is writing.
 const MAX_TRIES: u64 = 10_000_000;
 
-/// What serves a script. Reads are of the pinned version, or of the volume after all writes if none
-/// is pinned.
+/// What a script runs on. Reads see the pinned version, or the volume after all writes if none is
+/// pinned.
 pub trait Server {
     ghost Kept: { Type 0 };
 
@@ -56,12 +56,12 @@ pub trait Server {
 
     ghost shows: { Self → Store };
 
-    /// Why operations are refused, by what becomes of the server.
+    /// Why it refuses operations, given the server after the call.
     ghost refuses: { Self → List AnyOp → AnyRefusal → Self → Type 0 };
 
-    /// Writes operations, all or none: the number of the commit, and an answer for each. It is
-    /// refused by Busy if another pass is writing, otherwise by what the volume says, then
-    /// CommitsSpent, then OutOfMemory, then Full. A pin stays.
+    /// Writes operations, all or none. Returns the commit number and the operations' outcomes. It
+    /// returns Busy if another pass is writing, otherwise the volume's error, then CommitsSpent,
+    /// then OutOfMemory, then Full. A pin stays.
     fn apply(&mut self, ops: &[Op]) -> Result<(u64, ArrayVec<Done, 64>), Refusal>
         requires some { 1 ≤ length ops.now }
         requires few { length ops.now ≤ 64 }
@@ -74,36 +74,36 @@ pub trait Server {
     fn is_pinned(&self) -> bool
         ensures { result ≡ is_some (shows self.now).pin };
 
-    /// Pins the version after all writes so far, and returns the number of these writes.
+    /// Pins the version after all writes so far, and returns how many writes these are.
     fn pin(&mut self) -> u64
         requires { (shows self.old).pin ≡ None }
         ensures stays { kept self.new ≡ kept self.old }
         ensures pins { Meanwhile (shows self.old)
             (λ store. (shows self.new ≡ pinned store) × (result ≡ length store.journal)) };
 
-    /// Gives the pin up.
+    /// Releases the pin.
     fn unpin(&mut self)
         requires { IsSome (shows self.old).pin }
         ensures stays { kept self.new ≡ kept self.old }
         ensures unpins { shows self.new ≡ unpinned (shows self.old) };
 
-    /// The nodes of which a query is true, ascending; or NotCovered or OutOfMemory.
+    /// The nodes that satisfy a query, in ascending order; or NotCovered or OutOfMemory.
     fn query(&mut self, query: &Query) -> Result<Vec<u64>, Refusal>
         ensures stays { kept self.new ≡ kept self.old }
         ensures joins { Joins (shows self.old) (shows self.new) }
         ensures answers { Answers (λ nodes. nodes.items) result
             (scan (viewed (shows self.new)) query.now) };
 
-    /// A page of a query's answer, in the order of an index. NoSuchIndex if there is none of that
-    /// name, or if its kind isn't that of the value after which the page begins; then NotCovered;
-    /// or OutOfMemory.
+    /// A page of a query's answer, in the order of an index. It returns NoSuchIndex if no index has
+    /// that name, or if the index is of another kind than the value after which the page begins. It
+    /// returns NotCovered next, and may also return OutOfMemory.
     fn page(&mut self, query: Query, paging: &Paging) -> Result<Page, Refusal>
         ensures stays { kept self.new ≡ kept self.old }
         ensures joins { Joins (shows self.old) (shows self.new) }
         ensures answers { Answers page_found result
             (page_read (viewed (shows self.new)) paging.now query) };
 
-    /// What a query would be answered from; or NotCovered or OutOfMemory.
+    /// Which indices would answer a query; or NotCovered or OutOfMemory.
     fn explain(&mut self, query: &Query) -> Result<Cover, Refusal>
         ensures stays { kept self.new ≡ kept self.old }
         ensures joins { Joins (shows self.old) (shows self.new) }
@@ -111,28 +111,28 @@ pub trait Server {
             (chosen (has_index (viewed (shows self.new))) query.now) }
         ensures places { IfOk result (λ cover. are_places query.now cover.picks ≡ true) };
 
-    /// The value of an attribute.
+    /// An attribute's value, if the node has it.
     fn get(&mut self, node: u64, name: &Name) -> Option<Value>
         ensures stays { kept self.new ≡ kept self.old }
         ensures joins { Joins (shows self.old) (shows self.new) }
         ensures answer { result ≡ attribute (viewed (shows self.new)) node name.now };
 
-    /// The attributes of a node, by ascending names; or NoNode or OutOfMemory.
+    /// A node's attributes, in ascending order of their names; or NoNode or OutOfMemory.
     fn attrs(&mut self, node: u64) -> Result<Vec<(Name, Value)>, Refusal>
         ensures stays { kept self.new ≡ kept self.old }
         ensures joins { Joins (shows self.old) (shows self.new) }
         ensures answers { Answers (λ list. list.items) result
             (attributes_at (viewed (shows self.new)) node) };
 
-    /// The indices, by ascending names; or OutOfMemory.
+    /// The indices, in ascending order of their names; or OutOfMemory.
     fn indices(&mut self) -> Result<Vec<(Name, Kind)>, Refusal>
         ensures stays { kept self.new ≡ kept self.old }
         ensures joins { Joins (shows self.old) (shows self.new) }
         ensures answers { Answers (λ list. list.items) result
             (Ok (index_kinds (viewed (shows self.new)))) };
 
-    /// The script that makes the version again that is read: the pinned one, or the one after all
-    /// writes. It is what be_journal_text's `dump_state` gives of a journal that leaves this
+    /// The script that rebuilds the version that reads see: the pinned one, or the one after all
+    /// writes. It is what be_journal_text's `dump_state` returns for a journal that leaves this
     /// version.
     fn state_text(&mut self) -> Result<String, AllocError>
         ensures stays { kept self.new ≡ kept self.old }
@@ -142,8 +142,8 @@ pub trait Server {
         ensures can { OnOk result (All CanBeOp (state_ops (viewed (shows self.new)))) };
 }
 
-/// Opens a store of one pass before its first write, with as many pages and commits as the limits
-/// say. Only out of memory is refused.
+/// Opens a new store with one pass, and with the pages and commits of the limits. The only error is
+/// OutOfMemory.
 pub fn open_for_one(alloc: Global, limits: Limits) -> Result<(be_store::Store, Pass), Refusal>
     requires { IsWithin limits }
     ensures opened { IfOk result (λ r. IsPassOf r.0 r.1
@@ -162,7 +162,7 @@ pub fn open_for_one(alloc: Global, limits: Limits) -> Result<(be_store::Store, P
     Ok((store, pass))
 }
 
-/// Writes, and tries again while another pass is writing, in all up to 10,000,000 times. Before
+/// Writes, and tries again while another pass is writing, up to 10,000,000 times in all. Before
 /// each further try another thread may run.
 fn apply_at_last(
     store: &be_store::Store,
@@ -185,9 +185,9 @@ fn apply_at_last(
     answer
 }
 
-/// A shared store, served from one of its passes. The others may write at any time; what this pass
-/// has seen is what a script is shown. What the pass knows was reached from what it knew at first
-/// by calls of the store alone.
+/// A shared store, served from one of its passes. The other passes may write at any time; a script
+/// sees what this pass has seen. Only calls of the store led from what the pass knew at first to
+/// what it knows.
 #[derive(Drop)]
 pub struct PassServer<'a> {
     alloc: Global,
@@ -221,7 +221,7 @@ impl<'a> PassServer<'a> {
         PassServer::at_first(alloc, store, pass)
     }
 
-    /// The same, and says that this is what the pass knew at first.
+    /// The same, and records what the pass knew at first.
     pub(crate) fn at_first(alloc: Global, store: &'a be_store::Store, pass: Pass) -> PassServer<'a>
         requires { IsPassOf store.now pass }
         ensures store { result.store ≡ store.now }
@@ -271,7 +271,7 @@ impl<'a> PassServer<'a> {
         true
     }
 
-    /// Gives the pin of one read up, if the read made it.
+    /// Releases the pin of one read, if the read made it.
     fn end_read(&mut self, made: bool)
         requires { IsSome (known self.old.knows).pin }
         ensures stays { seat_of self.new ≡ seat_of self.old }

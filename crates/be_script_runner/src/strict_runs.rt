@@ -1,8 +1,8 @@
-//! Runs that end at the first line that is refused.
+//! Runs that end at the first refused line.
 //!
-//! Each line is run and its reply written, as in any run. After a reply that says that its line
-//! was not done nothing more is run: that reply is the last that is written. The store is closed
-//! then, and its journal is returned.
+//! Each line runs and its reply is written, as in any run. After a reply that says that its line
+//! wasn't carried out, no further line runs, and no further reply is written. Then the store is
+//! closed, and its journal is returned.
 ghost use Rattle.std.specs.Option.{option_map};
 ghost use Rattle.std.specs.Prelude.{◌≡◌, ◌≤◌, ◌^◌, ◌↔◌, length, IfOk, OnOk, IfErr, IfSome, OnErr};
 ghost use Rattle.std.specs.Prelude.{if◌then◌else◌};
@@ -18,10 +18,10 @@ ghost use Rattle.be_table.specs.Rule.{AreBad, IsWithin};
 
 use crate::answers::answer;
 use crate::client::Client;
+use crate::journal_runs::close_alone;
 use crate::runs::{put, read_script, split_line};
 use crate::script_readers::ScriptReader;
 use crate::stores::{PassServer, Server, open_for_one};
-use crate::tellings::close_alone;
 use crate::{Limits, RunFault};
 use be_journal::Journal;
 use be_script_language::{Reply, read_line, reply_text};
@@ -31,13 +31,13 @@ use std::io::Write;
 /// A line of a script that was refused.
 #[derive(Debug, Drop)]
 pub struct RefusedLine {
-    /// Its number; lines count from 1.
+    /// Its number; lines are numbered from 1.
     pub number: u64,
     /// Its reply, with the LF.
     pub reply: String,
 }
 
-/// Whether a reply says that its line was not done.
+/// Whether a reply says that its line wasn't carried out.
 fn is_refusal(reply: &Reply) -> bool
     ensures { result ≡ strict.is_refusal (reply_of reply.now) }
 {
@@ -52,7 +52,7 @@ fn is_refusal(reply: &Reply) -> bool
     }
 }
 
-/// The text of a reply, if it says that its line was not done.
+/// The reply's text, if it says that its line wasn't carried out.
 fn refusal_in(is_refused: bool, text: String) -> Option<String>
     ensures { option_map string_bytes result
         ≡ (if is_refused then Some (string_bytes text) else None) }
@@ -60,8 +60,8 @@ fn refusal_in(is_refused: bool, text: String) -> Option<String>
     if is_refused { Some(text) } else { None }
 }
 
-/// Runs a line, and then writes its reply, which is returned if it says that the line was not done.
-/// Nothing of it was written if memory is missing.
+/// Runs a line, and then writes its reply. Returns the reply if it says that the line wasn't
+/// carried out. If memory runs out, none of the reply is written.
 fn run_line<S: Server, W: Write>(
     alloc: Global,
     server: &mut S,
@@ -92,7 +92,7 @@ fn run_line<S: Server, W: Write>(
     Ok(refusal_in(is_refusal(&reply), text))
 }
 
-/// The refused line of this number, if there is a reply of one.
+/// The refused line with this number, if it has a reply.
 fn refused_line(number: u64, reply: Option<String>) -> Option<RefusedLine>
     ensures { option_map strict.line_refused result
         ≡ strict.numbered number (option_map string_bytes reply) }
@@ -103,8 +103,8 @@ fn refused_line(number: u64, reply: Option<String>) -> Option<RefusedLine>
     }
 }
 
-/// Runs the lines of a script in turn, up to the first that is refused, and gives that one. What
-/// follows the last LF is a line only if it isn't empty.
+/// Runs a script's lines in order, up to the first refused one, and returns that one. What follows
+/// the last LF is a line only if it isn't empty.
 fn run_lines<S: Server, W: Write>(
     alloc: Global,
     server: &mut S,
@@ -140,7 +140,7 @@ fn run_lines<S: Server, W: Write>(
     Ok(refused_line(number, refused))
 }
 
-/// Runs a script on a new store up to the first line that is refused, and closes the store.
+/// Runs a script on a new store up to the first refused line, and closes the store.
 fn run_on_new<W: Write>(
     alloc: Global,
     script: &[u8],
@@ -168,13 +168,13 @@ fn run_on_new<W: Write>(
     Ok((refused, journal))
 }
 
-/// Runs a script as [`crate::run`] does, but ends after the first reply that says that its line was
-/// not done, and returns that line. It returns None if there was no such line: then all lines were
-/// run. The journal of the accepted writes is returned too.
+/// Runs a script as [`crate::run`] does, but ends after the first reply that says that its line
+/// wasn't carried out. Returns that line, or None if all lines ran without such a reply, and the
+/// journal of the accepted writes.
 ///
 /// Such replies are a refusal, `bad line`, `already begun`, `not begun`, `full batch`, `empty
-/// batch`, `already pinned`, `not pinned` and `no live query`. What is written is an output of the
-/// lines up to that one. Faults are those of `run`, and leave what they leave there.
+/// batch`, `already pinned`, `not pinned` and `no live query`. What it writes is an output of the
+/// lines up to that one. Errors are those of `run`, and leave what they leave there.
 pub fn run_strictly<R: ScriptReader, W: Write>(
     alloc: Global,
     reader: &mut R,

@@ -1,4 +1,4 @@
--- As many answers as operations.
+-- As many outcomes as operations.
 use Rattle.std.proofs.Common.{◌≡◌, ◌+◌, List, [], ◌∷◌, ◌++◌, fold, length, length-append, refl, ap, arith}
 use Rattle.std.specs.Result.{result_map_both}
 use Rattle.std.specs.declared.result.Result.{Result}
@@ -14,7 +14,7 @@ Reached = Result (State × List Done) Refusal
 same_inside : (p q : State × List Done) (r : Reached) → r ≡ Ok p → r ≡ Ok q → p ≡ q
 same_inside p q r h g = cc
 
--- a refusal stays
+-- an error stays
 refused_stays : (e : Refusal) (ops : List Op) → fold advance (Err e) ops ≡ Err e
 refused_stays e [] = refl
 refused_stays e (op ∷ ops) = refused_stays e ops
@@ -32,6 +32,6 @@ answers_from (op ∷ ops) s t before dones h = by (step s op) h (λ a g. answers
     by (Ok a) g rest = omega (arith, rest a g, length-append before (a.1 ∷ []))
     by (Err e) g rest = absurd (never_both e (t, dones) (fold advance (Err e) ops) (refused_stays e ops) g)
 
--- accepted operations have an answer each
-pub length-dones : (s t : State) (ops : List Op) (dones : List Done) → steps s ops ≡ Ok (t, dones) → length dones ≡ length ops
-length-dones s t ops dones h = omega (arith, answers_from ops s t [] dones h)
+-- accepted operations have an outcome each
+pub length-outcomes : (s t : State) (ops : List Op) (dones : List Done) → steps s ops ≡ Ok (t, dones) → length dones ≡ length ops
+length-outcomes s t ops dones h = omega (arith, answers_from ops s t [] dones h)

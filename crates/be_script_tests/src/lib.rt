@@ -1,4 +1,4 @@
-//! Scripts and what they are answered, by public calls.
+//! Scripts and their replies, by public calls.
 //!
 //! They are in a crate of their own, so that be_script_runner isn't proved a second time with them.
 #![tactic(auto)]

@@ -1,21 +1,21 @@
-//! Scripts and what they are answered, as rows `LINE => REPLY`.
+//! Scripts and their replies, as rows `LINE => REPLY`.
 //!
-//! Each table is run over the shared store and over a plain volume with its journal, and both give
-//! the replies of the rows.
+//! Each table is run over the shared store, and over a plain volume with its journal. Both must
+//! give the rows' replies.
 //!
-//! Every test passes with any one request for memory refused: a run that ran out of memory is
-//! looked at, and made again.
+//! Every test passes if any one request for memory is refused. A run that ran out of memory is
+//! checked as far as it came, and run again.
 ghost use Rattle.std.specs.Prelude.{◌<◌, ◌^◌};
 
 mod alike;
 mod examples;
 mod faults;
+mod journal_runs;
 mod limits;
 mod pages;
 mod plain;
 mod pools;
 mod readings;
-mod tellings;
 
 use be_script_runner::{Limits, RunFault, run, serve};
 use be_value::word_of;
@@ -30,13 +30,12 @@ const LIMITS: Limits = Limits {
     commits: 1_000_000,
 };
 
-/// Rows that make a node whose k is 5, after an index of k.
+/// Rows that make an index of k, and a node whose k is 5.
 const FIVE: &str = "mkindex k LONG => ok
 new => node 1
 set 1 k LONG 5 => ok";
 
-/// The character that a character of a row stands for: the pictures of control characters are
-/// those.
+/// The character that a row's character stands for: pictures of control characters stand for those.
 fn meaning_of(c: char) -> char {
     match c {
         '␀' => '\0',
@@ -57,8 +56,7 @@ fn push_meant(text: &mut String, written: &str) -> Result<(), AllocError> {
     Ok(())
 }
 
-/// Appends `COUNT*PART}` and what follows it: the part as often as counted. Any other text stands
-/// for itself.
+/// Appends `COUNT*PART}` and what follows it: the part, repeated. Any other text stands for itself.
 fn push_repeated(text: &mut String, written: &str) -> Result<(), AllocError> {
     let Some((repeated, rest)) = written.split_once('}') else {
         return push_meant(text, written);
@@ -72,7 +70,7 @@ fn push_repeated(text: &mut String, written: &str) -> Result<(), AllocError> {
     push_meant(text, rest)
 }
 
-/// Appends what a part of a row stands for, in which `{64*x}` is 64 times x.
+/// Appends what a part of a row stands for. In it, `{64*x}` is 64 times x.
 fn push_part(text: &mut String, written: &str) -> Result<(), AllocError> {
     let mut parts = written.split('{');
     if let Some(front) = parts.next() {
@@ -84,7 +82,7 @@ fn push_part(text: &mut String, written: &str) -> Result<(), AllocError> {
     Ok(())
 }
 
-/// Appends what one side of a row stands for, in which ` / ` parts lines.
+/// Appends what one side of a row stands for. In it, ` / ` separates lines.
 fn push_lines(text: &mut String, written: &str) -> Result<(), AllocError> {
     for line in written.split(" / ") {
         push_part(text, line)?;
@@ -93,8 +91,8 @@ fn push_lines(text: &mut String, written: &str) -> Result<(), AllocError> {
     Ok(())
 }
 
-/// Appends the lines of a row to a script, and their replies to the replies. A row without ` => `
-/// is a line without a reply.
+/// Appends a row's lines to a script, and their replies to the replies. A row without ` => ` is a
+/// line without a reply.
 fn push_row(script: &mut String, replies: &mut String, row: &str) -> Result<(), AllocError> {
     let Some((lines, reply)) = row.split_once(" => ") else {
         push_part(script, row)?;
@@ -104,7 +102,7 @@ fn push_row(script: &mut String, replies: &mut String, row: &str) -> Result<(), 
     push_lines(replies, reply)
 }
 
-/// Appends some rows. Spaces before a row don't count.
+/// Appends some rows. Spaces before a row are ignored.
 fn push_rows(script: &mut String, replies: &mut String, rows: &str) -> Result<(), AllocError> {
     for row in rows.lines() {
         let row = row.trim_start_matches(' ');
@@ -115,7 +113,7 @@ fn push_rows(script: &mut String, replies: &mut String, rows: &str) -> Result<()
     Ok(())
 }
 
-/// The script of an example's rows and of the rows after it, and its replies.
+/// The script of an example's rows followed by these rows, and its replies.
 fn script_of(alloc: Global, example: &str, rows: &str) -> Result<(String, String), AllocError> {
     let mut script = String::new(alloc);
     let mut replies = String::new(alloc);
@@ -168,8 +166,8 @@ fn run_by(
     }
 }
 
-/// Runs a script. True if its replies are these, and false if memory ran out after a front of these
-/// replies.
+/// Runs a script. It returns true if its replies are these, and false if memory ran out after a
+/// front of these replies.
 fn replies_to(
     by: By,
     alloc: Global,
@@ -185,14 +183,14 @@ fn replies_to(
     match result {
         Ok(()) if written == replies => Ok(true),
         Ok(()) if wants_memory(written, replies) => Ok(false),
-        // A vector that can't grow is a write that fails.
+        // If the vector can't grow, the write fails.
         Err(RunFault::Memory | RunFault::Write) if replies.starts_with(written) => Ok(false),
         _ => Err(Fail::new(first_other(written, replies).unwrap_or("too few lines"))),
     }
 }
 
-/// Fails unless the script has these replies by this server, at the second run if memory ran out at
-/// the first.
+/// Fails unless this server gives the script these replies. If memory ran out in the first run, the
+/// second run has to.
 fn check_by(by: By, alloc: Global, script: &[u8], replies: &str, commits: u64) -> Result<(), Fail>
     requires { commits < 2 ^ 32 }
 {
@@ -204,7 +202,7 @@ fn check_by(by: By, alloc: Global, script: &[u8], replies: &str, commits: u64) -
     Err(Fail::new("out of memory twice"))
 }
 
-/// Fails unless the script has these replies, whatever serves it.
+/// Fails unless both servers give the script these replies.
 fn check_bytes(alloc: Global, script: &[u8], replies: &str, commits: u64) -> Result<(), Fail>
     requires { commits < 2 ^ 32 }
 {
@@ -212,7 +210,7 @@ fn check_bytes(alloc: Global, script: &[u8], replies: &str, commits: u64) -> Res
     check_by(By::PlainVolume, alloc, script, replies, commits)
 }
 
-/// Fails unless each line of an example's rows and of the rows after it has its reply.
+/// Fails unless each line has its reply: the lines of an example's rows, followed by these rows.
 fn check_after(alloc: Global, example: &str, rows: &str) -> Result<(), Fail> {
     let (script, replies) = match script_of(alloc, example, rows) {
         Ok(parts) => parts,

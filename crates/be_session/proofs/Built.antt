@@ -1,4 +1,4 @@
--- One item more.
+-- One more item.
 use Rattle.std.proofs.Common.{ℕ, List, [], ◌∷◌, ◌++◌, ◌<◌, ◌+◌, map, take, length, get_or, subst, sym}
 use Rattle.std.proofs.lemmas.List.{map_push, take_more}
 use Rattle.be_query.specs.Rpn.{Item, item_of}

@@ -1,4 +1,4 @@
--- What is said of the cover that is chosen for a query.
+-- What holds for the cover that is chosen for a query.
 use Rattle.std.proofs.Common.{◌≡◌, ◌⊎◌, ℕ, Bool, List, Result, Ok, Err, IfOk, IfErr, inl, inr, ap, sym, ◌∙◌}
 use Rattle.std.specs.Result.{result_map_both}
 use Rattle.be_plan.specs.Cover.{chosen}
@@ -20,5 +20,5 @@ pub none_said : (indexed : List ℕ → Bool) (f : Formula) (e : Refusal) → (e
 none_said indexed f e known =
     elim known [
       | inl none ↦ inl none
-      | inr told ↦ inr (ap (result_map_both (explanation f) (λ e. e)) told)
+      | inr reported ↦ inr (ap (result_map_both (explanation f) (λ e. e)) reported)
     ]

@@ -1,4 +1,4 @@
--- A session may go to another thread: what it shares may be shared by threads, since a `&` to a pass shows nothing of it.
+-- A session may go to another thread: threads may share what it shares, because a `&` to a pass gives no access to it.
 use denote.RattleType.{RattleType}
 use denote.Param.Send.{IsSend, IsSync, part_keyless, sendable}
 use Rattle.std.proofs.Crossing.{crosses}

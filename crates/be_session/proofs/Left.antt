@@ -1,8 +1,8 @@
--- What is left when a list was read.
+-- What is left after a list was read.
 use Rattle.std.proofs.Common.{◌≡◌, List, [], ◌++◌, ap, sym, ◌∙◌}
 use Rattle.be_volume.specs.declared.ops.Op.{Op}
 
--- nothing was ready: the list that was read is now, and the rest is unread
+-- nothing was ready: now the list that was read is ready, and the rest is unread
 pub left_after : (ready list before after : List Op) → ready ≡ [] → before ≡ list ++ after → list ++ after ≡ ready ++ before
 left_after ready list before after none is = sym is ∙ ap (λ (xs : List Op). xs ++ before) (sym none)
 

@@ -3,8 +3,8 @@ pub mod Collected
 pub mod Meant
 pub mod Pages
 pub mod Built
-pub mod Spelt
-pub mod Told
+pub mod GrowingBytes
+pub mod Reported
 pub mod Covers
 pub mod Same
 pub mod Crosses

@@ -1,4 +1,4 @@
--- The cursor of a page: it is at a key, which is at least as long as a node, or where it was.
+-- A page's cursor is either at a key, which is at least as long as a node, or where it was.
 use Rattle.std.proofs.Common.{◌≡◌, ◌≤◌, ℕ, zero, suc, Bool, true, false, cond, List, [], ◌∷◌, ◌++◌, refl, sym, ap, ◌∙◌, subst, arith, Ok, Err, IfErr, Some, None, is_some, take, length, length-append}
 use Rattle.std.specs.List.{Contains, AllByRecursion, flat_map}
 use Rattle.std.specs.Option.{option_map_or}
@@ -51,7 +51,7 @@ long_contained : (es : Entries) → ((k : List ℕ) → Contains (keys_of es) k 
 long_contained [] h = tt
 long_contained (e ∷ es) h = (h e.0 (0, omega arith, refl), long_contained es (λ k g. h k (suc g.0, omega (arith, g.1), g.2)))
 
--- what is put in order has no other keys than before
+-- sorting adds no keys
 module _ (descending : Bool) (es : Entries) where
   abbrev ordered_entries : Entries
   ordered_entries = fin.entries (fin.from_entries {R = key_cmp descending} es)

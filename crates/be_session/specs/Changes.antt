@@ -1,4 +1,4 @@
--- Changes by a session's calls: what they collect, what they read, and how they end.
+-- Changes through a session's calls: what they collect, what they read, and how they end.
 use Rattle.std.specs.Prelude.{◌≡◌, ◌⊎◌, ℕ, true, List, [], ◌∷◌, ◌++◌, None, length}
 use Rattle.std.specs.declared.option.Option.{Option}
 use Rattle.std.specs.declared.result.Result.{Result}
@@ -26,14 +26,14 @@ use Rattle.be_volume.specs.declared.ops.Done.TheVariants.{Node}
 use Rattle.be_volume.specs.declared.ops.Op.{Op}
 use Rattle.be_volume.specs.declared.ops.Op.TheVariants.{New, Drop, Set, Unset, MkIndex, RmIndex}
 use Rattle.be_session.specs.Fault.{fault_carried, fault_of, fault_of_collecting}
-use Rattle.be_session.specs.Operations.{ArePartsWithin, IsBadCount, IsMeantBy, IsMisspeltAt}
+use Rattle.be_session.specs.Operations.{ArePartsWithin, IsBadCount, IsMeantBy, IsInvalidAt}
 use Rattle.be_session.specs.declared.faults.Fault.{Fault}
 use Rattle.be_session.specs.declared.faults.Fault.TheVariants.{BadCount, Conflict, NotPinned}
 use Rattle.be_session.specs.declared.faults.Fault.TheVariants.{Refused, WrongKind}
 use Rattle.be_session.specs.declared.lists.Operation.{Operation}
 
 -- The number that a change returns for an operation that it has collected. For a new node it is the
--- next number after the operations before, and the outcome of this operation; otherwise it is 0.
+-- next number after the operations before it, and the operation's outcome; otherwise it is 0.
 abbrev pub IsGiven : Changing → Changing → Op → ℕ → Type 0
 IsGiven was now New node =
     (outcomes now.first now.ops ≡ outcomes was.first was.ops ++ Node node ∷ [])
@@ -44,8 +44,8 @@ IsGiven was now (Unset changed name) node = node ≡ 0
 IsGiven was now (MkIndex name kind) node = node ≡ 0
 IsGiven was now (RmIndex name) node = node ≡ 0
 
--- if the change checks kinds, and this sets an attribute, the value has the kind of the index of
--- its name, as the operations before leave that index
+-- If the change checks kinds and this sets an attribute, the value has the kind of its name's
+-- index, as the operations before it leave that index.
 abbrev pub SetsRightKind : Changing → Op → Type 0
 SetsRightKind c New = Unit {0}
 SetsRightKind c (Drop node) = Unit {0}
@@ -63,7 +63,7 @@ SetsWrongKind c (Unset node name) e = ⊥
 SetsWrongKind c (MkIndex name kind) e = ⊥
 SetsWrongKind c (RmIndex name) e = ⊥
 
--- the change has collected exactly this operation, and returned this number
+-- the change has collected exactly this operation, and has returned this number
 abbrev pub Collects : Changing → Changing → Op → ℕ → Type 0
 Collects was now op node = (now ≡ with_op was op) × IsGiven was now op node × SetsRightKind was op
 
@@ -76,41 +76,42 @@ abbrev pub CollectsMeant : Changing → Changing → Operation → List ℕ → 
 CollectsMeant was now o bytes node = (op : Op) × ArePartsWithin o (length bytes)
     × IsMeantBy o bytes op × Collects was now op node
 
--- why it wasn't: the encoding is invalid, or the change doesn't take the operation
+-- why it wasn't: either the encoding is invalid, or the change doesn't take the operation
 abbrev pub IsNotCollected : Changing → Operation → List ℕ → Fault → Type 0
-IsNotCollected c o bytes e = IsMisspeltAt o bytes e
+IsNotCollected c o bytes e = IsInvalidAt o bytes e
     ⊎ ((op : Op) × IsMeantBy o bytes op
     × (why : CollectError) × (e ≡ fault_of_collecting why) × IsUncollected c op why)
 
--- What a change reads of an attribute: what its operations leave of the snapshot's, if the session
--- is pinned to that snapshot; otherwise NotPinned.
+-- What a change reads at an attribute: what its operations leave there of the snapshot's, if the
+-- session is pinned to that snapshot; otherwise NotPinned.
 abbrev pub ReadsChanged : Changing → Knowledge → ℕ → List ℕ → Result (Option Value) Fault → Type 0
 ReadsChanged change a node name (Ok found) = IsPinnedTo a change.number
     × (Reads change (volume_pinned a)
     → After change (volume_pinned a) (λ s. found ≡ attribute s node name))
 ReadsChanged change a node name (Err e) = (¬ (IsPinnedTo a change.number)) × (e ≡ NotPinned)
 
--- what a session returns of how a change ended
+-- what a session returns about how a change ended
 abbrev pub as_answer : Result Ended Refusal → Result ℕ Fault
 as_answer (Ok (Accepted n)) = Ok n
 as_answer (Ok (Again found)) = Err (Conflict found)
 as_answer (Err why) = Err (Refused why)
 
 -- How a change ends. If the session isn't pinned to its snapshot, nothing happens. Otherwise it
--- ends as be_change says, and then the pin that it made is released.
+-- ends as be_change says; then the pin is released, if the change made it.
 abbrev pub EndsChange : Changing → (a d : Knowledge) → Result ℕ Fault → Type 0
 EndsChange change a d result =
     ((¬ (IsPinnedTo a change.number)) × (d ≡ a) × (result ≡ Err NotPinned))
     ⊎ (IsPinnedTo a change.number × (ended : Result Ended Refusal) × (result ≡ as_answer ended)
     × (c : Knowledge) × EndsOnce change a c ended × Releases change.pins c d)
 
--- a change that is abandoned writes nothing; its pin is released, if the session has it
+-- an abandoned change writes nothing; if the session is pinned to its snapshot, the pin that it
+-- made is released
 abbrev pub Abandons : Changing → (a d : Knowledge) → Type 0
 Abandons change a d = ((¬ (IsPinnedTo a change.number)) × (d ≡ a))
     ⊎ (IsPinnedTo a change.number × Releases change.pins a d)
 
--- Operations are written at once as a change on the pinned snapshot, with this commit number:
--- exactly they, on exactly what was read, as the next entry after the snapshot. Each set has the
+-- Operations were written at once as a change on the pinned snapshot, with this commit number:
+-- exactly these, on exactly what was read, as the next entry after the snapshot. Each set has the
 -- kind of the index of its name, and new nodes have the snapshot's next numbers.
 abbrev pub WritesChange : (a d : Knowledge) → List Op → ℕ → Type 0
 WritesChange a d ops n = (number : ℕ) × IsPinnedTo a number
@@ -118,20 +119,21 @@ WritesChange a d ops n = (number : ℕ) × IsPinnedTo a number
     × (c : Knowledge) × HasRead a c × (dones : List Done) × AcceptsAt c d number ops n dones
     × (dones ≡ outcomes (volume_pinned a).next ops)
 
--- The first operation of a wrong kind has this place, and the pass has only read.
+-- The first operation of a wrong kind is at this place, and the pass has only read.
 abbrev pub IsMismatch : (a d : Knowledge) → List Op → Fault → ℕ → Type 0
 IsMismatch a d ops e place = HasRead a d × (index : Kind) × (e ≡ WrongKind index)
     × IsFirstOfWrongKind (volume_pinned a) ops place index
 
 -- All operations have the right kinds, and the conditional write at the pin's number wasn't made.
--- The place is what its error carries.
+-- The place is the number that comes with the error.
 abbrev pub IsUnmade : (a d : Knowledge) → ℕ → List Op → Fault → ℕ → Type 0
 IsUnmade a d number ops e place = HaveRightKinds (volume_pinned a) ops (length ops)
     × (c : Knowledge) × HasRead a c × (why : ApplyIfError) × (e ≡ fault_of why)
     × IsUnapplied c d number ops why × (place ≡ fault_carried e)
 
--- Why operations weren't written as a change, and the place that is returned: a count that isn't 1
--- to 64, or no pin, and then nothing has happened; a set of a wrong kind; or the store's own error.
+-- Why operations weren't written as a change, and the place that is returned. Either the count
+-- isn't 1 to 64, or there is no pin, and then nothing has happened; or a set is of a wrong kind; or
+-- the store returned an error.
 abbrev pub IsUnwrittenChange : (a d : Knowledge) → List Op → Fault → ℕ → Type 0
 IsUnwrittenChange a d ops e place =
     (IsBadCount (length ops) × (e ≡ BadCount) × (place ≡ 0) × (d ≡ a))

@@ -15,7 +15,7 @@ abbrev pub IsCursorOf : Kind → Cursor → Type 0
 IsCursorOf kind c = ((c.kind ≡ 0) × (c.length ≡ 0))
     ⊎ ((c.kind ≡ code_of kind) × (8 ≤ c.length) × (c.length ≤ 264))
 
--- the key has at least the bytes of a node; so does none
+-- a key has at least the bytes of a node; None is long, too
 abbrev pub IsLong : Option (List ℕ) → Type 0
 IsLong None = Unit {0}
 IsLong (Some k) = 8 ≤ length k

@@ -9,8 +9,8 @@ use Rattle.be_value.specs.declared.refusals.Refusal.{Refusal}
 use Rattle.be_volume.specs.Query.{has_index}
 use Rattle.be_volume.specs.Volume.{State}
 
--- the text of the cover that is chosen, if the names for which `indexed` is true have an index; or
--- why none is chosen
+-- the text of the cover that is chosen if exactly the names for which `indexed` is true have an
+-- index; or why none is chosen
 abbrev pub explanation_where : (List ℕ → Bool) → Formula → Result (List ℕ) Refusal
 explanation_where indexed f = result_map_both (explanation f) (λ e. e) (chosen indexed f)
 

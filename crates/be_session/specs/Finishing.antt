@@ -4,7 +4,7 @@ use Rattle.be_journal.specs.Journal.{IsLegal, Log}
 use Rattle.be_store.specs.Calls.{AreInOneTrace, HasWrites, ReadsFronts}
 use Rattle.be_table.specs.History.{AreOfPasses}
 use Rattle.be_table.specs.Steps.{Has, KeepsSeen}
-use Rattle.be_table.specs.Versions.{CanSpellEach}
+use Rattle.be_table.specs.Versions.{CanEncodeEach}
 use Rattle.be_table.specs.declared.limits.Limits.{Limits}
 use Rattle.be_table.specs.declared.pass.Knowledge.{Knowledge}
 use Rattle.be_value.specs.declared.refusals.Refusal.TheVariants.{OutOfMemory}
@@ -15,10 +15,10 @@ use Rattle.be_session.specs.declared.finishing.Unfinished.{Unfinished}
 use Rattle.be_session.specs.declared.finishing.Unfinished.TheVariants.{Kept, PassLost}
 
 -- A store with these limits was closed with this journal, and its passes know this; there is one of
--- each number. The journal is legal, each of its entries is by a pass of the store, and after each
--- of them the volume fits into the pages. It begins with what each pass has seen, and has just its
--- own writes of each: an accepted write lies at its commit number, and each pin was to a prefix of
--- the journal. The moves of all calls lie in one trace.
+-- each number. The journal is legal, each entry is by a pass of the store, and after each entry the
+-- volume fits into the pages. It begins with what each pass has seen, and has exactly each pass's
+-- own writes. An accepted write is at its commit number, and each pin was to a prefix of the
+-- journal. The moves of all calls lie in one trace.
 pub record IsClosedWith (limits : Limits) (passes : List Knowledge) (log : Log) : Type 0 where
   pub all : (k : ℕ) → k < limits.passes → Has passes k
   pub legal : IsLegal log.entries
@@ -26,7 +26,7 @@ pub record IsClosedWith (limits : Limits) (passes : List Knowledge) (log : Log) 
   pub seen : KeepsSeen log.entries passes
   pub writes : All (HasWrites log.entries) passes
   pub reads : All (ReadsFronts log.entries) passes
-  pub volumes : CanSpellEach limits.pages log.entries
+  pub volumes : CanEncodeEach limits.pages log.entries
   pub limit : log.limit ≡ limits.commits
   pub moves : AreInOneTrace limits passes
 
@@ -39,11 +39,11 @@ IsFinishedBy limits a log = (first : List Knowledge) × (rest : List Knowledge)
 abbrev pub IsFinished : Sitting → Log → Type 0
 IsFinished s log = IsFinishedBy s.store.limits s.knows log
 
--- why a session can't close its store: another one is open, or memory was refused
+-- why a session can't close its store: either another one is open, or memory ran out
 abbrev pub IsNotLast : Fault → Type 0
 IsNotLast e = (e ≡ InUse) ⊎ (e ≡ Refused OutOfMemory)
 
--- why the store was not closed: the session is as it was, or it is gone with the store
+-- why the store wasn't closed: either the session is as it was, or it is gone with the store
 abbrev pub IsUnfinished : Sitting → Unfinished → Type 0
 IsUnfinished s (Kept t e) = (t ≡ s) × IsNotLast e
 IsUnfinished s PassLost = Unit {0}

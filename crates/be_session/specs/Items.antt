@@ -39,7 +39,7 @@ IsItemMeant kind number bytes Both = kind ≡ 13
 IsItemMeant kind number bytes Either = kind ≡ 14
 IsItemMeant kind number bytes Complement = kind ≡ 15
 
--- why these mean no item
+-- why these aren't a valid item
 abbrev pub IsNoItem : ℕ → List ℕ → Fault → Type 0
 IsNoItem kind bytes e =
     ((e ≡ NoItem) × (15 < kind))
@@ -47,7 +47,7 @@ IsNoItem kind bytes e =
     ⊎ ((kind ≡ 1) × (e ≡ NotUtf8) × (¬ (IsUtf8 bytes)))
     ⊎ (e ≡ Refused OutOfMemory)
 
--- the items that are encoded here, in their order
+-- the items that are encoded here, in order
 abbrev pub AreItemsMeant : List PredicateItem → List ℕ → List Item → Type 0
 AreItemsMeant [] bytes [] = Unit {0}
 AreItemsMeant [] bytes (item ∷ items) = ⊥
@@ -55,23 +55,23 @@ AreItemsMeant (s ∷ ss) bytes [] = ⊥
 AreItemsMeant (s ∷ ss) bytes (item ∷ items) = IsItemMeant s.kind s.number (part bytes s.at s.length)
     item × AreItemsMeant ss bytes items
 
--- why this one means no item: its part isn't within the bytes, or its number or content is invalid
-abbrev pub IsItemMisspelt : PredicateItem → List ℕ → Fault → Type 0
-IsItemMisspelt s bytes e = ((e ≡ BadPart) × (length bytes < s.at + s.length))
+-- why this one isn't a valid item: either its part isn't within the bytes, or its number or content
+-- is invalid
+abbrev pub IsItemInvalid : PredicateItem → List ℕ → Fault → Type 0
+IsItemInvalid s bytes e = ((e ≡ BadPart) × (length bytes < s.at + s.length))
     ⊎ IsNoItem s.kind (part bytes s.at s.length) e
 
--- the place that is reported with the error of an item: its index, but 0 after running out of
--- memory
-abbrev pub item_told : Fault → ℕ → ℕ
-item_told e n = if fault_code e == 10 then 0 else n
+-- the place that is reported with an item's error: its index, or 0 if memory ran out
+abbrev pub item_reported : Fault → ℕ → ℕ
+item_reported e n = if fault_code e == 10 then 0 else n
 
--- Why these mean no items, and the place that is reported: the first n items are valid, and the
--- next one is not. After running out of memory the place is 0.
-abbrev pub AreItemsMisspelt : List PredicateItem → List ℕ → Fault → ℕ → Type 0
-AreItemsMisspelt ss bytes e place =
-    ((n : ℕ) × (place ≡ item_told e n) × (s : PredicateItem) × (items : List Item)
+-- Why these aren't valid items, and the place that is reported: the first n items are valid, and
+-- the next one isn't. If memory ran out, the place is 0.
+abbrev pub AreItemsInvalid : List PredicateItem → List ℕ → Fault → ℕ → Type 0
+AreItemsInvalid ss bytes e place =
+    ((n : ℕ) × (place ≡ item_reported e n) × (s : PredicateItem) × (items : List Item)
     × (take (n + 1) ss ≡ take n ss ++ s ∷ [])
-    × AreItemsMeant (take n ss) bytes items × IsItemMisspelt s bytes e)
+    × AreItemsMeant (take n ss) bytes items × IsItemInvalid s bytes e)
     ⊎ ((e ≡ Refused OutOfMemory) × (place ≡ 0))
 
 -- the query that the items encoded here build
@@ -79,11 +79,11 @@ abbrev pub IsBuilt : List PredicateItem → List ℕ → Formula → Type 0
 IsBuilt ss bytes query = (items : List Item) × AreItemsMeant ss bytes items × (rpn items ≡ Ok query)
 
 -- Why there is no query, and the number that is reported. If an item is invalid, it is the item's
--- place; if the items build no query, it is what that error carries. Or the call runs out of
--- memory.
+-- place; if the items build no query, it is the number that comes with that error. Or memory runs
+-- out.
 abbrev pub IsUnbuilt : List PredicateItem → List ℕ → Fault → ℕ → Type 0
 IsUnbuilt ss bytes e place =
-    AreItemsMisspelt ss bytes e place
+    AreItemsInvalid ss bytes e place
     ⊎ ((items : List Item) × AreItemsMeant ss bytes items × (why : Refusal) × (e ≡ Refused why)
     × (place ≡ fault_carried (Refused why))
     × IsMemory why (rpn items ≡ Err why))

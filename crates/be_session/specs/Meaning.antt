@@ -16,8 +16,8 @@ use Rattle.be_session.specs.declared.faults.Fault.{Fault}
 use Rattle.be_session.specs.declared.faults.Fault.TheVariants.{NotUtf8, NoOperation, NoKind}
 use Rattle.be_session.specs.declared.faults.Fault.TheVariants.{NoValue, Refused}
 
--- The value that a type code, a number and bytes mean: a text or raw bytes is its bytes, and a
--- number is the number, with a sign as two's complement.
+-- The value that a type code, a number and bytes mean. A text or raw bytes is the bytes; a number
+-- is the number, in two's complement if it has a sign.
 abbrev pub IsValueMeant : ℕ → ℕ → List ℕ → Value → Type 0
 IsValueMeant code number bytes (Cstr text) = (code ≡ code_of kinds.Cstr) × (text ≡ bytes)
 IsValueMeant code number bytes (Long n) = (code ≡ code_of kinds.Long) × (n ≡ cast_signed w64 number)
@@ -27,7 +27,7 @@ IsValueMeant code number bytes (Rawt raw) = (code ≡ code_of kinds.Rawt) × (ra
 IsValueMeant code number bytes (Ulng n) = (code ≡ code_of kinds.Ulng) × (n ≡ number)
 IsValueMeant code number bytes (Ullg n) = (code ≡ code_of kinds.Ullg) × (n ≡ number)
 
--- what a value has no use for is left at 0, or empty
+-- what a value doesn't use is 0 or empty
 abbrev pub HasNoMore : ℕ → List ℕ → Value → Type 0
 HasNoMore number bytes (Cstr text) = number ≡ 0
 HasNoMore number bytes (Long n) = bytes ≡ []
@@ -37,7 +37,7 @@ HasNoMore number bytes (Rawt raw) = number ≡ 0
 HasNoMore number bytes (Ulng n) = bytes ≡ []
 HasNoMore number bytes (Ullg n) = bytes ≡ []
 
--- The operation that these mean, each by the parts that it has a use for.
+-- The operation that these mean; each operation uses only some of the parts.
 abbrev pub IsMeant : ℕ → ℕ → List ℕ → ℕ → ℕ → List ℕ → Op → Type 0
 IsMeant number node name code value_number bytes New = number ≡ 0
 IsMeant number node name code value_number bytes (Drop n) = (number ≡ 1) × (n ≡ node)
@@ -53,12 +53,12 @@ IsMeant number node name code value_number bytes (RmIndex called) = (number ≡ 
 abbrev pub IsNoKind : ℕ → Type 0
 IsNoKind code = (kind : Kind) → code_of kind ≢ code
 
--- why bytes aren't a name: they aren't valid UTF-8, or the text isn't a valid name
+-- why bytes aren't a name: either they aren't UTF-8, or the text isn't a valid name
 abbrev pub IsNoName : List ℕ → Fault → Type 0
 IsNoName name e = ((e ≡ NotUtf8) × (¬ (IsUtf8 name)))
     ⊎ (IsUtf8 name × (why : Refusal) × (e ≡ Refused why) × (name_from name ≡ Err why))
 
--- why bytes aren't the text of a value, in the same order
+-- why bytes aren't a value's text, for the same reasons
 abbrev pub IsNoText : List ℕ → Fault → Type 0
 IsNoText bytes e = ((e ≡ NotUtf8) × (¬ (IsUtf8 bytes)))
     ⊎ (IsUtf8 bytes × (why : Refusal) × (e ≡ Refused why) × (text_from bytes ≡ Err why))

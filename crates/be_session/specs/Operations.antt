@@ -1,4 +1,4 @@
--- What a list of operations means, as other languages encode them.
+-- What a list of operations means, as other languages encode it.
 use Rattle.std.specs.Prelude.{◌≡◌, ◌⊎◌, ◌+◌, ◌<◌, ◌≤◌, ◌++◌, ℕ, List, [], ◌∷◌, Some, length}
 use Rattle.std.specs.Prelude.{slice_get, take, drop}
 use Rattle.be_value.specs.declared.refusals.Refusal.TheVariants.{OutOfMemory}
@@ -17,7 +17,7 @@ use Rattle.be_session.specs.declared.lists.Operation.{Operation}
 abbrev pub part : List ℕ → ℕ → ℕ → List ℕ
 part bytes at len = take len (drop at bytes)
 
--- the operation that is encoded here, its name and value parts of these bytes
+-- the operation that is encoded here, with its name and its value as parts of these bytes
 abbrev pub IsMeantBy : Operation → List ℕ → Op → Type 0
 IsMeantBy o bytes op = IsMeant o.kind o.node (part bytes o.name_at o.name_length) o.code o.number
     (part bytes o.value_at o.value_length) op
@@ -26,8 +26,8 @@ IsMeantBy o bytes op = IsMeant o.kind o.node (part bytes o.name_at o.name_length
 abbrev pub ArePartsWithin : Operation → ℕ → Type 0
 ArePartsWithin o n = (o.name_at + o.name_length ≤ n) × (o.value_at + o.value_length ≤ n)
 
--- the operations that are encoded here, in their order; each part lies within the bytes, also one
--- that its operation has no use for
+-- The operations that are encoded here, in order. Each part lies within the bytes, even one that
+-- its operation doesn't use.
 abbrev pub AreMeant : List Operation → List ℕ → List Op → Type 0
 AreMeant [] bytes [] = Unit {0}
 AreMeant [] bytes (op ∷ ops) = ⊥
@@ -44,20 +44,20 @@ abbrev pub all_parts : List Operation → List ℕ → List ℕ
 all_parts [] bytes = []
 all_parts (o ∷ os) bytes = both_parts o bytes ++ all_parts os bytes
 
--- These encode the operations: they mean them, and the bytes are their parts, end to end, and
+-- These encode the operations. They mean them, and the bytes are their parts, end to end, and
 -- nothing else.
-abbrev pub AreSpelled : List Operation → List ℕ → List Op → Type 0
-AreSpelled os bytes ops = AreMeant os bytes ops × (all_parts os bytes ≡ bytes)
+abbrev pub AreEncoded : List Operation → List ℕ → List Op → Type 0
+AreEncoded os bytes ops = AreMeant os bytes ops × (all_parts os bytes ≡ bytes)
 
--- what an entry's operation has besides its meaning: `New` has the node that it made
-abbrev pub TellsNode : Operation → Op → Done → Type 0
-TellsNode o New (Node n) = o.node ≡ n
-TellsNode o op done = Unit {0}
+-- what an entry's operation has in addition: for `New` the node that it made
+abbrev pub ReportsNode : Operation → Op → Done → Type 0
+ReportsNode o New (Node n) = o.node ≡ n
+ReportsNode o op done = Unit {0}
 
--- the same of each of them
-abbrev pub TellNodes : List Operation → List Op → List Done → Type 0
-TellNodes os ops dones = (i : ℕ) (o : Operation) (op : Op) (done : Done) → slice_get os i ≡ Some o
-    → slice_get ops i ≡ Some op → slice_get dones i ≡ Some done → TellsNode o op done
+-- the same for each of them
+abbrev pub ReportNodes : List Operation → List Op → List Done → Type 0
+ReportNodes os ops dones = (i : ℕ) (o : Operation) (op : Op) (done : Done) → slice_get os i ≡ Some o
+    → slice_get ops i ≡ Some op → slice_get dones i ≡ Some done → ReportsNode o op done
 
 -- the operation that sets this attribute of the node
 abbrev pub sets : ℕ → (List ℕ × Value) → Op
@@ -67,10 +67,10 @@ sets node a = Set node a.0 a.1
 abbrev pub makes : (List ℕ × Kind) → Op
 makes i = MkIndex i.0 i.1
 
--- why this one means no operation: a part of it isn't within the bytes, or its number or content is
--- invalid
-abbrev pub IsMisspeltAt : Operation → List ℕ → Fault → Type 0
-IsMisspeltAt o bytes e =
+-- why this isn't a valid operation: either a part isn't within the bytes, or its number or content
+-- is invalid
+abbrev pub IsInvalidAt : Operation → List ℕ → Fault → Type 0
+IsInvalidAt o bytes e =
     ((e ≡ BadPart) × ((length bytes < o.name_at + o.name_length)
     ⊎ (length bytes < o.value_at + o.value_length)))
     ⊎ IsNoOperation o.kind (part bytes o.name_at o.name_length) o.code o.number
@@ -84,18 +84,17 @@ IsWriteCount n = (1 ≤ n) × (n ≤ 64)
 abbrev pub IsBadCount : ℕ → Type 0
 IsBadCount n = (n ≡ 0) ⊎ (64 < n)
 
--- The first invalid operation of these has this place, counted from 0, and this error. After
--- running out of memory the place is 0.
-abbrev pub IsFirstMisspelt : List Operation → List ℕ → Fault → ℕ → Type 0
-IsFirstMisspelt os bytes e place =
+-- The first invalid operation is at this place, counted from 0, and has this error. If memory ran
+-- out, the place is 0.
+abbrev pub IsFirstInvalid : List Operation → List ℕ → Fault → ℕ → Type 0
+IsFirstInvalid os bytes e place =
     ((o : Operation) × (ops : List Op) × (take (place + 1) os ≡ take place os ++ o ∷ [])
-    × AreMeant (take place os) bytes ops × IsMisspeltAt o bytes e)
+    × AreMeant (take place os) bytes ops × IsInvalidAt o bytes e)
     ⊎ ((e ≡ Refused OutOfMemory) × (place ≡ 0))
 
--- Why these mean no write, and the place that is reported. The number of operations is tested
--- before anything else, and its place is 0. Otherwise it is the place of the first invalid
--- operation.
-abbrev pub IsMisspelt : List Operation → List ℕ → Fault → ℕ → Type 0
-IsMisspelt os bytes e place =
+-- Why these aren't a valid write, and the place that is reported. The number of operations is
+-- checked first, and then the place is 0. Otherwise it is the place of the first invalid operation.
+abbrev pub IsInvalid : List Operation → List ℕ → Fault → ℕ → Type 0
+IsInvalid os bytes e place =
     (IsBadCount (length os) × (e ≡ BadCount) × (place ≡ 0))
-    ⊎ (IsWriteCount (length os) × IsFirstMisspelt os bytes e place)
+    ⊎ (IsWriteCount (length os) × IsFirstInvalid os bytes e place)

@@ -1,4 +1,4 @@
--- What a session returns of an answer a part at a time.
+-- What a session returns of parts of an answer.
 use Rattle.std.specs.Prelude.{◌≡◌, ◌⊎◌, ◌≤◌, ℕ, Bool, List, [], Ok, None, Some}
 use Rattle.std.specs.declared.result.Result.{Result}
 use Rattle.be_order.specs.Ordered.{page, page_with}
@@ -19,8 +19,8 @@ use Rattle.be_session.specs.declared.faults.Fault.TheVariants.{BadCursor, NoRoom
 abbrev pub LacksIndex : State → List ℕ → Type 0
 LacksIndex volume by = ((e : Fault) × IsNoName by e) ⊎ (index_kind volume by ≡ None)
 
--- A page of an answer was read in the order of an index, which has this kind: from a cursor of that
--- kind on, which moves to the page's last node. If the page is empty, it stays.
+-- A page of an answer was read in the order of an index, which has this kind. It starts at a cursor
+-- of that kind, which moves to the page's last node, or stays if the page is empty.
 pub record IsPageRead (volume : State) (f : Formula) (by : List ℕ) (descending : Bool) (most : ℕ)
     (cursor moved : Cursor) (nodes : List ℕ) (more : Bool) : Type 0 where
   pub wanted : 1 ≤ most
@@ -32,8 +32,8 @@ pub record IsPageRead (volume : State) (f : Formula) (by : List ℕ) (descending
   pub page_is : page volume f by descending (cursor_key cursor) most
       ≡ Ok (page_with nodes (cursor_key moved) more)
 
--- why no page of an index of this kind was read: the cursor is of another kind, the query can't be
--- answered, or memory ran out
+-- why no page of an index of this kind was read: the cursor is of another kind, the query has an
+-- error, or memory ran out
 abbrev pub IsNoPageIn : Kind → State → Formula → List ℕ → Bool → ℕ → Cursor → Fault → Type 0
 IsNoPageIn kind volume f by descending most cursor e =
     ((¬ (IsCursorOf kind cursor)) × (e ≡ BadCursor))
@@ -41,7 +41,7 @@ IsNoPageIn kind volume f by descending most cursor e =
     × IsUnanswered (page volume f by descending (cursor_key cursor) most) e)
 
 -- Why a page couldn't be read: the caller wants no nodes, there is no such index, or no page of
--- that index could be read. The first of these that is true is reported.
+-- that index could be read. The first of these that applies is reported.
 abbrev pub IsNoPage : State → Formula → List ℕ → Bool → ℕ → Cursor → Fault → Type 0
 IsNoPage volume f by descending most cursor e =
     ((most ≡ 0) × (e ≡ NoRoom))
@@ -49,7 +49,7 @@ IsNoPage volume f by descending most cursor e =
     ⊎ ((1 ≤ most) × (kind : Kind) × (index_kind volume by ≡ Some kind)
     × IsNoPageIn kind volume f by descending most cursor e)
 
--- why a few nodes of an answer weren't read: the caller wants none, the query can't be answered, or
+-- why a few nodes of an answer weren't read: the caller wants none, the query has an error, or
 -- memory ran out
 abbrev pub AreUnread : {Y : Type 0} → Result Y Refusal → ℕ → Fault → Type 0
 AreUnread meant most e = ((most ≡ 0) × (e ≡ NoRoom)) ⊎ ((1 ≤ most) × IsUnanswered meant e)

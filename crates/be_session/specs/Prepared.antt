@@ -1,11 +1,11 @@
--- A query that is prepared: parsed once and kept, so that it can be asked again.
+-- A prepared query: parsed once and kept, so that it can be asked again.
 use Rattle.std.specs.Prelude.{◌≡◌, ℕ, List, [], None, refl}
 use Rattle.std.specs.Coded.{Coded, code_by, coded_ℕ, coded_list, coded×}
 use Rattle.be_query.specs.Grammar.{Formula}
 use Rattle.be_store.specs.Live.{LiveQuery, coded_live}
 
--- the query with its answer at the last refresh, the nodes that came and that went then, and those
--- that were found when it was asked last
+-- the query with its answer at the last refresh, the nodes that came and went then, and those that
+-- it found when last asked
 pub record PreparedQuery : Type 0 where
   pub live : LiveQuery
   pub found : List ℕ
@@ -25,6 +25,6 @@ abbrev pub IsUnasked : Formula → PreparedQuery → Type 0
 IsUnasked query p = (p.live ≡ record { query = query; last = []; table = None })
     × (p.found ≡ []) × (p.came ≡ []) × (p.went ≡ [])
 
--- the same query, which found these nodes when it was asked last
+-- the same query, which found these nodes when it was last asked
 abbrev pub with_found : PreparedQuery → List ℕ → PreparedQuery
 with_found p nodes = record p { found = nodes }

@@ -1,4 +1,4 @@
--- How far the operations that rebuild a version were returned.
+-- How far the operations that rebuild a version have been returned.
 use Rattle.std.specs.Prelude.{◌≡◌, ◌⊎◌, ◌<◌, ◌≤◌, ◌++◌, ℕ, List, [], length}
 use Rattle.be_session.specs.declared.lists.Operation.{Operation}
 use Rattle.be_session.specs.declared.states.StatePlace.{StatePlace}
@@ -6,17 +6,17 @@ use Rattle.be_volume_state.specs.Places.{left}
 use Rattle.be_volume.specs.Volume.{State}
 use Rattle.be_volume.specs.declared.ops.Op.{Op}
 
--- the operations that were read, and are not returned yet
+-- the operations that were read but haven't been returned yet
 abbrev pub waiting : StatePlace → List Op
 waiting p = p.ready.items
 
--- the operations of a volume that weren't read yet
+-- the operations of a volume that haven't been read yet
 abbrev pub unread : State → StatePlace → List Op
 unread volume p = left volume p.place
 
 -- the operations of a volume that are still to be returned
-abbrev pub untold : State → StatePlace → List Op
-untold volume p = waiting p ++ unread volume p
+abbrev pub unreported : State → StatePlace → List Op
+unreported volume p = waiting p ++ unread volume p
 
 -- these fit into this many operations and bytes
 abbrev pub HaveRoom : ℕ → ℕ → List Operation → List ℕ → Type 0

@@ -1,4 +1,4 @@
-//! Changes by a session's calls: begun, collected, read and ended without a callback.
+//! Changes through a session's calls: begun, collected, read and ended without a callback.
 ghost use Rattle.std.specs.Prelude.{◌≡◌, IfErr, IfOk, false, true};
 ghost use Rattle.be_change.specs.Ending.{Begins, IsNotBegun};
 ghost use Rattle.be_session.specs.Changes.{Abandons, Collects, CollectsMeant, EndsChange};
@@ -47,20 +47,22 @@ fn collect(change: &mut Change, op: Op) -> Result<u64, CollectError>
 }
 
 /// Collects the operation that is encoded here. Returns the number that its node will have if it
-/// makes one, and otherwise 0. An error adds nothing: those of an invalid operation; WrongKind, if
-/// the change checks kinds and the index of the name takes another kind than this value has;
-/// BadCount at the 65th operation; OutOfMemory.
+/// makes one, and otherwise 0.
+///
+/// An error adds nothing. The errors are those of an invalid operation; WrongKind if the change
+/// checks kinds and the index of the name takes another kind; BadCount at the 65th operation; and
+/// OutOfMemory.
 pub fn collect_operation(
     change: &mut Change,
-    spelled: &Operation,
+    encoded: &Operation,
     bytes: &[u8],
 ) -> Result<u64, Fault>
-    ensures ok { IfOk result (λ node. CollectsMeant change.old change.new spelled.now bytes.now
+    ensures ok { IfOk result (λ node. CollectsMeant change.old change.new encoded.now bytes.now
         node) }
     ensures err { IfErr result (λ e. (change.new ≡ change.old)
-        × IsNotCollected change.old spelled.now bytes.now e) }
+        × IsNotCollected change.old encoded.now bytes.now e) }
 {
-    let op = match one(spelled, bytes) {
+    let op = match one(encoded, bytes) {
         Ok(op) => op,
         Err(fault) => return Err(fault),
     };
@@ -71,13 +73,14 @@ pub fn collect_operation(
 }
 
 impl Session {
-    /// Writes a batch as a change on the pinned snapshot, all or none, if no other write came
+    /// Writes a batch as a change on the pinned snapshot, all or none, if no other write has come
     /// since. Returns the commit number; the pin stays. New nodes get the numbers from `next` on.
     ///
-    /// BadCount; NotPinned; WrongKind with the place of the first set of another kind than the
-    /// index of its name takes, as the operations before it leave that index; then the errors of
-    /// `apply_if` at the snapshot's number, whose place is the number that they carry. After an
-    /// error nothing is written. Besides the write it reads the version page for each set.
+    /// Errors, in this order: BadCount; NotPinned; WrongKind; those of `apply_if` at the snapshot's
+    /// number. WrongKind has the place of the first set whose value isn't of its index's kind; the
+    /// operations before it are taken into account. For the errors of `apply_if`, the place is the
+    /// number that comes with the error. After an error nothing is written. Apart from the write it
+    /// reads the version page for each set.
     pub fn apply_change(&mut self, ops: &[Op]) -> Result<u64, ListFault>
         ensures store { (self.new.store ≡ self.old.store) × (self.new.spare ≡ self.old.spare) }
         ensures ok { IfOk result (λ n. WritesChange self.old.knows self.new.knows ops.now n) }
@@ -98,7 +101,7 @@ impl Session {
         }
     }
 
-    /// Whether this snapshot is pinned.
+    /// Whether the session is pinned to this snapshot.
     fn is_pinned_to(&self, number: u64) -> bool
         ensures yes { result ≡ true → IsPinnedTo self.now.knows number }
         ensures no { result ≡ false → ¬ (IsPinnedTo self.now.knows number) }
@@ -109,9 +112,10 @@ impl Session {
         }
     }
 
-    /// Begins a change on the pinned snapshot, and checks kinds. A session that isn't pinned is
-    /// pinned now, and the end of the change unpins it. OutOfMemory: the session is pinned or not,
-    /// as it was. It takes memory for the change and for the list of the snapshot's indices.
+    /// Begins a change on the pinned snapshot, which checks kinds. If the session isn't pinned,
+    /// this pins it, and the end of the change unpins it. After OutOfMemory the session is pinned
+    /// or not, as before. It allocates memory for the change and for the list of the snapshot's
+    /// indices.
     pub fn begin_change(&mut self, alloc: Global) -> Result<Box<Change, Global>, Fault>
         ensures store { (self.new.store ≡ self.old.store) × (self.new.spare ≡ self.old.spare) }
         ensures ok { IfOk result (λ change. Begins change.value true self.old.knows
@@ -131,7 +135,7 @@ impl Session {
     }
 
     /// A node's attribute as the change's operations leave it, if it has one. NotPinned if the
-    /// change's snapshot isn't pinned.
+    /// session isn't pinned to the change's snapshot.
     pub fn changed(
         &mut self,
         change: &Change,
@@ -148,13 +152,13 @@ impl Session {
         Ok(change.get(self.shared.store(), &mut self.pass, node, name))
     }
 
-    /// Writes what the change has collected as one transaction, if no other write came since its
-    /// snapshot, and unpins the session if `begin_change` pinned it. Returns the commit number, or
+    /// Writes what the change has collected as one transaction, if no other write has come since
+    /// its snapshot. Unpins the session if `begin_change` pinned it. Returns the commit number, or
     /// the snapshot's number if nothing was collected.
     ///
-    /// NotPinned if the change's snapshot isn't pinned; Conflict with the journal's length if
-    /// another write came: begin anew; and the store's own refusals. After an error nothing is
-    /// written.
+    /// NotPinned if the session isn't pinned to the change's snapshot; Conflict with the journal's
+    /// length if another write came: begin again; and the store's refusals. After an error nothing
+    /// is written.
     pub fn end_change(&mut self, change: Change) -> Result<u64, Fault>
         ensures store { (self.new.store ≡ self.old.store) × (self.new.spare ≡ self.old.spare) }
         ensures ends { EndsChange change self.old.knows self.new.knows result }

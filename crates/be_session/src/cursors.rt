@@ -8,14 +8,14 @@ use crate::Fault;
 use arrayvec::ArrayVec;
 use be_store::Kind;
 
-/// The least bytes of a key: those of its node.
-const LEAST: u32 = 8;
+/// The minimum length of a key: the bytes of its node.
+const MINIMUM: u32 = 8;
 
-/// The most bytes of a key: a text of 255, a zero byte, and the node.
+/// The maximum length of a key: a text of 255 bytes, a zero byte, and the node.
 const MOST: u32 = 264;
 
-/// A position in the order of an index: the key that a page ended with, at the front of the bytes,
-/// and the type code of the index's kind. All zero is the beginning.
+/// A position in the order of an index: the key that a page ended with, at the front of `key`, and
+/// the type code of the index's kind. All zeros mean the beginning.
 #[repr(C)]
 #[derive(Clone, Copy)]
 pub struct Cursor {
@@ -25,7 +25,7 @@ pub struct Cursor {
 }
 
 impl Cursor {
-    /// The beginning of each order.
+    /// The beginning of every order.
     pub fn beginning() -> Cursor
         ensures { (result.kind ≡ 0) × (result.length ≡ 0) }
     {
@@ -36,8 +36,8 @@ impl Cursor {
         }
     }
 
-    /// The key from which a page goes on in an index of the kind, and none at the beginning.
-    /// BadCursor if the cursor is of another kind, or its key has not 8 to 264 bytes.
+    /// The key after which a page continues in an index of this kind; None at the beginning.
+    /// BadCursor if the cursor is of another kind, or its key doesn't have 8 to 264 bytes.
     pub(crate) fn position(&self, kind: Kind) -> Result<Option<ArrayVec<u8, 264>>, Fault>
         ensures ok { IfOk result (λ key. IsCursorOf kind self.now
             × (cursor_bytes key ≡ cursor_key self.now)) }
@@ -47,7 +47,7 @@ impl Cursor {
         if self.kind == 0 && self.length == 0 {
             return Ok(None);
         }
-        if self.kind != kind.code() || self.length < LEAST || self.length > MOST {
+        if self.kind != kind.code() || self.length < MINIMUM || self.length > MOST {
             return Err(Fault::BadCursor);
         }
         let mut key = ArrayVec::new();
@@ -56,8 +56,8 @@ impl Cursor {
         Ok(Some(key))
     }
 
-    /// Moves the cursor to the key of the last of so many nodes, in an index of the kind. It stays
-    /// if there is none.
+    /// Moves the cursor to the key of a page's last node, in an index of this kind. A page without
+    /// nodes leaves it as it was.
     pub(crate) fn move_to(&mut self, kind: Kind, key: &Option<ArrayVec<u8, 264>>, nodes: usize)
         requires begins { IsCursorOf kind self.old }
         requires long { IsLong (cursor_bytes key.now) }

@@ -14,11 +14,11 @@ use std::alloc::{AllocError, AllocFailed};
 pub enum Fault {
     NotPinned,
     AlreadyPinned,
-    /// The store has no pass that is not yet in use.
+    /// The store has no unused pass.
     NoPass,
     /// A write of no operation, or of more than 64.
     BadCount,
-    /// Bytes that should be a text, and aren't UTF-8.
+    /// Bytes that should be a text but aren't UTF-8.
     NotUtf8,
     /// A number that means no operation.
     NoOperation,
@@ -35,19 +35,19 @@ pub enum Fault {
     Conflict(u64),
     /// Another session of the store is open, so this one can't close the store.
     InUse,
-    /// A cursor that isn't of the index's kind, or whose key has not 8 to 264 bytes.
+    /// A cursor of another kind than the index, or one whose key doesn't have 8 to 264 bytes.
     BadCursor,
-    /// No room for a node.
+    /// No room for a single node.
     NoRoom,
-    /// The index of that name takes values of this kind, and the value has another.
+    /// The index of that name takes values of this kind, and the value has another kind.
     WrongKind(Kind),
     Refused(Refusal),
 }
 
 impl Fault {
-    /// The number that the error carries: what its refusal carries, such as the pass that is
-    /// writing or the offset of a byte in a text; for a conflict the journal's length; for a value
-    /// of another kind than the index's the type code of the index; and otherwise 0.
+    /// The number that comes with the error. For a refusal it is the refusal's, such as the pass
+    /// that is writing or the offset of a byte in a text. For a conflict it is the journal's
+    /// length. For a value of the wrong kind it is the type code of the index. Otherwise it is 0.
     pub fn carried(&self) -> u64
         ensures { result ≡ fault_carried self.now }
     {
@@ -84,12 +84,12 @@ impl Fault {
     }
 }
 
-/// Why a list of operations or items means nothing.
+/// Why a list of operations or items is invalid.
 #[derive(Clone, Copy, Debug, PartialEq, Eq)]
 pub struct ListFault {
     pub fault: Fault,
     /// The index of the invalid item in the list, from 0. If the list is invalid as a whole, this
-    /// is the number that the error carries, or 0.
+    /// is the number that comes with the error, or 0.
     pub place: u64,
 }
 

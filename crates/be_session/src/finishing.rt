@@ -5,9 +5,9 @@ use crate::{Fault, Session};
 /// Why a session did not close its store.
 #[derive(Drop)]
 pub enum Unfinished {
-    /// Nothing has happened. InUse: another session of the store is open. OutOfMemory.
+    /// Nothing happened. InUse if another session of the store is open; OutOfMemory.
     Kept(Session, Fault),
-    /// A pass is missing, since its session was dropped without `close`. The store is gone. Nobody
+    /// A pass is missing because its session was dropped without `close`. The store is gone: nobody
     /// could have closed it any more.
     PassLost,
 }

@@ -1,4 +1,4 @@
-//! Names that are checked once, and how many cells a call may return.
+//! Names that are checked once and kept, and how many cells a call may return.
 ghost use Rattle.std.specs.Prelude.{◌≡◌, ◌*◌, ◌^◌, ◌<◌, ◌≤◌, true, false, IfErr, IfOk, Ok, IsUtf8};
 ghost use Rattle.be_paged_reading.specs.Cells.{name_in};
 ghost use Rattle.be_session.specs.Meaning.{IsNoName};
@@ -11,7 +11,7 @@ use be_store::HeldName;
 /// One call returns up to 2^32 cells.
 const MOST_CELLS: usize = 1 << 32;
 
-/// The name that these bytes are, checked once and kept.
+/// These bytes as a name, checked once and kept.
 pub fn held_name(bytes: &[u8]) -> Result<HeldName, Fault>
     ensures ok { IfOk result (λ held. (name_in held ≡ bytes.now) × IsUtf8 bytes.now
         × (name_from bytes.now ≡ Ok bytes.now)) }

@@ -1,8 +1,8 @@
-//! Predicates in reverse Polish order as other languages encode them.
+//! Predicates in reverse Polish order, as other languages encode them.
 ghost use Rattle.std.specs.Prelude.{◌≡◌, ◌<◌, ℕ, List, IfOk, IfErr, map};
 ghost use Rattle.be_query.specs.Rpn.{item_of};
-ghost use Rattle.be_session.specs.Items.{AreItemsMeant, AreItemsMisspelt, IsBuilt, IsItemMeant};
-ghost use Rattle.be_session.specs.Items.{IsItemMisspelt, IsNoItem, IsUnbuilt, item_told};
+ghost use Rattle.be_session.specs.Items.{AreItemsMeant, AreItemsInvalid, IsBuilt, IsItemMeant};
+ghost use Rattle.be_session.specs.Items.{IsItemInvalid, IsNoItem, IsUnbuilt, item_reported};
 ghost use Rattle.be_session.specs.Operations.{part};
 ghost use Rattle.be_session.specs.declared.faults.Fault.TheVariants.{NoItem};
 
@@ -12,14 +12,13 @@ use crate::{Fault, ListFault};
 use be_store::{Item, Query, from_rpn};
 use std::alloc::Global;
 
-/// An item of a predicate as C encodes it. Its bytes are a part of one string of bytes that goes
-/// with all items.
+/// A predicate's item as C encodes it. Its bytes are a part of one byte string for all items.
 #[repr(C)]
 #[derive(Clone, Copy)]
 pub struct PredicateItem {
-    /// 0 is an attribute and 1 a text, by their bytes; 2 is a signed number and 3 another; 4 to 9
-    /// compare by ==, !=, <, <=, > and >=; 10 to 12 ask whether the attribute contains the text,
-    /// begins or ends with it; 13 is and, 14 or, 15 not.
+    /// 0 is an attribute and 1 a text, by their bytes; 2 is a signed number and 3 an unsigned one.
+    /// 4 to 9 compare with ==, !=, <, <=, > and >=. 10 to 12 ask whether the attribute contains the
+    /// text, begins with it or ends with it. 13 is and, 14 or, 15 not.
     pub kind: u32,
     pub at: u32,
     pub length: u32,
@@ -63,20 +62,20 @@ fn item(alloc: Global, kind: u32, number: u64, bytes: &[u8]) -> Result<Item, Fau
     }
 }
 
-fn one_item(alloc: Global, spelled: &PredicateItem, bytes: &[u8]) -> Result<Item, Fault>
-    ensures ok { IfOk result (λ item. IsItemMeant spelled.now.kind spelled.now.number
-        (part bytes.now spelled.now.at spelled.now.length) (item_of item)) }
-    ensures err { IfErr result (λ e. IsItemMisspelt spelled.now bytes.now e) }
+fn one_item(alloc: Global, encoded: &PredicateItem, bytes: &[u8]) -> Result<Item, Fault>
+    ensures ok { IfOk result (λ item. IsItemMeant encoded.now.kind encoded.now.number
+        (part bytes.now encoded.now.at encoded.now.length) (item_of item)) }
+    ensures err { IfErr result (λ e. IsItemInvalid encoded.now bytes.now e) }
 {
-    match part(bytes, spelled.at, spelled.length) {
-        Some(bytes) => item(alloc, spelled.kind, spelled.number, bytes),
+    match part(bytes, encoded.at, encoded.length) {
+        Some(bytes) => item(alloc, encoded.kind, encoded.number, bytes),
         None => Err(Fault::BadPart),
     }
 }
 
-/// The place that is reported with the error of the item at this place.
-fn told(fault: &Fault, place: usize) -> u64
-    ensures { result ≡ item_told fault.now place }
+/// The place that is reported with an error of the item at this place.
+fn reported(fault: &Fault, place: usize) -> u64
+    ensures { result ≡ item_reported fault.now place }
 {
     if fault.code() == 10 {
         return 0;
@@ -84,19 +83,19 @@ fn told(fault: &Fault, place: usize) -> u64
     place as u64
 }
 
-/// The item that is encoded here. Its error says that its part isn't within the bytes, or that it
-/// means no item.
-fn items(alloc: Global, spelled: &[PredicateItem], bytes: &[u8]) -> Result<Vec<Item>, ListFault>
-    ensures ok { IfOk result (λ items. AreItemsMeant spelled.now bytes.now
+/// The items that are encoded here. An error says that an item's part isn't within the bytes, or
+/// that it is no valid item.
+fn items(alloc: Global, encoded: &[PredicateItem], bytes: &[u8]) -> Result<Vec<Item>, ListFault>
+    ensures ok { IfOk result (λ items. AreItemsMeant encoded.now bytes.now
         (map item_of items.items)) }
-    ensures err { IfErr result (λ e. AreItemsMisspelt spelled.now bytes.now e.fault e.place) }
+    ensures err { IfErr result (λ e. AreItemsInvalid encoded.now bytes.now e.fault e.place) }
 {
     let mut items = Vec::new(alloc);
-    for next in spelled {
+    for next in encoded {
         match one_item(alloc, next, bytes) {
             Ok(item) => items.push(item)?,
             Err(fault) => {
-                let place = told(&fault, items.len());
+                let place = reported(&fault, items.len());
                 return Err(ListFault { fault, place });
             }
         }
@@ -104,16 +103,16 @@ fn items(alloc: Global, spelled: &[PredicateItem], bytes: &[u8]) -> Result<Vec<I
     Ok(items)
 }
 
-/// The query that items in reverse Polish order build. The first invalid item gives the error and
-/// its place. Otherwise an error is that of `be_query::from_rpn`, with the item that it names.
+/// The query that items in reverse Polish order build. The first invalid item determines the error
+/// and its place. Otherwise an error is that of `be_query::from_rpn`, with the item that it names.
 pub fn query_of_items(
     alloc: Global,
-    spelled: &[PredicateItem],
+    encoded: &[PredicateItem],
     bytes: &[u8],
 ) -> Result<Query, ListFault>
-    ensures ok { IfOk result (λ query. IsBuilt spelled.now bytes.now query) }
-    ensures err { IfErr result (λ e. IsUnbuilt spelled.now bytes.now e.fault e.place) }
+    ensures ok { IfOk result (λ query. IsBuilt encoded.now bytes.now query) }
+    ensures err { IfErr result (λ e. IsUnbuilt encoded.now bytes.now e.fault e.place) }
 {
-    let items = items(alloc, spelled, bytes)?;
+    let items = items(alloc, encoded, bytes)?;
     Ok(from_rpn(alloc, items.as_slice())?)
 }

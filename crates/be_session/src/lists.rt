@@ -1,6 +1,6 @@
 //! Lists of operations as other languages encode them.
 ghost use Rattle.std.specs.Prelude.{◌≡◌, ◌+◌, ◌<◌, ◌≤◌, IfOk, IfErr, IfSome, IfNone, length};
-ghost use Rattle.be_session.specs.Operations.{AreMeant, ArePartsWithin, IsMisspelt, IsMisspeltAt};
+ghost use Rattle.be_session.specs.Operations.{AreMeant, ArePartsWithin, IsInvalid, IsInvalidAt};
 ghost use Rattle.be_session.specs.Operations.{IsMeantBy};
 ghost use Rattle.be_session.specs.Operations.{IsWriteCount, part};
 
@@ -9,15 +9,15 @@ use crate::{Fault, ListFault};
 use be_store::Op;
 use std::alloc::Global;
 
-/// An operation as C encodes it. Its name, and the bytes of its value, are parts of one string of
-/// bytes that goes with all operations of a write.
+/// An operation as C encodes it. Its name and its value's bytes are parts of one byte string for
+/// all operations of a write.
 #[repr(C)]
 #[derive(Clone, Copy)]
 pub struct Operation {
     /// 0 makes a node, 1 removes it, 2 sets an attribute and 3 removes it, 4 makes an index and 5
     /// removes it.
     pub kind: u32,
-    /// The type code of the value or of the index.
+    /// The type code of the value or the index.
     pub code: u32,
     pub node: u64,
     /// The value, if it is a number.
@@ -28,7 +28,7 @@ pub struct Operation {
     pub value_length: u32,
 }
 
-/// A part of the bytes, if it is within them.
+/// A part of the bytes, if it lies within them.
 pub(crate) fn part(bytes: &[u8], at: u32, len: u32) -> Option<&[u8]>
     ensures some { IfSome result (λ found. (at + len ≤ length bytes.now)
         × (found.now ≡ part bytes.now at len)) }
@@ -44,43 +44,43 @@ pub(crate) fn part(bytes: &[u8], at: u32, len: u32) -> Option<&[u8]>
 
 /// The operation that is encoded here. BadPart if a part isn't within the bytes; otherwise the
 /// error of `operation`.
-pub(crate) fn one(spelled: &Operation, bytes: &[u8]) -> Result<Op, Fault>
-    ensures ok { IfOk result (λ op. ArePartsWithin spelled.now (length bytes.now)
-        × IsMeantBy spelled.now bytes.now op) }
-    ensures err { IfErr result (λ e. IsMisspeltAt spelled.now bytes.now e) }
+pub(crate) fn one(encoded: &Operation, bytes: &[u8]) -> Result<Op, Fault>
+    ensures ok { IfOk result (λ op. ArePartsWithin encoded.now (length bytes.now)
+        × IsMeantBy encoded.now bytes.now op) }
+    ensures err { IfErr result (λ e. IsInvalidAt encoded.now bytes.now e) }
 {
-    let Some(name) = part(bytes, spelled.name_at, spelled.name_length) else {
+    let Some(name) = part(bytes, encoded.name_at, encoded.name_length) else {
         return Err(Fault::BadPart);
     };
-    let Some(value) = part(bytes, spelled.value_at, spelled.value_length) else {
+    let Some(value) = part(bytes, encoded.value_at, encoded.value_length) else {
         return Err(Fault::BadPart);
     };
     operation(
-        spelled.kind,
-        spelled.node,
+        encoded.kind,
+        encoded.node,
         name,
-        spelled.code,
-        spelled.number,
+        encoded.code,
+        encoded.number,
         value,
     )
 }
 
-/// The 1 to 64 operations that are encoded here, in their order. BadCount if there are more or
-/// none: then it takes no memory and reads nothing. Otherwise an error is that of the first invalid
-/// operation, with its place, or OutOfMemory.
-pub fn operations(alloc: Global, spelled: &[Operation], bytes: &[u8]) -> Result<Vec<Op>, ListFault>
-    ensures count { IfOk result (λ _. IsWriteCount (length spelled.now)) }
-    ensures ok { IfOk result (λ ops. AreMeant spelled.now bytes.now ops.items) }
-    ensures err { IfErr result (λ e. IsMisspelt spelled.now bytes.now e.fault e.place) }
+/// The 1 to 64 operations that are encoded here, in order. BadCount if there are none or more than
+/// 64: then it allocates no memory and reads nothing. Otherwise an error is that of the first
+/// invalid operation, with its place, or OutOfMemory.
+pub fn operations(alloc: Global, encoded: &[Operation], bytes: &[u8]) -> Result<Vec<Op>, ListFault>
+    ensures count { IfOk result (λ _. IsWriteCount (length encoded.now)) }
+    ensures ok { IfOk result (λ ops. AreMeant encoded.now bytes.now ops.items) }
+    ensures err { IfErr result (λ e. IsInvalid encoded.now bytes.now e.fault e.place) }
 {
-    if spelled.is_empty() || 64 < spelled.len() {
+    if encoded.is_empty() || 64 < encoded.len() {
         return Err(ListFault {
             fault: Fault::BadCount,
             place: 0,
         });
     }
-    let mut ops = Vec::with_capacity(alloc, spelled.len())?;
-    for next in spelled {
+    let mut ops = Vec::with_capacity(alloc, encoded.len())?;
+    for next in encoded {
         match one(next, bytes) {
             Ok(op) => ops.push_reserved(op),
             Err(fault) => {

@@ -12,7 +12,7 @@ ghost use Rattle.be_session.specs.declared.faults.Fault.TheVariants.{NotUtf8, No
 use crate::Fault;
 use be_store::{Kind, Name, Op, Value};
 
-/// The kind of this type code.
+/// The kind with this type code.
 pub(crate) fn kind_of_code(code: u32) -> Option<Kind>
     ensures found { IfSome result (λ kind. code_of kind ≡ code) }
     ensures none { IfNone result ((kind : AnyKind) → code_of kind ≢ code) }
@@ -49,7 +49,7 @@ pub(crate) fn text(bytes: &[u8]) -> Result<&str, Fault>
     }
 }
 
-/// The name that these bytes are.
+/// These bytes as a name.
 pub fn name(bytes: &[u8]) -> Result<Name, Fault>
     ensures ok { IfOk result (λ name. (name ≡ bytes.now) × IsUtf8 bytes.now) }
     ensures named { IfOk result (λ name. name_from bytes.now ≡ Ok bytes.now) }
@@ -82,8 +82,8 @@ fn uint32(number: u64) -> Result<Value, Fault>
     }
 }
 
-/// The value that a type code, a number and bytes mean. A number that the kind has no use for is
-/// not looked at, nor are such bytes.
+/// The value that a type code, a number and bytes mean. If the kind doesn't use the number or the
+/// bytes, they are ignored.
 pub(crate) fn value(code: u32, number: u64, bytes: &[u8]) -> Result<Value, Fault>
     ensures ok { IfOk result (λ value. IsValueMeant code number bytes.now value) }
     ensures err { IfErr result (λ e. IsNoValue code number bytes.now e) }
@@ -99,9 +99,9 @@ pub(crate) fn value(code: u32, number: u64, bytes: &[u8]) -> Result<Value, Fault
     }
 }
 
-/// The type code, the number and the bytes that mean this value. The number is 0 for a text or raw
-/// bytes, and there are no bytes for a number.
-pub fn spelled(value: &Value) -> (u32, u64, &[u8])
+/// The type code, the number and the bytes that encode this value. The number is 0 for a text or
+/// raw bytes, and there are no bytes for a number.
+pub fn encoded(value: &Value) -> (u32, u64, &[u8])
     ensures meant { IsValueMeant result.0 result.1 result.2.now value.now }
     ensures no_more { HasNoMore result.1 result.2.now value.now }
 {
@@ -116,9 +116,8 @@ pub fn spelled(value: &Value) -> (u32, u64, &[u8])
     }
 }
 
-/// The operation that a number means: 0 makes a node, 1 removes it, 2 sets an attribute and 3
-/// removes it, 4 makes an index and 5 removes it. A part that the operation has no use for is not
-/// looked at.
+/// The operation with this number: 0 makes a node, 1 removes it, 2 sets an attribute and 3 removes
+/// it, 4 makes an index and 5 removes it. Parts that the operation doesn't use are ignored.
 pub(crate) fn operation(
     number: u32,
     node: u64,
@@ -143,16 +142,16 @@ pub(crate) fn operation(
     }
 }
 
-/// The number, the node and the name that mean this operation, and the type code, the number and
-/// the bytes of its value: the parts that `operation` takes, and 0 or no bytes for what the
-/// operation has no use for.
-pub(crate) fn operation_spelled(op: &Op) -> (u32, u64, &[u8], (u32, u64, &[u8]))
+/// The number, the node and the name that encode this operation, and the type code, the number and
+/// the bytes of its value. These are the parts that `operation` takes; a part that the operation
+/// doesn't use is 0 or empty.
+pub(crate) fn encoded_operation(op: &Op) -> (u32, u64, &[u8], (u32, u64, &[u8]))
     ensures { IsMeant result.0 result.1 result.2.now result.3.0 result.3.1 result.3.2.now op.now }
 {
     match op {
         Op::New => (0, 0, b"", (0, 0, b"")),
         Op::Drop(node) => (1, *node, b"", (0, 0, b"")),
-        Op::Set(node, name, value) => (2, *node, name.as_str().as_bytes(), spelled(value)),
+        Op::Set(node, name, value) => (2, *node, name.as_str().as_bytes(), encoded(value)),
         Op::Unset(node, name) => (3, *node, name.as_str().as_bytes(), (0, 0, b"")),
         Op::MkIndex(name, kind) => (4, 0, name.as_str().as_bytes(), (kind.code(), 0, b"")),
         Op::RmIndex(name) => (5, 0, name.as_str().as_bytes(), (0, 0, b"")),

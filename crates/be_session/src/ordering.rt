@@ -1,4 +1,4 @@
-//! Answers of a live query a part at a time, at the session's pin.
+//! Parts of a live query's answer, at the session's pin.
 ghost use Rattle.std.specs.Prelude.{◌≡◌, ◌≤◌, ℕ, [], IfErr, IfOk, Ok, OnErr, OnOk, Some};
 ghost use Rattle.be_order.specs.Firsts.{IsAnyOf, from_number};
 ghost use Rattle.be_order.specs.Ordered.{cursor_bytes, page, page_with};
@@ -21,8 +21,8 @@ use crate::{Cursor, Fault, Session};
 use arrayvec::ArrayVec;
 use be_store::{HeldName, Kind, Live, Name, Order, Refusal, Updates};
 
-/// An order as other languages name it: by the index of a name that is held, rising or exactly the
-/// reverse; and how many nodes are wanted at most.
+/// An order as other languages name it: the checked name of an index, whether it is ascending or
+/// exactly the reverse, and how many nodes are wanted at most.
 #[derive(Clone, Copy)]
 pub struct HeldOrder<'a> {
     pub by: &'a HeldName,
@@ -30,7 +30,7 @@ pub struct HeldOrder<'a> {
     pub most: usize,
 }
 
-/// The name that is held. NoSuchIndex if the bytes are none, since no index has them.
+/// The name that is held. NoSuchIndex if the bytes aren't a name, because then no index has it.
 fn index_name(held: &HeldName) -> Result<Name, Fault>
     ensures ok { IfOk result (λ name. name ≡ name_in held.now) }
     ensures err { IfErr result (λ e. (e ≡ Refused NoSuchIndex)
@@ -44,7 +44,8 @@ fn index_name(held: &HeldName) -> Result<Name, Fault>
 }
 
 impl Session {
-    /// A page of an answer after a key. After an error the key is as it was, and the list is empty.
+    /// A page of an answer, after a key. After an error the key is as it was, and the list is
+    /// empty.
     fn page_after(
         &mut self,
         live: &mut Live,
@@ -74,8 +75,8 @@ impl Session {
         Ok(more)
     }
 
-    /// A page of an answer by an index of this kind, from a cursor of that kind on. After an error
-    /// the cursor is as it was, and the list is empty.
+    /// A page of an answer in the order of an index of this kind, after a cursor of that kind.
+    /// After an error the cursor is as it was, and the list is empty.
     fn page_by(
         &mut self,
         live: &mut Live,
@@ -104,12 +105,12 @@ impl Session {
         Ok(more)
     }
 
-    /// Puts a page of a live query's answer in the order of an index into a list, in place of what
-    /// it had, and moves the cursor to its last node. Returns whether there are more.
+    /// Replaces a list's content with a page of a live query's answer, in the order of an index.
+    /// Moves the cursor to the page's last node, and returns whether there are more.
     ///
-    /// Errors, in this order: NotPinned; NoRoom if no node is wanted; NoSuchIndex; BadCursor if the
-    /// cursor is of another kind than the index, or its key has not 8 to 264 bytes; and those of
-    /// the query. They leave the cursor as it was, and the list is empty.
+    /// Errors, in this order: NotPinned; NoRoom if no node is wanted; NoSuchIndex; BadCursor; and
+    /// those of the query. It is BadCursor if the cursor is of another kind than the index, or its
+    /// key doesn't have 8 to 264 bytes. Errors leave the cursor as it was, and the list is empty.
     pub fn ordered(
         &mut self,
         live: &mut Live,
@@ -148,9 +149,9 @@ impl Session {
         self.page_by(live, kind, wanted, cursor, nodes)
     }
 
-    /// Puts the nodes of a live query's answer from a number on into a list, ascending, up to
-    /// `most` of them, in place of what it had. NotPinned; NoRoom if no node is wanted; and the
-    /// errors of the query. After an error the list is empty.
+    /// Replaces a list's content with up to `most` nodes of a live query's answer, from the number
+    /// `first` on, in ascending order. NotPinned; NoRoom if no node is wanted; and the query's
+    /// errors. After an error the list is empty.
     pub fn first(
         &mut self,
         live: &mut Live,
@@ -186,9 +187,9 @@ impl Session {
         }
     }
 
-    /// Puts any nodes of a live query's answer into a list, in place of what it had: none twice,
-    /// `most` of them or as many as there are. NotPinned; NoRoom if no node is wanted; and the
-    /// errors of the query. After an error the list is empty.
+    /// Replaces a list's content with any nodes of a live query's answer, none of them twice:
+    /// `most` of them, or all if there are fewer. NotPinned; NoRoom if no node is wanted; and the
+    /// query's errors. After an error the list is empty.
     pub fn any(&mut self, live: &mut Live, most: usize, nodes: &mut Vec<u64>) -> Result<(), Fault>
         ensures store { (self.new.store ≡ self.old.store) × (self.new.spare ≡ self.old.spare) }
         ensures read { HasRead self.old.knows self.new.knows }
@@ -217,11 +218,11 @@ impl Session {
         }
     }
 
-    /// Returns what `refresh` does, by what was written since the last refresh, as the live query's
-    /// own `refresh_changed`. It makes a lock and an unlock, or no move. An error leaves the query
-    /// as it was.
+    /// Returns what `refresh` returns, based on what was written since the last refresh, as the
+    /// live query's `refresh_changed` does. It makes a lock and an unlock, or no move. An error
+    /// leaves the live query as it was.
     ///
-    /// As with `join`, its caller has to know that the last refresh was one of this store.
+    /// As with `join`, the caller has to know that the last refresh was in this store.
     pub fn refresh_changed(&mut self, live: &mut Live) -> Result<Updates, Fault>
         requires own { IsLiveOf self.old.store live.old }
         ensures store { (self.new.store ≡ self.old.store) × (self.new.spare ≡ self.old.spare) }

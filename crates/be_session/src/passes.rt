@@ -1,4 +1,4 @@
-//! Passes of a store that nobody has used yet: the first ones by their numbers, in that order.
+//! Passes of a store that nobody has used yet: those with the lowest numbers, in order.
 ghost use Rattle.std.specs.Prelude.{◌≡◌, ◌<◌, ◌+◌, ◌↔◌, IfSome, IsSome, MatchOption, vec_capacity};
 ghost use Rattle.std.specs.Prelude.{vec_len};
 ghost use Rattle.be_table.specs.Rule.{newcomer};
@@ -21,7 +21,7 @@ pub(crate) fn take_last(_store: &Store, passes: &mut Vec<Pass>) -> Option<Pass>
     passes.pop()
 }
 
-/// Puts a pass that was taken back at the end of the others.
+/// Puts a pass that was taken back at the end of the list.
 pub(crate) fn put_last(_store: &Store, passes: &mut Vec<Pass>, pass: Pass)
     requires room { vec_len passes.old < vec_capacity passes.old }
     requires new { AreNew _store.now 0 passes.old.items }

@@ -23,9 +23,9 @@ use be_store::{Live, Query, Updates};
 use std::alloc::{AllocError, Global};
 use std::marker::Model;
 
-/// A query that is parsed once and kept. It has what it found when it was asked last, its answer at
-/// the last refresh, and which nodes came and which went then. It belongs to no session, and any
-/// session may ask it.
+/// A query that is parsed once and kept. It has what it found when it was last asked, its answer at
+/// the last refresh, and which nodes came and went then. It belongs to no session, and any session
+/// may ask it.
 #[derive(Drop)]
 pub struct Prepared {
     live: Live,
@@ -49,12 +49,12 @@ impl Model for Prepared {
 }
 
 impl Prepared {
-    /// Asks the query in the session's pinned version, and keeps the nodes of which it is true
-    /// there, in place of what it found before. After an error it keeps none. What the last refresh
-    /// found stays.
+    /// Asks the query in the session's pinned version, and keeps the nodes that match it there
+    /// instead of what it found before. After an error it keeps none. The last refresh's answer
+    /// stays.
     ///
-    /// It costs what `Store::query_prepared` costs. The list of an earlier asking is used again, so
-    /// it takes memory only if that has no room.
+    /// It costs what `Store::query_prepared` costs. It reuses the list of the previous call, so it
+    /// allocates memory only if that list is too small.
     #[tactic(auto, using(crate::proofs::Same::same_but_found))]
     pub fn find(&mut self, session: &mut Session) -> Result<(), Fault>
         ensures store { (session.new.store ≡ session.old.store)
@@ -71,9 +71,10 @@ impl Prepared {
         session.query_into(&mut self.live, &mut self.found)
     }
 
-    /// Asks the query in the session's pinned version for a page in the order of an index, and
-    /// keeps its nodes in place of what was found before. Returns whether there are more. Errors
-    /// are those of `Session::ordered`: they leave the cursor as it was, and no node is kept.
+    /// Asks the query in the session's pinned version for a page in the order of an index. Keeps
+    /// the page's nodes instead of what was found before, and returns whether there are more.
+    /// Errors are those of `Session::ordered`: they leave the cursor as it was, and no node is
+    /// kept.
     #[tactic(auto, using(crate::proofs::Same::same_but_found))]
     pub fn find_ordered(
         &mut self,
@@ -97,8 +98,8 @@ impl Prepared {
         session.ordered(&mut self.live, order, cursor, &mut self.found)
     }
 
-    /// Asks the query in the session's pinned version for its nodes from a number on, up to `most`
-    /// of them, and keeps these in place of what was found before. After an error none is kept.
+    /// Asks the query in the session's pinned version for up to `most` nodes from a number on.
+    /// Keeps these instead of what was found before. After an error none is kept.
     #[tactic(auto, using(crate::proofs::Same::same_but_found))]
     pub fn find_first(
         &mut self,
@@ -122,8 +123,8 @@ impl Prepared {
         session.first(&mut self.live, first, most, &mut self.found)
     }
 
-    /// Asks the query in the session's pinned version for any `most` of its nodes, and keeps these
-    /// in place of what was found before. After an error none is kept.
+    /// Asks the query in the session's pinned version for any `most` of its nodes. Keeps these
+    /// instead of what was found before. After an error none is kept.
     #[tactic(auto, using(crate::proofs::Same::same_but_found))]
     pub fn find_any(&mut self, session: &mut Session, most: usize) -> Result<(), Fault>
         ensures store { (session.new.store ≡ session.old.store)
@@ -141,8 +142,8 @@ impl Prepared {
         session.any(&mut self.live, most, &mut self.found)
     }
 
-    /// The nodes that the last asking found, in the order in which it found them; none before the
-    /// first, or after an error.
+    /// The nodes that the last call found, in the order in which it found them. There are none
+    /// before the first call, or after an error.
     pub fn found(&self) -> &[u64]
         ensures { result.now ≡ self.now.found }
     {
@@ -150,7 +151,7 @@ impl Prepared {
     }
 
     /// Asks the query in the session's pinned version, and keeps which nodes came and which went
-    /// since the last refresh. An error leaves the query as it was.
+    /// since the last refresh. An error leaves everything as it was.
     #[tactic(auto, using(crate::proofs::Same::same_prepared))]
     pub fn refresh(&mut self, session: &mut Session) -> Result<(), Fault>
         ensures store { (session.new.store ≡ session.old.store)
@@ -172,8 +173,8 @@ impl Prepared {
         }
     }
 
-    /// Asks what changed as `refresh` does, by what was written since the last refresh, which was
-    /// one of the session's store. An error leaves the query as it was.
+    /// Does what `refresh` does, based on what was written since the last refresh, which has to be
+    /// one in the session's store. An error leaves everything as it was.
     #[tactic(auto, using(crate::proofs::Same::same_prepared))]
     pub fn refresh_changed(&mut self, session: &mut Session) -> Result<(), Fault>
         requires own { IsLiveOf session.old.store self.old.live }
@@ -202,14 +203,14 @@ impl Prepared {
         Ok(print(alloc, self.live.query())?)
     }
 
-    /// The nodes that came at the last refresh, ascending.
+    /// The nodes that came at the last refresh, in ascending order.
     pub fn created(&self) -> &[u64]
         ensures { result.now ≡ self.now.came }
     {
         self.updates.created.as_slice()
     }
 
-    /// The nodes that went at the last refresh, ascending.
+    /// The nodes that went at the last refresh, in ascending order.
     pub fn removed(&self) -> &[u64]
         ensures { result.now ≡ self.now.went }
     {
@@ -217,7 +218,7 @@ impl Prepared {
     }
 }
 
-/// A query that was never asked or refreshed, in a box. OutOfMemory.
+/// A query that was never asked or refreshed, in a box.
 fn in_box(alloc: Global, query: Query) -> Result<Box<Prepared, Global>, AllocError>
     ensures { IfOk result (λ p. IsUnasked query p.value) }
 {
@@ -235,7 +236,7 @@ fn in_box(alloc: Global, query: Query) -> Result<Box<Prepared, Global>, AllocErr
     }
 }
 
-/// The query of a text in bytes, in a box. Errors are those of `query_of`.
+/// The query whose text these bytes are, in a box. Errors are those of `query_of`.
 pub fn prepare(alloc: Global, text: &[u8]) -> Result<Box<Prepared, Global>, Fault>
     ensures ok { IfOk result (λ p. (query : Formula) × IsTextOf text.now query
         × IsUnasked query p.value) }
@@ -249,13 +250,13 @@ pub fn prepare(alloc: Global, text: &[u8]) -> Result<Box<Prepared, Global>, Faul
 /// `query_of_items`.
 pub fn prepare_items(
     alloc: Global,
-    spelled: &[PredicateItem],
+    encoded: &[PredicateItem],
     bytes: &[u8],
 ) -> Result<Box<Prepared, Global>, ListFault>
-    ensures ok { IfOk result (λ p. (query : Formula) × IsBuilt spelled.now bytes.now query
+    ensures ok { IfOk result (λ p. (query : Formula) × IsBuilt encoded.now bytes.now query
         × IsUnasked query p.value) }
-    ensures err { IfErr result (λ e. IsUnbuilt spelled.now bytes.now e.fault e.place) }
+    ensures err { IfErr result (λ e. IsUnbuilt encoded.now bytes.now e.fault e.place) }
 {
-    let query = query_of_items(alloc, spelled, bytes)?;
+    let query = query_of_items(alloc, encoded, bytes)?;
     Ok(in_box(alloc, query)?)
 }

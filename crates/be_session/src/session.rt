@@ -1,4 +1,4 @@
-//! A pass with its share of the store, and its calls.
+//! `Session`: a pass with its share of the store, and its calls.
 ghost use Rattle.std.specs.Prelude.{◌≡◌, ◌⊎◌, ◌≤◌, ◌<◌, ◌+◌, ◌*◌, ◌^◌, ℕ, [], None, Ok, IsOk, IfOk};
 ghost use Rattle.std.specs.Prelude.{IfErr, OnErr, OnOk, false, is_some, length, map as each};
 ghost use Rattle.std.specs.Prelude.{string_bytes, true, vec_len};
@@ -8,25 +8,26 @@ ghost use Rattle.be_query.specs.Grammar.{IsTextOf};
 ghost use Rattle.be_volume.specs.Query.{scan};
 ghost use Rattle.be_volume.specs.Reading.{attribute, attributes_at, index_kinds};
 ghost use Rattle.be_journal.specs.Journal.{IsLegal};
-ghost use Rattle.be_paged_reading.specs.Cells.{IsReadInto, TellsColumns, name_in};
+ghost use Rattle.be_paged_reading.specs.Cells.{IsReadInto, ReportsColumns, name_in};
 ghost use Rattle.be_paged_reading.specs.Nodes.{nodes_from};
 ghost use Rattle.be_table.specs.Rule.{IsWithin, entries, newcomer, one_step_on};
 ghost use Rattle.be_table.specs.Seats.{pinned_number};
 ghost use Rattle.be_table.specs.Steps.{IsPass};
 ghost use Rattle.be_table.specs.Works.{AreNew, FoundHeld, IsOpenRefused, IsWitnessOf};
 ghost use Rattle.be_store.specs.Conditional.{AcceptsAt};
-ghost use Rattle.be_store.specs.History.{Accepts, IsUntold, Learns, LocksAndUnlocks, Pins, Unpins};
+ghost use Rattle.be_store.specs.History.{Accepts, IsUnreported, Learns, LocksAndUnlocks, Pins};
+ghost use Rattle.be_store.specs.History.{Unpins};
 ghost use Rattle.be_store.specs.History.{entries_from, text_seen};
 ghost use Rattle.be_store.specs.Live.{Refreshes};
 ghost use Rattle.be_store.specs.Passes.{HasRead, IsPassOf, IsPinnedTo, volume_pinned};
-ghost use Rattle.be_store.specs.Statuses.{TellsStatus};
+ghost use Rattle.be_store.specs.Statuses.{ReportsStatus};
 ghost use Rattle.be_session.specs.Explained.{explanation_in};
 ghost use Rattle.be_session.specs.Finishing.{IsFinished, IsNotLast, IsUnfinished};
 ghost use Rattle.be_session.specs.Sitting.{AtPin, HasMet, IsHandedOut, IsPinned, IsTakenFrom};
 ghost use Rattle.be_session.specs.Sitting.{IsUnwritten};
 ghost use Rattle.be_session.specs.Sitting.{IsUnwrittenIf, IsNoQuery, IsOpened, IsUnpinnedAt};
 ghost use Rattle.be_session.specs.Sitting.{IsUnrefreshed, Joins, ReadAnswers};
-ghost use Rattle.be_session.specs.States.{untold, waiting};
+ghost use Rattle.be_session.specs.States.{unreported, waiting};
 ghost use Rattle.be_session.specs.declared.faults.Fault.TheVariants.{AlreadyPinned, BadCount};
 ghost use Rattle.be_session.specs.declared.faults.Fault.TheVariants.{NoPass, NotPinned, Refused};
 
@@ -44,15 +45,14 @@ use std::alloc::{AllocFailed, Global};
 use std::marker::Model;
 use std::sync::Arc;
 
-/// A pass, with the store that it is a pass of, and those passes that wait for a session of their
-/// own.
+/// A pass, with its store and the unused passes that wait for a session of their own.
 #[derive(Drop)]
 pub struct Session {
     pub(crate) shared: Arc<Shared, Global>,
     pub(crate) pass: Pass,
     spare: Vec<Pass>,
-    /// Room for what the operations of a change return. To clear a list for each change would take
-    /// longer than to look at the kinds of its values.
+    /// A list for the outcomes of a change. Clearing a new list for each change would take longer
+    /// than checking the kinds of its values.
     pub(crate) outcomes: ArrayVec<Done, 64>,
 }
 
@@ -75,7 +75,7 @@ impl Model for Session {
         × AreNew s.shared.value 0 s.spare.items };
 }
 
-/// A session of a store that nobody shares yet, with the passes that are left.
+/// The first session of a new store, with the store's other passes.
 fn seated(
     alloc: Global,
     limits: Limits,
@@ -102,8 +102,8 @@ fn seated(
     }
 }
 
-/// Takes the pass out of a session. The session's share of the store is given up, with the passes
-/// that wait.
+/// Takes the pass out of a session. The session's share of the store and the passes that wait with
+/// it are dropped.
 fn pass_of(session: Session) -> Pass
     ensures pass { IsPassOf session.store result }
     ensures knows { result.knows ≡ session.knows }
@@ -117,8 +117,8 @@ fn pass_of(session: Session) -> Pass
     pass
 }
 
-/// A session with a pass, in a box; no other pass waits with it. After running out of memory the
-/// error has the session.
+/// A session with a pass, in a box; no other pass waits with it. If memory runs out, the error
+/// returns the session.
 fn in_box(
     alloc: Global,
     shared: Arc<Shared, Global>,
@@ -141,8 +141,8 @@ fn in_box(
     }
 }
 
-/// A session with a pass that was given back, in a box. NoPass if there is none; OutOfMemory: the
-/// pass is given back again.
+/// A session with a pass that was given back, in a box. NoPass if there is none; OutOfMemory, which
+/// gives the pass back again.
 fn of_returned(alloc: Global, shared: Arc<Shared, Global>) -> Result<Box<Session, Global>, Fault>
     ensures session { IfOk result (λ s. (s.value.store ≡ shared.value) × (s.value.spare ≡ 0)) }
     ensures pass { IfOk result (λ s. IsUnpinnedAt shared.value s.value.knows) }
@@ -160,7 +160,7 @@ fn of_returned(alloc: Global, shared: Arc<Shared, Global>) -> Result<Box<Session
     }
 }
 
-/// The session of these parts, which can't close its store for this reason.
+/// The session made of these parts, with the reason why it can't close its store.
 fn kept(shared: Arc<Shared, Global>, pass: Pass, spare: Vec<Pass>, fault: Fault) -> Unfinished
     requires pass { IsPassOf shared.value pass }
     requires spare { AreNew shared.value 0 spare.items }
@@ -189,11 +189,11 @@ pub(crate) fn is_batch(ops: &[Op]) -> bool
 }
 
 impl Session {
-    /// A new store, and the session of the last of its passes, which has seen nothing. The others
-    /// wait.
+    /// A new store, and a session with the last of its passes, which has seen nothing. The other
+    /// passes wait with the session.
     ///
-    /// BadLimits exactly if a limit is out of its range; OutOfMemory. It takes the memory of all
-    /// pages, 4 KiB each.
+    /// BadLimits exactly if a limit is out of range; OutOfMemory. It allocates all pages, 4 KiB
+    /// each.
     pub fn open(alloc: Global, limits: Limits) -> Result<Session, Fault>
         ensures ok { IfOk result (λ s. IsOpened limits s) }
         ensures err { IfErr result (λ e. (why : AnyRefusal) × (e ≡ Refused why)
@@ -212,14 +212,14 @@ impl Session {
         seated(alloc, limits, shared, pass, passes)
     }
 
-    /// A session of the same store, in a box. It gets the last pass that waits here. If none waits,
-    /// it gets one that `close` gave back, in whatever thread. The two passes then meet: the new
-    /// session has seen all that this one has, its own writes too. A pin of this session stays.
-    /// NoPass if there is neither; OutOfMemory: the pass stays where it was.
+    /// Another session of the same store, in a box. It gets the last pass that waits here, or if
+    /// none waits, one that `close` gave back in any thread. The two passes then meet, so the new
+    /// session has seen all that this one has, including its writes. A pin of this session stays.
+    /// NoPass if there is no such pass; OutOfMemory, which leaves the pass where it was.
     ///
-    /// Passes that nobody has used wait with the session that opened the store. A pass that was
-    /// given back has seen what it had seen, and its own writes stay in the journal under its
-    /// number. Besides the box it costs three steps.
+    /// The session that opened the store holds the passes that nobody has used yet. A pass that
+    /// was given back keeps what it has seen, and its writes stay in the journal under its number.
+    /// Apart from the box, the call costs three steps.
     pub fn another(&mut self, alloc: Global) -> Result<Box<Session, Global>, Fault>
         ensures same { self.new.store ≡ self.old.store }
         ensures session { IfOk result (λ s. (s.value.store ≡ self.old.store)
@@ -233,7 +233,7 @@ impl Session {
         Ok(session)
     }
 
-    /// A session of the same store, in a box, whose pass hasn't met this one.
+    /// Another session of the same store, in a box, whose pass hasn't met this one.
     fn take_another(&mut self, alloc: Global) -> Result<Box<Session, Global>, Fault>
         ensures same { (self.new.store ≡ self.old.store) × (self.new.knows ≡ self.old.knows) }
         ensures session { IfOk result (λ s. (s.value.store ≡ self.old.store)
@@ -257,12 +257,13 @@ impl Session {
         }
     }
 
-    /// Releases the pin and gives the pass back, with the passes that wait here: `another` of each
-    /// session of the store may then use them. A session that is dropped loses them. The store goes
-    /// with its last session. It waits for nobody.
+    /// Releases the pin, and gives back the pass and the passes that wait here. `another` can then
+    /// use them in each session of the store. A session that is dropped loses them. The store is
+    /// freed with its last session. It waits for nobody.
     ///
-    /// Returns a witness of all that the pass has seen of the journal, its own writes among it.
-    /// If the session that calls `finish` has joined it, they are in the journal that this returns.
+    /// Returns a witness of all that the pass has seen of the journal, including its own writes. If
+    /// the session that calls `finish` has joined the witness, they are in the journal that
+    /// `finish` returns.
     pub fn close(self) -> Witness
         ensures witness { IsWitnessOf self.store result × (result.seen ≡ self.knows.seen) }
     {
@@ -278,8 +279,8 @@ impl Session {
         witness
     }
 
-    /// Whether `finish` may be called. InUse: another session of the store is open. OutOfMemory.
-    /// It takes the memory for that call, so that `finish` takes none.
+    /// Whether `finish` may be called. InUse if another session of the store is open; OutOfMemory.
+    /// It allocates the memory for `finish`, which then needs none.
     pub fn may_finish(&mut self) -> Result<(), Fault>
         ensures same { self.new ≡ self.old }
         ensures err { IfErr result IsNotLast }
@@ -291,13 +292,13 @@ impl Session {
         Ok(())
     }
 
-    /// Closes the store, if this is its last session, and returns its journal. It takes the pass
-    /// and all that were given back or wait; they may be pinned. It waits for nobody, and costs a
-    /// load and a join for each pass.
+    /// Closes the store, if this is its last session, and returns the journal. It takes the pass,
+    /// those that were given back and those that wait; they may be pinned. It waits for nobody, and
+    /// costs a load and a join for each pass.
     ///
-    /// The journal is that of the whole, whatever calls were made by whatever sessions. Each write
-    /// of a session that was accepted is there, at its commit number, and nothing else is. An error
-    /// says what became of the session.
+    /// The journal covers everything, whatever calls were made by whatever sessions. It has each
+    /// accepted write of a session at its commit number, and nothing else. An error says what
+    /// became of the session.
     pub fn finish(self) -> Result<Journal, Unfinished>
         ensures ok { IfOk result (IsFinished self) }
         ensures err { IfErr result (IsUnfinished self) }
@@ -320,8 +321,8 @@ impl Session {
         }
     }
 
-    /// Meets a pass that was given back: both have then seen what either had. Returns the length of
-    /// that. NoPass if there is no such pass, or another thread uses it.
+    /// Meets a pass that was given back: both have then seen what either had seen. Returns its
+    /// length. NoPass if there is no such pass, or if another thread is using it.
     ///
     /// So such a pass carries what one session has seen to another, if both meet it in turn.
     pub fn meet(&mut self) -> Result<u64, Fault>
@@ -337,9 +338,9 @@ impl Session {
         Ok(length)
     }
 
-    /// A witness of all that the pass has seen of the journal. Send it to another thread, by
-    /// whatever channel: a session that joins it there has seen as much. It owns no share of the
-    /// store. One step, and no memory.
+    /// A witness of all that the pass has seen of the journal. Send it to another thread, over any
+    /// channel: a session that joins it there has then seen as much. It owns no share of the store.
+    /// One step; no memory is allocated.
     pub fn witness(&mut self) -> Witness
         ensures store { (self.new.store ≡ self.old.store) × (self.new.spare ≡ self.old.spare) }
         ensures knows { self.new.knows ≡ one_step_on self.old.knows }
@@ -349,12 +350,12 @@ impl Session {
         self.shared.store().witness(&mut self.pass)
     }
 
-    /// The session and the witness have then both seen what either had. Returns the length of that.
-    /// A pin stays, and the witness can be sent on. What the session pins and writes from then on
-    /// comes after what the witness had seen. Three steps, and no memory.
+    /// Afterwards the session and the witness have seen what either had seen. Returns its length. A
+    /// pin stays, and the witness can be sent on. What the session pins and writes from then on
+    /// comes after what the witness had seen. Three steps; no memory is allocated.
     ///
-    /// It is the one call of a session that its caller can make wrongly: nothing that is there at
-    /// run time says which store a witness is of.
+    /// This call has a requirement that nothing checks at run time: the witness has to be of this
+    /// store.
     pub fn join(&mut self, witness: &mut Witness) -> u64
         requires witness { IsWitnessOf self.old.store witness.old }
         ensures store { (self.new.store ≡ self.old.store) × (self.new.spare ≡ self.old.spare) }
@@ -365,7 +366,7 @@ impl Session {
         self.shared.store().join(&mut self.pass, witness)
     }
 
-    /// Pins the current version, and returns its number: how many writes it has.
+    /// Pins the current version, and returns its number, which is how many writes it has.
     pub fn pin(&mut self) -> Result<u64, Fault>
         ensures store { (self.new.store ≡ self.old.store) × (self.new.spare ≡ self.old.spare) }
         ensures ok { IfOk result (λ n. Pins self.old.knows self.new.knows n) }
@@ -402,10 +403,10 @@ impl Session {
         Ok(())
     }
 
-    /// Writes a batch of 1 to 64 operations, all or none. Returns the journal's length with them,
-    /// and fills `dones` with an outcome for each, in place of what the list had. BadCount for any
-    /// other number of operations, and then nothing has happened; otherwise as the store's own
-    /// `apply_into`.
+    /// Writes a batch of 1 to 64 operations, all or none. Returns the length of the journal
+    /// including them. The operations' outcomes replace what was in `dones`. BadCount for any other
+    /// number of operations, and then nothing happens; otherwise it does what the store's
+    /// `apply_into` does.
     pub fn apply(&mut self, ops: &[Op], dones: &mut ArrayVec<Done, 64>) -> Result<u64, Fault>
         ensures store { (self.new.store ≡ self.old.store) × (self.new.spare ≡ self.old.spare) }
         ensures ok { IfOk result (λ n. Accepts self.old.knows self.new.knows ops.now n
@@ -421,8 +422,8 @@ impl Session {
         Ok(self.shared.store().apply_into(&mut self.pass, ops, dones)?)
     }
 
-    /// Writes as `apply` does if the journal has `number` entries, and otherwise nothing: as the
-    /// store's own `apply_if_into`. BadCount comes before everything else. Conflict carries the
+    /// Writes as `apply` does if the journal has `number` entries, and otherwise writes nothing,
+    /// like the store's `apply_if_into`. BadCount comes before every other error. Conflict has the
     /// length that was found.
     pub fn apply_if(
         &mut self,
@@ -445,7 +446,7 @@ impl Session {
         Ok(store.apply_if_into(&mut self.pass, number, ops, dones)?)
     }
 
-    /// The number of the pass, which its entries in the journal carry.
+    /// The pass's number, which its entries in the journal have.
     pub fn number(&self) -> u64
         ensures { result ≡ self.now.knows.number }
     {
@@ -459,8 +460,8 @@ impl Session {
         self.pass.seen()
     }
 
-    /// Up to `most` entries of the journal from the index `from` on, which counts from 0: as the
-    /// store's own `journal_from`. It needs no pin.
+    /// Up to `most` entries of the journal from the index `from` on, which counts from 0, as the
+    /// store's `journal_from` returns them. It needs no pin.
     pub fn journal_from(
         &mut self,
         alloc: Global,
@@ -472,7 +473,7 @@ impl Session {
         ensures list { IfOk result (λ list. list.items
             ≡ entries_from (entries self.new.knows.seen) from most) }
         ensures err { IfErr result (λ e. (why : AnyRefusal) × (e ≡ Refused why)
-            × IsUntold self.old.knows self.new.knows why) }
+            × IsUnreported self.old.knows self.new.knows why) }
         ensures moves { OnOk result (LocksAndUnlocks self.old.knows self.new.knows) }
     {
         let store = self.shared.store();
@@ -492,15 +493,15 @@ impl Session {
         Ok(self.shared.store().next(&mut self.pass))
     }
 
-    /// The text of the journal up to now, which is legal: as the store's own `journal_text`. It
-    /// needs no pin.
+    /// The text of the journal up to now, as the store's `journal_text` returns it. The journal is
+    /// legal. It needs no pin.
     pub fn journal_text(&mut self) -> Result<String, Fault>
         ensures store { (self.new.store ≡ self.old.store) × (self.new.spare ≡ self.old.spare) }
         ensures learns { Learns self.old.knows self.new.knows }
         ensures legal { IsLegal (entries self.new.knows.seen) }
         ensures text { IfOk result (λ text. string_bytes text ≡ text_seen self.new.knows) }
         ensures err { IfErr result (λ e. (why : AnyRefusal) × (e ≡ Refused why)
-            × IsUntold self.old.knows self.new.knows why) }
+            × IsUnreported self.old.knows self.new.knows why) }
         ensures moves { OnOk result (LocksAndUnlocks self.old.knows self.new.knows) }
     {
         let answer = self.shared.store().journal_text(&mut self.pass);
@@ -508,20 +509,20 @@ impl Session {
         Ok(answer?)
     }
 
-    /// How full the store is, and the oldest version that a pass has announced: as the store's own
-    /// `status`. It needs no pin.
+    /// How full the store is, and the oldest version in a reader slot, as the store's `status`
+    /// returns them. It needs no pin.
     pub fn status(&mut self) -> Result<Status, Fault>
         ensures store { (self.new.store ≡ self.old.store) × (self.new.spare ≡ self.old.spare) }
         ensures learns { Learns self.old.knows self.new.knows }
-        ensures told { IfOk result (λ s. TellsStatus self.old.knows self.new.knows s) }
+        ensures reported { IfOk result (λ s. ReportsStatus self.old.knows self.new.knows s) }
         ensures err { IfErr result (λ e. (why : AnyRefusal) × (e ≡ Refused why)
             × FoundHeld why self.old.knows self.new.knows) }
     {
-        let told = self.shared.store().status(&mut self.pass);
-        Ok(told?)
+        let reported = self.shared.store().status(&mut self.pass);
+        Ok(reported?)
     }
 
-    /// The nodes of which the query is true in the pinned version, ascending.
+    /// The nodes that match the query in the pinned version, in ascending order.
     pub fn query(&mut self, alloc: Global, query: &Query) -> Result<Vec<u64>, Fault>
         ensures store { (self.new.store ≡ self.old.store) × (self.new.spare ≡ self.old.spare) }
         ensures read { HasRead self.old.knows self.new.knows }
@@ -536,9 +537,9 @@ impl Session {
         Ok(store.query(alloc, &mut self.pass, query)?.nodes)
     }
 
-    /// Puts the nodes of which a live query is true in the pinned version into a list, ascending,
-    /// in place of what it had. A list that has room for them takes no memory. After an error it is
-    /// empty. What the last refresh found stays.
+    /// Replaces a list's content with the nodes that match a live query in the pinned version, in
+    /// ascending order. A list that has room for them allocates no memory. After an error it is
+    /// empty. The last refresh's answer stays.
     pub fn query_into(&mut self, live: &mut Live, nodes: &mut Vec<u64>) -> Result<(), Fault>
         ensures store { (self.new.store ≡ self.old.store) × (self.new.spare ≡ self.old.spare) }
         ensures read { HasRead self.old.knows self.new.knows }
@@ -564,7 +565,7 @@ impl Session {
     }
 
     /// Asks a live query in the pinned version, and returns which nodes came and which went since
-    /// its last refresh. An error leaves the query as it was.
+    /// its last refresh. An error leaves the live query as it was.
     pub fn refresh(&mut self, live: &mut Live) -> Result<Updates, Fault>
         ensures store { (self.new.store ≡ self.old.store) × (self.new.spare ≡ self.old.spare) }
         ensures read { HasRead self.old.knows self.new.knows }
@@ -582,8 +583,8 @@ impl Session {
     }
 
     /// The index cover from which a query would be answered in the pinned version: the chosen
-    /// comparisons, in canonical form and joined by ` || `, and the score. NotCovered if the query
-    /// rests on no index of that version; OutOfMemory.
+    /// comparisons, in canonical form and joined by ` || `, and the score. NotCovered if no index
+    /// of that version covers the query; OutOfMemory.
     pub fn explain(&mut self, alloc: Global, query: &Query) -> Result<String, Fault>
         ensures store { (self.new.store ≡ self.old.store) × (self.new.spare ≡ self.old.spare) }
         ensures read { HasRead self.old.knows self.new.knows }
@@ -598,8 +599,8 @@ impl Session {
         Ok(cover_text(alloc, query, &cover)?)
     }
 
-    /// Up to `most` nodes of the pinned version from the number `from` on, ascending. A list with
-    /// fewer is the last one. The next list begins after the last node of this one.
+    /// Up to `most` nodes of the pinned version from the number `from` on, in ascending order. A
+    /// list with fewer is the last one. To continue, call it with the number after the last node.
     pub fn nodes(&mut self, alloc: Global, from: u64, most: usize) -> Result<Vec<u64>, Fault>
         ensures store { (self.new.store ≡ self.old.store) × (self.new.spare ≡ self.old.spare) }
         ensures read { HasRead self.old.knows self.new.knows }
@@ -627,8 +628,8 @@ impl Session {
         Ok(self.shared.store().get(&mut self.pass, node, name))
     }
 
-    /// A node's attribute in the pinned version as a cell, if it has one. The bytes of a text go to
-    /// the front of the places, as many as there are places.
+    /// A node's attribute in the pinned version as a cell, if it has one. The bytes of a text are
+    /// written to the front of `bytes`, as many as fit.
     pub fn get_into(
         &mut self,
         node: u64,
@@ -650,8 +651,8 @@ impl Session {
         Ok(store.get_into(&mut self.pass, node, name, bytes))
     }
 
-    /// Returns what each node has at each name in the pinned version, in a cell for each, as the
-    /// store's own `columns`. BadCount if there are more than 2^32 cells.
+    /// Writes what each node has at each name in the pinned version, in one cell for each, like the
+    /// store's `columns`. BadCount if there are more than 2^32 cells.
     pub fn columns(
         &mut self,
         nodes: &[u64],
@@ -661,8 +662,8 @@ impl Session {
     ) -> Result<u64, Fault>
         ensures store { (self.new.store ≡ self.old.store) × (self.new.spare ≡ self.old.spare) }
         ensures read { HasRead self.old.knows self.new.knows }
-        ensures told { AtPin (pinned_number self.old.knows.phase) result
-            (IfOk result (λ needed. TellsColumns (volume_pinned self.old.knows) nodes.now
+        ensures reported { AtPin (pinned_number self.old.knows.phase) result
+            (IfOk result (λ needed. ReportsColumns (volume_pinned self.old.knows) nodes.now
             (each name_in names.now) cells.old cells.new bytes.old bytes.new needed)
             × IfErr result (λ e. (e ≡ BadCount) × (2 ^ 32 < length nodes.now * length names.now))) }
         ensures kept { OnErr result ((cells.new ≡ cells.old) × (bytes.new ≡ bytes.old)) }
@@ -677,7 +678,7 @@ impl Session {
         Ok(store.columns(&mut self.pass, nodes, names, cells, bytes))
     }
 
-    /// A node's attributes in the pinned version, by ascending bytes of their names.
+    /// A node's attributes in the pinned version, sorted by the bytes of their names.
     pub fn attrs(&mut self, alloc: Global, node: u64) -> Result<Vec<(Name, Value)>, Fault>
         ensures store { (self.new.store ≡ self.old.store) × (self.new.spare ≡ self.old.spare) }
         ensures read { HasRead self.old.knows self.new.knows }
@@ -691,7 +692,7 @@ impl Session {
         Ok(self.shared.store().attrs(alloc, &mut self.pass, node)?)
     }
 
-    /// The names and kinds of the pinned version's indices, by ascending bytes of the names.
+    /// The names and kinds of the pinned version's indices, sorted by the bytes of the names.
     pub fn indices(&mut self, alloc: Global) -> Result<Vec<(Name, Kind)>, Fault>
         ensures store { (self.new.store ≡ self.old.store) × (self.new.spare ≡ self.old.spare) }
         ensures read { HasRead self.old.knows self.new.knows }
@@ -705,20 +706,19 @@ impl Session {
         Ok(self.shared.store().indices(alloc, &mut self.pass)?)
     }
 
-    /// Reads the next operations if none is ready. They are the next up to 64 operations that
-    /// rebuild the pinned version on an empty store, and none after the last. OutOfMemory: nothing
-    /// is lost.
+    /// Reads the next operations that rebuild the pinned version on an empty store, if none is
+    /// ready: up to 64 of them, and none after the last. OutOfMemory loses nothing.
     ///
-    /// A place belongs to one pin. At another pin it goes on after the same steps there, while the
+    /// A place belongs to one pin. At another pin it continues after the same steps there, but the
     /// operations that are ready are still those of the first pin.
     pub fn state(&mut self, alloc: Global, place: &mut StatePlace) -> Result<(), Fault>
         ensures store { (self.new.store ≡ self.old.store) × (self.new.spare ≡ self.old.spare) }
         ensures read { HasRead self.old.knows self.new.knows }
-        ensures same { untold (volume_pinned self.old.knows) place.new
-            ≡ untold (volume_pinned self.old.knows) place.old }
+        ensures same { unreported (volume_pinned self.old.knows) place.new
+            ≡ unreported (volume_pinned self.old.knows) place.old }
         ensures few { length (waiting place.new) ≤ 64 }
         ensures ends { OnOk result (waiting place.new ≡ []
-            → untold (volume_pinned self.old.knows) place.old ≡ []) }
+            → unreported (volume_pinned self.old.knows) place.old ≡ []) }
         ensures err { AtPin (pinned_number self.old.knows.phase) result
             (IfErr result (λ e. e ≡ Refused OutOfMemory)) }
     {
@@ -739,7 +739,8 @@ impl Session {
     }
 }
 
-/// The query of a text in bytes. NotUtf8 if the bytes aren't UTF-8; otherwise as `be_query::parse`.
+/// The query whose text these bytes are. NotUtf8 if the bytes aren't UTF-8; otherwise the result of
+/// `be_query::parse`.
 pub fn query_of(alloc: Global, text: &[u8]) -> Result<Query, Fault>
     ensures ok { IfOk result (λ query. IsTextOf text.now query) }
     ensures err { IfErr result (λ e. IsNoQuery text.now e) }
@@ -750,14 +751,14 @@ pub fn query_of(alloc: Global, text: &[u8]) -> Result<Query, Fault>
     }
 }
 
-/// The same value. It compiles only if values of the type may go to another thread.
+/// Returns the same value. It compiles only if values of the type may go to another thread.
 pub fn sent<T: Send>(value: T) -> T
     ensures { result ≡ value }
 {
     value
 }
 
-/// A law of sessions: what is always so of a pass is so of a session's. It does nothing.
+/// A law of sessions: what always holds for a pass holds for a session's pass. It does nothing.
 pub fn session_is_pass(session: &Session)
     ensures { IsPass session.now.knows }
 {

@@ -1,4 +1,4 @@
-//! What the sessions of a store share: the store, and the passes that were given back.
+//! What a store's sessions share: the store, and the passes that were given back.
 ghost use Rattle.std.specs.Prelude.{◌≡◌, ◌≤◌, ◌<◌, ◌+◌, ◌^◌, ℕ, IfOk, IfSome, length, map, true};
 ghost use Rattle.std.specs.Prelude.{vec_capacity, vec_len};
 ghost use Rattle.be_table.specs.History.{StartsWith};
@@ -33,8 +33,8 @@ impl Fits for Returned {
     ghost fits = { λ seat returned. MayWaitAt seat returned.pass };
 }
 
-/// Puts a pass into the slot of its seat. Returns it if a pass waits there, or another thread uses
-/// the slot.
+/// Puts a pass into its seat's slot. Returns the pass if another one waits there, or if another
+/// thread is using the slot.
 fn put(slot: &Counted<Option<Returned>>, pass: Pass) -> Option<Pass>
     requires { MayWaitAt slot.now pass }
     ensures { IfSome result (λ p. p ≡ pass) }
@@ -48,7 +48,7 @@ fn put(slot: &Counted<Option<Returned>>, pass: Pass) -> Option<Pass>
     None
 }
 
-/// The pass that waits in a slot.
+/// Takes the pass that waits in a slot, if there is one.
 fn take(slot: &Counted<Option<Returned>>) -> Option<Pass>
     ensures { IfSome result (λ p. MayWaitAt slot.now p) }
 {
@@ -63,7 +63,7 @@ fn take(slot: &Counted<Option<Returned>>) -> Option<Pass>
     }
 }
 
-/// The pass, with its pin released.
+/// The pass, with its pin released if it has one.
 fn unpinned(store: &Store, mut pass: Pass) -> Pass
     requires { IsPassOf store.now pass }
     ensures pass { IsUnpinnedOf store.now result }
@@ -76,8 +76,8 @@ fn unpinned(store: &Store, mut pass: Pass) -> Pass
     pass
 }
 
-/// Adds the pass of number k, which waits in its slot. False if it isn't there, and isn't the own
-/// one, which is among the passes.
+/// Adds the pass with the number k from its slot. Returns false if it isn't there. If k is `own`,
+/// that pass is already in the list.
 fn collect(
     _store: &Store,
     slots: &[Counted<Option<Returned>>],
@@ -107,8 +107,8 @@ fn collect(
     }
 }
 
-/// Adds the passes from the number `first` on, which wait in their slots, but for the own one.
-/// False if one isn't there.
+/// Adds the passes from the number `first` on from their slots, except the pass `own`. Returns
+/// false if one isn't there.
 fn collect_all(
     store: &Store,
     slots: &[Counted<Option<Returned>>],
@@ -179,8 +179,8 @@ impl Shared {
         self.slots.len()
     }
 
-    /// Closes the store with this pass, those that nobody has used, and all that were given back.
-    /// None if one isn't there.
+    /// Closes the store with this pass, the passes that nobody has used, and all that were given
+    /// back. None if one is missing.
     pub(crate) fn finish(self, pass: Pass, mut passes: Vec<Pass>) -> Option<Journal>
         requires pass { IsPassOf self pass }
         requires new { AreNew self 0 passes.items }
@@ -196,8 +196,8 @@ impl Shared {
         Some(store.close(passes))
     }
 
-    /// Releases the pin of a pass and gives the pass back. Each pass has a slot of its own, which
-    /// is empty while the pass is in use: so it goes into that slot, and nothing is returned.
+    /// Releases a pass's pin and gives the pass back. Each pass has its own slot, which is empty
+    /// while the pass is in use. So the pass goes into that slot, and nothing is returned.
     pub(crate) fn give_back(&self, pass: Pass) -> Option<Pass>
         requires { IsPassOf self.now pass }
         ensures { IfSome result (λ p. IsUnpinnedOf self.now p
@@ -219,7 +219,7 @@ impl Shared {
         }
     }
 
-    /// Takes a pass that was given back out of its slot. It looks at each slot once.
+    /// Takes a pass that was given back from its slot. It looks at each slot once.
     pub(crate) fn take_returned(&self) -> Option<Pass>
         ensures { IfSome result (λ p. IsUnpinnedOf self.now p) }
     {

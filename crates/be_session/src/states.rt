@@ -4,12 +4,13 @@
 //! of memory nor a lack of room loses an operation.
 ghost use Rattle.std.specs.Prelude.{◌≤◌, length};
 
-use crate::spellings::operations_spelled;
-use crate::{Fault, Spelling};
+use crate::encodings::encoded_operations;
+use crate::{Encoding, Fault};
 use be_store::{Op, Place};
 use std::alloc::Global;
 
-/// How far the operations that rebuild a version were returned: what was read of them and is ready.
+/// How far the operations that rebuild a version have been returned, with those that were read and
+/// are ready.
 #[derive(Drop)]
 pub struct StatePlace {
     pub(crate) place: Place,
@@ -22,13 +23,13 @@ impl StatePlace {
     ghost use Rattle.be_value.specs.declared.refusals.Refusal.TheVariants.{OutOfMemory};
     ghost use Rattle.be_volume.specs.Volume.{State};
     ghost use Rattle.be_volume_state.specs.Rebuilding.{state_ops};
-    ghost use Rattle.be_session.specs.Operations.{AreSpelled};
-    ghost use Rattle.be_session.specs.States.{WaitAfter, unread, untold, waiting};
+    ghost use Rattle.be_session.specs.Operations.{AreEncoded};
+    ghost use Rattle.be_session.specs.States.{WaitAfter, unread, unreported, waiting};
     ghost use Rattle.be_session.specs.declared.faults.Fault.TheVariants.{Refused};
 
-    /// Before the first operation. It takes no memory.
+    /// The place before the first operation. No memory is allocated.
     pub fn new(alloc: Global) -> StatePlace
-        ensures { (volume : State) → untold volume result ≡ state_ops volume }
+        ensures { (volume : State) → unreported volume result ≡ state_ops volume }
     {
         StatePlace {
             place: Place::new(alloc),
@@ -37,26 +38,26 @@ impl StatePlace {
     }
 
     /// Encodes the operations that are ready. If they fit into this many operations and bytes, they
-    /// count as returned; otherwise they stay ready. OutOfMemory: they stay ready.
-    pub fn tell(
+    /// count as returned; otherwise they stay ready. After OutOfMemory they stay ready, too.
+    pub fn report(
         &mut self,
         alloc: Global,
         operations_room: usize,
         bytes_room: usize,
-    ) -> Result<Spelling, Fault>
+    ) -> Result<Encoding, Fault>
         ensures unread { (volume : State) → unread volume self.new ≡ unread volume self.old }
-        ensures ok { IfOk result (λ s. AreSpelled s.operations.items s.bytes.items
+        ensures ok { IfOk result (λ s. AreEncoded s.operations.items s.bytes.items
             (waiting self.old)) }
         ensures beyond { IfOk result (λ s. WaitAfter (waiting self.old) operations_room bytes_room
             s.operations.items s.bytes.items (waiting self.new)) }
         ensures err { IfErr result (λ e. (e ≡ Refused OutOfMemory)
             × (waiting self.new ≡ waiting self.old)) }
     {
-        let spelling = operations_spelled(alloc, self.ready.as_slice())?;
-        if operations_room < spelling.operations.len() || bytes_room < spelling.bytes.len() {
-            return Ok(spelling);
+        let encoding = encoded_operations(alloc, self.ready.as_slice())?;
+        if operations_room < encoding.operations.len() || bytes_room < encoding.bytes.len() {
+            return Ok(encoding);
         }
         self.ready.clear();
-        Ok(spelling)
+        Ok(encoding)
     }
 }

@@ -1,4 +1,4 @@
--- What a reader has left in which an LF is after each byte 3.
+-- What is left in a reader that adds an LF after each byte 3.
 use Rattle.std.proofs.Common.{◌≡◌, ◌≤◌, ◌<◌, ℕ, Bool, true, false, nat_eq, List, [], ◌∷◌, length, take, slice_set, Some, None, option_map, refl, sym, ap, ◌∙◌, subst, arith, if◌then◌else◌}
 use Rattle.std.proofs.lemmas.Bool.Decides.{nat_tests}
 use Rattle.std.specs.Io.KnownBytes.{Consumes, IsAtEnd}
@@ -28,7 +28,7 @@ byte_read (Some xs) (Some ys) false b e h = ap broken h ∙ by (nat_eq b 3) refl
     by true is = let three : 3 ≡ b = grind (arith, nat_tests) in ap (λ (z : ℕ). z ∷ 10 ∷ broken ys) three
     by false is = refl
 
--- the same, where it is put at the front of a buffer
+-- the same, written to the front of a buffer
 pub lf_put : (known : Option (List ℕ)) (owes : Bool) (buf : List ℕ) → 1 ≤ length buf → owes ≡ true →
     Consumes (option_map (owed owes) known) (option_map (owed false) known) (take 1 (slice_set buf 0 10))
     × (◌≡◌ {A = ℕ} 1 0 → 0 < length (slice_set buf 0 10) → IsAtEnd (option_map (owed false) known))

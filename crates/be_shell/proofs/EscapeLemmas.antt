@@ -7,7 +7,7 @@ use Rattle.be_shell.specs.Escape.{shown, KeepsFirst}
 abbrev pub IsPlainTo : List ℕ → ℕ → Type 0
 IsPlainTo bytes n = shown bytes ≡ take n bytes ++ shown (drop n bytes)
 
--- a byte more
+-- one more byte
 pub one_more : (bytes : List ℕ) (n : ℕ) → n < length bytes → IsPlainTo bytes n → KeepsFirst (drop n bytes) → IsPlainTo bytes (n + 1)
 one_more bytes n h front keeps =
     let x = get_or bytes n 0 in

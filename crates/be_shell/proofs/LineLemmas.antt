@@ -28,7 +28,7 @@ no_bytes : (xs : List ℕ) → length xs ≡ 0 → xs ≡ []
 no_bytes [] e = refl
 no_bytes (x ∷ xs) e = absurd (omega (arith, e))
 
--- a byte more, which ends no line
+-- one more byte, which doesn't end the line
 pub byte_taken : (old mid new : Option (List ℕ)) (kept kept' : List ℕ) (c : ℕ) → HasTaken old mid kept → Consumes mid new (c ∷ []) → is_line_end c ≡ false →
     (length kept ≤ 65536 → kept' ≡ kept ++ c ∷ []) → (65536 < length kept → kept' ≡ kept) → HasTaken old new kept'
 byte_taken old mid new kept kept' c h g e more full = by (nat_lt 65536 (length kept)) refl
@@ -99,13 +99,13 @@ line_left old mid new kept event h g last empty short long = by (nat_lt 65536 (l
         let nothing : h.bytes ≡ [] = no_bytes h.bytes (omega (arith, ap length (h.whole fits), none)) in
         subst (λ (e : Event). Hears old new e) (sym (empty none)) (subst (λ (z : List ℕ). Consumes old new z) nothing all, last)
 
--- what was heard leaves the writer alone
-pub hears_moves : (left left' told : Option (List ℕ)) (event : Event) → Hears left left' event → ChangesBytes left left' told told event
-hears_moves left left' told (hears line) h = (h, refl)
-hears_moves left left' told ends h = (h, refl)
-hears_moves left left' told (says bytes) h = absurd h
-hears_moves left left' told flushes h = absurd h
-hears_moves left left' told fails h = absurd h
+-- hearing leaves the writer unchanged
+pub hears_moves : (left left' reported : Option (List ℕ)) (event : Event) → Hears left left' event → ChangesBytes left left' reported reported event
+hears_moves left left' reported (hears line) h = (h, refl)
+hears_moves left left' reported ends h = (h, refl)
+hears_moves left left' reported (says bytes) h = absurd h
+hears_moves left left' reported flushes h = absurd h
+hears_moves left left' reported fails h = absurd h
 
 pub if_ok : {T E : Type 0} (r : Result T E) (P Q : T → Type 0) → ((x : T) → P x → Q x) → IfOk r P → IfOk r Q
 if_ok (Ok x) P Q f p = f x p

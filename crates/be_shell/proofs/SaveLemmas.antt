@@ -16,7 +16,7 @@ use Rattle.be_shell.specs.Conversation.{Event, Heard, hears, IsBroken, RepliedTo
 same_store : (a : Store) (j j' : List Entry) (v v' : State) → j ≡ j' → v ≡ v' → (record a { journal = j; volume = v }) ≡ (record a { journal = j'; volume = v' })
 same_store a j j' v v' p q = ap (λ (z : List Entry). record a { journal = z; volume = v }) p ∙ ap (λ (z : State). record a { journal = j'; volume = z }) q
 
--- what the others write, in two parts
+-- what the other passes write, in two parts
 pub joins_both : (a b c : Store) → Joins a b → Joins b c → Joins a c
 joins_both a b c h g =
     let volume = λ (v : State) (e : Entry). state_after v e.ops in

@@ -18,12 +18,12 @@ pub passed_up : {T E : Type 0} (r : Result T E) (e : E) (P : E → Type 0) → I
 passed_up (Ok x) e P is p = tt
 passed_up (Err y) e P is p = subst P (sym is) p
 
--- what happens after what happened
+-- events after other events
 pub happens_both : {P : Type 0} (does : P → Event → P → Type 0) (xs ys : List Event) (p q r : P) → Happens does p xs q → Happens does q ys r → Happens does p (xs ++ ys) r
 happens_both does [] ys p q r h g = subst (λ z. Happens does z ys r) h g
 happens_both does (x ∷ xs) ys p q r h g = (h.0, h.1, happens_both does xs ys h.0 q r h.2 g)
 
--- an exchange more
+-- one more exchange
 pub talk_more : (lines : List Heard) (s mid last : Session) (talk : List Event) (line : Heard) (reply : List ℕ) → IsTalk s lines talk mid → RepliedTo mid line last reply →
     IsTalk s (lines ++ line ∷ []) (talk ++ exchange line reply) last
 talk_more [] s mid last talk line reply h r =
@@ -36,7 +36,7 @@ module _ {P : Type 0} (does : P → Event → P → Type 0) where
   pub none_yet : (s : Session) (p : P) → SoFar does s p 0 s p
   none_yet s p = ([], [], (refl, refl), refl, refl)
 
-  -- one line more was heard and replied to
+  -- one more line was heard and replied to
   pub one_more : (count : ℕ) (s mid last : Session) (p q r : P) (more : Bool) → SoFar does s p count mid q → Went does mid q more last r → more ≡ true →
       SoFar does s p (count + 1) last r
   one_more count s mid last p q r more w g e =
@@ -48,7 +48,7 @@ module _ {P : Type 0} (does : P → Event → P → Type 0) where
         omega (arith, length-append w.0 (x.0 ∷ []), w.4),
       )
 
-  -- no more lines came
+  -- there were no more lines
   pub at_end : (count : ℕ) (s mid last : Session) (p q r : P) (more : Bool) → SoFar does s p count mid q → Went does mid q more last r → more ≡ false → TalkedTo does s p last r
   at_end count s mid last p q r more w g e =
       let x : Went does mid q false last r = subst (λ (b : Bool). Went does mid q b last r) e g in
@@ -58,7 +58,7 @@ module _ {P : Type 0} (does : P → Event → P → Type 0) where
   pub broken_off : (e : RunFault) (count : ℕ) (s mid : Session) (p q r : P) → SoFar does s p count mid q → Broke does e mid q r → BrokeOff does e s p r
   broken_off e count s mid p q r w b = (w.0, w.1, mid, b.0, w.2, inl b.1, happens_both does w.1 b.0 p q r w.3 b.2)
 
-  -- as many lines as are counted
+  -- as many lines as can be counted
   pub uncounted : (count : ℕ) (s mid : Session) (p q : P) → SoFar does s p count mid q → count + 1 ≡ 2 ^ 64 → BrokeOff does Read s p q
   uncounted count s mid p q w full =
       (w.0, w.1, mid, [], w.2, inr (refl, ap (λ n. n + 1) w.4 ∙ full, refl), happens_both does w.1 [] p q q w.3 refl)
@@ -76,7 +76,7 @@ module _ {P : Type 0} (does : P → Event → P → Type 0) where
       (reply : List ℕ) × RepliedTo s line after reply × Happens does mid (says reply ∷ flushes ∷ []) q → Went does s p true after q
   went_on s after p mid q event line d same h = (line, h.0, h.1, (mid, subst (λ (e : Event). does p e mid) same d, h.2))
 
-  -- no line was left to be heard
+  -- there was no line left to hear
   pub went_out : (s : Session) (p q : P) (event : Event) → does p event q → event ≡ ends → Went does s p false s q
   went_out s p q event d same = (refl, (q, subst (λ (e : Event). does p e q) same d, refl))
 
@@ -102,12 +102,12 @@ broken_is_other TooLong s events h = tt
 broken_is_other Write s events h = tt
 broken_is_other Memory s events h = tt
 
--- what is said in a conversation is what its lines are answered in a script
+-- what is said in a conversation is the output that its lines have in a script
 pub talk_output : (lines : List (List ℕ)) (s last : Session) (talk : List Event) → IsTalk s (all_short lines) talk last → Outputs s lines last (said talk)
 talk_output [] s last talk h = (h.0, ap said h.1)
 talk_output (line ∷ lines) s last talk h = (h.0, h.1, said h.2, h.3, talk_output lines h.0 last h.2 h.4, ap said h.5)
 
--- an empty line more is answered by nothing
+-- one more empty line has no reply
 pub empty_more : (lines : List (List ℕ)) (s last : Session) (out : List ℕ) → Outputs s lines last out → Outputs s (lines ++ [] ∷ []) last out
 empty_more [] s last out h =
     (s, [], [], (none, subst (λ (q : Request). Serves s q none s) (sym nothing_asked) (serves_at_once s s silent none refl), refl), (h.0, refl), h.1)

@@ -1,4 +1,4 @@
--- What a line that is typed asks of the terminal itself, and not of the store.
+-- What a typed line asks of the terminal itself instead of the store.
 use Rattle.std.specs.Prelude.{ℕ, Bool, List, [], ◌∷◌, length, nat_eq, nat_le, position, take, drop}
 use Rattle.std.specs.Prelude.{unwrap_or, ◌&&◌, ◌||◌, if◌then◌else◌, codes}
 use Rattle.std.specs.List.{list_all, ends_with}
@@ -19,7 +19,7 @@ skip (c ∷ line) = if is_blank c then skip line else c ∷ line
 abbrev pub end_of_word : List ℕ → ℕ
 end_of_word line = unwrap_or (position is_blank line) (length line)
 
--- what a word asks for, and whether it is the only one
+-- what a word asks for, given whether it is the line's only word
 abbrev pub named : List ℕ → Bool → Aside
 named word alone =
     if bytes_eq word (codes "help") then Help
@@ -28,21 +28,21 @@ named word alone =
     else if (bytes_eq word (codes "quit") || bytes_eq word (codes "exit")) && alone then Quit
     else Nothing
 
--- a line without the blanks at its front, by its first word
+-- what a line asks by its first word, if it has no blanks at its front
 abbrev pub by_word : List ℕ → Aside
 by_word line = named (take (end_of_word line) line)
     (list_all is_blank (drop (end_of_word line) line))
 
--- a line of a file
+-- what a line of a file asks
 abbrev pub aside_of : List ℕ → Aside
 aside_of line = by_word (skip line)
 
--- its last byte is that which Ctrl-C types
+-- the line's last byte is the one that Ctrl-C types
 abbrev pub is_cancelled : List ℕ → Bool
 is_cancelled line = ends_with nat_eq line (3 ∷ [])
 
--- A line that was typed: cancelled, or as long as the longest that a terminal gives, so that it may
--- have been cut.
+-- What a typed line asks. It may be cancelled; or it may have been cut, if it is as long as the
+-- longest line that a terminal returns.
 abbrev pub typed_of : List ℕ → Aside
 typed_of line = if is_cancelled line then Cancelled else if nat_le 4095 (length line) then Cut
     else aside_of line

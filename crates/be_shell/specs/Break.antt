@@ -1,19 +1,19 @@
--- A reader in which a line also ends after a byte 3, which is what Ctrl-C types.
+-- A reader in which a line also ends after a byte 3, which Ctrl-C types.
 use Rattle.std.specs.Prelude.{ℕ, Bool, true, false, List, [], ◌∷◌, nat_eq, if◌then◌else◌}
 use Rattle.std.specs.Prelude.{option_map}
 use Rattle.std.specs.declared.option.Option.{Option}
 use Rattle.be_shell.specs.declared.breaks.Breaking.{Breaking}
 
--- the bytes with an LF after each byte 3
+-- the bytes, with an LF after each byte 3
 abbrev pub broken : List ℕ → List ℕ
 broken [] = []
 broken (c ∷ bytes) = if nat_eq c 3 then 3 ∷ 10 ∷ broken bytes else c ∷ broken bytes
 
--- the same, after a byte 3 whose LF is still to be read (true) or not (false)
+-- the same, if the LF after a byte 3 is still to be read (true) or not (false)
 abbrev pub owed : Bool → List ℕ → List ℕ
 owed true bytes = 10 ∷ broken bytes
 owed false bytes = broken bytes
 
--- what is left in the reader, by what is left in the one below it
+-- what is left in this reader, given what is left in the reader below
 abbrev pub breaks_left : {R : Type 0} → (R → Option (List ℕ)) → Breaking R → Option (List ℕ)
 breaks_left remaining s = option_map (owed s.owes_lf) (remaining s.reader)

@@ -1,5 +1,5 @@
--- What a conversation does to the bytes that a reader has left and to those that a writer holds, if
--- they are known.
+-- How a conversation changes the bytes left in a reader and the bytes in a writer, if they are
+-- known.
 use Rattle.std.specs.Prelude.{◌≡◌, ◌⊎◌, ◌≤◌, ◌<◌, ℕ, false, All, List, [], ◌∷◌, ◌++◌, length, Some}
 use Rattle.std.specs.Prelude.{None}
 use Rattle.std.specs.Io.KnownBytes.{Appends, Consumes, IsAtEnd, Keeps}
@@ -15,13 +15,13 @@ use Rattle.be_shell.specs.declared.ends.Ends.{Ends}
 abbrev pub IsWithinLine : List ℕ → Type 0
 IsWithinLine bytes = All (λ c. is_line_end c ≡ false) bytes
 
--- What is heard of a line of these bytes: all of them, or that they are more than 65,536.
+-- What is heard of a line with these bytes: all of them, or that there are more than 65,536.
 abbrev pub IsHeardOf : List ℕ → Heard → Type 0
 IsHeardOf bytes (short_line line) = (bytes ≡ line) × (length bytes ≤ 65536)
 IsHeardOf bytes long_line = 65536 < length bytes
 
--- A line was taken off the front: its bytes and the LF after them, or all that was left if it has
--- no LF.
+-- A line was taken off the front: its bytes and the LF after them, or everything that was left if
+-- there is no LF.
 pub record TakesLine (old new : Option (List ℕ)) (line : Heard) : Type 0 where
   pub bytes : List ℕ
   pub within : IsWithinLine bytes
@@ -29,13 +29,13 @@ pub record TakesLine (old new : Option (List ℕ)) (line : Heard) : Type 0 where
   pub taken : Consumes old new (bytes ++ 10 ∷ [])
       ⊎ ((1 ≤ length bytes) × Consumes old new bytes × IsAtEnd new)
 
--- what one byte that was read, or the end, makes of what is left
+-- what is left after one byte was read, or after the end was reached
 abbrev pub TakesByte : Option (List ℕ) → Option (List ℕ) → Option ℕ → Type 0
 TakesByte old new (Some byte) = Consumes old new (byte ∷ [])
 TakesByte old new None = Consumes old new [] × IsAtEnd new
 
--- What was taken so far of a line if these bytes of it are kept. Up to 65,536 kept bytes are all
--- that was taken; more say that the line is longer than that.
+-- What has been taken of a line if these bytes of it were kept. If at most 65,536 were kept, they
+-- are all that was taken. Otherwise the line is longer than that.
 pub record HasTaken (old new : Option (List ℕ)) (kept : List ℕ) : Type 0 where
   pub bytes : List ℕ
   pub within : IsWithinLine bytes
@@ -43,7 +43,7 @@ pub record HasTaken (old new : Option (List ℕ)) (kept : List ℕ) : Type 0 whe
   pub whole : length kept ≤ 65536 → bytes ≡ kept
   pub long : 65536 < length kept → 65536 < length bytes
 
--- a line was heard, or that none is left
+-- a line was heard, or that there are no more
 abbrev pub Hears : Option (List ℕ) → Option (List ℕ) → Event → Type 0
 Hears old new (hears line) = TakesLine old new line
 Hears old new ends = Consumes old new [] × IsAtEnd new
@@ -51,39 +51,43 @@ Hears old new (says bytes) = ⊥
 Hears old new flushes = ⊥
 Hears old new fails = ⊥
 
--- what an event makes of what is left to hear and of what was said
+-- how an event changes what is left to hear and what has been said
 abbrev pub ChangesBytes : Option (List ℕ) → Option (List ℕ) → Option (List ℕ) → Option (List ℕ)
     → Event → Type 0
-ChangesBytes left left' told told' (hears line) = TakesLine left left' line × (told' ≡ told)
-ChangesBytes left left' told told' ends = (Consumes left left' [] × IsAtEnd left') × (told' ≡ told)
-ChangesBytes left left' told told' (says bytes) = (left' ≡ left) × Appends told told' bytes
-ChangesBytes left left' told told' flushes = (left' ≡ left) × Keeps told told'
-ChangesBytes left left' told told' fails = Keeps told told'
+ChangesBytes left left' reported reported' (hears line) = TakesLine left left' line
+    × (reported' ≡ reported)
+ChangesBytes left left' reported reported' ends = (Consumes left left' [] × IsAtEnd left')
+    × (reported' ≡ reported)
+ChangesBytes left left' reported reported' (says bytes) = (left' ≡ left)
+    × Appends reported reported' bytes
+ChangesBytes left left' reported reported' flushes = (left' ≡ left) × Keeps reported reported'
+ChangesBytes left left' reported reported' fails = Keeps reported reported'
 
--- the same of a reader and a writer
+-- the same for a reader and a writer
 abbrev pub ends_do : {R W : Type 0} → (R → Option (List ℕ)) → (W → Option (List ℕ)) → Ends R W
     → Event → Ends R W → Type 0
 ends_do remaining contents old event new = ChangesBytes (remaining old.reader)
     (remaining new.reader) (contents old.writer) (contents new.writer) event
 
--- the bytes that are left to be heard and those that were said, as a peer of their own
+-- a peer that consists of the bytes left to hear and the bytes said
 pub record Known : Type 0 where
   pub left : Option (List ℕ)
-  pub told : Option (List ℕ)
+  pub reported : Option (List ℕ)
 
 abbrev pub knows : List ℕ → List ℕ → Known
-knows left told = record { left = Some left; told = Some told }
+knows left reported = record { left = Some left; reported = Some reported }
 
 abbrev pub known_do : Known → Event → Known → Type 0
-known_do old event new = ChangesBytes old.left new.left old.told new.told event
+known_do old event new = ChangesBytes old.left new.left old.reported new.reported event
 
 -- no line is long
 abbrev pub AreShort : List (List ℕ) → Type 0
 AreShort lines = All (λ line. length line ≤ 65536) lines
 
--- All of the script was heard, and what was said is an output of it.
-pub record IsWhole (store : Store) (script told : List ℕ) (last : Session) (end : Known) : Type 0
+-- The whole script was heard, and what was said is an output of it.
+pub record IsWhole (store : Store) (script reported : List ℕ) (last : Session) (end : Known) : Type
+    0
   where
     pub out : List ℕ
-    pub said : end.told ≡ Some (told ++ out)
+    pub said : end.reported ≡ Some (reported ++ out)
     pub output : IsOutputTo store script last.store out

@@ -4,7 +4,7 @@ use Rattle.be_script_runner.specs.Run.{IsFrontOf}
 use Rattle.be_shell.specs.Conversation.{Event, hears, ends, says, flushes, fails, Happens}
 use Rattle.be_shell.specs.Escape.{shown}
 
--- the pieces, one after the other
+-- the pieces, one after another
 abbrev pub joined : List (List ℕ) → List ℕ
 joined [] = []
 joined (piece ∷ pieces) = piece ++ joined pieces
@@ -14,8 +14,8 @@ abbrev pub SaysAll : {P : Type 0} → (P → Event → P → Type 0) → P → L
 SaysAll does p bytes q = (pieces : List (List ℕ)) × Happens does p (map says pieces) q
     × (joined pieces ≡ bytes)
 
--- What an event at a screen is to the peer below it. What is said is said as it is shown, all of
--- it; or, once a write has failed, a front of that.
+-- What an event at a screen is to the peer below. What is said there is what is shown, all of it;
+-- or, if a write fails, a front of it.
 abbrev pub shows : {P : Type 0} → (P → Event → P → Type 0) → P → Bool → Event → P → Bool → Type 0
 shows does p torn (hears line) q torn' = does p (hears line) q × (torn' ≡ torn)
 shows does p torn ends q torn' = does p ends q × (torn' ≡ torn)

@@ -11,13 +11,14 @@ abbrev pub asks_of : Heard → Aside
 asks_of (short_line line) = typed_of line
 asks_of long_line = Cut
 
--- A line as the shell hears it: itself, or an empty line or the end if it is for the terminal.
+-- A line as the shell hears it: the line itself if it is for the store; otherwise an empty line, or
+-- the end.
 abbrev pub passed_on : Heard → Aside → Event
 passed_on line Nothing = hears line
 passed_on line Quit = ends
 passed_on line aside = hears (short_line [])
 
--- an event of the peer below, as the shell has it
+-- an event of the peer below, as the shell sees it
 abbrev pub passes : Event → Event
 passes (hears line) = passed_on line (asks_of line)
 passes ends = ends
@@ -25,7 +26,7 @@ passes (says bytes) = says bytes
 passes flushes = flushes
 passes fails = fails
 
--- a file is to be read
+-- the event asks to read a file
 abbrev pub IsReading : Event → Type 0
 IsReading (hears line) = asks_of line ≡ Read
 IsReading ends = ⊥
@@ -33,7 +34,7 @@ IsReading (says bytes) = ⊥
 IsReading flushes = ⊥
 IsReading fails = ⊥
 
--- a line of a file, or that it ends the shell
+-- the event may come from a file: a line, or the end of the shell
 abbrev pub IsOfFile : Event → Type 0
 IsOfFile (hears line) = Unit {0}
 IsOfFile ends = Unit {0}
@@ -41,9 +42,9 @@ IsOfFile (says bytes) = ⊥
 IsOfFile flushes = ⊥
 IsOfFile fails = ⊥
 
--- What an event at a terminal is to the peer below it, and whether a file is being read before and
--- after it. It is an event of that peer, as the shell has it, and only the line `read` makes that a
--- file is read; or, while one is read, a line of it.
+-- What an event at a terminal is to the peer below, and whether a file is being read before and
+-- after it. Either it is an event of the peer below, as the shell sees it, and only a `read` line
+-- starts the reading of a file. Or a file is being read, and the event comes from the file.
 abbrev pub asks : {P : Type 0} → (P → Event → P → Type 0) → P → Bool → Event → P → Bool → Type 0
 asks does p reads event q reads' =
     ((below : Event) × (event ≡ passes below) × does p below q

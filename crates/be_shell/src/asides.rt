@@ -1,20 +1,20 @@
-//! Lines that are for the terminal itself.
+//! Lines that are meant for the terminal itself.
 ghost use Rattle.std.specs.Prelude.{◌≡◌, position, take, drop};
 ghost use Rattle.std.specs.List.{list_all};
 ghost use Rattle.be_shell.specs.Aside as spec;
 
-/// The bytes of the longest line that a terminal gives, its LF not counted. It cuts a longer one
-/// there.
+/// The longest line that a terminal returns, in bytes without its LF. It cuts a longer line to this
+/// length.
 pub(crate) const MAX_TYPED: usize = 4095;
 
 /// What a line asks of the terminal itself.
 #[derive(Clone, Copy, Debug, PartialEq, Eq)]
 pub enum Aside {
-    /// It is for the store.
+    /// The line is for the store.
     Nothing,
-    /// Ctrl-C ended it.
+    /// Ctrl-C ended the line.
     Cancelled,
-    /// The terminal may have cut it.
+    /// The terminal may have cut the line.
     Cut,
     Help,
     Quit,
@@ -55,7 +55,7 @@ fn first_blank(line: &[u8]) -> Option<usize>
     line.iter().position(|c| is_blank(*c))
 }
 
-/// The line up to its first blank, and what follows.
+/// Splits the line at its first blank.
 pub(crate) fn split_word(line: &[u8]) -> (&[u8], &[u8])
     ensures word { result.0.now ≡ take (spec.end_of_word line.now) line.now }
     ensures rest { result.1.now ≡ drop (spec.end_of_word line.now) line.now }
@@ -66,7 +66,7 @@ pub(crate) fn split_word(line: &[u8]) -> (&[u8], &[u8])
     }
 }
 
-/// What a word asks for, which is the only one of its line or not.
+/// What a word asks for, if it is the only word of its line or if it isn't.
 fn named(word: &[u8], is_alone: bool) -> Aside
     ensures { result ≡ spec.named word.now is_alone }
 {
@@ -98,7 +98,7 @@ fn is_cancelled(line: &[u8]) -> bool
     line.ends_with(b"\x03".as_slice())
 }
 
-/// What a line that was typed asks of the terminal itself.
+/// What a typed line asks of the terminal itself.
 pub(crate) fn typed_of(line: &[u8]) -> Aside
     ensures { result ≡ spec.typed_of line.now }
 {

@@ -1,10 +1,10 @@
-//! A query with an error, and a caret below the place of the error, on standard error.
+//! Shows a query with an error on standard error, with a caret under the place of the error.
 use be_script_language::{Request, read_line};
 use std::alloc::{AllocError, Global};
 use std::io::Eprint;
 use unicode_width::UnicodeWidthChar;
 
-/// The number at the front.
+/// The number at the front, or 0.
 fn number_at(text: &[u8]) -> usize {
     let mut number: usize = 0;
     for byte in text {
@@ -18,7 +18,7 @@ fn number_at(text: &[u8]) -> usize {
     number
 }
 
-/// The place of the error in a query, as the reply gives it.
+/// The place of the query's error that the reply reports.
 pub(crate) fn fault_at(reply: &[u8]) -> Option<usize> {
     if let Some(number) = reply.strip_prefix(b"refused 12 Syntax ".as_slice()) {
         return Some(number_at(number));
@@ -27,8 +27,7 @@ pub(crate) fn fault_at(reply: &[u8]) -> Option<usize> {
     Some(number_at(number))
 }
 
-/// A text as it is shown, and as many spaces as the text has columns before the byte at this
-/// offset.
+/// The text as it is shown, and as many spaces as it has columns before the byte at this offset.
 fn under(alloc: Global, text: &str, at: usize) -> Result<(String, String), AllocError> {
     let mut shown = String::new(alloc);
     let mut spaces = String::new(alloc);
@@ -53,7 +52,7 @@ fn under(alloc: Global, text: &str, at: usize) -> Result<(String, String), Alloc
     Ok((shown, spaces))
 }
 
-/// The text of the query in a line.
+/// The text of the query in a line, if there is one.
 fn query_text(alloc: Global, line: &[u8]) -> Option<String> {
     match read_line(alloc, line) {
         Ok(Request::Query(text)) => Some(text),
@@ -64,7 +63,7 @@ fn query_text(alloc: Global, line: &[u8]) -> Option<String> {
     }
 }
 
-/// Shows a query with a caret below the place of its error.
+/// Shows a query with a caret under the place of its error.
 pub(crate) fn point_at<R: Eprint>(rt: &R, alloc: Global, line: &[u8], at: usize) {
     let Some(text) = query_text(alloc, line) else {
         return;

@@ -1,4 +1,4 @@
-//! A store that is talked with, and whose journal is returned at the end.
+//! Conversations about a store that return its journal at the end.
 ghost use Rattle.std.specs.Prelude.{◌≡◌, ◌≤◌, ◌↔◌, IfErr, IfSome, OnOk, Err, length};
 ghost use Rattle.be_journal.specs.Journal.{IsLegal};
 ghost use Rattle.be_script_runner.specs.Output.{Session, opening};
@@ -7,7 +7,7 @@ ghost use Rattle.be_script_runner.specs.Store.{start};
 ghost use Rattle.be_script_runner.specs.View.{session, queued_ops};
 ghost use Rattle.be_shell.specs.Conversation as spec;
 ghost use Rattle.be_table.specs.Rule.{AreBad};
-ghost use Rattle.be_table.specs.Versions.{CanSpellEach};
+ghost use Rattle.be_table.specs.Versions.{CanEncodeEach};
 
 use crate::conversations::converse;
 use crate::peers::Peer;
@@ -16,7 +16,7 @@ use be_script_runner::{
 };
 use std::alloc::Global;
 
-/// Talks with one peer to its end, and then with the other. A fault ends both.
+/// Talks with one peer to its end, and then with the other. A fault ends both conversations.
 fn converse_with_both<S: Server, F: Peer, P: Peer>(
     alloc: Global,
     server: &mut S,
@@ -38,8 +38,9 @@ fn converse_with_both<S: Server, F: Peer, P: Peer>(
     converse(alloc, server, client, peer)
 }
 
-/// Talks as [`crate::shell`] does, and returns the store's journal, also if a fault has ended the
-/// talk: what was accepted by then. None if no store was opened, or memory was missing to close it.
+/// Talks as [`crate::shell`] does, and also returns the store's journal. If a fault ends the
+/// conversations, the journal has what was accepted until then. It is `None` if no store was
+/// opened, or if there was no memory to close it.
 pub fn shell_and_close<F: Peer, P: Peer>(
     alloc: Global,
     first: &mut F,
@@ -51,7 +52,7 @@ pub fn shell_and_close<F: Peer, P: Peer>(
         × spec.TalkedTo P.does mid peer.old last peer.new
         × IfSome result.1 (λ journal. journal.entries ≡ last.store.journal)) }
     ensures legal { IfSome result.1 (λ journal. IsLegal journal.entries) }
-    ensures volumes { IfSome result.1 (λ journal. CanSpellEach limits.pages journal.entries) }
+    ensures volumes { IfSome result.1 (λ journal. CanEncodeEach limits.pages journal.entries) }
     ensures fault { IfErr result.0 (λ e. spec.ShellLeaves F.does P.does e
         (opening (start limits.commits)) first.old first.new peer.old peer.new) }
     ensures limits { (result.0 ≡ Err RunFault.Limits) ↔ AreBad limits }

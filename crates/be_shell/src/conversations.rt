@@ -1,5 +1,4 @@
-//! Conversations: a line is heard, then its reply is said and sent off, and then the next line is
-//! heard.
+//! Conversations: a line is heard, its reply is said and flushed, and then the next line is heard.
 ghost use Rattle.std.specs.Prelude.{◌≡◌, ◌≤◌, ℕ, List, [], ◌∷◌, length, IfOk, IfErr, OnOk};
 ghost use Rattle.std.specs.String.{string_bytes};
 ghost use Rattle.be_script_language.specs.View.{request_of};
@@ -26,7 +25,7 @@ fn request_in(alloc: Global, line: &Line) -> Result<Request, AllocError>
     }
 }
 
-/// Runs a line, and gives its reply as a text.
+/// Runs a line, and returns its reply as text.
 fn reply_to<S: Server>(
     alloc: Global,
     server: &mut S,
@@ -51,9 +50,9 @@ fn reply_to<S: Server>(
     }
 }
 
-/// Says a reply and sends it off.
-fn tell<P: Peer>(peer: &mut P, reply: &[u8]) -> Result<(), RunFault>
-    ensures told { OnOk result (spec.Happens P.does peer.old
+/// Says a reply and flushes it.
+fn send<P: Peer>(peer: &mut P, reply: &[u8]) -> Result<(), RunFault>
+    ensures reported { OnOk result (spec.Happens P.does peer.old
         (spec.says reply.now ∷ spec.flushes ∷ []) peer.new) }
     ensures cut { IfErr result (λ e. (e ≡ RunFault.Write)
         × (cut : List spec.Event) × spec.IsCut reply.now cut
@@ -64,7 +63,7 @@ fn tell<P: Peer>(peer: &mut P, reply: &[u8]) -> Result<(), RunFault>
     Ok(())
 }
 
-/// Runs a line that was heard, says its reply and sends it off.
+/// Runs a line that was heard, says its reply and flushes it.
 fn serve_line<S: Server, P: Peer>(
     alloc: Global,
     server: &mut S,
@@ -84,11 +83,11 @@ fn serve_line<S: Server, P: Peer>(
     ensures few { length (queued_ops client.new) ≤ 64 }
 {
     let reply = reply_to(alloc, server, client, line)?;
-    tell(peer, reply.as_bytes())?;
+    send(peer, reply.as_bytes())?;
     Ok(())
 }
 
-/// Hands the state of the store to a peer that asks for it.
+/// Gives the store's state to a peer that asks for it.
 fn hand_state<S: Server, P: Peer>(server: &mut S, peer: &mut P)
     ensures same { (event : Event) (before : P) → P.does before event peer.old
         → P.does before event peer.new }
@@ -104,7 +103,8 @@ fn hand_state<S: Server, P: Peer>(server: &mut S, peer: &mut P)
     }
 }
 
-/// Hears a line, runs it, says its reply and sends it off. False if no more lines come.
+/// Hears a line, runs it, says its reply and flushes it. It returns false if there are no more
+/// lines.
 fn exchange<S: Server, P: Peer>(
     alloc: Global,
     server: &mut S,
@@ -128,13 +128,15 @@ fn exchange<S: Server, P: Peer>(
     Ok(true)
 }
 
-/// Talks with a peer until no more lines come, or until a fault.
+/// Talks with a peer until there are no more lines, or until a fault.
 ///
-/// Each line is run before its reply is said, and the reply is sent off before the next line is
-/// heard. An open batch and a live query of the client go on, and stay in it afterwards, so a
-/// conversation can go on with another peer. A fault leaves what was said before it, and a front of
-/// the reply that it broke off; `Memory` leaves the line run or not. `Read` comes too after 2^64 -
-/// 1 lines.
+/// Each line is run before its reply is said, and the reply is flushed before the next line is
+/// heard. The client's open batch and live query continue, and stay open afterwards, so the
+/// conversation can continue with another peer.
+///
+/// After a fault, everything before it has been said, and possibly the front of the reply that it
+/// interrupted. After `Memory`, the line may have been run or not. `Read` is also returned after
+/// 2^64 - 1 lines.
 pub fn converse<S: Server, P: Peer>(
     alloc: Global,
     server: &mut S,

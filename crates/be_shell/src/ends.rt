@@ -1,4 +1,4 @@
-//! A reader and a writer as a peer.
+//! A peer made of a reader and a writer.
 ghost use Rattle.std.specs.Prelude.{◌≡◌, ◌≤◌, ◌<◌, ◌∷◌, ◌++◌, [], IfOk, IfErr, OnOk, vec_len};
 ghost use Rattle.be_shell.specs.Bytes.{Hears, TakesByte};
 ghost use Rattle.be_shell.specs.Conversation.{IsDeaf, hearing, hears, ends, short_line, long_line};
@@ -10,10 +10,10 @@ use be_script_runner::{RunFault, put};
 use std::alloc::Global;
 use std::io::{Read, Write};
 
-/// The most bytes of a line that is kept, its LF not counted.
+/// The most bytes of a line that are kept, not counting its LF.
 const MAX_LINE: usize = 1 << 16;
 
-/// The next byte, or None at the end.
+/// The next byte, or `None` at the end.
 fn read_byte<R: Read>(reader: &mut R) -> Result<Option<u8>, RunFault>
     ensures byte { IfOk result (λ next. TakesByte (R.remaining reader.old) (R.remaining reader.new)
         next) }
@@ -27,8 +27,8 @@ fn read_byte<R: Read>(reader: &mut R) -> Result<Option<u8>, RunFault>
     }
 }
 
-/// Keeps one byte more of a line, up to one more than a line may have: that many tell that it is
-/// too long.
+/// Keeps one more byte of a line, up to one more than a line may have. That last byte shows that
+/// the line is too long.
 fn keep(line: &mut Vec<u8>, byte: u8) -> Result<(), RunFault>
     ensures more { OnOk result (vec_len line.old ≤ 65536 → line.new.items ≡ line.old.items ++ byte
         ∷ []) }
@@ -56,7 +56,8 @@ fn line_of(kept: Vec<u8>) -> Line
     }
 }
 
-/// The line after the last LF, of which these bytes were kept: it is one only if it isn't empty.
+/// The line after the last LF, of which these bytes were kept. An empty one doesn't count as a
+/// line.
 fn last_line(kept: Vec<u8>) -> Option<Line>
     ensures none { vec_len kept ≡ 0 → hearing result ≡ ends }
     ensures short { 1 ≤ vec_len kept → vec_len kept ≤ 65536 → hearing result
@@ -70,8 +71,8 @@ fn last_line(kept: Vec<u8>) -> Option<Line>
     }
 }
 
-/// Reads to the next LF, or to the end. It takes memory for at most 65,537 bytes, however long the
-/// line is. `Read` comes too after 2^64 - 1 bytes without an LF.
+/// Reads to the next LF, or to the end. It keeps at most 65,537 bytes in memory, however long the
+/// line is. `Read` is also returned after 2^64 - 1 bytes without an LF.
 fn hear_line<R: Read>(alloc: Global, reader: &mut R) -> Result<Option<Line>, RunFault>
     ensures heard { IfOk result (λ next. Hears (R.remaining reader.old) (R.remaining reader.new)
         (hearing next)) }
@@ -96,9 +97,8 @@ fn hear_line<R: Read>(alloc: Global, reader: &mut R) -> Result<Option<Line>, Run
     Err(RunFault::Read)
 }
 
-/// A reader that is heard, a line at a time and to its LF, and a writer to which replies are said.
-/// It reads a byte at a time, so a reader of a file or a pipe should be wrapped in a `BufReader`.
-/// It doesn't prompt.
+/// A peer that hears lines from a reader, each up to its LF, and says replies to a writer. It reads
+/// one byte at a time, so wrap a file or a pipe in a `BufReader`. It doesn't prompt.
 #[derive(Drop)]
 pub struct Ends<R, W> {
     reader: R,

@@ -1,4 +1,4 @@
-//! Control characters by their codes, so that a terminal takes no orders from a value.
+//! Shows control characters by their codes, so that no value can control the terminal.
 ghost use Rattle.std.specs.Prelude.{◌≡◌, ◌<◌, ◌≤◌, ◌++◌, length, take, drop, IfSome, IfNone};
 ghost use Rattle.be_shell.specs.Escape as spec;
 
@@ -40,7 +40,7 @@ pub(crate) fn control_at(bytes: &[u8]) -> Option<(u8, &[u8])>
     None
 }
 
-/// How many bytes at the front are shown as they are, the first among them.
+/// How many bytes at the front are shown as they are. The first byte is one of them.
 pub(crate) fn plain_len(bytes: &[u8]) -> usize
     requires some { 1 ≤ length bytes.now }
     requires first { spec.KeepsFirst bytes.now }

@@ -1,11 +1,11 @@
-//! What a terminal writes to standard error. What can't be written there, or finds memory full, is
-//! left out.
+//! What a terminal writes to standard error. Whatever can't be written there, or needs memory that
+//! isn't available, is left out.
 use crate::asides::{skip, split_word};
 use crate::carets::{fault_at, point_at};
 use std::alloc::Global;
 use std::io::Eprint;
 
-/// Each command with one line.
+/// Each command, on one line.
 const HELP: &str = "\
 new                       make a node
 drop N                    remove a node
@@ -32,7 +32,7 @@ help                      list the commands; help COMMAND, one of them
 quit                      end the shell, as exit and the end of input do
 ";
 
-/// The line of help of a command.
+/// A command's line of help.
 fn usage_of(command: &[u8]) -> Option<&'static str> {
     for line in HELP.lines() {
         let (word, _) = split_word(line.as_bytes());
@@ -43,7 +43,7 @@ fn usage_of(command: &[u8]) -> Option<&'static str> {
     None
 }
 
-/// Writes to standard error how a command is used, or that there is none of this name.
+/// Writes to standard error how a command is used, or that there is no such command.
 pub(crate) fn print_usage<R: Eprint>(rt: &R, command: &[u8]) {
     let _ = match usage_of(command) {
         Some(usage) => eprintln!(rt; "{usage}"),
@@ -51,7 +51,7 @@ pub(crate) fn print_usage<R: Eprint>(rt: &R, command: &[u8]) {
     };
 }
 
-/// Answers the line `help`, with a command after it or without.
+/// Answers the line `help`, with or without a command after it.
 pub(crate) fn print_help<R: Eprint>(rt: &R, line: &[u8]) {
     let (_, beyond) = split_word(skip(line));
     let (command, _) = split_word(skip(beyond));
@@ -67,7 +67,7 @@ pub(crate) fn wants_hint(reply: &[u8]) -> bool {
     reply == b"bad line\n".as_slice() || fault_at(reply).is_some()
 }
 
-/// Writes to standard error what a reply doesn't say: how the command of a bad line is used, and
+/// Writes to standard error what a reply leaves out: how the command of a bad line is used, or
 /// where a query has its error.
 pub(crate) fn hint<R: Eprint>(rt: &R, alloc: Global, line: &[u8], reply: &[u8]) {
     if reply == b"bad line\n".as_slice() {

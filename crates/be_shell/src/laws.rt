@@ -1,4 +1,4 @@
-//! Laws of the definitions. Each does nothing; its contract is the law.
+//! Laws about the definitions. Each function does nothing; its contract is the law.
 ghost use Rattle.std.specs.Prelude.{◌≡◌, List, ℕ, [], ◌∷◌, ◌++◌};
 ghost use Rattle.be_script_language.specs.Request.{lines_of};
 ghost use Rattle.be_script_runner.specs.Output.{Session, IsOutputTo, Outputs, opening};
@@ -6,14 +6,14 @@ ghost use Rattle.be_script_runner.specs.Store.{Store};
 ghost use Rattle.be_shell.specs.Bytes.{AreShort, IsWhole, Known, known_do, knows};
 ghost use Rattle.be_shell.specs.Conversation.{Event, IsTalk, TalkedTo, all_short, said};
 
-/// What is said in a conversation is what its lines are answered in a script.
+/// What is said in a conversation is the output that its lines have in a script.
 pub fn talk_is_output()
     ensures { (s last : Session) (lines : List (List ℕ)) (talk : List Event)
         → IsTalk s (all_short lines) talk last → Outputs s lines last (said talk) }
 {}
 
-/// A conversation of a script's lines is an output of that script, and leaves the same store. It
-/// doesn't matter whether the empty line after a last LF is heard.
+/// A conversation over a script's lines is an output of that script, and leaves the same store. It
+/// doesn't matter whether the empty line after a final LF is heard.
 pub fn talk_of_script_is_output()
     ensures whole { (store : Store) (script : List ℕ) (talk : List Event) (last : Session) →
         IsTalk (opening store) (all_short (lines_of script)) talk last
@@ -24,11 +24,11 @@ pub fn talk_of_script_is_output()
         → IsOutputTo store script last.store (said talk) }
 {}
 
-/// If the bytes that come are a script none of whose lines is long, a conversation over them to
-/// their end says an output of that script, as `run` does of the same bytes.
+/// If the bytes are a script without long lines, a conversation over all of them says an output of
+/// that script. `run` writes an output of the same script.
 pub fn talk_of_bytes_is_output()
-    ensures { (store : Store) (script told : List ℕ) (last : Session) (end : Known)
+    ensures { (store : Store) (script reported : List ℕ) (last : Session) (end : Known)
         → AreShort (lines_of script) →
-        TalkedTo known_do (opening store) (knows script told) last end
-        → IsWhole store script told last end }
+        TalkedTo known_do (opening store) (knows script reported) last end
+        → IsWhole store script reported last end }
 {}

@@ -1,12 +1,15 @@
-//! A store that stays up and is talked with, line by line.
+//! The shell: it keeps a store open and answers lines one by one.
 //!
-//! [`shell`] opens a store, and answers each line of a peer before it hears the next. What a line
-//! may be answered is the definition that scripts have. [`Peer`] is a trait, so its contract fixes
-//! the order of hearing and saying for every peer. [`Ends`] makes a peer of a reader and a writer,
-//! [`Screen`] one that shows control characters by their codes, and [`Terminal`] one that is
-//! prompted. [`Breaking`] is a reader in which Ctrl-C ends a line. From the bottom up: a line as it
-//! is heard, the peer, conversations, a reader and a writer as a peer, what is shown, a terminal,
-//! and the shell.
+//! [`shell`] opens a store, and answers each line of a peer before it hears the next. A line's
+//! reply is what it would be in a script, by the same definition. [`Peer`] is a trait, so its
+//! contract fixes the order of hearing and saying for every peer.
+//!
+//! [`Ends`] is a peer made of a reader and a writer. [`Screen`] is a peer that shows control
+//! characters by their codes. [`Terminal`] is a peer that is prompted. [`Breaking`] is a reader in
+//! which Ctrl-C ends a line.
+//!
+//! The modules, from the bottom up: lines, peers, conversations, a reader and a writer as a peer,
+//! what is shown, terminals, and the shell.
 #![tactic(auto)]
 
 mod asides;

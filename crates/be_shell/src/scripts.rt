@@ -5,7 +5,7 @@ use std::io::{self, Eprint, Read};
 use std::rt::Files;
 use std::{fs, str};
 
-/// The most bytes of a line that is kept.
+/// The most bytes of a line that are kept.
 const MAX_LINE: usize = 1 << 16;
 
 /// A file that was read whole, with the place of its next line.
@@ -14,12 +14,13 @@ pub(crate) struct Script {
     name: String,
     text: Vec<u8>,
     next: usize,
-    /// How many lines were taken.
+    /// How many lines have been taken.
     number: u64,
 }
 
 impl Script {
-    /// The next line without its LF. What follows the last LF is one only if it isn't empty.
+    /// The next line without its LF. What follows the last LF counts as a line only if it isn't
+    /// empty.
     fn take_line(&mut self) -> Option<&[u8]> {
         if self.next >= self.text.len() {
             return None;
@@ -34,8 +35,8 @@ impl Script {
         Some(line)
     }
 
-    /// Writes to standard error the place of the line that was taken last.
-    pub(crate) fn tell_place<R: Eprint>(&self, rt: &R) {
+    /// Writes the file and number of the last line taken to standard error.
+    pub(crate) fn write_place<R: Eprint>(&self, rt: &R) {
         let (name, number) = (self.name.as_str(), self.number);
         let _ = eprint!(rt; "{name}:{number}: ");
     }
@@ -47,7 +48,7 @@ fn owned(alloc: Global, bytes: &[u8]) -> Result<Vec<u8>, AllocError> {
     Ok(copy)
 }
 
-/// The next line of a script, and None at its end.
+/// The next line of a script, or `None` at its end.
 pub(crate) fn next_line(alloc: Global, script: &mut Script) -> Result<Option<Line>, AllocError> {
     let Some(line) = script.take_line() else {
         return Ok(None);
@@ -58,7 +59,7 @@ pub(crate) fn next_line(alloc: Global, script: &mut Script) -> Result<Option<Lin
     Ok(Some(Line::Short(owned(alloc, line)?)))
 }
 
-/// Reads all of a file.
+/// Reads a whole file.
 fn read_whole<R: Files>(rt: &R, alloc: Global, name: &str) -> io::Result<Vec<u8>> {
     let mut text = Vec::new(alloc);
     let mut file = fs::open(rt, name)?;
@@ -76,7 +77,7 @@ fn script_of<R: Files>(rt: &R, alloc: Global, name: &str) -> io::Result<Script> 
     })
 }
 
-/// Opens the file of this name, or reports on standard error that it can't.
+/// Opens the file with this name, or reports on standard error that it can't.
 pub(crate) fn open_script<R: Files + Eprint>(rt: &R, alloc: Global, name: &[u8]) -> Option<Script> {
     let Ok(name) = str::from_utf8(name) else {
         let _ = eprintln!(rt; "cannot read it: its name isn't UTF-8");

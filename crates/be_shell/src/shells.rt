@@ -1,22 +1,22 @@
-//! A store that is talked with.
+//! The shell: conversations about a store of its own.
 ghost use Rattle.std.specs.Prelude.{◌≡◌, ◌↔◌, IfErr, OnOk, Err};
 ghost use Rattle.be_script_runner.specs.Output.{Session, opening};
 ghost use Rattle.be_script_runner.specs.Store.{start};
 ghost use Rattle.be_shell.specs.Conversation as spec;
 ghost use Rattle.be_table.specs.Rule.{AreBad};
-ghost use Rattle.be_table.specs.Versions.{CanSpellEach};
+ghost use Rattle.be_table.specs.Versions.{CanEncodeEach};
 
 use crate::conversations::converse;
 use crate::peers::Peer;
 use be_script_runner::{Client, Limits, PassServer, RunFault, open_for_one};
 use std::alloc::Global;
 
-/// Talks about an empty store of its own, which has the pages and commits of the limits and one
-/// pass: first with one peer to its end, as a file, and then with the other.
+/// Opens an empty store of its own, with the limits' pages and commits and one pass. It talks with
+/// one peer to its end, such as a file, and then with the other.
 ///
-/// The limits are looked at first, and then the store is opened, before anything is heard. The
-/// second conversation goes on from the session that the first one left: its store, its pin, an
-/// open batch and the live query. Any fault ends both.
+/// The limits are checked first. Then the store is opened, before anything is heard. The second
+/// conversation continues the session that the first one left: its store, its pin, an open batch
+/// and the live query. Any fault ends both conversations.
 pub fn shell<F: Peer, P: Peer>(
     alloc: Global,
     first: &mut F,
@@ -26,7 +26,7 @@ pub fn shell<F: Peer, P: Peer>(
     ensures talked { OnOk result ((mid : Session) × (last : Session)
         × spec.TalkedTo F.does (opening (start limits.commits)) first.old mid first.new
         × spec.TalkedTo P.does mid peer.old last peer.new
-        × CanSpellEach limits.pages last.store.journal) }
+        × CanEncodeEach limits.pages last.store.journal) }
     ensures fault { IfErr result (λ e. spec.ShellLeaves F.does P.does e
         (opening (start limits.commits)) first.old first.new peer.old peer.new) }
     ensures limits { (result ≡ Err RunFault.Limits) ↔ AreBad limits }

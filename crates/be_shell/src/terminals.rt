@@ -34,7 +34,8 @@ fn aside_in(line: &Line) -> Aside {
     }
 }
 
-/// A line as the shell hears it: itself, or an empty line or the end if it is for the terminal.
+/// A line as the shell hears it: the line itself if it is for the store; otherwise an empty line,
+/// or the end.
 fn passed_on(alloc: Global, line: Line, aside: Aside) -> Option<Line>
     ensures { hearing result ≡ spec.passed_on (line_heard line) aside }
 {
@@ -45,13 +46,13 @@ fn passed_on(alloc: Global, line: Line, aside: Aside) -> Option<Line>
     }
 }
 
-/// The name after the command of a line.
+/// The name after a line's command.
 fn name_in(line: &[u8]) -> &[u8] {
     let (_, beyond) = split_word(skip(line));
     skip(beyond).trim_ascii_end()
 }
 
-/// Opens the file that a line `read` names.
+/// Opens the file that a `read` line names.
 fn open_named<R: Files + Eprint>(rt: &R, alloc: Global, line: &[u8]) -> Option<Script> {
     let name = name_in(line);
     if name.is_empty() {
@@ -61,7 +62,7 @@ fn open_named<R: Files + Eprint>(rt: &R, alloc: Global, line: &[u8]) -> Option<S
     open_script(rt, alloc, name)
 }
 
-/// Answers a line that is for the terminal, if an answer on standard error is all of it.
+/// Answers a line that is for the terminal, if a text on standard error is the whole answer.
 fn answer_aside<R: Eprint>(rt: &R, line: &Line, aside: Aside) {
     let _ = match (aside, line) {
         (Aside::Cancelled, _) => eprintln!(rt;),
@@ -95,7 +96,7 @@ fn answer_typed<R: Files + Eprint>(
     }
 }
 
-/// The name of the file that a line `save` names, if it is one.
+/// The name of the file that a `save` line names, if the line is one.
 fn saved_name<R: Eprint>(rt: &R, alloc: Global, line: &Line, aside: Aside) -> Option<String> {
     let (Aside::Save, Line::Short(bytes)) = (aside, line) else {
         return None;
@@ -123,8 +124,8 @@ fn answer_read<R: Eprint>(rt: &R, alloc: Global, line: Line) -> Option<Line> {
     passed_on(alloc, line, aside)
 }
 
-/// What is heard of the file that is being read. None once it has no more lines, and no file is
-/// being read then.
+/// The next line of the file that is being read, as the shell hears it. It is `None` once the file
+/// has no more lines; then no file is being read.
 fn hear_script<R: Eprint>(
     rt: &R,
     alloc: Global,
@@ -151,7 +152,7 @@ fn hear_script<R: Eprint>(
     }
 }
 
-/// A copy of a line, for hints; None too if there is no memory for it.
+/// A copy of a line, for hints. It is also `None` if there is no memory for it.
 fn remembered(alloc: Global, heard: &Option<Line>) -> Option<Vec<u8>> {
     let Some(Line::Short(bytes)) = heard else {
         return None;
@@ -163,7 +164,7 @@ fn remembered(alloc: Global, heard: &Option<Line>) -> Option<Vec<u8>> {
     }
 }
 
-/// Prompts.
+/// Prompts on standard error.
 fn ask<R: Eprint>(rt: &R, is_batch_open: bool) {
     let prompt = if is_batch_open {
         "batch> "
@@ -179,7 +180,7 @@ fn print_place<R: Eprint>(rt: &R, script: &Script, reply: &[u8]) {
     if !wants_hint(reply) {
         return;
     }
-    script.tell_place(rt);
+    script.write_place(rt);
     if fault_at(reply).is_some() {
         let _ = eprintln!(rt; "this query isn't valid here:");
     }
@@ -196,9 +197,9 @@ pub struct Terminal<'a, R, P> {
     alloc: Global,
     peer: P,
     script: Option<Script>,
-    /// The last line that was heard, for hints.
+    /// The last line heard, for hints.
     heard: Option<Vec<u8>>,
-    /// The file that the last line asks the store to be saved in.
+    /// The file in which the last line asks to save the store.
     saves_to: Option<String>,
 }
 
@@ -217,9 +218,9 @@ impl<'a, R: Files + Eprint, P: Peer> Terminal<'a, R, P> {
         }
     }
 
-    /// Writes to standard error what a reply to the last line doesn't say, after the line's place
-    /// in a file.
-    fn tell_hint(&self, reply: &[u8]) {
+    /// Writes to standard error what the reply to the last line leaves out. If the line came from a
+    /// file, the line's place comes first.
+    fn print_hint(&self, reply: &[u8]) {
         let Some(heard) = &self.heard else {
             return;
         };
@@ -237,8 +238,9 @@ impl<'a, R: Files + Eprint, P: Peer> Peer for Terminal<'a, R, P> {
     ghost does = { λ old event new. asks P.does old.peer (is_some old.script) event new.peer
         (is_some new.script) };
 
-    /// Hears the next line of the file that is being read. Otherwise prompts, and hears a line of
-    /// the peer. A line for the terminal itself is answered here. The errors are those of the peer.
+    /// Hears the next line of the file that is being read. Otherwise it prompts, and hears a line
+    /// from the peer below. It answers a line for the terminal itself. The errors are those of the
+    /// peer below.
     fn hear(&mut self, alloc: Global, is_batch_open: bool) -> Result<Option<Line>, RunFault> {
         self.saves_to = None;
         if let Some(heard) = hear_script(self.rt, alloc, &mut self.script) {
@@ -270,7 +272,7 @@ impl<'a, R: Files + Eprint, P: Peer> Peer for Terminal<'a, R, P> {
 
     fn say(&mut self, reply: &[u8]) -> Result<(), RunFault> {
         self.peer.say(reply)?;
-        self.tell_hint(reply);
+        self.print_hint(reply);
         Ok(())
     }
 

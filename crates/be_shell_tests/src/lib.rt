@@ -1,6 +1,6 @@
 //! Conversations with a shell, by public calls.
 //!
-//! They are in a crate of their own, so that be_shell isn't proved a second time with them.
+//! They have a crate of their own, so that be_shell isn't proved a second time with them.
 #![tactic(auto)]
 
 #[cfg(test)]

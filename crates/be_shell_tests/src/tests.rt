@@ -1,5 +1,5 @@
-//! Conversations: with a peer that looks at the order of calls and fails at each of them, and with
-//! a reader and a writer.
+//! Conversations: with a peer that checks the order of calls and fails at each of them, and with a
+//! reader and a writer.
 ghost use Rattle.std.specs.Prelude.{⊤};
 
 use be_script_runner::{Limits, RunFault};
@@ -15,10 +15,10 @@ const LIMITS: Limits = Limits {
     commits: 1_000_000,
 };
 
-/// How many rows there are.
+/// The number of rows.
 const ROWS: usize = 8;
 
-/// A line with its reply. The batch stays open between them.
+/// A line with its reply. The batch stays open between rows.
 fn row(place: usize) -> Option<(&'static str, &'static str)> {
     match place {
         0 => Some(("new", "node 1\n")),
@@ -41,8 +41,8 @@ enum Awaits {
     Flush,
 }
 
-/// Has the lines of the rows, and looks whether each call comes in its turn and each reply is that
-/// of its row. It fails at a call, if there are so many.
+/// A peer that has the rows' lines, and checks that calls come in order and each reply is the
+/// row's. It fails at one call, if there are that many.
 #[derive(Drop)]
 struct Strict {
     row: usize,
@@ -61,7 +61,7 @@ impl Strict {
         }
     }
 
-    /// Notes a call, and returns whether it is to fail.
+    /// Counts a call, and returns whether it should fail.
     fn fails_at(&mut self, call: Awaits) -> bool {
         if self.awaits != call {
             self.is_in_order = false;
@@ -83,8 +83,8 @@ fn line_of(alloc: Global, text: &str) -> Result<Line, AllocError> {
 impl Peer for Strict {
     ghost does = { λ _ _ _. ⊤ };
 
-    /// Gives the line of the next row, or None after the last one. Fails with `Read` if it is to,
-    /// or out of turn.
+    /// Returns the next row's line, or `None` after the last one. It fails with `Read` if it
+    /// should, or if the call is out of order.
     fn hear(&mut self, alloc: Global, _is_batch_open: bool) -> Result<Option<Line>, RunFault> {
         if self.fails_at(Awaits::Hear) {
             return Err(RunFault::Read);
@@ -123,18 +123,18 @@ impl Peer for Strict {
     }
 }
 
-/// A conversation with this peer, after no other.
+/// A conversation with this peer only.
 fn talk(alloc: Global, peer: &mut Strict) -> Result<(), RunFault> {
     let mut written: Vec<u8> = Vec::new(alloc);
     let mut nothing = Ends::new(b"".as_slice(), &mut written);
     shell(alloc, &mut nothing, peer, LIMITS)
 }
 
-/// How many calls a whole conversation makes: three a line, and one that hears the end.
+/// The number of calls in a whole conversation: three for each line, and one that hears the end.
 const CALLS: usize = 3 * ROWS + 1;
 
-/// Whether a conversation that fails at this call ends there with its fault, all before it in
-/// order; or to its end, if none fails.
+/// Whether a conversation that fails at this call ends there with the call's error, with all calls
+/// before it in order. If no call fails, whether it reaches its end.
 fn ends_at(alloc: Global, call: usize) -> bool {
     let mut peer = Strict::new(call);
     let ended = talk(alloc, &mut peer);
@@ -147,7 +147,7 @@ fn ends_at(alloc: Global, call: usize) -> bool {
     is_right && peer.is_in_order && peer.calls_left == 0 && peer.row == call / 3
 }
 
-/// A peer that fails at each of its calls, and one that fails at none.
+/// A peer that fails at each of its calls, and one that never fails.
 #[test]
 fn failing_peer(rt: HostRuntime) -> Result<(), Fail> {
     for call in 0..CALLS + 1 {
@@ -158,7 +158,7 @@ fn failing_peer(rt: HostRuntime) -> Result<(), Fail> {
     Ok(())
 }
 
-/// What a shell says to the bytes of a reader, after those of a first one.
+/// What a shell says to a reader's bytes, after those of a first reader.
 fn said_to(alloc: Global, first: &[u8], bytes: &[u8]) -> Result<Vec<u8>, RunFault> {
     let mut early: Vec<u8> = Vec::new(alloc);
     let mut late: Vec<u8> = Vec::new(alloc);
@@ -174,7 +174,7 @@ fn said_to(alloc: Global, first: &[u8], bytes: &[u8]) -> Result<Vec<u8>, RunFaul
     }
 }
 
-/// Fails unless a shell says this, asked again if memory ran out.
+/// Fails unless a shell says this. If memory ran out, it is tried again.
 fn check(alloc: Global, first: &[u8], bytes: &[u8], replies: &str) -> Result<(), Fail> {
     for _ in 0..2 {
         if let Ok(said) = said_to(alloc, first, bytes) {
@@ -186,7 +186,7 @@ fn check(alloc: Global, first: &[u8], bytes: &[u8], replies: &str) -> Result<(),
     Err(Fail::new(replies))
 }
 
-/// The end of the last line, a CR, and a byte that is no UTF-8.
+/// The end of the last line, a CR, and a byte that isn't valid UTF-8.
 #[test]
 fn ends_of_lines(rt: HostRuntime) -> Result<(), Fail> {
     let alloc = rt.alloc();
@@ -197,7 +197,7 @@ fn ends_of_lines(rt: HostRuntime) -> Result<(), Fail> {
     check(alloc, b"", b"new\xff\nnew\n", "bad line\nnode 1\n")
 }
 
-/// The end of the first peer's last line, and a batch that goes on from the first peer to the
+/// The end of the first peer's last line, and a batch that continues from the first peer to the
 /// other.
 #[test]
 fn two_peers(rt: HostRuntime) -> Result<(), Fail> {
@@ -207,7 +207,7 @@ fn two_peers(rt: HostRuntime) -> Result<(), Fail> {
     check(alloc, b"begin\nnew\n", b"commit\n", replies)
 }
 
-/// What is shown to the bytes of a reader in which Ctrl-C ends a line.
+/// What a screen shows for the bytes of a reader in which Ctrl-C ends a line.
 fn shown_to(alloc: Global, bytes: &[u8]) -> Result<Vec<u8>, RunFault> {
     let mut early: Vec<u8> = Vec::new(alloc);
     let mut late: Vec<u8> = Vec::new(alloc);
@@ -217,7 +217,7 @@ fn shown_to(alloc: Global, bytes: &[u8]) -> Result<Vec<u8>, RunFault> {
     Ok(late)
 }
 
-/// Fails unless this is shown, asked again if memory ran out.
+/// Fails unless this is shown. If memory ran out, it is tried again.
 fn check_shown(alloc: Global, bytes: &[u8], replies: &str) -> Result<(), Fail> {
     for _ in 0..2 {
         if let Ok(shown) = shown_to(alloc, bytes) {
@@ -229,7 +229,7 @@ fn check_shown(alloc: Global, bytes: &[u8], replies: &str) -> Result<(), Fail> {
     Err(Fail::new(replies))
 }
 
-/// Control characters of one byte and of two, next to others that begin as these do.
+/// Control characters of one byte and of two, next to characters that begin with the same byte.
 #[test]
 fn controls(rt: HostRuntime) -> Result<(), Fail> {
     check_shown(
@@ -239,7 +239,7 @@ fn controls(rt: HostRuntime) -> Result<(), Fail> {
     )
 }
 
-/// What Ctrl-C types ends a line, and is a byte of it.
+/// The byte of Ctrl-C ends a line, and belongs to it.
 #[test]
 fn cancelled_lines(rt: HostRuntime) -> Result<(), Fail> {
     check_shown(
@@ -249,8 +249,7 @@ fn cancelled_lines(rt: HostRuntime) -> Result<(), Fail> {
     )
 }
 
-/// A comment of as many bytes as a line may have, and one of a byte more, before a line that is
-/// answered.
+/// A comment of `len` bytes, before a line that has a reply.
 fn commented(alloc: Global, len: usize) -> Result<Vec<u8>, AllocError> {
     let mut bytes: Vec<u8> = vec![in alloc; b'#'; len]?;
     bytes.extend_from_slice(b"\nnew\n")?;
@@ -264,7 +263,7 @@ fn longest_replies(rt: HostRuntime) -> Result<(), Fail> {
     check(rt.alloc(), b"", script.as_bytes(), &replies)
 }
 
-/// Fails unless a shell says this to a comment of so many bytes before a line that is answered.
+/// Fails unless a shell says this to a comment of this many bytes, before a line that has a reply.
 fn check_comment(alloc: Global, len: usize, replies: &str) -> Result<(), Fail> {
     let bytes = match commented(alloc, len) {
         Ok(bytes) => bytes,
@@ -273,7 +272,7 @@ fn check_comment(alloc: Global, len: usize, replies: &str) -> Result<(), Fail> {
     check(alloc, b"", &bytes, replies)
 }
 
-/// The longest line, and longer ones.
+/// A line of the maximum length, and longer ones.
 #[test]
 fn long_lines(rt: HostRuntime) -> Result<(), Fail> {
     check_comment(rt.alloc(), 65_536, "node 1\n")?;
@@ -281,7 +280,8 @@ fn long_lines(rt: HostRuntime) -> Result<(), Fail> {
     check_comment(rt.alloc(), 1_100_000, "bad line\nnode 1\n")
 }
 
-/// Holds what it is given until a flush sends it, and fails at each flush after the first so many.
+/// A writer that holds the bytes until a flush sends them, and fails at each flush after the first
+/// few.
 #[derive(Drop)]
 struct Sending {
     held: u64,
@@ -306,8 +306,8 @@ impl Write for Sending {
     }
 }
 
-/// Whether a conversation of three lines over a writer that sends so many replies ends with `Write`
-/// after them; or with success if it sends each.
+/// Whether a conversation of three lines ends with `Write` after `most` replies, if the writer
+/// sends only that many. If it sends each, whether the conversation succeeds.
 fn sends(alloc: Global, most: u64) -> bool {
     let mut early: Vec<u8> = Vec::new(alloc);
     let mut late = Sending {

@@ -46,11 +46,11 @@ module _ (a w : Knowledge) (t : TakesLock a w) where
   same_phase : w.phase ≡ a.phase
   same_phase = ap (λ (k : Knowledge). k.phase) t.same
 
-  -- its own entries, of what it has seen with the lock
+  -- its own entries, among those that it has seen with the lock
   own : by_pass a.number (entries w.seen) ≡ a.mine
   own = ap (λ k. by_pass k (entries w.seen)) (sym same_number) ∙ (t.pass.mine ∙ same_mine)
 
-  -- what it sees more is by others
+  -- the entries that it sees in addition are by others
   others_apart : by_pass a.number (entries t.more.0) ≡ []
   others_apart = nothing_more a.mine (by_pass a.number (entries t.more.0))
       (ap (λ l. l ++ by_pass a.number (entries t.more.0)) (sym t.before.mine)
@@ -58,7 +58,7 @@ module _ (a w : Knowledge) (t : TakesLock a w) where
       ∙ (ap (by_pass a.number) (sym (entries_append a.seen t.more.0))
       ∙ (ap (λ l. by_pass a.number (entries l)) (sym t.more.1) ∙ own))))
 
-  -- the history up to the lock is all that there was when the lock was taken
+  -- the history up to the lock is the whole history at the time when the lock was taken
   pub upto_here : upto_lock w.number w.history ≡ w.history
   upto_here = ap (λ k. upto_lock k w.history) same_number ∙ upto_now a.number a.history w.history t.moves.made
 
@@ -111,7 +111,7 @@ module _ (a w : Knowledge) (t : TakesLock a w) where
         };
       }
 
-  -- the lock is given back as it was taken
+  -- the lock is given back as it was taken, and the pass learns
   pub learns_only : (c : Knowledge) → c ≡ without_lock (with_history w c.history) → IsPass c → Moves w (Unlock w.number ∷ []) c → Learns a c
   learns_only c is pass unlocked =
       let seen : c.seen ≡ w.seen = ap (λ (k : Knowledge). k.seen) is in
@@ -123,7 +123,7 @@ module _ (a w : Knowledge) (t : TakesLock a w) where
         moves = inr (locks_only w c refl (works_none w.limits w.number w.history) unlocked);
       }
 
-  -- so it is where the pass has only worked
+  -- so does a pass that has only worked
   pub learns_same : (v c : Knowledge) → v.seen ≡ w.seen → IsSame w v → c ≡ without_lock (with_history v c.history) → IsPass c
       → WorksOn w.limits w.number w.history v.history → Moves v (Unlock v.number ∷ []) c → Learns a c
   learns_same v c unseen same is pass work unlocked =
@@ -136,7 +136,7 @@ module _ (a w : Knowledge) (t : TakesLock a w) where
         moves = inr (locks_only v c same.pass work unlocked);
       }
 
-  -- the work of a write that was held back
+  -- the work of a refused write
   works : (v : Knowledge) (ops : List Op) (e : Refusal) → IsHeldBack w v ops e → (v.published ≡ false → HasWorked v.limits v.number v.history) → WorksOn w.limits w.number w.history v.history
   works v ops e p worked =
       subst (λ (x : Limits × ℕ × List Move). WorksOn x.0 x.1 x.2 v.history) (λ i. (p.same.limits i, p.same.pass i, (p.begun ∙ upto_here) i)) (worked p.unpublished)
@@ -148,7 +148,7 @@ module _ (a w : Knowledge) (t : TakesLock a w) where
   pub held_locks : (v c : Knowledge) (ops : List Op) (e : Refusal) → IsHeldBack w v ops e → (v.published ≡ false → HasWorked v.limits v.number v.history) → Moves v (Unlock v.number ∷ []) c → LocksOnly a c
   held_locks v c ops e p worked unlocked = locks_only v c p.same.pass (works v ops e p worked) unlocked
 
--- a refusal stays what it is when the lock is given back
+-- a refusal's reason still holds after the unlock
 pub refused_unlocked : (v c : Knowledge) (ops : List Op) (e : Refusal) → c ≡ without_lock (with_history v c.history) → Moves v (Unlock v.number ∷ []) c → IsRefusedAt v ops e → IsRefusedAt c ops e
 refused_unlocked v c ops e is unlocked (inl h) = inl (subst (λ (k : Knowledge). steps (volume_seen k) ops ≡ Err e) (sym is) h)
 refused_unlocked v c ops e is unlocked (inr (inl h)) = inr (inl (subst (λ (k : Knowledge). IsOk (steps (volume_seen k) ops) × HasNoRoom e k) (sym is) h))
@@ -175,6 +175,6 @@ abbrev text_or : List ℕ → Result (List ℕ) Refusal → List ℕ
 text_or d (Ok x) = x
 text_or d (Err e) = d
 
--- the text that was made while the lock was held is that of what the pass has seen after it
-pub told : (w c : Knowledge) (text : List ℕ) (made : Result (List ℕ) Refusal) → c ≡ without_lock (with_history w c.history) → made ≡ Ok (text_seen w) → made ≡ Ok text → text ≡ text_seen c
-told w c text made is all one = ap (text_or text) (sym one ∙ all) ∙ ap text_seen (sym is)
+-- the text that was made under the lock is the text of what the pass has seen after it
+pub reported : (w c : Knowledge) (text : List ℕ) (made : Result (List ℕ) Refusal) → c ≡ without_lock (with_history w c.history) → made ≡ Ok (text_seen w) → made ≡ Ok text → text ≡ text_seen c
+reported w c text made is all one = ap (text_or text) (sym one ∙ all) ∙ ap text_seen (sym is)

@@ -1,4 +1,4 @@
--- What a pass has seen stays a beginning of the journal through all its calls.
+-- What a pass has seen stays a prefix of the journal through all its calls.
 use Rattle.std.proofs.Common.{◌≡◌, ◌≤◌, ◌-◌, ◌⊎◌, inl, inr, List, [], ◌∷◌, ◌++◌, length, take, Some, refl, sym, ap, ◌∙◌, subst, arith, length-append}
 use Rattle.std.specs.Prelude.{All, slice_get}
 use Rattle.std.proofs.Math.Seq.{get_or-append_seam}
@@ -51,7 +51,7 @@ pub calls_seen : (a : Knowledge) (steps : List (Step volume)) (z : Knowledge) �
 calls_seen a [] z h = same_starts a z (ap (λ (k : Knowledge). k.seen) (sym h))
 calls_seen a (s ∷ steps) z (c, h, more) = starts_trans a.seen c.seen z.seen (calls_seen c steps z more) (call_seen a s c h)
 
--- one call more, and some more
+-- one more call, and the calls after it
 pub calls_more : (a : Knowledge) (steps : List (Step volume)) (b : Knowledge) (s : Step volume) (c : Knowledge) → Calls a steps b → Call b s c → Calls a (steps ++ s ∷ []) c
 calls_more a [] b s c h k = (c, subst (λ (x : Knowledge). Call x s c) (sym h) k, refl)
 calls_more a (t ∷ steps) b s c (d, h, more) k = (d, h, calls_more d steps b s c more k)
@@ -60,7 +60,7 @@ pub calls_both : (a : Knowledge) (steps : List (Step volume)) (b : Knowledge) (l
 calls_both a [] b later c h k = subst (λ (x : Knowledge). Calls x later c) (sym h) k
 calls_both a (s ∷ steps) b later c (d, h, more) k = (d, h, calls_both d steps b later c more k)
 
--- a read may be taken for a call that learns nothing, and a witness too
+-- a read can be listed as a call that learns nothing, and so can making a witness
 pub read_learns : (a c : Knowledge) → HasRead a c → Call a (Learn (entries c.seen)) c
 read_learns a c read = (
   subst (Learns a) (sym read) (record { more = starts_refl a.seen; mine = refl; pass = refl; pin = refl; moves = inl refl }),
@@ -74,8 +74,8 @@ entries_start log seen h = (entries h.0, ap entries h.1 ∙ entries_append seen 
 reaches : (log : List Entry) (a : Knowledge) (steps : List (Step volume)) (z : Knowledge) → StartsWith log (entries z.seen) → Calls a steps z → StartsWith log (entries a.seen)
 reaches log a steps z more h = starts_trans (entries a.seen) (entries z.seen) log more (entries_start z.seen a.seen (calls_seen a steps z h))
 
-pub stands_at_seam : {A : Type 0} (log xs : List A) (y : A) (rest : List A) → log ≡ xs ++ y ∷ rest → slice_get log (length xs) ≡ Some y
-stands_at_seam log xs y rest is =
+pub lies_at_seam : {A : Type 0} (log xs : List A) (y : A) (rest : List A) → log ≡ xs ++ y ∷ rest → slice_get log (length xs) ≡ Some y
+lies_at_seam log xs y rest is =
     let l = length-append xs (y ∷ rest) in
     ap (λ k. slice_get k (length xs)) is
     ∙ (slice_get-get_or (xs ++ y ∷ rest) (length xs) y (omega (arith, l)) ∙ ap Some (get_or-append_seam xs y rest y))
@@ -92,7 +92,7 @@ has_writes log z more a c cs ops n dones h calls =
     let parts = length-append (a.seen ++ h.others) (h.commit ∷ []) in
     let counted = length-map (a.seen ++ h.others) (λ (x : Commit). x.entry) in
     let at : n - 1 ≡ length front = omega (arith, h.number, long, parts, counted) in
-    ap (slice_get log) at ∙ stands_at_seam log front (entry_by a ops dones) begun.0 is
+    ap (slice_get log) at ∙ lies_at_seam log front (entry_by a ops dones) begun.0 is
 
 reads_fronts : (log : List Entry) (z : Knowledge) → StartsWith log (entries z.seen) → ReadsFronts log z
 reads_fronts log z more a cs n pass pin calls =

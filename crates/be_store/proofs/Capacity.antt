@@ -1,4 +1,4 @@
--- Why a write finds no page, and when it can't be so.
+-- Why a write finds no page, and when that can't happen.
 use Rattle.std.proofs.Common.{◌≡◌, ℕ, suc, zero, ◌<◌, ◌≤◌, Bool, true, false, inl, inr, List, [], ◌∷◌, length, refl, sym, ap, ◌∙◌, subst, arith}
 use Rattle.std.specs.Prelude.{IsOk, OnErr, Result, Err}
 use Rattle.be_core.specs.Machine.{has}
@@ -12,10 +12,10 @@ use Rattle.be_pages.specs.Pages.{is_taken}
 use Rattle.be_tree.specs.Counting.{HasInHand}
 use Rattle.be_table.specs.Counts.{count_below}
 use Rattle.be_table.specs.Place.{Work}
-use Rattle.be_table.specs.Reading.{open_of, standing_among, standing_in_work, word_of_page, words_of, StaysOpen}
+use Rattle.be_table.specs.Reading.{open_of, page_state_among, page_state_in_work, word_of_page, words_of, StaysOpen}
 use Rattle.be_table.specs.Seats.{pinned_number}
 use Rattle.be_table.specs.Rule.{announce_word, entries, page_at, reach_at}
-use Rattle.be_table.specs.Steps.{least_found, own_least, with_history, without_lock}
+use Rattle.be_table.specs.Steps.{lowest_found, own_lowest, with_history, without_lock}
 use Rattle.be_table.specs.Versions.{at_start}
 use Rattle.be_table.specs.Works.{HasNoRoom, IsFull, IsSpent, Moves}
 use Rattle.be_table.specs.declared.limits.Limits.{Limits}
@@ -23,7 +23,7 @@ use Rattle.be_table.specs.declared.pass.Commit.{Commit}
 use Rattle.be_table.specs.declared.pass.Knowledge.{Knowledge}
 use Rattle.be_table.specs.declared.pass.Move.TheVariants.{Unlock}
 use Rattle.be_table.proofs.Announced.{spent_unlocked}
-use Rattle.be_table.proofs.Shares.{shared_now, spelt_counted, still_counted}
+use Rattle.be_table.proofs.Shares.{shared_now, encoded_counted, still_counted}
 use Rattle.be_value.specs.declared.refusals.Refusal.{Refusal}
 use Rattle.be_value.specs.declared.refusals.Refusal.TheVariants.{Full}
 use Rattle.be_volume.specs.Items.{StaysWithin}
@@ -36,12 +36,12 @@ use Rattle.be_store.specs.Passes.{IsBetweenCalls, IsPinnedTo, volume_seen}
 use Rattle.be_store.specs.Writing.{Begins, IsHeldBack}
 use Rattle.be_store.proofs.Refusals.{steps_refuse}
 
--- a write that begins has no page in hand
+-- a write that begins holds no page
 none_taken : (b : Bool) → is_taken (at_start b) ≡ true → ⊥
 none_taken true h = cc
 none_taken false h = cc
 
-pub none_in_hand : (k : Knowledge) → Begins k → HasInHand (standing_among k.places) []
+pub none_in_hand : (k : Knowledge) → Begins k → HasInHand (page_state_among k.places) []
 none_in_hand k b q h = absurd (none_taken (has (reach_at k.seen (length k.seen)) q) (ap is_taken (sym (b.begun q)) ∙ h))
 
 -- the current version has few pages
@@ -51,17 +51,17 @@ few_current k b =
     let words = word_of_page k.words in
     let page = page_at k.seen (length k.seen) in
     let volume = volume_seen k in
-    spelt_counted pages words page k.limits.pages _ volume b.spelt (version_size (λ q. at_start (has pages q)) words page volume b.spelt.version)
+    encoded_counted pages words page k.limits.pages _ volume b.encoded (version_size (λ q. at_start (has pages q)) words page volume b.encoded.version)
 
--- what a write has in hand, told from before a call that changes nothing, to after one
+-- what a write holds, carried from before a call that changes nothing to after another such call
 pub few_between : {T E : Type 0} (r : Result T E) (volume : State) (ops : List Op) (w v : Work) (old new : Work) → v ≡ w → new ≡ old
-    → OnErr r (TakesFew volume ops (standing_in_work v) (standing_in_work old)) → OnErr r (TakesFew volume ops (standing_in_work w) (standing_in_work new))
+    → OnErr r (TakesFew volume ops (page_state_in_work v) (page_state_in_work old)) → OnErr r (TakesFew volume ops (page_state_in_work w) (page_state_in_work new))
 few_between r volume ops w v old new before after few =
-    subst (λ (x : Work × Work). OnErr r (TakesFew volume ops (standing_in_work x.0) (standing_in_work x.1))) (λ i. (before i, sym after i)) few
+    subst (λ (x : Work × Work). OnErr r (TakesFew volume ops (page_state_in_work x.0) (page_state_in_work x.1))) (λ i. (before i, sym after i)) few
 
--- where a write that began finds no page, this is why
+-- why a write that began finds no page
 pub is_short : (w v : Work) (ops : List Op) (least : ℕ) → Begins w.knows → open_of v ≡ open_of w → IsFull v least
-    → TakesFew (volume_seen w.knows) ops (standing_in_work w) (standing_in_work v) → IsShort v.knows ops least
+    → TakesFew (volume_seen w.knows) ops (page_state_in_work w) (page_state_in_work v) → IsShort v.knows ops least
 is_short w v ops least b kept full few =
     let seen : v.knows.seen ≡ w.knows.seen = ap (λ (o : StaysOpen). o.seen) kept in
     let limits : v.knows.limits ≡ w.knows.limits = ap (λ (o : StaysOpen). o.limits) kept in
@@ -74,9 +74,9 @@ is_short w v ops least b kept full few =
           omega (arith, held, taken);
     }
 
--- a write that finds no page, though the journal has room
+-- a write that finds no page although the journal has room
 pub full_held_back : (w v r : Work) (ops : List Op) (least : ℕ) (f : Refusal) → Begins w.knows → f ≡ Full least
-    → IsRefusedList open_of standing_in_work words_of IsFull (volume_seen w.knows) ops f w v → TakesFew (volume_seen w.knows) ops (standing_in_work w) (standing_in_work v)
+    → IsRefusedList open_of page_state_in_work words_of IsFull (volume_seen w.knows) ops f w v → TakesFew (volume_seen w.knows) ops (page_state_in_work w) (page_state_in_work v)
     → r.knows ≡ v.knows → length v.knows.seen < v.knows.limits.commits → IsHeldBack w.knows r.knows ops (Full least)
 full_held_back w v r ops least f b is (inl h) few same room = absurd (let low = (steps_refuse (volume_seen w.knows) ops (Full least) (h.0 ∙ ap Err is)).1 in omega (arith, low))
 full_held_back w v r ops least f b is (inr h) few same room =
@@ -90,7 +90,7 @@ full_held_back w v r ops least f b is (inr h) few same room =
       begun = ap (λ (o : StaysOpen). o.begun) kept;
     })
 
--- it stays so when the lock is given back
+-- that still holds after the unlock
 pub short_unlocked : (v c : Knowledge) (ops : List Op) (least : ℕ) → c ≡ without_lock (with_history v c.history) → Moves v (Unlock v.number ∷ []) c → IsShort v ops least → IsShort c ops least
 short_unlocked v c ops least is unlocked s = record {
   spent = spent_unlocked v c least is unlocked.made s.spent;
@@ -98,7 +98,7 @@ short_unlocked v c ops least is unlocked s = record {
   few = subst (λ (k : Knowledge). AreFewToHold (volume_seen k) ops (held_pages k)) (sym is) s.few;
 }
 
--- the current version and the write alone can't fill a large pool
+-- the current version and the write can't fill a large pool by themselves
 never_short : (c : Knowledge) (ops : List Op) (least : ℕ) → IsShort c ops least → least ≡ length c.seen → HasLargePool c ops → ⊥
 never_short c ops least s now p =
     let whole = shared_now c (subst (IsSpent c) now s.spent) in
@@ -115,15 +115,15 @@ full_is_short c ops least (inr (inl h)) = absurd (by h.1)
     by (inr none) = absurd (let e = none.0 in cc)
 full_is_short c ops least (inr (inr h)) = (h.2.0, h.2.2)
 
-least_below : (most word : ℕ) → least_found most word ≤ most
-least_below most zero = omega arith
-least_below most (suc n) = omega arith
+lowest_below : (most word : ℕ) → lowest_found most word ≤ most
+lowest_below most zero = omega arith
+lowest_below most (suc n) = omega arith
 
--- the number told is the current one, if no pass had announced an earlier one
-told_current : (c : Knowledge) (least : ℕ) → NoneIsEarlier c → IsSpent c least → least ≡ length c.seen
-told_current c least none s =
+-- the reported number is the current one, if no pass had published an earlier one
+reported_current : (c : Knowledge) (least : ℕ) → NoneIsEarlier c → IsSpent c least → least ≡ length c.seen
+reported_current c least none s =
     let below = s.2.0 in
-    let own = least_below (length c.seen) (announce_word c.phase) in
+    let own = lowest_below (length c.seen) (announce_word c.phase) in
     elim s.3 [
       | inl e ↦ e
       | inr h ↦ let reached = none h.0 least h.1 h.2 in omega (arith, below, own, reached)
@@ -132,9 +132,9 @@ told_current c least none s =
 pub large : (c : Knowledge) (ops : List Op) (least : ℕ) → NoneIsEarlier c → HasLargePool c ops → IsRefusedAt c ops (Full least) → ⊥
 large c ops least none pool refused =
     let s = full_is_short c ops least refused in
-    never_short c ops s.0 s.1 (told_current c s.0 none s.1.spent) pool
+    never_short c ops s.0 s.1 (reported_current c s.0 none s.1.spent) pool
 
-own_current : (passes now : ℕ) (p : Phase) → passes ≡ 1 → IsBetweenCalls passes p → ((x n : ℕ) → p ≡ Pinned x n → n ≡ now) → least_found now (announce_word p) ≡ now
+own_current : (passes now : ℕ) (p : Phase) → passes ≡ 1 → IsBetweenCalls passes p → ((x n : ℕ) → p ≡ Pinned x n → n ≡ now) → lowest_found now (announce_word p) ≡ now
 own_current passes now Idle one rests at = refl
 own_current passes now (Looked x) one rests at = absurd rests
 own_current passes now (Announced x) one rests at = absurd rests
@@ -143,7 +143,7 @@ own_current passes now (Pinned x n) one rests at = let same = rests one in let c
 pub alone_large : (c : Knowledge) (ops : List Op) (least : ℕ) → IsAlone c → IsAtCurrent c → HasLargePool c ops → IsRefusedAt c ops (Full least) → ⊥
 alone_large c ops least alone at pool refused =
     let s = full_is_short c ops least refused in
-    let own : s.0 ≡ own_least c = s.1.spent.2.1 alone.one in
+    let own : s.0 ≡ own_lowest c = s.1.spent.2.1 alone.one in
     let current = own_current c.limits.passes (length c.seen) c.phase alone.one at.0 (λ x n e. at.1 n (pinned_to c x n e)) in
     never_short c ops s.0 s.1 (own ∙ current) pool
   where

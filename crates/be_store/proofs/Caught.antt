@@ -1,4 +1,4 @@
--- A list that was the answer, changed at a few nodes as the query now is true of them, is the answer.
+-- A list that was the answer, and is changed at a few nodes to match the query as it is now, is the new answer.
 use Rattle.std.proofs.Common.{◌≡◌, ◌≤◌, ◌<◌, ◌+◌, ◌-◌, ◌&&◌, ◌||◌, not, ℕ, Bool, true, false, if◌then◌else◌, List, [], filter, get_or, length, refl, sym, ap, subst, take, ◌∙◌, inl, inr, arith, Some, None, Ok, Err, is_some}
 use Rattle.std.proofs.lemmas.Bool.{cases_lt}
 use Rattle.std.proofs.lemmas.List.{append-nil, get_or_append_left, get_or_default, length-map, take-append-le}
@@ -51,7 +51,7 @@ pub answer_is_scan : (s : State) (f : Formula) (list : List ℕ) → IsSound s �
 answer_is_scan s f list sound up a =
     found_all s f list sound a.0 up (λ n h. sym (a.1 n) ∙ contains_among list n h) (λ n h. among_contains list n (a.1 n ∙ h))
 
--- a node with an attribute is there
+-- a node with an attribute exists
 has_attribute : (s : State) (node : ℕ) (name : List ℕ) (value : Value) → attribute s node name ≡ Some value → fin.contains_key s.nodes node ≡ true
 has_attribute s node name value h = by (fin.get s.nodes node) h
   where
@@ -59,7 +59,7 @@ has_attribute s node name value h = by (fin.get s.nodes node) h
     by None e = cc
     by (Some a) e = refl
 
--- and one of which an indexed name is seen
+-- so does a node at which an indexed name has a value
 is_node : (s : State) → IsSound s → (node : ℕ) (name : List ℕ) (value : Value) → has_index s name ≡ true → sees s node name ≡ Some value → fin.contains_key s.nodes node ≡ true
 is_node s sound node name value indexed seen = by (fin.get s.indices name) refl
   where
@@ -70,7 +70,7 @@ is_node s sound node name value indexed seen = by (fin.get s.indices name) refl
         let p : IsPaired s name index.kind node value = sound.pairs name index node value e paired in
         has_attribute s node name value p.attribute_is
 
--- a node of which a query that rests on indices is true is there
+-- a node that matches a covered query exists
 there : (s : State) → IsSound s → (f : Formula) → covered s f ≡ true → (n : ℕ) → sat s f n ≡ true → fin.contains_key s.nodes n ≡ true
 there s sound (Leaf name op literal) rests n h = by (sees s n name) refl h
   where
@@ -104,7 +104,8 @@ scan_is_answer s f list sound h = by (covered s f) refl h
         )
     by false e g = cc
 
--- what an edit leaves among a list, where the list is right but for some numbers: l whether it had this one, m whether it is one of these, s whether it should have it
+-- What an edit leaves in a list that is right except at some numbers. For one number: l, whether the list had it; m, whether it
+-- is one of these; s, whether the list should have it.
 edited : (l m s : Bool) → (m ≡ false → l ≡ s) → ((l && not ((l && not s) && m)) || ((s && not l) && m)) ≡ s
 edited true true true h = refl
 edited true true false h = refl
@@ -173,7 +174,7 @@ module _ (s : State) (f : Formula) (nodes last new came went : List ℕ) (sound 
       (λ n. among_went n ∙ (went_so (is_among last n) (is_among nodes n) (sat s f n) (but.1 n)
       ∙ sym (among_filter (λ m. not (is_among new m)) last n ∙ ap (λ b. not b && is_among last n) (is_answer.1 n))))
 
--- ## What the pass has learnt meanwhile
+-- ## What the pass has learned meanwhile
 
 pub learns_met : (a c : Knowledge) (log : List Commit) → StartsWith log a.seen → c ≡ met a log → Learns a c
 learns_met a c log more is = subst (Learns a) (sym is) (record { more = more; mine = refl; pass = refl; pin = refl; moves = inl refl })
@@ -203,7 +204,7 @@ learns_read a b c h read = subst (Learns a) (sym read) (record {
   ];
 })
 
--- the number of a pin is that of a version which the pass has seen
+-- a pin's number is that of a version which the pass has seen
 pub pin_seen : (a : Knowledge) (n : ℕ) → IsPass a → IsPinnedTo a n → n ≤ length a.seen
 pin_seen a n pass pin =
     let p = pinned_phase a.phase n pin in
@@ -214,7 +215,7 @@ front_same log seen n more le =
     ap (λ l. take n (entries l)) more.1 ∙ (ap (take n) (entries_append seen more.0)
     ∙ take-append-le n (entries seen) (entries more.0) (let long = length-map seen (λ (c : Commit). c.entry) in omega (arith, long, le)))
 
--- and a pin stays
+-- a pin stays at its volume
 pub same_volume : (a c : Knowledge) (n : ℕ) → IsPass a → IsPinnedTo a n → Learns a c → volume_pinned c ≡ volume_pinned a
 same_volume a c n pass pin h =
     volume_is c n (ap pinned_number h.pin ∙ pin)
@@ -246,18 +247,18 @@ found_changes a b front nodes last f m n pass_a pass_b pin more_a more_front sho
 pub pinned_sound : (a : Knowledge) (n : ℕ) → IsPass a → IsPinnedTo a n → IsSound (volume_pinned a)
 pinned_sound a n pass pin = subst IsSound (sym (volume_is a n pin)) (front_sound a n pass)
 
--- what the pass has seen at a place
+-- the entry that the pass has seen at an index
 pub same_entry_at : (log seen : List Commit) (i : ℕ) (d : Entry) → StartsWith log seen → i < length seen → get_or (entries log) i d ≡ get_or (entries seen) i d
 same_entry_at log seen i d more inside =
     let long = length-map seen (λ (c : Commit). c.entry) in
     ap (λ l. get_or (entries l) i d) more.1 ∙ (ap (λ l. get_or l i d) (entries_append seen more.0)
     ∙ get_or_append_left (entries seen) (entries more.0) d i (omega (arith, long, inside)))
 
--- the pass stays as it is
+-- a pass that stays as it is
 pub learns_nothing : (a : Knowledge) → Learns a a
 learns_nothing a = record { more = ([], sym (append-nil a.seen)); mine = refl; pass = refl; pin = refl; moves = inl refl }
 
--- names among some nodes are names among more
+-- what is named among some nodes is named among more nodes
 pub named_more : (old new : List ℕ) (named : Option ℕ) → ((n : ℕ) → is_among old n ≡ true → is_among new n ≡ true) → option_map_or (is_among old) named false ≡ true → option_map_or (is_among new) named false ≡ true
 named_more old new None more h = h
 named_more old new (Some n) more h = more n h
@@ -265,7 +266,7 @@ named_more old new (Some n) more h = more n h
 pub names_more : (old new : List ℕ) (entry : Entry) → ((n : ℕ) → is_among old n ≡ true → is_among new n ≡ true) → NamesAmong old entry → NamesAmong new entry
 names_more old new entry more named k op done lt this its = named_more old new (node_named op done) more (named k op done lt this its)
 
--- one operation more whose node is among a list
+-- one more operation whose node is in a list
 pub step_named : (ops : List Op) (dones : List Done) (old new : List ℕ) (op : Op) (done : Done) (k : ℕ) → k < length ops → op ≡ get_or ops k op → done ≡ get_or dones k done → ((n : ℕ) → is_among old n ≡ true → is_among new n ≡ true) → IsNamedAmong new op done →
     ((i : ℕ) (o : Op) (d : Done) → i < k → o ≡ get_or ops i o → d ≡ get_or dones i d → IsNamedAmong old o d) → k < length dones → (i : ℕ) (o : Op) (d : Done) → i < k + 1 → o ≡ get_or ops i o → d ≡ get_or dones i d → IsNamedAmong new o d
 step_named ops dones old new op done k inside this its keeps one before short i o d lt so its_so = elim (cases_lt i k) [
@@ -277,7 +278,7 @@ step_named ops dones old new op done k inside this its keeps one before short i 
       subst (λ x. IsNamedAmong new o x) done_is (subst (λ x. IsNamedAmong new x done) op_is one))
 ]
 
--- one entry more whose nodes are among a list
+-- one more entry whose nodes are in a list
 pub named_so_far : (log : List Entry) (old new : List ℕ) (from k : ℕ) → ((n : ℕ) → is_among old n ≡ true → is_among new n ≡ true) → ((d : Entry) → NamesAmong new (get_or log k d)) →
     ((i : ℕ) (d : Entry) → from ≤ i → i < k → NamesAmong old (get_or log i d)) → (i : ℕ) (d : Entry) → from ≤ i → i < k + 1 → NamesAmong new (get_or log i d)
 named_so_far log old new from k keeps one before i d low high = elim (cases_lt i k) [
@@ -299,7 +300,7 @@ mark_at f last a w n pass pin fresh seen answer = (
   subst (λ s. IsAnswer s f last) (volume_is a n pin ∙ ap (λ l. replay (take n (entries l))) (sym seen)) answer,
 )
 
--- a list that was changed by what became of some nodes, whatever the names of what was read
+-- a list that was updated at some nodes, whatever the read values are called
 pub changed_so : (v w : State) (f g : Formula) (nodes last list new came went gone put mid grown : List ℕ) → IsSound v → IsStrictlyIncreasing nodes → IsStrictlyIncreasing last → IsStrictlyIncreasing new → IsAnswerBut nodes v f last →
     w ≡ v → g ≡ f → list ≡ last → came ≡ filter (λ n. sat w g n && not (is_among list n)) nodes → went ≡ filter (λ n. is_among list n && not (sat w g n)) nodes → grown ≡ last → gone ≡ went → put ≡ came →
     ((n : ℕ) → is_among mid n ≡ (is_among grown n && not (is_among gone n))) → ((n : ℕ) → is_among new n ≡ (is_among mid n || is_among put n)) →
@@ -329,7 +330,7 @@ pin_kept a b n h pin = ap pinned_number h.pin ∙ pin
 pub volume_read : (a b c : Knowledge) → volume_pinned b ≡ volume_pinned a → HasRead b c → volume_pinned c ≡ volume_pinned a
 volume_read a b c same read = ap volume_pinned read ∙ same
 
--- what was found of the live query and the volume as they stand then, is so of those before
+-- what was found for the live query and the volume as they are then also holds for those before
 pub refreshed_so : (v w : State) (old mid new : LiveQuery) (came went : List ℕ) → w ≡ v → mid ≡ old → Refreshes w mid new came went → Refreshes v old new came went
 refreshed_so v w old mid new came went volume same h =
     subst (λ l. Refreshes v l new came went) same (subst (λ s. Refreshes s mid new came went) volume h)
@@ -338,20 +339,20 @@ pub if_err : {T E : Type 0} (r : Result T E) (P Q : E → Type 0) → ((e : E) �
 if_err (Ok x) P Q f p = tt
 if_err (Err e) P Q f p = f e p
 
--- and so is a refusal
+-- and so does a refusal
 pub refused_so : (v w : State) (old mid new : LiveQuery) (e : Refusal) → w ≡ v → mid ≡ old → (new ≡ mid) × ((e ≡ OutOfMemory) ⊎ (scan w mid.query ≡ Err e)) → (new ≡ old) × ((e ≡ OutOfMemory) ⊎ (scan v old.query ≡ Err e))
 refused_so v w old mid new e volume same h =
     subst (λ l. (new ≡ l) × ((e ≡ OutOfMemory) ⊎ (scan v l.query ≡ Err e))) same
     (subst (λ s. (new ≡ mid) × ((e ≡ OutOfMemory) ⊎ (scan s mid.query ≡ Err e))) volume h)
 
--- where the answer may differ is known of the query and the volume as they stand now
+-- the nodes at which the answer may differ, for the query and the volume as they are now
 pub but_now : (ns ms : List ℕ) (v w : State) (old new : LiveQuery) → ms ≡ ns → w ≡ v → new ≡ old → IsAnswerBut ns v old.query old.last → IsAnswerBut ms w new.query new.last
 but_now ns ms v w old new list volume same h =
     subst (λ l. IsAnswerBut l w new.query new.last) (sym list)
     (subst (λ s. IsAnswerBut ns s new.query new.last) (sym volume)
     (subst (λ l. IsAnswerBut ns v l.query l.last) (sym same) h))
 
--- the query is of the store, whether it was refreshed or stays as it was
+-- the query belongs to the store, whether it was refreshed or stays as it was
 pub own_after : {T E : Type 0} (r : Result T E) (store : Opened) (old mid new : LiveQuery) (Q : E → Type 0) → IfOk r (λ _. IsLiveOf store new) → IfErr r (λ e. (new ≡ mid) × Q e) → mid ≡ old → IsLiveOf store old → IsLiveOf store new
 own_after (Ok x) store old mid new Q ok err same own = ok
 own_after (Err e) store old mid new Q ok err same own = subst (IsLiveOf store) (sym (err.0 ∙ same)) own
@@ -359,6 +360,6 @@ own_after (Err e) store old mid new Q ok err same own = subst (IsLiveOf store) (
 -- an entry's operations and outcomes, as slices
 pub named_entry : (new : List ℕ) (ops : List Op) (dones : List Done) (entry : Entry) (log : List Entry) (i : ℕ) → ops ≡ entry.ops → dones ≡ entry.dones → entry ≡ get_or log i entry → i < length log →
     AreNamedAmong new ops dones → (d : Entry) → NamesAmong new (get_or log i d)
-named_entry new ops dones entry log i ops_is dones_is its inside named d =
+named_entry new ops dones entry log i ops_is outcomes_is its inside named d =
     subst (NamesAmong new) (its ∙ get_or_default log i entry d inside)
-    (subst (λ l. AreNamedAmong new l entry.dones) ops_is (subst (λ l. AreNamedAmong new ops l) dones_is named))
+    (subst (λ l. AreNamedAmong new l entry.dones) ops_is (subst (λ l. AreNamedAmong new ops l) outcomes_is named))

@@ -29,7 +29,7 @@ use Rattle.be_store.proofs.Applied.{accepts, entries_append, held_locks, learns,
 use Rattle.be_store.proofs.Passes.{pinned_phase}
 use Rattle.be_store.proofs.Retries.{accepts_at_last, held_at_last, held_by, learns_at_last, locks_at_last}
 
--- a write that has taken the lock, whose journal has so many entries or another number
+-- a write that has taken the lock, and whether the journal's length is the number or not
 module _ (a w : Knowledge) (t : TakesLock a w) (number : ℕ) where
   -- a pass that was pinned to the whole journal has read the current volume
   read_is_current : length w.seen ≡ number → IsPinnedTo a number → volume_pinned a ≡ replay (entries w.seen)
@@ -78,20 +78,20 @@ module _ (a w : Knowledge) (t : TakesLock a w) (number : ℕ) where
     ),
   )
 
--- what was found by so many tries, the last of which led from m to c
-module _ (a : Knowledge) (holders : List ℕ) (m c : Knowledge) (is : m ≡ tried a holders) (number : ℕ) (ops : List Op) where
+-- the state after a number of failed tries, the last of which led from m to c
+module _ (a : Knowledge) (writers : List ℕ) (m c : Knowledge) (is : m ≡ tried a writers) (number : ℕ) (ops : List Op) where
   accepts_then : (n : ℕ) (dones : List Done) → AcceptsAt m c number ops n dones → AcceptsAt a c number ops n dones
   accepts_then n dones h = by (subst (λ (k : Knowledge). AcceptsAt k c number ops n dones) is h)
     where
-      by : AcceptsAt (tried a holders) c number ops n dones → AcceptsAt a c number ops n dones
-      by last = record { accepts = accepts_at_last a holders m c is ops n dones h.accepts; next = last.next; read = last.read }
+      by : AcceptsAt (tried a writers) c number ops n dones → AcceptsAt a c number ops n dones
+      by last = record { accepts = accepts_at_last a writers m c is ops n dones h.accepts; next = last.next; read = last.read }
 
   conflict_then : (found : ℕ) → IsConflict m c number found → IsConflict a c number found
   conflict_then found h = by (subst (λ (k : Knowledge). IsConflict k c number found) is h)
     where
-      by : IsConflict (tried a holders) c number found → IsConflict a c number found
+      by : IsConflict (tried a writers) c number found → IsConflict a c number found
       by last = record {
-        learns = learns_at_last a holders m c is h.learns;
+        learns = learns_at_last a writers m c is h.learns;
         found_is = last.found_is;
         other = last.other;
         locked = last.locked;
@@ -104,35 +104,35 @@ module _ (a : Knowledge) (holders : List ℕ) (m c : Knowledge) (is : m ≡ trie
   plain_reason e (inr h) = inr (h.0, h.2)
 
   -- the last try
-  last_unapplied : (tries : ℕ) (e : ApplyIfError) → length holders + 1 ≡ tries → IsUnapplied m c number ops e → IsLastUnapplied tries a c number ops e
+  last_unapplied : (tries : ℕ) (e : ApplyIfError) → length writers + 1 ≡ tries → IsUnapplied m c number ops e → IsLastUnapplied tries a c number ops e
   last_unapplied tries (Conflict found) count h = conflict_then found h
-  last_unapplied tries (Refused e) count h = (learns_at_last a holders m c is h.0, by h.1)
+  last_unapplied tries (Refused e) count h = (learns_at_last a writers m c is h.0, by h.1)
     where
       by : (FoundHeld e m c × (c.seen ≡ m.seen)) ⊎ (IsRefusedAt c ops e × (length c.seen ≡ number) × LocksOnly m c) → IsHeldThrough tries a c e ⊎ (IsRefusedAt c ops e × (length c.seen ≡ number) × LocksOnly a c)
-      by (inl held) = inl (subst (λ n. IsHeldThrough n a c e) count (held_at_last a holders m c is e held.0))
-      by (inr at) = inr (at.0, at.1, locks_at_last a holders m c is at.2)
+      by (inl held) = inl (subst (λ n. IsHeldThrough n a c e) count (held_at_last a writers m c is e held.0))
+      by (inr at) = inr (at.0, at.1, locks_at_last a writers m c is at.2)
 
-  -- a try that was not the last
+  -- a try that wasn't the last
   free_unapplied : (tries : ℕ) (e : ApplyIfError) → was_held {X = ℕ} (Err e) ≡ false → IsUnapplied m c number ops e → IsLastUnapplied tries a c number ops e
   free_unapplied tries (Conflict found) free h = conflict_then found h
-  free_unapplied tries (Refused e) free h = (learns_at_last a holders m c is h.0, by h.1)
+  free_unapplied tries (Refused e) free h = (learns_at_last a writers m c is h.0, by h.1)
     where
       by : (FoundHeld e m c × (c.seen ≡ m.seen)) ⊎ (IsRefusedAt c ops e × (length c.seen ≡ number) × LocksOnly m c) → IsHeldThrough tries a c e ⊎ (IsRefusedAt c ops e × (length c.seen ≡ number) × LocksOnly a c)
       by (inl held) = absurd (false≢true (sym free ∙ ap is_busy held.0.1))
-      by (inr at) = inr (at.0, at.1, locks_at_last a holders m c is at.2)
+      by (inr at) = inr (at.0, at.1, locks_at_last a writers m c is at.2)
 
-  -- the try found a holder
-  pub held_again_if : {X : Type 0} (r : Result X ApplyIfError) → was_held r ≡ true → IfErr r (IsUnapplied m c number ops) → (b : ℕ) × (c ≡ tried a (b ∷ holders))
+  -- the try found the lock held
+  pub held_again_if : {X : Type 0} (r : Result X ApplyIfError) → was_held r ≡ true → IfErr r (IsUnapplied m c number ops) → (b : ℕ) × (c ≡ tried a (b ∷ writers))
   held_again_if (Ok x) held h = absurd (false≢true held)
   held_again_if (Err (Conflict found)) held h = absurd (false≢true held)
-  held_again_if (Err (Refused e)) held h = held_by a holders m c is ops e held (plain_reason e h.1)
+  held_again_if (Err (Refused e)) held h = held_by a writers m c is ops e held (plain_reason e h.1)
 
-  pub accepted_if_last : {X : Type 0} (dones_of : X → List Done) (r : Result (ℕ × X) ApplyIfError) → IfOk r (λ x. AcceptsAt m c number ops x.0 (dones_of x.1))
-      → IfOk r (λ x. AcceptsAt a c number ops x.0 (dones_of x.1))
-  accepted_if_last dones_of (Ok x) h = accepts_then x.0 (dones_of x.1) h
-  accepted_if_last dones_of (Err e) h = tt
+  pub accepted_if_last : {X : Type 0} (outcomes_of : X → List Done) (r : Result (ℕ × X) ApplyIfError) → IfOk r (λ x. AcceptsAt m c number ops x.0 (outcomes_of x.1))
+      → IfOk r (λ x. AcceptsAt a c number ops x.0 (outcomes_of x.1))
+  accepted_if_last outcomes_of (Ok x) h = accepts_then x.0 (outcomes_of x.1) h
+  accepted_if_last outcomes_of (Err e) h = tt
 
-  pub refused_if_last : {X : Type 0} (tries : ℕ) (r : Result X ApplyIfError) → length holders + 1 ≡ tries → IfErr r (IsUnapplied m c number ops) → IfErr r (IsLastUnapplied tries a c number ops)
+  pub refused_if_last : {X : Type 0} (tries : ℕ) (r : Result X ApplyIfError) → length writers + 1 ≡ tries → IfErr r (IsUnapplied m c number ops) → IfErr r (IsLastUnapplied tries a c number ops)
   refused_if_last tries (Ok x) count h = tt
   refused_if_last tries (Err e) count h = last_unapplied tries e count h
 

@@ -1,4 +1,4 @@
--- An operation that makes or removes no index changes what a query sees at one node alone.
+-- An operation that makes or removes no index changes what a query sees only at one node.
 use Rattle.std.proofs.Common.{◌≡◌, ◌<◌, ◌≤◌, ◌+◌, ◌-◌, ◌&&◌, ◌||◌, ℕ, zero, suc, Bool, true, false, if◌then◌else◌, List, [], ◌∷◌, ◌++◌, fold, get_or, length, map, refl, sym, ap, subst, take, ◌∙◌, inl, inr, arith, Some, None, Ok, Err, is_some, is_ok, option_map, append_assoc}
 use Rattle.std.proofs.lemmas.Grind.{fold-append}
 use Rattle.std.proofs.lemmas.List.{append-nil, append_cancel_left, get_or_default, take_more}
@@ -13,7 +13,7 @@ use Rattle.std.specs.Result.{result_map_both}
 use Rattle.std.specs.declared.option.Option.{Option}
 use Rattle.be_journal.specs.Journal.{Agrees, IsLegal, replay}
 use Rattle.be_journal.specs.declared.entries.Entry.{Entry}
-use Rattle.be_paged_reading.proofs.CatalogPairs.Items.{get_other, get_here, gone_other, keys_tell}
+use Rattle.be_paged_reading.proofs.CatalogPairs.Items.{get_other, get_here, gone_other, keys_decided}
 use Rattle.be_query.specs.Grammar.{Formula, Leaf, And, Or}
 use Rattle.be_value.specs.declared.refusals.Refusal.{Refusal}
 use Rattle.be_value.specs.declared.values.Value.{Value}
@@ -34,7 +34,7 @@ use Rattle.be_volume.specs.declared.ops.Op.TheVariants.{New, Drop, Set, Unset, M
 use Rattle.be_store.specs.Live.{IsAnswer, IsAnswerBut, is_among}
 use Rattle.be_store.specs.Named.{AreNamedAmong, IsNamedAmong, NamesAmong, node_made}
 
--- two volumes have indices of the same names, and a comparison sees the same of each node but these
+-- two volumes have indices of the same names, and comparisons see the same in both, except at these nodes
 pub record AreSame (nodes : List ℕ) (s t : State) : Type 0 where
   pub indexed : (name : List ℕ) → has_index t name ≡ has_index s name
   pub seen : (n : ℕ) (name : List ℕ) → is_among nodes n ≡ false → sees t n name ≡ sees s n name
@@ -58,15 +58,15 @@ same_sat nodes s t a n other (Leaf name op literal) = ap (λ o. option_map_or (�
 same_sat nodes s t a n other (And f g) = ap (λ b. b && sat t g n) (same_sat nodes s t a n other f) ∙ ap (λ b. sat s f n && b) (same_sat nodes s t a n other g)
 same_sat nodes s t a n other (Or f g) = ap (λ b. b || sat t g n) (same_sat nodes s t a n other f) ∙ ap (λ b. sat s f n || b) (same_sat nodes s t a n other g)
 
--- an answer there is one here, but for these nodes
+-- an answer for one volume is an answer for the other, except at these nodes
 pub same_answer : (nodes : List ℕ) (s t : State) (f : Formula) (list : List ℕ) → AreSame nodes s t → IsAnswer s f list → IsAnswerBut nodes t f list
 same_answer nodes s t f list a answer = (same_covered nodes s t a f ∙ answer.0, λ n other. answer.1 n ∙ sym (same_sat nodes s t a n other f))
 
--- a node that isn't among these is none of them
+-- a node that isn't among these differs from each of them
 apart : (nodes : List ℕ) (n k : ℕ) → is_among nodes n ≡ false → is_among nodes k ≡ true → n ≡ k → ⊥
 apart nodes n k other this same = let no : false ≡ true = sym other ∙ ap (is_among nodes) same ∙ this in cc
 
--- the attribute of a node, by the node's attributes
+-- a node's attribute, from the node's attributes
 abbrev attribute_in : List ℕ → Option Attributes → Option Value
 attribute_in name found = option_and_then (λ attributes. fin.get attributes name) found
 
@@ -91,23 +91,23 @@ one_of_two : (b : Bool) (index i j k : Index) (n : ℕ) → i ≡ (if b then j e
 one_of_two true index i j k n e f g = ap (λ (x : Index). fin.get x.pairs n) e ∙ f
 one_of_two false index i j k n e f g = ap (λ (x : Index). fin.get x.pairs n) e ∙ g
 
--- and one that gets another node's pair
+-- and one that gains another node's pair
 paired_other : (index : Index) (k : ℕ) (value : Value) (n : ℕ) → (n ≡ k → ⊥) → fin.get (paired index k value).pairs n ≡ fin.get index.pairs n
 paired_other index k value n ne =
     one_of_two (same_kind index.kind (kind_of value)) index (paired index k value) (record { kind = index.kind; pairs = fin.insert index.pairs k value }) (record { kind = index.kind; pairs = fin.remove index.pairs k }) n refl
     (get_other nat_cmp_total nat_cmp-IsAntisymmetric index.pairs k value n ne) (gone_other nat_cmp_total nat_cmp-IsAntisymmetric index.pairs k n ne)
 
--- an index of one name is changed, as far as this node goes not at all
+-- an index of one name is changed, but not at this node
 module _ (indices : Indices) (at : List ℕ) (old new : Index) (n : ℕ) (was : fin.get indices at ≡ Some old) (same : fin.get new.pairs n ≡ fin.get old.pairs n) where
   changed_has : (name : List ℕ) → fin.contains_key (fin.insert indices at new) name ≡ fin.contains_key indices name
-  changed_has name = elim (keys_tell name at) [
+  changed_has name = elim (keys_decided name at) [
     | inl s ↦ subst (λ m. fin.contains_key (fin.insert indices at new) m ≡ fin.contains_key indices m) (sym s)
         (ap is_some (get_here names_total exact_names indices at new) ∙ sym (ap is_some was))
     | inr ne ↦ ap is_some (get_other names_total exact_names indices at new name ne)
   ]
 
   changed_seen : (name : List ℕ) (v : Option Value) → seen_in (fin.get (fin.insert indices at new) name) v n ≡ seen_in (fin.get indices name) v n
-  changed_seen name v = elim (keys_tell name at) [
+  changed_seen name v = elim (keys_decided name at) [
     | inl s ↦ subst (λ m. seen_in (fin.get (fin.insert indices at new) m) v n ≡ seen_in (fin.get indices m) v n) (sym s)
         (ap (λ o. seen_in o v n) (get_here names_total exact_names indices at new) ∙ (same ∙ sym (ap (λ o. seen_in o v n) was)))
     | inr ne ↦ ap (λ o. seen_in o v n) (get_other names_total exact_names indices at new name ne)
@@ -118,7 +118,7 @@ paired_has indices at name k value = by (fin.get indices at) refl
   where
     by : (found : Option Index) → fin.get indices at ≡ found → fin.contains_key (paired_at indices at found k value) name ≡ fin.contains_key indices name
     by None e = refl
-    by (Some index) e = elim (keys_tell name at) [
+    by (Some index) e = elim (keys_decided name at) [
       | inl s ↦ subst (λ m. fin.contains_key (fin.insert indices at (paired index k value)) m ≡ fin.contains_key indices m) (sym s)
           (ap is_some (get_here names_total exact_names indices at (paired index k value)) ∙ sym (ap is_some e))
       | inr ne ↦ ap is_some (get_other names_total exact_names indices at (paired index k value) name ne)
@@ -136,7 +136,7 @@ lost_has indices at name k = by (fin.get indices at) refl
   where
     by : (found : Option Index) → fin.get indices at ≡ found → fin.contains_key (unpaired_at indices at found k) name ≡ fin.contains_key indices name
     by None e = refl
-    by (Some index) e = elim (keys_tell name at) [
+    by (Some index) e = elim (keys_decided name at) [
       | inl s ↦ subst (λ m. fin.contains_key (fin.insert indices at (unpaired index k)) m ≡ fin.contains_key indices m) (sym s)
           (ap is_some (get_here names_total exact_names indices at (unpaired index k)) ∙ sym (ap is_some e))
       | inr ne ↦ ap is_some (get_other names_total exact_names indices at (unpaired index k) name ne)
@@ -163,7 +163,7 @@ dropped_seen indices name k n v ne = ap (λ o. seen_in o v n) (get_without indic
     by None = refl
     by (Some index) = unpaired_other index k n ne
 
--- the volume after an operation, by the node that it names
+-- the volume after an operation, given the node that it names
 made_same : (nodes : List ℕ) (s : State) (op : Op) (done : Done) → (op ≡ New → done ≡ Node s.next) → IsNamedAmong nodes op done → AreSame nodes s (made s op)
 made_same nodes s New done by_new named =
     let this : is_among nodes s.next ≡ true = sym (ap (λ d. option_map_or (is_among nodes) (node_made d) false) (by_new refl)) ∙ named in record {
@@ -196,7 +196,7 @@ made_same nodes s (Unset k at) done by_new named =
 made_same nodes s (MkIndex at kind) done by_new named = let no : false ≡ true = named in cc
 made_same nodes s (RmIndex at) done by_new named = let no : false ≡ true = named in cc
 
--- an operation that makes a node answers its number
+-- the outcome of an operation that makes a node is the node's number
 answers_new : (s t : State) (op : Op) (done : Done) → step s op ≡ Ok (t, done) → op ≡ New → done ≡ Node s.next
 answers_new s t op done e is =
     let both : step s New ≡ Ok (t, done) = ap (step s) (sym is) ∙ e in
@@ -211,13 +211,13 @@ step_same nodes s t op done e named =
     let is : made s op ≡ t = sym (accepted s op (ap is_ok e)).is ∙ ap (reached s) e in
     subst (AreSame nodes s) is (made_same nodes s op done (answers_new s t op done e) named)
 
--- what operations answer comes after what was answered
+-- operations append their outcomes to those before
 answered_after : (ops : List Op) (u t : State) (es fs : List Done) → fold advance (Ok (u, es)) ops ≡ Ok (t, fs) → (rest : List Done) × (fs ≡ es ++ rest)
-answered_after [] u t es fs h = ([], sym (ap (dones_in es) h) ∙ sym (append-nil es))
+answered_after [] u t es fs h = ([], sym (ap (outcomes_in es) h) ∙ sym (append-nil es))
   where
-    dones_in : List Done → Result (State × List Done) Refusal → List Done
-    dones_in d (Ok x) = x.1
-    dones_in d (Err r) = d
+    outcomes_in : List Done → Result (State × List Done) Refusal → List Done
+    outcomes_in d (Ok x) = x.1
+    outcomes_in d (Err r) = d
 answered_after (op ∷ ops) u t es fs h = by (λ v ds g. answered_after ops v t ds fs g) (step u op) h
   where
     by : ((v : State) (ds : List Done) → fold advance (Ok (v, ds)) ops ≡ Ok (t, fs) → (rest : List Done) × (fs ≡ ds ++ rest)) → (x : Result (State × Done) Refusal) →
@@ -252,7 +252,7 @@ entry_same nodes s entry agrees named =
 replay_more : (log : List Entry) (i : ℕ) (d : Entry) → i < length log → replay (take (i + 1) log) ≡ state_after (replay (take i log)) (get_or log i d).ops
 replay_more log i d lt = ap replay (take_more log i d lt) ∙ fold-append (λ s (entry : Entry). state_after s entry.ops) (replay []) (take i log) (get_or log i d ∷ [])
 
--- the volumes after two beginnings of a legal journal, if the entries between name no other nodes
+-- the volumes after two prefixes of a legal journal, if the entries in between name no other nodes
 pub replay_same : (nodes : List ℕ) (log : List Entry) (from more : ℕ) → IsLegal log → from + more ≤ length log →
     ((i : ℕ) (d : Entry) → from ≤ i → i < from + more → NamesAmong nodes (get_or log i d)) → AreSame nodes (replay (take from log)) (replay (take (from + more) log))
 replay_same nodes log from zero legal short named =

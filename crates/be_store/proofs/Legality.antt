@@ -1,4 +1,4 @@
--- The journal is legal, because each pass was answered as the object answers, and has all its entries.
+-- The journal is legal, because each pass got the object's answers and has all its own entries.
 use Rattle.std.proofs.Common.{◌≡◌, ◌≤◌, ◌<◌, ◌-◌, ◌+◌, ℕ, zero, suc, inl, inr, Bool, cond, eq-eqb, List, [], ◌∷◌, ◌++◌, length, take, get_or, refl, sym, ap, ◌∙◌, subst, arith, length-append}
 use Rattle.std.specs.Prelude.{All, map, nat_eq}
 use Rattle.std.proofs.Math.Seq.{get_or-append_right, get_or-append_seam}
@@ -10,7 +10,7 @@ use Rattle.be_table.specs.History.{StartsWith}
 use Rattle.be_store.specs.SmallMachine.{Object, PassView, Step, Apply, Learn, Pin, Unpin, Read, Leads, AreSteps, first_view, state_of, entries_by, IsLegalFor}
 use Rattle.be_store.specs.OneHistory.{PassRun, HasRun}
 
--- ## Sums of how many entries a pass has seen of its own, and of how many it has written
+-- ## Sums: how many of its own entries a pass has seen, and how many it has written
 
 one_of_first : (a b c : ℕ) → a ≡ b + c → b ≡ 1 → 1 ≤ a
 one_of_first a b c e one = omega (arith, e, one)

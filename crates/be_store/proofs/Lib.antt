@@ -12,7 +12,7 @@ pub mod Calls
 pub mod Legality
 pub mod OneHistory
 pub mod Views
-pub mod Told
+pub mod Learned
 pub mod Statuses
 pub mod Remade
 pub mod Among

@@ -1,4 +1,4 @@
--- What the journal says in the end of each step of the small machine.
+-- What the journal says at the end about each step of the small machine.
 use Rattle.std.proofs.Common.{◌≡◌, ◌≤◌, ℕ, suc, inl, inr, List, [], ◌∷◌, ◌++◌, length, take, Option, Some, None, refl, sym, ap, ◌∙◌, subst, arith, length-append}
 use Rattle.std.specs.Prelude.{◌≢◌, All, AllPairs, IfSome, map}
 use Rattle.std.proofs.lemmas.List.{append_assoc, append-nil, take-append-le, take_all}
@@ -7,7 +7,7 @@ use Rattle.be_table.specs.History.{StartsWith}
 use Rattle.be_store.specs.SmallMachine.{Object, PassView, Step, Apply, Learn, Pin, Unpin, Read, Leads, AreSteps, Closes, HasNumber, first_view, state_of, entries_by}
 use Rattle.be_store.specs.OneHistory.{PassRun, IsKept, AreKept, ReadsPrefix, HasRun, IsOneHistory, written, written_by}
 use Rattle.be_store.proofs.Legality.{journal_legal, run_number}
-use Rattle.be_store.proofs.Calls.{starts_refl, starts_trans, stands_at_seam}
+use Rattle.be_store.proofs.Calls.{starts_refl, starts_trans, lies_at_seam}
 
 abbrev number_or : ℕ → Option ℕ → ℕ
 number_or d None = d
@@ -60,7 +60,7 @@ module _ (o : Object) where
       let long : length c.seen ≡ length (front ++ e ∷ []) = ap (λ (v : PassView o). length v.seen) l.3 in
       let parts = length-append front (e ∷ []) in
       let at : n ≡ suc (length front) = omega (arith, l.4, long, parts) in
-      (length front, at, stands_at_seam journal front e more.0 is)
+      (length front, at, lies_at_seam journal front e more.0 is)
   step_kept journal a (Learn log) c l more h =
       (subst (StartsWith journal) (sym l.2) more, subst (λ (k : List o.Entry). StartsWith k a.seen) (sym l.2) (step_seen a (Learn log) c l))
   step_kept journal a (Pin n) c l more h =
@@ -93,7 +93,7 @@ module _ (o : Object) where
       run_mine x.1 rest z h.1
       ∙ (ap (λ k. k ++ written o rest) (step_mine a x.0 x.1 h.0) ∙ append_assoc a.mine (written_by o x.0) (written o rest))
 
-  -- the runs are of different passes, since their last views are
+  -- the runs are of different passes, because their last views are
   run_numbers : (runs : List (PassRun o)) → map (λ (z : PassView o). z.number) (map (λ (r : PassRun o). r.last) runs) ≡ map (λ (r : PassRun o). r.number) runs
   run_numbers [] = refl
   run_numbers (r ∷ runs) = λ j. run_number o (first_view o r.number) r.steps r.last r.run j ∷ run_numbers runs j

@@ -6,7 +6,7 @@ use Rattle.be_core.specs.declared.event.Phase.TheVariants.{Idle, Looked, Announc
 use Rattle.be_journal.specs.Journal.{replay}
 use Rattle.be_paged_reading.specs.Version.{IsVersion}
 use Rattle.be_table.specs.declared.pass.Knowledge.{Knowledge}
-use Rattle.be_table.specs.Reading.{pinned_standing, word_of_page}
+use Rattle.be_table.specs.Reading.{pinned_page_state, word_of_page}
 use Rattle.be_table.specs.Rule.{entries, page_at}
 use Rattle.be_table.specs.Seats.{pinned_number}
 use Rattle.be_table.proofs.Pins.{looked_version}
@@ -17,17 +17,17 @@ abbrev number_in : ℕ → Option ℕ → ℕ
 number_in d None = d
 number_in d (Some n) = n
 
--- where the number of a pin is n, the phase is that of a pin at n
+-- if a pin's number is n, the phase is that of a pin at n
 pub pinned_phase : (p : Phase) (n : ℕ) → pinned_number p ≡ Some n → (x : ℕ) × (p ≡ Pinned x n)
 pinned_phase Idle n e = absurd cc
 pinned_phase (Looked a) n e = absurd cc
 pinned_phase (Announced a) n e = absurd cc
 pinned_phase (Pinned a m) n e = (a, ap (λ k. Pinned a k) (ap (number_in m) e))
 
--- what a look at the pinned version reads, from the page that the pass told before
-pub looked_volume : (a c : Knowledge) (n page : ℕ) → IsPinnedTo a n → c ≡ a → page ≡ page_at a.seen n → IsVersion (pinned_standing c) (word_of_page c.image) (page_at c.seen n) (replay (take n (entries c.seen)))
-    → IsVersion (pinned_standing c) (word_of_page c.image) page (volume_pinned a)
+-- what a look at the pinned version reads, starting from the page that the pass reported before
+pub looked_volume : (a c : Knowledge) (n page : ℕ) → IsPinnedTo a n → c ≡ a → page ≡ page_at a.seen n → IsVersion (pinned_page_state c) (word_of_page c.image) (page_at c.seen n) (replay (take n (entries c.seen)))
+    → IsVersion (pinned_page_state c) (word_of_page c.image) page (volume_pinned a)
 looked_volume a c n page pin same is h =
     let volume : replay (take n (entries c.seen)) ≡ volume_pinned a =
     ap (λ (k : Knowledge). replay (take n (entries k.seen))) same ∙ sym (ap (λ o. option_map_or (λ m. replay (take m (entries a.seen))) o empty) pin) in
-    subst (IsVersion (pinned_standing c) (word_of_page c.image) page) volume (looked_version a c n page same is h)
+    subst (IsVersion (pinned_page_state c) (word_of_page c.image) page) volume (looked_version a c n page same is h)

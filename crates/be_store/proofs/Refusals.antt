@@ -1,4 +1,4 @@
--- Which refusals the volume gives.
+-- Which refusals come from the volume.
 use Rattle.std.proofs.Common.{arith, ◌≡◌, ◌≤◌, List, [], ◌∷◌, ◌++◌, Bool, true, false, Ok, Err, fold, ap, subst}
 use Rattle.std.specs.Prelude.{Result, if◌then◌else◌}
 use Rattle.std.specs.Result.{result_map_both}
@@ -10,7 +10,7 @@ use Rattle.be_volume.specs.declared.ops.Done.{Done}
 use Rattle.be_volume.specs.declared.ops.Op.{Op}
 use Rattle.be_volume.specs.declared.ops.Op.TheVariants.{New, Set, MkIndex, Drop, Unset, RmIndex}
 
--- one of 2 to 8
+-- the refusal's number is from 2 to 8
 abbrev pub IsOfVolume : Refusal → Type 0
 IsOfVolume e = (2 ≤ refusal_number e) × (refusal_number e ≤ 8)
 
@@ -22,7 +22,7 @@ one_refusal : {A : Type 0} (r e : Refusal) → ◌≡◌ {A = Result A Refusal} 
 unfolding refusal_of
 one_refusal r e h = ap (refusal_of r) h
 
--- the first test refuses, or what comes after it does
+-- either the first test refuses, or something after it
 first : {A : Type 0} (b : Bool) (r e : Refusal) (rest : Result A Refusal) → IsOfVolume r → (rest ≡ Err e → IsOfVolume e) → (if b then Err r else rest) ≡ Err e → IsOfVolume e
 first true r e rest is after h = subst IsOfVolume (one_refusal r e h) is
 first false r e rest is after h = after h
@@ -50,6 +50,6 @@ folds : (r : Result (State × List Done) Refusal) (ops : List Op) → ((e : Refu
 folds r [] is e h = is e h
 folds r (op ∷ ops) is e h = folds (advance r op) ops (advances r op is) e h
 
--- a list that the volume refuses is refused by one of 2 to 8
+-- if the volume refuses a list, the refusal's number is from 2 to 8
 pub steps_refuse : (s : State) (ops : List Op) (e : Refusal) → steps s ops ≡ Err e → IsOfVolume e
 steps_refuse s ops e h = folds (Ok (s, [])) ops (λ f g. accepted _ f g) e h

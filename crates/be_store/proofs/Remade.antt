@@ -1,4 +1,4 @@
--- The operations of a pinned version make it again.
+-- The operations of a pinned version rebuild it.
 use Rattle.std.proofs.Common.{◌≡◌, ◌<◌, ◌≤◌, ℕ, List, [], ◌∷◌, All, IsOk, fold, length, take, sym, ap, subst, arith}
 use Rattle.std.proofs.lemmas.List.{length-map, length-take}
 use Rattle.std.proofs.lemmas.List.Elements.{All-take}

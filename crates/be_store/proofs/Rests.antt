@@ -1,9 +1,9 @@
--- A pass that is unpinned stays so until it looks, and so does one that rests through a write.
+-- A pass that is unpinned stays unpinned until it looks, and so does one that rests through a write.
 use Rattle.std.proofs.Common.{◌≡◌, ◌≢◌, ◌⊎◌, ℕ, suc, Bool, true, false, inl, inr, List, [], ◌∷◌, ◌++◌, length, refl, sym, ap, ◌∙◌, subst, append_assoc, arith}
 use Rattle.std.proofs.lemmas.Bool.Decides.{eqb_tells}
 use Rattle.std.proofs.lemmas.List.{append_cancel_left, append-nil}
 use Rattle.std.specs.Prelude.{Option, Some, None, ◌<◌, ◌==◌, if◌then◌else◌}
-use Rattle.be_core.specs.Machine.{Holder, World, phase_after_announce, phase_after_look, phase_after_look_again, scanned_by, scanned_on, scanned_out, to}
+use Rattle.be_core.specs.Machine.{Writer, World, phase_after_announce, phase_after_look, phase_after_look_again, scanned_by, scanned_on, scanned_out, to}
 use Rattle.be_core.proofs.Places.{update-same}
 use Rattle.be_core.specs.declared.event.Phase.{Phase}
 use Rattle.be_core.specs.declared.event.Phase.TheVariants.{Idle}
@@ -30,7 +30,7 @@ use Rattle.be_store.proofs.Capacity.{large}
 
 -- ## A pass that doesn't look stays unpinned
 
--- the move is no look by the pass k
+-- the move isn't a look by the pass k
 abbrev pub IsQuiet : ℕ → Move → Type 0
 IsQuiet k (Look j) = j ≢ k
 IsQuiet k (Announce j) = Unit {0}
@@ -90,11 +90,11 @@ quiet_front k (m ∷ ms) ns h = (h.0, quiet_front k ms ns h.1)
 abbrev IsIdleAt : ℕ → World → Type 0
 IsIdleAt k w = w.phases k ≡ Idle
 
--- a pass gets the phase p, which is Idle if it is the pass k
+-- a pass gets the phase p, which is Idle if the pass is k
 idle_to : (k j : ℕ) (w : World) (p : Phase) → (j ≡ k → p ≡ Idle) → IsIdleAt k w → IsIdleAt k (to w j p)
 idle_to k j w p mine idle = elim (eqb_tells k j) [ inl y ↦ rw y.0 (mine (sym y.1)) | inr n ↦ rw n.0 idle ]
 
-idle_scan : (k j : ℕ) (w : World) (h : Option Holder) → IsIdleAt k w → IsIdleAt k (scanned_by w h j)
+idle_scan : (k j : ℕ) (w : World) (h : Option Writer) → IsIdleAt k w → IsIdleAt k (scanned_by w h j)
 idle_scan k j w None idle = idle
 idle_scan k j w (Some h) idle = by (suc j == w.passes)
   where
@@ -110,7 +110,7 @@ idle_after k w (LookAgain j) quiet idle =
     idle_to k j w (phase_after_look_again (w.phases j) w.current) (λ same. ap (λ (p : Phase). phase_after_look_again p w.current) (ap w.phases same ∙ idle)) idle
 idle_after k w (Unpin j) quiet idle = idle_to k j w Idle (λ same. refl) idle
 idle_after k w (Lock j) quiet idle = idle
-idle_after k w (Scan j i) quiet idle = idle_scan k i w w.holder idle
+idle_after k w (Scan j i) quiet idle = idle_scan k i w w.writer idle
 idle_after k w (Fill j p i word) quiet idle = idle
 idle_after k w (Publish j page given) quiet idle = idle
 idle_after k w (Unlock j) quiet idle = idle
@@ -120,7 +120,7 @@ idle_through : (k : ℕ) (w : World) (ms : List Move) (v : World) → AreQuiet k
 idle_through k w [] v quiet run idle = subst (IsIdleAt k) (sym run) idle
 idle_through k w (m ∷ ms) v quiet run idle = idle_through k (after_move w m) ms v quiet.1 run.1 (idle_after k w m quiet.0 idle)
 
--- ## What follows a history without a look of the pass
+-- ## Extending a history without a look of the pass
 
 abbrev pub GoesQuietly : ℕ → List Move → List Move → Type 0
 GoesQuietly k old new = (rest : List Move) × AreQuiet k rest × (new ≡ old ++ rest)
@@ -163,7 +163,7 @@ publishes_quietly w c page l =
 
 -- ## Passes that are unpinned
 
--- where the machine has the pass idle, it still has it after more moves without a look
+-- if the machine has the pass idle, it still does after more moves without a look
 idle_later : (limits : Limits) (b : Knowledge) (rest : List Move) (words : ℕ → ℕ → ℕ) (world : World) → IsOut limits b → AreQuiet b.number rest
     → RunsTo limits words (b.history ++ rest) world → IsIdleAt b.number world
 idle_later limits b rest words world out quiet runs =
@@ -198,7 +198,7 @@ learns_out l a c out h = out_later l a c out h.pass (by h.moves)
     by (inl none) = quietly_same a.number a.history c.history none
     by (inr locks) = locks_quietly a c locks
 
--- ## A write through which all others rest
+-- ## A write through which all other passes rest
 
 abbrev first_or : Move → List Move → Move
 first_or d [] = d
@@ -208,7 +208,7 @@ abbrev but_first : List Move → List Move
 but_first [] = []
 but_first (m ∷ ms) = ms
 
--- of two beginnings of one list, one begins with the other
+-- of two prefixes of one list, one begins with the other
 either_first : (t xs ys : List Move) → StartsWith t xs → StartsWith t ys → StartsWith ys xs ⊎ StartsWith xs ys
 either_first t [] ys hx hy = inl (ys, refl)
 either_first t (x ∷ xs) [] hx hy = inr (x ∷ xs, refl)
@@ -223,13 +223,13 @@ either_first (m ∷ t) (x ∷ xs) (y ∷ ys) hx hy =
     by same (inl h) = inl (h.0, λ j. sym same j ∷ h.1 j)
     by same (inr h) = inr (h.0, λ j. same j ∷ h.1 j)
 
--- no move of a list without moves of the pass k is its lock
+-- a list without moves of the pass k doesn't contain its lock
 no_lock_among : (k : ℕ) (xs ys : List Move) → NoneBy k (xs ++ Lock k ∷ ys) → ⊥
 no_lock_among k [] ys h = h.0 refl
 no_lock_among k (x ∷ xs) ys h = no_lock_among k xs ys h.1
 
--- The other pass was at rest before the lock: where its history would go on beyond the lock, the first of the two lists
--- of moves would have it.
+-- The other pass was at rest before the lock. If its history went on beyond the lock, the first of the two lists of moves would
+-- have the lock.
 before_lock : (a b : Knowledge) (limits : Limits) (more locked : List Move) → HasTrace limits (a ∷ b ∷ []) → locked ≡ (a.history ++ more) ++ Lock a.number ∷ []
     → StartsWith b.history locked → ⊥
 before_lock a b limits more locked h is (rest, e) =
@@ -245,7 +245,7 @@ before_lock a b limits more locked h is (rest, e) =
     regroup xs ys m zs ws =
         append_assoc ((xs ++ ys) ++ m ∷ []) zs ws ∙ (append_assoc (xs ++ ys) (m ∷ []) (zs ++ ws) ∙ append_assoc xs ys (m ∷ (zs ++ ws)))
 
--- the lock lies between what the pass knew before the write and after it, and is its last
+-- the lock lies between what the pass knew before and after the write, and is its last lock
 lock_last : (w c : Knowledge) (l : LocksOnly w c) → upto_lock w.number c.history ≡ l.locked
 lock_last w c l =
     let k = w.number in
@@ -263,13 +263,13 @@ locked_front w c l =
     starts_trans l.locked l.worked c.history (makes_starts w.number l.worked (Unlock w.number ∷ []) c.history l.unlock)
     (works_start w.limits w.number l.locked l.worked l.work)
 
--- where a run goes through the front of what a pass with an unpinned phase has seen of the moves, that pass has announced nothing
+-- at a point of a run within the moves that an unpinned pass has seen, that pass has announced nothing
 no_word : (limits : Limits) (k n : ℕ) (b : Knowledge) (rest upto : List Move) (words : ℕ → ℕ → ℕ) (world : World) → IsOut limits b → b.number ≡ k → upto ≡ b.history ++ rest → AreQuiet k rest
     → RunsTo limits words upto world → announce_word (world.phases k) ≡ suc n → ⊥
-no_word limits k n b rest upto words world out is same quiet runs told =
+no_word limits k n b rest upto words world out is same quiet runs reported =
     let idle : world.phases b.number ≡ Idle =
     idle_later limits b rest words world out (subst (λ (m : ℕ). AreQuiet m rest) (sym is) quiet) (subst (λ (l : List Move). RunsTo limits words l world) same runs) in
-    let none : 0 ≡ suc n = sym (ap announce_word idle) ∙ (ap (λ (m : ℕ). announce_word (world.phases m)) is ∙ told) in
+    let none : 0 ≡ suc n = sym (ap announce_word idle) ∙ (ap (λ (m : ℕ). announce_word (world.phases m)) is ∙ reported) in
     absurd (omega (arith, none))
 
 -- the writer itself is unpinned
@@ -288,9 +288,9 @@ module _ (limits : Limits) (w c : Knowledge) (l : LocksOnly w c) (number : c.num
       let whole : w.history ++ quiet.0 ≡ w.history ++ (from.0 ++ h.front.0) =
       sym quiet.2 ∙ (h.front.1 ∙ (ap (λ (x : List Move). x ++ h.front.0) from.1 ∙ append_assoc w.history from.0 h.front.0)) in
       let rest : quiet.0 ≡ from.0 ++ h.front.0 = append_cancel_left w.history quiet.0 (from.0 ++ h.front.0) whole in
-      no_word limits k n w from.0 h.upto h.words h.world out refl from.1 (quiet_front k from.0 h.front.0 (subst (AreQuiet k) rest quiet.1)) (runs_here k n h) h.told
+      no_word limits k n w from.0 h.upto h.words h.world out refl from.1 (quiet_front k from.0 h.front.0 (subst (AreQuiet k) rest quiet.1)) (runs_here k n h) h.reported
 
-  -- the other's history ends before the lock
+  -- the other pass's history ends before the lock
   rests_before : (b : Knowledge) → RestsThrough limits w c b → StartsWith l.locked b.history
   rests_before b r =
       let a = r.met in
@@ -320,7 +320,7 @@ module _ (limits : Limits) (w c : Knowledge) (l : LocksOnly w c) (number : c.num
       let rest : r.after.rests.1.0.0 ≡ from.0 ++ tail = append_cancel_left b.history r.after.rests.1.0.0 (from.0 ++ tail) whole in
       let quiet : AreQuiet j from.0 =
       quiet_front j from.0 tail (subst (AreQuiet j) rest (subst (λ (k : ℕ). AreQuiet k r.after.rests.1.0.0) is (none_are_quiet b.number r.after.rests.1.0.0 r.after.rests.1.0.1))) in
-      no_word limits j n b from.0 h.upto h.words h.world r.out is from.1 quiet (runs_here j n h) h.told
+      no_word limits j n b from.0 h.upto h.words h.world r.out is from.1 quiet (runs_here j n h) h.reported
 
   none_earlier : IsOut limits w → OthersRest limits w c → NoneIsEarlier c
   none_earlier out rest j n lt h = elim (eqb_tells j w.number) [

@@ -13,7 +13,7 @@ use Rattle.be_store.specs.History.{Accepts, IsHeldThrough, Learns, LocksOnly, Is
 use Rattle.be_store.specs.Passes.{volume_seen}
 use Rattle.be_store.proofs.Refusals.{steps_refuse}
 
--- what is not of the variant Busy
+-- a refusal that isn't Busy
 pub no_busy : (e : Refusal) → ((b : ℕ) → e ≡ Busy b → ⊥) → is_busy e ≡ false
 no_busy (Busy b) other = absurd (other b refl)
 no_busy e other = refl
@@ -23,7 +23,7 @@ busy_with : (e : Refusal) → is_busy e ≡ true → (b : ℕ) × (e ≡ Busy b)
 busy_with (Busy b) h = (b, refl)
 busy_with e h = absurd (false≢true h)
 
--- Busy comes of the lock alone
+-- Busy comes only from the lock
 busy_by_lock : (a c : Knowledge) (ops : List Op) (b : ℕ) → IsReason a c ops (Busy b) → FoundHeld (Busy b) a c
 busy_by_lock a c ops b (inl h) = h.0
 busy_by_lock a c ops b (inr (inl h, locks)) = absurd (let few = (steps_refuse (volume_seen c) ops (Busy b) h).0 in omega (arith, few))
@@ -38,18 +38,18 @@ busy_by_lock a c ops b (inr (inr (inr h), locks)) = absurd (let e = h.2.1 in cc)
 pub untried : (a : Knowledge) → a ≡ tried a []
 untried a = let same : a.steps ≡ a.steps + 0 = omega arith in ap (λ (n : ℕ). record a { steps = n }) same
 
--- what was found by so many tries, the last of which led from m to c
-module _ (a : Knowledge) (holders : List ℕ) (m c : Knowledge) (is : m ≡ tried a holders) where
-  -- one try more
-  tried_again : (b : ℕ) → c ≡ finds_held m b → c ≡ tried a (b ∷ holders)
+-- the state after a number of failed tries, the last of which led from m to c
+module _ (a : Knowledge) (writers : List ℕ) (m c : Knowledge) (is : m ≡ tried a writers) where
+  -- one more try
+  tried_again : (b : ℕ) → c ≡ finds_held m b → c ≡ tried a (b ∷ writers)
   tried_again b next =
-      let steps : a.steps + length holders + 1 ≡ a.steps + length (b ∷ holders) = omega arith in
-      next ∙ (ap (λ (k : Knowledge). finds_held k b) is ∙ ap (λ (n : ℕ). record a { holders = (b ∷ holders) ++ a.holders; steps = n }) steps)
+      let steps : a.steps + length writers + 1 ≡ a.steps + length (b ∷ writers) = omega arith in
+      next ∙ (ap (λ (k : Knowledge). finds_held k b) is ∙ ap (λ (n : ℕ). record a { writers = (b ∷ writers) ++ a.writers; steps = n }) steps)
 
   pub accepts_at_last : (ops : List Op) (n : ℕ) (dones : List Done) → Accepts m c ops n dones → Accepts a c ops n dones
   accepts_at_last ops n dones h = by (subst (λ (k : Knowledge). Accepts k c ops n dones) is h)
     where
-      by : Accepts (tried a holders) c ops n dones → Accepts a c ops n dones
+      by : Accepts (tried a writers) c ops n dones → Accepts a c ops n dones
       by h = record {
         others = h.others;
         commit = h.commit;
@@ -67,52 +67,52 @@ module _ (a : Knowledge) (holders : List ℕ) (m c : Knowledge) (is : m ≡ trie
   pub locks_at_last : LocksOnly m c → LocksOnly a c
   locks_at_last h = by (subst (λ (k : Knowledge). LocksOnly k c) is h)
     where
-      by : LocksOnly (tried a holders) c → LocksOnly a c
+      by : LocksOnly (tried a writers) c → LocksOnly a c
       by l = record { locked = l.locked; lock = l.lock; worked = l.worked; work = l.work; unlock = l.unlock }
 
   pub learns_at_last : Learns m c → Learns a c
   learns_at_last h = by (subst (λ (k : Knowledge). Learns k c) is h)
     where
-      by : Learns (tried a holders) c → Learns a c
+      by : Learns (tried a writers) c → Learns a c
       by h = record { more = h.more; mine = h.mine; pass = h.pass; pin = h.pin; moves = moved h.moves }
         where
-          moved : (c.history ≡ a.history) ⊎ LocksOnly (tried a holders) c → (c.history ≡ a.history) ⊎ LocksOnly a c
+          moved : (c.history ≡ a.history) ⊎ LocksOnly (tried a writers) c → (c.history ≡ a.history) ⊎ LocksOnly a c
           moved (inl none) = inl none
           moved (inr l) = inr (record { locked = l.locked; lock = l.lock; worked = l.worked; work = l.work; unlock = l.unlock })
 
-  -- the last try found a holder too
-  pub held_at_last : (e : Refusal) → FoundHeld e m c → IsHeldThrough (length holders + 1) a c e
+  -- the last try also found the lock held
+  pub held_at_last : (e : Refusal) → FoundHeld e m c → IsHeldThrough (length writers + 1) a c e
   held_at_last e late =
-      (late.0, holders, late.1, subst (λ (k : Knowledge). late.0 < k.limits.passes) is late.2, subst (λ (k : Knowledge). late.0 ≢ k.number) is late.3, refl, tried_again late.0 late.4)
+      (late.0, writers, late.1, subst (λ (k : Knowledge). late.0 < k.limits.passes) is late.2, subst (λ (k : Knowledge). late.0 ≢ k.number) is late.3, refl, tried_again late.0 late.4)
 
   -- the reason of the last try
-  reason_at_last : (ops : List Op) (e : Refusal) → IsReason m c ops e → IsLastReason (length holders + 1) a c ops e
+  reason_at_last : (ops : List Op) (e : Refusal) → IsReason m c ops e → IsLastReason (length writers + 1) a c ops e
   reason_at_last ops e (inl h) = inl (held_at_last e h.0)
   reason_at_last ops e (inr h) = inr (h.0, locks_at_last h.1)
 
-  -- the reason of a try that was not the last
+  -- the reason of a try that wasn't the last
   reason_else : (tries : ℕ) (ops : List Op) (e : Refusal) → is_busy e ≡ false → IsReason m c ops e → IsLastReason tries a c ops e
   reason_else tries ops e free (inl h) = absurd (false≢true (sym free ∙ ap is_busy h.0.1))
   reason_else tries ops e free (inr h) = inr (h.0, locks_at_last h.1)
 
-  -- a try that is refused by Busy found a holder
-  pub held_by : (ops : List Op) (e : Refusal) → is_busy e ≡ true → IsReason m c ops e → (b : ℕ) × (c ≡ tried a (b ∷ holders))
+  -- a try that is refused with Busy found the lock held
+  pub held_by : (ops : List Op) (e : Refusal) → is_busy e ≡ true → IsReason m c ops e → (b : ℕ) × (c ≡ tried a (b ∷ writers))
   held_by ops e held h =
       let busy = busy_with e held in
       let late = busy_by_lock m c ops busy.0 (subst (λ (x : Refusal). IsReason m c ops x) busy.1 h) in
       (late.0, tried_again late.0 late.4)
 
-  -- the try found a holder
-  pub held_again : {X : Type 0} (ops : List Op) (r : Result X Refusal) → was_busy r ≡ true → IfErr r (λ e. Learns m c × IsReason m c ops e) → (b : ℕ) × (c ≡ tried a (b ∷ holders))
+  -- the try found the lock held
+  pub held_again : {X : Type 0} (ops : List Op) (r : Result X Refusal) → was_busy r ≡ true → IfErr r (λ e. Learns m c × IsReason m c ops e) → (b : ℕ) × (c ≡ tried a (b ∷ writers))
   held_again ops (Ok x) held h = absurd (false≢true held)
   held_again ops (Err e) held h = held_by ops e held h.1
 
-  pub accepted_at_last : {X : Type 0} (dones_of : X → List Done) (ops : List Op) (r : Result (ℕ × X) Refusal) → IfOk r (λ x. Accepts m c ops x.0 (dones_of x.1)) →
-      IfOk r (λ x. Accepts a c ops x.0 (dones_of x.1))
-  accepted_at_last dones_of ops (Ok x) h = accepts_at_last ops x.0 (dones_of x.1) h
-  accepted_at_last dones_of ops (Err e) h = tt
+  pub accepted_at_last : {X : Type 0} (outcomes_of : X → List Done) (ops : List Op) (r : Result (ℕ × X) Refusal) → IfOk r (λ x. Accepts m c ops x.0 (outcomes_of x.1)) →
+      IfOk r (λ x. Accepts a c ops x.0 (outcomes_of x.1))
+  accepted_at_last outcomes_of ops (Ok x) h = accepts_at_last ops x.0 (outcomes_of x.1) h
+  accepted_at_last outcomes_of ops (Err e) h = tt
 
-  pub refused_at_last : {X : Type 0} (tries : ℕ) (ops : List Op) (r : Result X Refusal) → length holders + 1 ≡ tries → IfErr r (λ e. Learns m c × IsReason m c ops e) →
+  pub refused_at_last : {X : Type 0} (tries : ℕ) (ops : List Op) (r : Result X Refusal) → length writers + 1 ≡ tries → IfErr r (λ e. Learns m c × IsReason m c ops e) →
       IfErr r (λ e. Learns a c × IsLastReason tries a c ops e)
   refused_at_last tries ops (Ok x) count h = tt
   refused_at_last tries ops (Err e) count h = (learns_at_last h.0, subst (λ n. IsLastReason n a c ops e) count (reason_at_last ops e h.1))

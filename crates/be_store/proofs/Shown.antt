@@ -1,4 +1,4 @@
--- The steps of a pass have all that its moves show.
+-- A pass's steps have everything that its moves show.
 use Rattle.std.proofs.Common.{◌≡◌, ◌≢◌, ◌⊎◌, ℕ, Bool, inl, inr, List, [], ◌∷◌, ◌++◌, refl, sym, ap, ◌∙◌, subst, append_assoc}
 use Rattle.std.specs.Prelude.{◌==◌, if◌then◌else◌}
 use Rattle.std.proofs.lemmas.Bool.{eq-eqb, ne_eqb}
@@ -62,7 +62,7 @@ shown_append : (k : ℕ) (xs ys : List Move) → shown_by k (xs ++ ys) ≡ shown
 shown_append k [] ys = refl
 shown_append k (x ∷ xs) ys = ap (λ (l : List Shown). shown k x ++ l) (shown_append k xs ys) ∙ sym (append_assoc (shown k x) (shown_by k xs) (shown_by k ys))
 
--- what the pass shows by its own moves, since those of others show nothing of it
+-- what the pass shows by its own moves; other passes' moves show nothing about it
 makes_shown : (k : ℕ) (old own new : List Move) → Makes k old own new → shown_by k new ≡ shown_by k old ++ shown_by k own
 makes_shown k old [] new m = ap (shown_by k) m ∙ sym (append-nil (shown_by k old))
 makes_shown k old (x ∷ own) new m =

@@ -6,12 +6,12 @@ use Rattle.be_table.specs.declared.pass.Knowledge.{Knowledge}
 use Rattle.be_table.specs.declared.pass.Move.TheVariants.{Unlock}
 use Rattle.be_table.specs.declared.status.Status.{Status}
 use Rattle.be_table.specs.Place.{Work}
-use Rattle.be_table.specs.Statuses.{FindsOldest, LieAt, Tells}
+use Rattle.be_table.specs.Statuses.{FindsOldest, LieAt, Reports}
 use Rattle.be_table.specs.Steps.{IsPass, scans_of, without_lock, with_history}
 use Rattle.be_table.specs.Trace.{Makes}
 use Rattle.be_table.specs.Works.{MakesScan, Moves, TakesLock}
 use Rattle.be_store.specs.History.{Learns}
-use Rattle.be_store.specs.Statuses.{TellsStatus}
+use Rattle.be_store.specs.Statuses.{ReportsStatus}
 use Rattle.be_store.specs.Writing.{IsSame}
 use Rattle.be_table.proofs.Worked.{works_scan}
 use Rattle.be_store.proofs.Applied.{learns_same}
@@ -29,12 +29,12 @@ module _ (a : Knowledge) (o n : Work) (t : TakesLock a o.knows) (scan : (least :
       learns_same a o.knows t n.knows c (ap (λ (x : Work). x.knows.seen) scan.1.same) scanned_same is pass
       (works_scan o.knows.limits o.knows.number o.knows.history n.knows.history scan.1.moves) unlocked
 
-  pub scan_tells : (c : Knowledge) (s : Status) → FindsOldest o.knows.limits o.knows.number o.knows.history n.knows.history s.oldest → LieAt o.knows.limits n.knows.history n.knows.places → Tells n.knows s
-      → c ≡ without_lock (with_history n.knows c.history) → Moves n.knows (Unlock n.knows.number ∷ []) c → TellsStatus a c s
-  scan_tells c s oldest places tells is unlocked =
+  pub scan_reports : (c : Knowledge) (s : Status) → FindsOldest o.knows.limits o.knows.number o.knows.history n.knows.history s.oldest → LieAt o.knows.limits n.knows.history n.knows.places → Reports n.knows s
+      → c ≡ without_lock (with_history n.knows c.history) → Moves n.knows (Unlock n.knows.number ∷ []) c → ReportsStatus a c s
+  scan_reports c s oldest places reports is unlocked =
       let number : o.knows.number ≡ a.number = ap (λ (k : Knowledge). k.number) t.same in
       let limits : o.knows.limits ≡ a.limits = ap (λ (k : Knowledge). k.limits) t.same in record {
-        tells = subst (λ (k : Knowledge). Tells k s) (sym is) (record { pages = tells.pages; free = tells.free; retired = tells.retired; entries = tells.entries; commits = tells.commits });
+        reports = subst (λ (k : Knowledge). Reports k s) (sym is) (record { pages = reports.pages; free = reports.free; retired = reports.retired; entries = reports.entries; commits = reports.commits });
         locked = o.knows.history;
         scanned = n.knows.history;
         lock = t.moves.made;

@@ -65,7 +65,7 @@ read_at a n pin = ap (λ o. option_map_or (λ m. replay (take m (entries a.seen)
 pub read_step : (a c : Knowledge) (n : ℕ) (ask : State → Answer) → IsPinnedTo a n → HasRead a c → IsStep a (Read ask (Some (ask (volume_pinned a)))) c
 read_step a c n ask pin h = (n, pin, ap ask (read_at a n pin), ap view_of h)
 
--- so is one that ran out of memory
+-- so is a read that ran out of memory
 pub vain_step : (a c : Knowledge) (n : ℕ) (ask : State → Answer) → IsPinnedTo a n → HasRead a c → IsStep a (Read ask None) c
 vain_step a c n ask pin h = (n, pin, tt, ap view_of h)
 
@@ -73,7 +73,7 @@ vain_step a c n ask pin h = (n, pin, tt, ap view_of h)
 pub any_read : (log : List Entry) (a : Knowledge) (n : ℕ) → ReadsPrefix volume log (view_of a) → IsPinnedTo a n → volume_pinned a ≡ state_of volume (take n log)
 any_read log a n h pin = read_at a n pin ∙ ap replay (h n pin)
 
--- a live query that is refreshed by what changed: the pass learns, and then reads at the pin that it had
+-- refreshing a live query by what changed: the pass learns, and then reads at the pin that it had
 pub refresh_steps : (a c : Knowledge) (n : ℕ) (ask : State → Answer) → Learns a c → IsPinnedTo a n → volume_pinned c ≡ volume_pinned a
     → IsStep a (Learn (entries c.seen)) c × IsStep c (Read ask (Some (ask (volume_pinned a)))) c
 refresh_steps a c n ask h pin same =
@@ -124,7 +124,7 @@ calls_run a (s ∷ steps) z h =
     let c = h.0 in
     let r = calls_run c steps z h.2 in ((s, view_of c) ∷ r.0, (call_step a s c h.1, r.1), ap (λ l. s ∷ l) r.2, ap (λ l. view_of c ∷ l) r.3)
 
--- calls leave the pass its number
+-- calls don't change the pass's number
 pub calls_number : (a : Knowledge) (steps : List (Step volume)) (z : Knowledge) → Calls a steps z → z.number ≡ a.number
 calls_number a steps z h = let r = calls_run a steps z h in run_number volume (view_of a) r.0 (view_of z) r.1
 

@@ -1,4 +1,4 @@
--- What a write makes of the pass that holds the lock.
+-- What a write does to the pass that holds the lock.
 use Rattle.std.proofs.Common.{arith, false, ◌≡◌, ◌≤◌, inl, inr, ℕ, List, [], ◌∷◌, ◌++◌, length, Ok, Err, sym, ap, ◌∙◌, subst}
 use Rattle.std.specs.Prelude.{IfErr, IsOk, Result, MatchResult}
 use Rattle.std.specs.Result.{IsErrAnd}
@@ -10,47 +10,47 @@ use Rattle.be_table.specs.declared.pass.Knowledge.{Knowledge}
 use Rattle.be_table.specs.declared.pass.Move.{Move}
 use Rattle.be_table.specs.declared.pass.Move.TheVariants.{Publish}
 use Rattle.be_table.specs.Place.{Work}
-use Rattle.be_table.specs.Reading.{open_of, standing_among, standing_in_work, word_of_page, words_of, StaysOpen}
+use Rattle.be_table.specs.Reading.{open_of, page_state_among, page_state_in_work, word_of_page, words_of, StaysOpen}
 use Rattle.be_table.specs.Rule.{entries, page_at, reach_at}
 use Rattle.be_table.specs.Steps.{commit_of, entry_by, given_of, publishes, with_history}
 use Rattle.be_table.specs.Trace.{Makes, upto_lock}
 use Rattle.be_table.specs.Working.{HasWorked, WorksOn}
-use Rattle.be_table.specs.Versions.{at_start, SpellsVolume}
+use Rattle.be_table.specs.Versions.{at_start, EncodesVolume}
 use Rattle.be_table.specs.Works.{HasNoRoom, MakesScan, Moves, TakesLock}
-use Rattle.be_table.proofs.Standings.{swept_in}
+use Rattle.be_table.proofs.PageStates.{swept_in}
 use Rattle.be_volume.specs.Volume.{State, steps}
 use Rattle.be_volume.specs.declared.ops.Done.{Done}
 use Rattle.be_volume.specs.declared.ops.Op.{Op}
 use Rattle.be_value.specs.declared.refusals.Refusal.{Refusal}
 use Rattle.be_value.specs.declared.refusals.Refusal.TheVariants.{CommitsSpent, Full, OutOfMemory}
-use Rattle.be_pages.specs.declared.room.Standing.{Standing}
+use Rattle.be_pages.specs.declared.room.PageState.{PageState}
 use Rattle.be_pages.specs.Pages.{KeepsStart}
 use Rattle.be_paged.specs.Changes.{IsRefusedList}
 use Rattle.be_store.specs.Writing.{Begins, HasRoomAtFull, Publishes, IsHeldBack}
 use Rattle.be_store.proofs.Refusals.{steps_refuse}
 
--- the version at the page that the ledger tells is that of the whole journal
-pub current_spelt : (k : Knowledge) (page : ℕ) → Begins k → page ≡ page_at k.seen (length k.seen) → SpellsVolume (reach_at k.seen (length k.seen)) (word_of_page k.words) page (replay (entries k.seen))
-current_spelt k page t is = subst (λ p. SpellsVolume (reach_at k.seen (length k.seen)) (word_of_page k.words) p (replay (entries k.seen))) (sym is) t.spelt
+-- the version at the writer state's page is that of the whole journal
+pub current_encoded : (k : Knowledge) (page : ℕ) → Begins k → page ≡ page_at k.seen (length k.seen) → EncodesVolume (reach_at k.seen (length k.seen)) (word_of_page k.words) page (replay (entries k.seen))
+current_encoded k page t is = subst (λ p. EncodesVolume (reach_at k.seen (length k.seen)) (word_of_page k.words) p (replay (entries k.seen))) (sym is) t.encoded
 
 -- a pass that has just taken the lock begins a write
 pub begins_locked : (a k : Knowledge) → TakesLock a k → Begins k
-begins_locked a k t = record { small = t.pass.within.few_pages; unpublished = ap (λ (x : Knowledge). x.published) t.same; begun = t.begun; spelt = t.spelt }
+begins_locked a k t = record { small = t.pass.within.few_pages; unpublished = ap (λ (x : Knowledge). x.published) t.same; begun = t.begun; encoded = t.encoded }
 
--- a scan frees only pages that stand nowhere
+-- a scan frees only pages that no version has
 pub begins_scanned : (old new : Work) (least : ℕ) → MakesScan old new least → Begins old.knows → Begins new.knows
 begins_scanned old new least h b =
     let k : Knowledge = old.knows in
-    let begun : (q : ℕ) → standing_among new.knows.places q ≡ at_start (has (reach_at k.seen (length k.seen)) q) = λ q. ap (λ ps. standing_among ps q) h.places ∙ swept_in least k.places q ∙ b.begun q in
+    let begun : (q : ℕ) → page_state_among new.knows.places q ≡ at_start (has (reach_at k.seen (length k.seen)) q) = λ q. ap (λ ps. page_state_among ps q) h.places ∙ swept_in least k.places q ∙ b.begun q in
     let same : new.knows ≡ record k { scanned = 0; least = least; places = new.knows.places; held = new.knows.held; steps = new.knows.steps; history = new.knows.history } = ap (λ (w : Work). w.knows) h.same in record {
       small = subst (λ (x : Knowledge). x.limits.pages ≤ 16384) (sym same) b.small;
       unpublished = ap (λ (x : Knowledge). x.published) same ∙ b.unpublished;
       begun = λ q. begun q ∙ ap (λ (x : List Commit). at_start (has (reach_at x (length x)) q)) (sym (ap (λ (x : Knowledge). x.seen) same));
-      spelt = subst (λ (x : List Commit × List ℕ). SpellsVolume (reach_at x.0 (length x.0)) (word_of_page x.1) (page_at x.0 (length x.0)) (replay (entries x.0)))
-          (λ i. (sym (ap (λ (x : Knowledge). x.seen) same) i, sym (ap (λ (x : Knowledge). x.words) same) i)) b.spelt;
+      encoded = subst (λ (x : List Commit × List ℕ). EncodesVolume (reach_at x.0 (length x.0)) (word_of_page x.1) (page_at x.0 (length x.0)) (replay (entries x.0)))
+          (λ i. (sym (ap (λ (x : Knowledge). x.seen) same) i, sym (ap (λ (x : Knowledge). x.words) same) i)) b.encoded;
     }
 
--- what a write makes of the pass, told from before a scan that came first
+-- what a write does to the pass, stated from before the scan that came first
 pub published_from : (w v : Work) (c : Knowledge) (ops : List Op) (n : ℕ) (dones : List Done) → open_of v ≡ open_of w → Publishes v.knows c ops n dones → Publishes w.knows c ops n dones
 published_from w v c ops n dones kept p =
     let number : v.knows.number ≡ w.knows.number = ap (λ (o : StaysOpen). o.number) kept in
@@ -105,17 +105,17 @@ published w v r p ops page n dones shown made kept same is lent stepped number w
       made = subst (λ k. Makes k r.knows.history (Publish k page (given_of r.knows) ∷ []) p.knows.history) pass moves.made;
     }
 
--- a list that is refused for want of a page is one that the volume accepts
-pub full_accepts : {S K : Type 0} (kept_of : S → K) (standing_of : S → ℕ → Standing) (words_of : S → ℕ → ℕ → ℕ) (full_of : S → ℕ → Type 0) (volume : State) (ops : List Op) (least : ℕ) (old new : S)
-    → IsRefusedList kept_of standing_of words_of full_of volume ops (Full least) old new → IsOk (steps volume ops) × KeepsStart kept_of standing_of words_of old new
+-- a list that is refused because no page is free is one that the volume accepts
+pub full_accepts : {S K : Type 0} (kept_of : S → K) (page_state_of : S → ℕ → PageState) (words_of : S → ℕ → ℕ → ℕ) (full_of : S → ℕ → Type 0) (volume : State) (ops : List Op) (least : ℕ) (old new : S)
+    → IsRefusedList kept_of page_state_of words_of full_of volume ops (Full least) old new → IsOk (steps volume ops) × KeepsStart kept_of page_state_of words_of old new
 full_accepts _ _ _ _ volume ops least old new (inl h) = absurd (let few = (steps_refuse volume ops (Full least) h.0).1 in omega (arith, few))
 full_accepts _ _ _ _ volume ops least old new (inr h) = (h.1, h.2)
 
--- the journal's want of room goes before that of a page
+-- the journal's lack of room is returned before the lack of a page
 pub full_unroomed : (w v r : Work) (full_of : Work → ℕ → Type 0) (ops : List Op) (least : ℕ) (f e : Refusal) → w.knows.published ≡ false → f ≡ Full least
-    → IsRefusedList open_of standing_in_work words_of full_of (replay (entries w.knows.seen)) ops f w v → r ≡ v → HasNoRoom e v.knows → IsHeldBack w.knows r.knows ops e
+    → IsRefusedList open_of page_state_in_work words_of full_of (replay (entries w.knows.seen)) ops f w v → r ≡ v → HasNoRoom e v.knows → IsHeldBack w.knows r.knows ops e
 full_unroomed w v r full_of ops least f e unpublished is refused same none =
-    let h = full_accepts open_of standing_in_work words_of full_of (replay (entries w.knows.seen)) ops least w v (subst (λ g. IsRefusedList open_of standing_in_work words_of full_of (replay (entries w.knows.seen)) ops g w v) is refused) in
+    let h = full_accepts open_of page_state_in_work words_of full_of (replay (entries w.knows.seen)) ops least w v (subst (λ g. IsRefusedList open_of page_state_in_work words_of full_of (replay (entries w.knows.seen)) ops g w v) is refused) in
     let k : open_of r ≡ open_of w = ap open_of same ∙ h.1.kept in record {
       same = record { pass = ap (λ (o : StaysOpen). o.number) k; limits = ap (λ (o : StaysOpen). o.limits) k; pin = ap (λ (o : StaysOpen). o.phase) k };
       seen = ap (λ (o : StaysOpen). o.seen) k;
@@ -129,7 +129,7 @@ pub passed_up : {T E : Type 0} (r : Result T E) (e : E) (P : T → Type 0) (Q : 
 passed_up (Ok x) e P Q is q = absurd is
 passed_up (Err y) e P Q is q = subst Q (sym is) q
 
--- where the journal has no room, that isn't for want of a page
+-- if the journal has no room, the error isn't Full
 unroomed_at_full : (k : Knowledge) (w : Work) (count : ℕ) (e : Refusal) → HasNoRoom e k → HasRoomAtFull w count e
 unroomed_at_full k w count e (inl none) least full = absurd (let spent : CommitsSpent ≡ Full least = sym none.0 ∙ full in cc)
 unroomed_at_full k w count e (inr none) least full = absurd (let refused : OutOfMemory ≡ Full least = sym none.0 ∙ full in cc)

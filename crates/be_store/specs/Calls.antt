@@ -1,4 +1,4 @@
--- Which step a call of a pass is; a pass through its calls, and the journal at the end.
+-- Which step each call of a pass is; a pass through its calls, and the journal at the end.
 use Rattle.std.specs.Prelude.{◌≡◌, ℕ, ◌-◌, All, List, [], ◌∷◌, map, Some, IfSome, slice_get}
 use Rattle.std.specs.Prelude.{take}
 use Rattle.be_journal.specs.declared.entries.Entry.{Entry}
@@ -18,10 +18,10 @@ use Rattle.be_store.specs.SmallMachine.{PassView, Step, Apply, Learn, Pin, Unpin
 use Rattle.be_store.specs.SmallMachine.{first_view}
 use Rattle.be_store.specs.Views.{view_of, volume}
 
--- The call of a pass that knew a before and knows c after, by the step that it is. Each call of a
--- store has one of these forms, but for a refresh by what changed, which has two. Learn is a
--- refused write, a look at the journal or at how full the store is, a meeting with another pass or
--- with a witness, and a witness that is made.
+-- A pass's call, given what it knew before (a) and knows after (c), is this step. Each call of a
+-- store has one of these forms, except a refresh by what changed, which has two. Learn is a refused
+-- write, or a look at the journal or at how full the store is. It is also a meeting with another
+-- pass or with a witness, and making a witness.
 abbrev pub Call : Knowledge → Step volume → Knowledge → Type 0
 Call a (Apply e n) c = (ops : List Op) × (dones : List Done) × (e ≡ entry_by a ops dones)
     × Accepts a c ops n dones
@@ -31,9 +31,9 @@ Call a Unpin c = Unpins a c
 Call a (Read q r) c = (n : ℕ) × IsPinnedTo a n
     × IfSome r (λ x. x ≡ volume.answer q (volume_pinned a)) × HasRead a c
 
--- Calls of a pass, one after the other, that are these steps: it knew a at first and knows z at
--- last. The law `steps_are_shown` says that they have each accepted write, pin and unpin. A read
--- may be missing, or be listed as a Learn: it changes only the count of steps in its pass.
+-- Consecutive calls of a pass that are these steps: it knew a at first and knows z at the end. The
+-- law `steps_are_shown` says that they include each accepted write, pin and unpin. A read may be
+-- missing, or be listed as a Learn: it changes only the pass's count of steps.
 abbrev pub Calls : Knowledge → List (Step volume) → Knowledge → Type 0
 Calls a [] z = a ≡ z
 Calls a (s ∷ steps) z = (c : Knowledge) × Call a s c × Calls c steps z
@@ -44,8 +44,8 @@ abbrev pub known_after : (a : Knowledge) (steps : List (Step volume)) (z : Knowl
 known_after a [] z calls = []
 known_after a (s ∷ steps) z calls = calls.0 ∷ known_after calls.0 steps z calls.2
 
--- Calls of a pass that had made no move and seen nothing at first, by their steps, to the last that
--- it made.
+-- The steps of all calls of a pass, from the first to the last. Before the first it had made no
+-- move and seen nothing.
 pub record PassCalls : Type 0 where
   pub first : Knowledge
   pub steps : List (Step volume)
@@ -54,30 +54,29 @@ pub record PassCalls : Type 0 where
   pub fresh : first.history ≡ []
   pub made : Calls first steps last
 
--- the views after them
+-- the views after these calls
 abbrev pub views_known : PassCalls → List (PassView volume)
 views_known p = map view_of (known_after p.first p.steps p.last p.made)
 
--- Each write of the pass that was accepted with the number n is the n-th entry of the journal: by
--- this pass, with these operations and outcomes, whatever was called after it.
+-- If a write of the pass was accepted with the number n, the journal's n-th entry is by this pass,
+-- with these operations and outcomes. It doesn't matter what was called afterwards.
 abbrev pub HasWrites : List Entry → Knowledge → Type 0
 HasWrites log z = (a c : Knowledge) (steps : List (Step volume)) (ops : List Op) (n : ℕ)
     (dones : List Done) →
     Accepts a c ops n dones → Calls c steps z → slice_get log (n - 1) ≡ Some (entry_by a ops dones)
 
--- Whenever the pass was pinned to n, the volume that it read is that after the journal's first n
--- entries.
+-- Whenever the pass was pinned to n, it read the volume after the journal's first n entries.
 abbrev pub ReadsFronts : List Entry → Knowledge → Type 0
 ReadsFronts log z = (a : Knowledge) (steps : List (Step volume)) (n : ℕ) → IsPass a
     → IsPinnedTo a n → Calls a steps z → volume_pinned a ≡ replay (take n log)
 
--- After each of its calls the history of the pass was a prefix of this list of moves.
+-- After each of its calls, the pass's history was a prefix of this list of moves.
 abbrev pub HasFronts : List Move → Knowledge → Type 0
 HasFronts trace z = (c : Knowledge) (steps : List (Step volume)) → Calls c steps z
     → StartsWith trace c.history
 
--- The calls of all passes are in one list of moves of the machine: after each call its pass's
--- history is a prefix of the list, and no move of a pass comes after its last history.
+-- All passes' calls are in one list of moves of the machine. After each call, its pass's history is
+-- a prefix of the list; no move of a pass comes after its last history.
 pub record AreInOneTrace (limits : Limits) (passes : List Knowledge) : Type 0 where
   pub has : HasTrace limits passes
   pub fronts : All (HasFronts has.trace) passes

@@ -1,4 +1,4 @@
--- A write that finds no page: what fills the pool then, and which pool is large enough.
+-- A write that finds no free page: what fills the pool then, and which pool is large enough.
 use Rattle.std.specs.FinMap as map
 use Rattle.std.specs.Prelude.{◌≡◌, ◌≢◌, ℕ, suc, ◌+◌, ◌*◌, ◌^◌, ◌<◌, ◌≤◌, List, [], ◌∷◌, length}
 use Rattle.be_core.specs.Machine.{World, has}
@@ -15,35 +15,35 @@ use Rattle.be_volume.specs.Volume.{State}
 use Rattle.be_volume.specs.declared.ops.Op.{Op}
 use Rattle.be_store.specs.Passes.{IsBetweenCalls, IsPinnedTo, volume_seen}
 
--- how many pages of the pool the current version has
+-- how many of the pool's pages the current version has
 abbrev pub current_pages : Knowledge → ℕ
 current_pages c = count_below (has (reach_at c.seen (length c.seen))) c.limits.pages
 
--- how many pages of the pool the write held where it found none free
+-- how many of the pool's pages the write itself held when it found none free
 abbrev pub held_pages : Knowledge → ℕ
 held_pages c = count_below (has c.held) c.limits.pages
 
--- A version of this volume has at most so many pages: one for each five items, one for each index,
--- and one more.
+-- A version of this volume has at most this many pages: one for each five items, one for each
+-- index, and one more.
 abbrev pub AreFewFor : State → (pages : ℕ) → Type 0
 AreFewFor volume pages = 5 * pages ≤ items volume + 4 * map.len volume.indices + 9
 
--- So many pages are no more than a write may hold, whose operations keep the volume within any
--- number of items and indices: one for each five items, one for each index, two for each level of a
--- tree of so many items, and three.
+-- This many pages are no more than a write may hold: one for each five items, one for each index,
+-- two for each level of a tree of that many items, and three. The numbers of items and indices are
+-- any within which its operations keep the volume.
 abbrev pub AreFewToHold : State → List Op → (pages : ℕ) → Type 0
 AreFewToHold volume ops pages = (most indices high : ℕ) → StaysWithin most indices volume ops
     → most + 1 < 2 * 6 ^ suc high → 5 * pages ≤ most + 4 * indices + 10 * high + 15
 
--- Why no page was left for this write, and the number that the refusal carries: the least of the
--- write's last whole scan. The write held each page that no version from there on has. The current
--- version has few pages, and the write held few.
+-- Why no page was left for this write, and the number in the refusal: the oldest active reader of
+-- the write's last whole scan. The write held each page that no version from there on has. The
+-- current version has few pages, and the write held few.
 pub record IsShort (c : Knowledge) (ops : List Op) (least : ℕ) : Type 0 where
   pub spent : IsSpent c least
   pub current : AreFewFor (volume_seen c) (current_pages c)
   pub few : AreFewToHold (volume_seen c) ops (held_pages c)
 
--- While the pass had the lock, no pass had announced a version before the current one: none was
+-- While the pass had the lock, no pass had published a version before the current one: none was
 -- pinned to an earlier version, or about to pin one.
 abbrev pub NoneIsEarlier : Knowledge → Type 0
 NoneIsEarlier c = (j n : ℕ) → j < c.limits.passes → HadAnnounced c j n → length c.seen ≤ n
@@ -54,8 +54,9 @@ IsAtCurrent c = IsBetweenCalls c.limits.passes c.phase
     × ((n : ℕ) → IsPinnedTo c n → n ≡ length c.seen)
 
 -- The pool is large enough for these operations. Before, between and after them the volume has at
--- most so many items and indices, and a tree of so many items is no higher than this. The pool has
--- more than two pages for each five items, two for each index, two for each level, and five.
+-- most `most` items and `indices` indices. A tree of that many items has at most this height. The
+-- pool has more than two pages for each five items, two for each index, two for each level, and
+-- five.
 pub record HasLargePool (c : Knowledge) (ops : List Op) : Type 0 where
   pub most : ℕ
   pub indices : ℕ
@@ -64,14 +65,14 @@ pub record HasLargePool (c : Knowledge) (ops : List Op) : Type 0 where
   pub height : most + 1 < 2 * 6 ^ suc high
   pub pages : 2 * most + 8 * indices + 10 * high + 24 < 5 * c.limits.pages
 
--- The machine has the pass unpinned, and not about to pin, where the pass made its last move.
+-- In the machine, the pass is unpinned and not about to pin, after the pass's last move.
 abbrev pub IsOut : Limits → Knowledge → Type 0
 IsOut limits b = (words : ℕ → ℕ → ℕ) (world : World) → RunsTo limits words b.history world
     → world.phases b.number ≡ Idle
 
--- Through a write, of whose pass w is what it knew before and c what it knows after, the pass that
--- knows b did nothing and was unpinned: a meeting of the two before the write and one after it have
--- it at rest.
+-- A write's pass knows w before it and c after it. Meanwhile the pass that knows b did nothing and
+-- was unpinned: the two passes met before the write and after it, and both times that pass was at
+-- rest.
 pub record RestsThrough (limits : Limits) (w c b : Knowledge) : Type 0 where
   pub out : IsOut limits b
   pub met : Knowledge
@@ -80,7 +81,7 @@ pub record RestsThrough (limits : Limits) (w c b : Knowledge) : Type 0 where
   pub before : HasTrace limits (met ∷ b ∷ [])
   pub after : HasTrace limits (c ∷ b ∷ [])
 
--- each other pass of the store did
+-- each other pass of the store rested through the write
 abbrev pub OthersRest : Limits → Knowledge → Knowledge → Type 0
 OthersRest limits w c = (j : ℕ) → j < limits.passes → j ≢ w.number
     → (b : Knowledge) × (b.number ≡ j) × RestsThrough limits w c b

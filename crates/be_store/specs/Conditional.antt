@@ -19,8 +19,8 @@ use Rattle.be_store.specs.Writing.{IsHeldBack, Publishes}
 use Rattle.be_store.specs.declared.conditional.ApplyIfError.{ApplyIfError}
 use Rattle.be_store.specs.declared.conditional.ApplyIfError.TheVariants.{Conflict, Refused}
 
--- An accepted write on what was read: its entry is the next after the first `number` entries. A
--- pass that was pinned to these has written on exactly the volume that it read.
+-- An accepted write based on a read: its entry comes right after the first `number` entries. If the
+-- pass was pinned to these, it has written on exactly the volume that it read.
 pub record AcceptsAt (a c : Knowledge) (number : ℕ) (ops : List Op) (n : ℕ) (dones : List Done) :
     Type 0 where
   pub accepts : Accepts a c ops n dones
@@ -29,7 +29,7 @@ pub record AcceptsAt (a c : Knowledge) (number : ℕ) (ops : List Op) (n : ℕ) 
 
 -- Another write came first: the pass has then seen the whole journal. Its length is the one that
 -- was found, and not the one that was named. The pass took the lock and gave it back, and did
--- nothing between.
+-- nothing in between.
 pub record IsConflict (a c : Knowledge) (number found : ℕ) : Type 0 where
   pub learns : Learns a c
   pub found_is : found ≡ length c.seen
@@ -61,8 +61,8 @@ IsLastUnapplied tries a c number ops (Refused e) = Learns a c
     × (IsHeldThrough tries a c e
     ⊎ (IsRefusedAt c ops e × (length c.seen ≡ number) × LocksOnly a c))
 
--- why a conditional write that has the lock isn't made: the journal has another length, and nothing
--- has changed; or the write is refused
+-- Why a conditional write that has the lock isn't made. Either the journal has another length, and
+-- nothing has changed; or the write is refused.
 abbrev pub IsHeldBackIf : (w v : Knowledge) → ℕ → List Op → ApplyIfError → Type 0
 IsHeldBackIf w v number ops (Conflict found) = (v ≡ w) × (found ≡ length w.seen) × (found ≢ number)
 IsHeldBackIf w v number ops (Refused e) = IsHeldBack w v ops e × (length w.seen ≡ number)

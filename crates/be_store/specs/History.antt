@@ -1,5 +1,4 @@
--- What a call changes of the pass that calls: what it has seen of the journal, its own writes, and
--- its pin.
+-- What a call changes in its pass: what it has seen of the journal, its own writes, and its pin.
 use Rattle.std.specs.Prelude.{◌≡◌, ◌≢◌, ◌⊎◌, ℕ, ◌+◌, ◌<◌, Bool, true, false, List, [], ◌∷◌, ◌++◌}
 use Rattle.std.specs.Prelude.{drop, length, take, IsOk}
 use Rattle.std.specs.declared.result.Result.{Result}
@@ -27,10 +26,10 @@ use Rattle.be_volume.specs.declared.ops.Op.{Op}
 use Rattle.be_store.specs.Capacity.{IsShort}
 use Rattle.be_store.specs.Passes.{IsPinnedTo, volume_seen}
 
--- The moves of an accepted write: the pass takes the lock and works on pages, publishes this
--- version page by one move, and gives the lock back. A whole scan is made right after the lock, or
--- if no page is free. Moves of other passes may lie between. After them the machine is as the pass
--- knows it.
+-- The moves of an accepted write. The pass takes the lock and works on pages, publishes this
+-- version page in one move, and gives the lock back. A whole scan is made right after the lock, or
+-- if no page is free. Other passes' moves may come in between. After them the machine is as the
+-- pass knows it.
 pub record PublishesOnce (a c : Knowledge) (page : ℕ) : Type 0 where
   pub locked : List Move
   pub lock : Makes a.number a.history (Lock a.number ∷ []) locked
@@ -40,7 +39,8 @@ pub record PublishesOnce (a c : Knowledge) (page : ℕ) : Type 0 where
   pub publish : Makes a.number worked (Publish a.number page given ∷ Unlock a.number ∷ []) c.history
   pub at : Reaches c (λ w. Unit {0})
 
--- The moves of a call that took the lock, worked on pages, and published nothing.
+-- The moves of a call that took the lock, worked on pages, published nothing, and gave the lock
+-- back.
 pub record LocksOnly (a c : Knowledge) : Type 0 where
   pub locked : List Move
   pub lock : Makes a.number a.history (Lock a.number ∷ []) locked
@@ -52,12 +52,12 @@ pub record LocksOnly (a c : Knowledge) : Type 0 where
 abbrev pub LocksAndUnlocks : Knowledge → Knowledge → Type 0
 LocksAndUnlocks a c = Makes a.number a.history (Lock a.number ∷ Unlock a.number ∷ []) c.history
 
--- The pass made no move, or took the lock and gave it back, and made no other move.
+-- The pass made no move, or only took the lock and gave it back.
 abbrev pub LocksAtMostOnce : Knowledge → Knowledge → Type 0
 LocksAtMostOnce a c = (c.history ≡ a.history) ⊎ LocksAndUnlocks a c
 
--- An accepted write of the pass: it has seen what it had seen, then entries of other passes, then
--- its own. The outcomes are those of the volume at that place.
+-- An accepted write of the pass: it has seen what it had seen, then entries of other passes, and
+-- then its own. The outcomes are what the volume returns at that place.
 pub record Accepts (a c : Knowledge) (ops : List Op) (n : ℕ) (dones : List Done) : Type 0 where
   pub others : List Commit
   pub commit : Commit
@@ -71,7 +71,7 @@ pub record Accepts (a c : Knowledge) (ops : List Op) (n : ℕ) (dones : List Don
   pub pin : c.phase ≡ a.phase
   pub moves : PublishesOnce a c commit.page
 
--- The pass may have seen more, and has written nothing: it made no move, or took the lock and gave
+-- The pass may have seen more, and has written nothing. It made no move, or took the lock and gave
 -- it back.
 pub record Learns (a c : Knowledge) : Type 0 where
   pub more : StartsWith c.seen a.seen
@@ -80,9 +80,9 @@ pub record Learns (a c : Knowledge) : Type 0 where
   pub pin : c.phase ≡ a.phase
   pub moves : (c.history ≡ a.history) ⊎ LocksOnly a c
 
--- Why a pass that has the lock is refused, when it has seen this much of the journal. The volume
--- after that refuses the write. Or it accepts the write, and the journal has no room or no page is
--- free.
+-- Why a pass that has the lock is refused, once it has seen this much of the journal. Either the
+-- volume after that refuses the write; or it accepts the write, and the journal has no room or no
+-- page is free.
 abbrev pub IsRefusedAt : (c : Knowledge) (ops : List Op) → Refusal → Type 0
 IsRefusedAt c ops e =
     (steps (volume_seen c) ops ≡ Err e)
@@ -90,8 +90,8 @@ IsRefusedAt c ops e =
     ⊎ (IsOk (steps (volume_seen c) ops) × (length c.seen < c.limits.commits)
     × IsFullOf (IsShort c ops) e)
 
--- Why a write is refused. Its one try found that another pass holds the lock, and nothing more was
--- seen; or the pass took the lock, was refused, and gave the lock back.
+-- Why a write is refused. Either its one try found that another pass holds the lock, and the pass
+-- saw nothing more; or the pass took the lock, was refused, and gave the lock back.
 abbrev pub IsReason : (a c : Knowledge) (ops : List Op) → Refusal → Type 0
 IsReason a c ops e = (FoundHeld e a c × (c.seen ≡ a.seen)) ⊎ (IsRefusedAt c ops e × LocksOnly a c)
 
@@ -105,22 +105,22 @@ abbrev pub was_busy : {X : Type 0} → Result X Refusal → Bool
 was_busy (Ok x) = false
 was_busy (Err e) = is_busy e
 
--- the pass after tries that found these passes holding the lock, the last one first
+-- the pass after failed tries that found these passes holding the lock, the last one first
 abbrev pub tried : Knowledge → List ℕ → Knowledge
-tried a holders = record a { holders = holders ++ a.holders; steps = a.steps + length holders }
+tried a writers = record a { writers = writers ++ a.writers; steps = a.steps + length writers }
 
--- Each of `tries` tries found that another pass holds the lock, nothing more was seen, and the
--- refusal names the last one.
+-- Each of `tries` tries found that another pass holds the lock, and saw nothing more; the refusal
+-- names the last of these passes.
 abbrev pub IsHeldThrough : ℕ → (a c : Knowledge) → Refusal → Type 0
 IsHeldThrough tries a c e = (b : ℕ) × (before : List ℕ) × (e ≡ Busy b) × (b < a.limits.passes)
     × (b ≢ a.number) × (length before + 1 ≡ tries) × (c ≡ tried a (b ∷ before))
 
--- Why a write that is tried up to `tries` times is refused. Each try found that another pass holds
--- the lock; or a try took the lock, was refused, and gave the lock back.
+-- Why a write that is tried up to `tries` times is refused. Either each try found that another pass
+-- holds the lock; or one took the lock, was refused, and gave the lock back.
 abbrev pub IsLastReason : ℕ → (a c : Knowledge) (ops : List Op) → Refusal → Type 0
 IsLastReason tries a c ops e = IsHeldThrough tries a c e ⊎ (IsRefusedAt c ops e × LocksOnly a c)
 
--- The pass is pinned to all that it has then seen, by three steps, which are the moves Look,
+-- The pass is pinned to all that it has then seen. It made three steps, which are the moves Look,
 -- Announce and LookAgain of the reclamation machine.
 pub record Pins (a c : Knowledge) (n : ℕ) : Type 0 where
   pub more : StartsWith c.seen a.seen
@@ -136,12 +136,13 @@ pub record Pins (a c : Knowledge) (n : ℕ) : Type 0 where
     history = c.history;
   }
 
--- The pass is no longer pinned, by one step, which is the move Unpin of the reclamation machine.
+-- The pass is no longer pinned. It made one step, which is the move Unpin of the reclamation
+-- machine.
 abbrev pub Unpins : Knowledge → Knowledge → Type 0
 Unpins a c = (c ≡ unpins (with_history a c.history))
     × Makes a.number a.history (Unpin a.number ∷ []) c.history
 
--- the journal's text, as far as the pass has seen it
+-- the text of the journal, as far as the pass has seen it
 abbrev pub text_seen : Knowledge → List ℕ
 text_seen a = lines_from 1 (entries a.seen)
 
@@ -149,7 +150,8 @@ text_seen a = lines_from 1 (entries a.seen)
 abbrev pub entries_from : List Entry → ℕ → ℕ → List Entry
 entries_from log from most = take most (drop from log)
 
--- Why the journal isn't returned. The one try found that another pass holds the lock, and nothing
--- more was seen; or the call ran out of memory between a lock and its unlock.
-abbrev pub IsUntold : (a c : Knowledge) → Refusal → Type 0
-IsUntold a c e = (FoundHeld e a c × (c.seen ≡ a.seen)) ⊎ ((e ≡ OutOfMemory) × LocksAndUnlocks a c)
+-- Why the journal isn't returned. Either the one try found that another pass holds the lock, and
+-- the pass saw nothing more; or the call ran out of memory between a lock and its unlock.
+abbrev pub IsUnreported : (a c : Knowledge) → Refusal → Type 0
+IsUnreported a c e = (FoundHeld e a c × (c.seen ≡ a.seen))
+    ⊎ ((e ≡ OutOfMemory) × LocksAndUnlocks a c)

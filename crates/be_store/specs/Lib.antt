@@ -11,7 +11,7 @@ pub mod Calls
 pub mod SmallMachine
 pub mod OneHistory
 pub mod Views
-pub mod Told
+pub mod Learned
 pub mod Statuses
 pub mod Shown
 pub use Rattle.be_table.specs.Seats

@@ -10,8 +10,8 @@ use Rattle.be_table.specs.Place.{Opened}
 use Rattle.be_volume.specs.Query.{covered, sat, scan}
 use Rattle.be_volume.specs.Volume.{State}
 
--- a query, its answer at the last refresh, and the table of the store in which that was made, if
--- the query keeps what it then knew
+-- A query and its answer at the last refresh. If the query keeps what it knew at that refresh, also
+-- the table of the store in which it was made.
 pub record LiveQuery : Type 0 where
   pub query : Formula
   pub last : List ℕ
@@ -23,7 +23,7 @@ coded_live = code_by _
     (λ l. (l.query, (l.last, l.table)))
     (λ p. record { query = p.0; last = p.1.0; table = p.1.1 }) (λ _. refl)
 
--- what the query keeps of its last refresh is of this store
+-- what the query keeps from its last refresh is of this store
 abbrev pub IsLiveOf : Opened → LiveQuery → Type 0
 IsLiveOf store live = IfSome live.table (λ id. id ≡ store.id)
 
@@ -34,17 +34,17 @@ is_among numbers n = list_any (λ m. m == n) numbers
 abbrev pub without : List ℕ → List ℕ → List ℕ
 without numbers others = filter (λ n. not (is_among others n)) numbers
 
--- the query rests on indices, and the list has exactly the nodes of which it is true
+-- indices cover the query, and the list has exactly the nodes that match it
 abbrev pub IsAnswer : State → Formula → List ℕ → Type 0
 IsAnswer s f list = (covered s f ≡ true) × ((n : ℕ) → is_among list n ≡ sat s f n)
 
--- the same, but for these nodes
+-- the same, except for these nodes
 abbrev pub IsAnswerBut : List ℕ → State → Formula → List ℕ → Type 0
 IsAnswerBut nodes s f list = (covered s f ≡ true)
     × ((n : ℕ) → is_among nodes n ≡ false → is_among list n ≡ sat s f n)
 
--- The new answer is the last one now. What was created is in it and wasn't in the one before; what
--- was removed was in the one before and isn't in it.
+-- The new answer is now the last one. What was created is in it and wasn't in the old answer; what
+-- was removed was in the old answer and isn't in it.
 pub record Refreshes (volume : State) (old new : LiveQuery) (came went : List ℕ) : Type 0 where
   pub query : new.query ≡ old.query
   pub answer : scan volume old.query ≡ Ok new.last

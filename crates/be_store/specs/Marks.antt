@@ -1,4 +1,4 @@
--- What a live query keeps of its last refresh.
+-- What a live query keeps about its last refresh.
 use Rattle.std.specs.Prelude.{◌≡◌, ◌≤◌, ℕ, false, List, length, take, IfSome}
 use Rattle.std.specs.declared.option.Option.{Option}
 use Rattle.be_journal.specs.Journal.{replay}
@@ -7,8 +7,8 @@ use Rattle.be_table.specs.Rule.{entries}
 use Rattle.be_store.specs.Live.{IsAnswer}
 use Rattle.be_store.specs.declared.marks.Mark.{Mark}
 
--- the list is the answer after as many entries of the witness's beginning of the journal as the
--- mark says
+-- The list is the answer after the first entries of the journal, as many as the mark's number says;
+-- the mark's witness has seen them.
 abbrev pub IsMarkOf : Formula → List ℕ → Mark → Type 0
 IsMarkOf f list mark = (mark.witness.blank ≡ false) × (mark.number ≤ length mark.witness.seen)
     × IsAnswer (replay (take mark.number (entries mark.witness.seen))) f list

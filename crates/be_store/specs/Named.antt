@@ -9,13 +9,13 @@ use Rattle.be_volume.specs.declared.ops.Op.{Op}
 use Rattle.be_volume.specs.declared.ops.Op.TheVariants.{New, Drop, Set, Unset, MkIndex, RmIndex}
 use Rattle.be_store.specs.Live.{is_among}
 
--- the node that an outcome has
+-- the node in an outcome
 abbrev pub node_made : Done → Option ℕ
 node_made (Node node) = Some node
 node_made Nothing = None
 
--- the node that an operation changes, by its outcome if it makes one; none of an operation on an
--- index
+-- the node that an operation changes (the outcome's, for one that makes a node); none for an
+-- operation on an index
 abbrev pub node_named : Op → Done → Option ℕ
 node_named New done = node_made done
 node_named (Drop node) done = Some node
@@ -28,11 +28,11 @@ node_named (RmIndex name) done = None
 abbrev pub IsNamedAmong : List ℕ → Op → Done → Type 0
 IsNamedAmong nodes op done = option_map_or (is_among nodes) (node_named op done) false ≡ true
 
--- each of the operations, with its outcome, does
+-- each of the operations, with its outcome, changes one of these nodes
 abbrev pub AreNamedAmong : List ℕ → List Op → List Done → Type 0
 AreNamedAmong nodes ops dones = (k : ℕ) (op : Op) (done : Done) → k < length ops
     → op ≡ get_or ops k op → done ≡ get_or dones k done → IsNamedAmong nodes op done
 
--- each of an entry
+-- each operation of the entry changes one of these nodes
 abbrev pub NamesAmong : List ℕ → Entry → Type 0
 NamesAmong nodes entry = AreNamedAmong nodes entry.ops entry.dones

@@ -12,8 +12,8 @@ use Rattle.be_table.specs.Seats.{pinned_number}
 use Rattle.be_table.specs.Works.{IsSeatOf}
 use Rattle.be_volume.specs.Volume.{State, empty}
 
--- Between two calls of a store a pass is pinned, or it isn't; it has not stopped half way to a pin.
--- The only pass of a store is pinned to the version that it has announced.
+-- Between two calls of a store, a pass is pinned or it isn't; it never stops half way to a pin. A
+-- store's only pass is pinned to the version that it has published in its reader slot.
 abbrev pub IsBetweenCalls : ℕ → Phase → Type 0
 IsBetweenCalls passes Idle = Unit {0}
 IsBetweenCalls passes (Looked x) = ⊥
@@ -26,7 +26,7 @@ IsBetweenCalls-prop passes (Looked x) = λ a b. absurd a
 IsBetweenCalls-prop passes (Announced x) = λ a b. absurd a
 IsBetweenCalls-prop passes (Pinned x n) = →_prop (Coded-set coded_ℕ x n)
 
--- the same of a pass of this store
+-- the same for a pass of this store
 abbrev pub IsAtRest : Opened → SeatFacts → Type 0
 IsAtRest store pass = IsBetweenCalls store.limits.passes pass.knows.phase
 
@@ -45,11 +45,11 @@ IsPinnedTo a n = pinned_number a.phase ≡ Some n
 abbrev pub volume_seen : Knowledge → State
 volume_seen a = replay (entries a.seen)
 
--- the volume that a pinned pass reads: that after as many entries of the journal as its pin says
+-- the volume that a pinned pass reads: the one after as many entries of the journal as its pin says
 abbrev pub volume_pinned : Knowledge → State
 volume_pinned a = option_map_or (λ n. replay (take n (entries a.seen))) (pinned_number a.phase)
     empty
 
--- a pass that has only read: it is as it was but for the count of its steps
+-- a pass that has only read: only its count of steps has changed
 abbrev pub HasRead : Knowledge → Knowledge → Type 0
 HasRead a c = c ≡ record a { steps = c.steps }

@@ -1,19 +1,19 @@
--- What a pass learns of how full the store is.
+-- What a pass learns about how full the store is.
 use Rattle.std.specs.Prelude.{List, [], ◌∷◌}
 use Rattle.be_table.specs.declared.pass.Knowledge.{Knowledge}
 use Rattle.be_table.specs.declared.pass.Move.{Move}
 use Rattle.be_table.specs.declared.pass.Move.TheVariants.{Lock, Unlock}
 use Rattle.be_table.specs.declared.status.Status.{Status}
 use Rattle.be_table.specs.Rule.{Reaches}
-use Rattle.be_table.specs.Statuses.{FindsOldest, LieAt, Tells}
+use Rattle.be_table.specs.Statuses.{FindsOldest, LieAt, Reports}
 use Rattle.be_table.specs.Steps.{scans_of}
 use Rattle.be_table.specs.Trace.{Makes}
 
--- The pass takes the lock, reads each announcement, and gives the lock back. The numbers are those
+-- The pass takes the lock, reads each reader slot, and gives the lock back. The numbers are those
 -- of what it has then seen, and of the pages as the machine has them after the scan. The status has
--- the oldest of the announcements that the scan found.
-pub record TellsStatus (a c : Knowledge) (s : Status) : Type 0 where
-  pub tells : Tells c s
+-- the oldest of the versions that the scan found published.
+pub record ReportsStatus (a c : Knowledge) (s : Status) : Type 0 where
+  pub reports : Reports c s
   pub locked : List Move
   pub scanned : List Move
   pub lock : Makes a.number a.history (Lock a.number ∷ []) locked

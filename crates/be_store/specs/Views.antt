@@ -16,8 +16,8 @@ use Rattle.be_volume.specs.Ahead.{state_after}
 use Rattle.be_volume.specs.Volume.{State, empty}
 use Rattle.be_store.specs.SmallMachine.{Object, PassView, Step, Leads}
 
--- What a read returns: nodes, or why there are none; an attribute of a node; all of its attributes;
--- the indices; a number. What else a call returns, such as a page's cursor, is in its contract.
+-- What a read returns: nodes, or why there are none; a node's attribute; all of its attributes; the
+-- indices; a number. What else a call returns, such as a page's cursor, is in its contract.
 pub data Answer : Type 0 where
   Nodes : Result (List ℕ) Refusal → Answer
   Attribute : Option Value → Answer
@@ -25,9 +25,9 @@ pub data Answer : Type 0 where
   Indices : List (List ℕ × Kind) → Answer
   Number : ℕ → Answer
 
--- The volume. It accepts an entry whose outcomes are those of its operations. A question is any
--- function of it, as the scan of a query. So a Read says something only where its question is
--- written down, as example_history does.
+-- The volume. It accepts an entry if the outcomes are those of its operations. A question is any
+-- function of the volume, such as a query's scan. So a Read says something only where its question
+-- is written down, as in example_history.
 abbrev pub volume : Object
 volume = record {
   State = State;
@@ -41,7 +41,7 @@ volume = record {
   answer = λ ask s. ask s;
 }
 
--- what a pass knows, without its pages, its words and its moves
+-- what a pass knows, without its pages, words and moves
 abbrev pub view_of : Knowledge → PassView volume
 view_of a = record {
   number = a.number;
@@ -54,9 +54,9 @@ view_of a = record {
 abbrev pub IsStep : Knowledge → Step volume → Knowledge → Type 0
 IsStep a s c = Leads volume (view_of a) s (view_of c)
 
--- What is so where a store of so many passes was closed with these passes, whose numbers differ.
--- `open` numbers them, and each keeps its number. `close` requires that each pass is among those
--- that it takes, and ensures the rest of these passes and of the journal.
+-- What holds when a store of this many passes was closed with these passes, whose numbers differ.
+-- `open` numbers them, and each keeps its number. `close` requires all passes of the store, and
+-- ensures the rest about these passes and the journal.
 pub record IsClosed (count : ℕ) (log : List Entry) (passes : List Knowledge) : Type 0 where
   pub apart : AllPairs ◌≢◌ (map (λ (a : Knowledge). a.number) passes)
   pub all : (k : ℕ) → k < count → Has passes k

@@ -10,11 +10,11 @@ use Rattle.be_table.specs.declared.pass.Commit.{Commit}
 use Rattle.be_table.specs.declared.pass.Move.{Move}
 use Rattle.be_table.specs.declared.pass.Move.TheVariants.{Publish}
 use Rattle.be_table.specs.Place.{Work}
-use Rattle.be_table.specs.Reading.{standing_among, word_of_page}
+use Rattle.be_table.specs.Reading.{page_state_among, word_of_page}
 use Rattle.be_table.specs.Rule.{page_at, reach_at}
 use Rattle.be_table.specs.Steps.{entry_by}
 use Rattle.be_table.specs.Trace.{Makes, upto_lock}
-use Rattle.be_table.specs.Versions.{at_start, SpellsVolume}
+use Rattle.be_table.specs.Versions.{at_start, EncodesVolume}
 use Rattle.be_table.specs.Working.{WorksOn}
 use Rattle.be_table.specs.Works.{due_after, MakesScan}
 use Rattle.be_value.specs.declared.refusals.Refusal.{Refusal}
@@ -24,17 +24,17 @@ use Rattle.be_volume.specs.declared.ops.Op.{Op}
 use Rattle.be_store.specs.History.{IsRefusedAt}
 use Rattle.be_store.specs.Passes.{volume_seen}
 
--- an open write in which no page is taken yet: the states of its pages, and their words, are those
--- of the current version
+-- an open write that has taken no page yet: its pages' states and words are those of the current
+-- version
 pub record Begins (k : Knowledge) : Type 0 where
   pub small : k.limits.pages ≤ 16384
   pub unpublished : k.published ≡ false
-  pub begun : (q : ℕ) → standing_among k.places q
+  pub begun : (q : ℕ) → page_state_among k.places q
       ≡ at_start (has (reach_at k.seen (length k.seen)) q)
-  pub spelt : SpellsVolume (reach_at k.seen (length k.seen)) (word_of_page k.words)
+  pub encoded : EncodesVolume (reach_at k.seen (length k.seen)) (word_of_page k.words)
       (page_at k.seen (length k.seen)) (volume_seen k)
 
--- An early scan: a whole one if so many more pages are retired than the last scan left as make one
+-- An early scan: a whole scan if enough pages have been retired since the last scan to make one
 -- due, and otherwise none.
 abbrev pub ScansEarly : Work → Work → Type 0
 ScansEarly old new =
@@ -42,14 +42,14 @@ ScansEarly old new =
     ⊎ ((old.left + due_after old.left ≤ count_by is_retired old.knows.places)
     × ((least : ℕ) × MakesScan old new least))
 
--- the pass is still the same pass, with its pin
+-- the pass has kept its number, its limits and its pin
 pub record IsSame (a c : Knowledge) : Type 0 where
   pub pass : c.number ≡ a.number
   pub limits : c.limits ≡ a.limits
   pub pin : c.phase ≡ a.phase
 
--- the write is the last entry that the pass has seen, and since its lock the pass has worked and
--- then published it
+-- The write is the last entry that the pass has seen. Since its lock, the pass has worked and then
+-- published it.
 pub record Publishes (a c : Knowledge) (ops : List Op) (n : ℕ) (dones : List Done) : Type 0 where
   pub same : IsSame a c
   pub commit : Commit
@@ -75,6 +75,6 @@ abbrev pub Writes : Knowledge → Knowledge → List Op → List Done → Result
 Writes a c ops dones result = MatchResult result (λ n. Publishes a c ops n dones)
     (λ e. IsHeldBack a c ops e)
 
--- if no page is free, the journal has room for an entry with this many operations
+-- if the error is Full, the journal has room for an entry with this many operations
 abbrev pub HasRoomAtFull : Work → ℕ → Refusal → Type 0
 HasRoomAtFull w count e = (least : ℕ) → e ≡ Full least → w.reserved ≡ count

@@ -1,4 +1,4 @@
-//! Queries on a version, over any reader of its pages.
+//! Queries on a version, through any page reader.
 ghost use Rattle.std.specs.List.Sorted.{IsStrictlyIncreasing};
 ghost use Rattle.std.specs.Prelude.{◌≡◌, ◌⊎◌, true, false, IfOk, IfErr, OnOk};
 ghost use Rattle.be_value.specs.Refusal.{Answers};
@@ -16,7 +16,7 @@ use be_query::Query;
 use be_value::Refusal;
 use std::alloc::Global;
 
-/// The nodes of which the query is true, ascending, and the reader back.
+/// The nodes that match the query, in ascending order, and the reader back.
 pub(crate) fn ask<L: Look>(
     alloc: Global,
     look: L,
@@ -24,7 +24,7 @@ pub(crate) fn ask<L: Look>(
     query: &Query,
 ) -> (L, Result<Vec<u64>, Refusal>)
     ghost volume: { State }
-    requires version { IsVersion (L.standing look) (L.words look) version_page volume }
+    requires version { IsVersion (L.page_state look) (L.words look) version_page volume }
     ensures answer { Answers (λ nodes. nodes.items) result.1 (scan volume query.now) }
     ensures rising { IfOk result.1 (λ nodes. IsStrictlyIncreasing nodes.items) }
     ensures kept { L.kept result.0 ≡ L.kept look }
@@ -34,8 +34,8 @@ pub(crate) fn ask<L: Look>(
     (source.into_look(), nodes)
 }
 
-/// Puts the nodes of which the query is true into a list, ascending, in place of what it had, and
-/// gives the reader back.
+/// Replaces a list's content with the nodes that match the query, in ascending order. Returns the
+/// reader.
 #[inline(never)]
 pub(crate) fn ask_into<L: Look>(
     alloc: Global,
@@ -45,7 +45,7 @@ pub(crate) fn ask_into<L: Look>(
     found: &mut Vec<u64>,
 ) -> (L, Result<(), Refusal>)
     ghost volume: { State }
-    requires version { IsVersion (L.standing look) (L.words look) version_page volume }
+    requires version { IsVersion (L.page_state look) (L.words look) version_page volume }
     ensures answer { Answers (λ _. found.new.items) result.1 (scan volume query.now) }
     ensures rising { OnOk result.1 (IsStrictlyIncreasing found.new.items) }
     ensures kept { L.kept result.0 ≡ L.kept look }
@@ -55,7 +55,7 @@ pub(crate) fn ask_into<L: Look>(
     (source.into_look(), answer)
 }
 
-/// The same by a prepared query.
+/// Does what `ask_into` does, for a prepared query.
 #[inline(always)]
 pub(crate) fn ask_prepared<L: Look>(
     alloc: Global,
@@ -65,7 +65,7 @@ pub(crate) fn ask_prepared<L: Look>(
     found: &mut Vec<u64>,
 ) -> (L, Result<(), Refusal>)
     ghost volume: { State }
-    requires version { IsVersion (L.standing look) (L.words look) version_page volume }
+    requires version { IsVersion (L.page_state look) (L.words look) version_page volume }
     ensures answer { Answers (λ _. found.new.items) result.1 (scan volume prepared.old) }
     ensures rising { OnOk result.1 (IsStrictlyIncreasing found.new.items) }
     ensures same { prepared.new ≡ prepared.old }
@@ -79,7 +79,8 @@ pub(crate) fn ask_prepared<L: Look>(
     }
 }
 
-/// The comparisons that the version's own indices choose for the query, and the reader back.
+/// The comparisons that are chosen for the query, given the version's own indices, and the reader
+/// back.
 pub(crate) fn choose_at<L: Look>(
     alloc: Global,
     look: L,
@@ -87,7 +88,7 @@ pub(crate) fn choose_at<L: Look>(
     query: &Query,
 ) -> (L, Result<Cover, Refusal>)
     ghost volume: { State }
-    requires version { IsVersion (L.standing look) (L.words look) version_page volume }
+    requires version { IsVersion (L.page_state look) (L.words look) version_page volume }
     ensures cover { Answers (λ cover. cover) result.1 (chosen (has_index volume) query.now) }
     ensures covers { IfOk result.1 (λ cover. covers (has_index volume) cover.picks query.now
         ≡ true) }

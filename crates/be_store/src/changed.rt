@@ -1,4 +1,4 @@
-//! A few nodes asked one by one, and a rising list changed by what became of them.
+//! Asking a query about a few nodes one by one, and updating an ascending list with the results.
 ghost use Rattle.std.specs.List.Sorted.{IsStrictlyIncreasing};
 ghost use Rattle.std.specs.Prelude.{◌≡◌, ◌==◌, ◌≤◌, ◌<◌, ◌+◌, ◌++◌, ◌&&◌, ◌||◌, ◌∷◌, [], ℕ, not};
 ghost use Rattle.std.specs.Prelude.{filter, length};
@@ -17,7 +17,7 @@ use be_plan::{Source, is_true};
 use be_query::{Query, Tree};
 use be_value::Refusal;
 
-/// Whether a rising list has this number.
+/// Whether an ascending list has this number.
 fn has(numbers: &[u64], number: u64) -> bool
     requires { IsStrictlyIncreasing numbers.now }
     ensures { result ≡ is_among numbers.now number }
@@ -25,7 +25,7 @@ fn has(numbers: &[u64], number: u64) -> bool
     numbers.binary_search(&number).is_ok()
 }
 
-/// Adds a number to a list, if it is to be there.
+/// Adds a number to a list if `is` is true.
 fn add_if(list: &mut Vec<u64>, number: u64, is: bool) -> Result<(), Refusal>
     ensures ok { OnOk result (list.new.items ≡ list.old.items
         ++ (if is then number ∷ [] else [])) }
@@ -38,8 +38,8 @@ fn add_if(list: &mut Vec<u64>, number: u64, is: bool) -> Result<(), Refusal>
     Ok(())
 }
 
-/// Adds a node to those that came if the query is true of it and the list lacks it, and to those
-/// that went if it is the other way round.
+/// Adds a node to `created` if the query matches it and the list lacks it. Adds it to `removed` if
+/// the list has it and the query doesn't match.
 fn add_change(list: &[u64], node: u64, is: bool, updates: &mut Updates) -> Result<(), Refusal>
     requires { IsStrictlyIncreasing list.now }
     ensures created { OnOk result (updates.new.created.items ≡ updates.old.created.items
@@ -53,8 +53,8 @@ fn add_change(list: &[u64], node: u64, is: bool, updates: &mut Updates) -> Resul
     add_if(&mut updates.removed, node, was && !is)
 }
 
-/// Asks a tree of each of these nodes. Adds those that the list lacks though the tree is true of
-/// them, and those that it has though the tree isn't.
+/// Asks a tree about each of these nodes. Adds to `created` those that match but aren't in the
+/// list, and to `removed` those in the list that don't match.
 fn ask_nodes<S: Source>(
     source: &mut S,
     tree: &Tree,
@@ -80,7 +80,7 @@ fn ask_nodes<S: Source>(
     Ok(())
 }
 
-/// The same of a query, over any reader of a version's pages, which comes back.
+/// Does what `ask_nodes` does, for a query and through any page reader, which it returns.
 pub(crate) fn ask_each<L: Look>(
     look: L,
     version_page: u64,
@@ -90,7 +90,7 @@ pub(crate) fn ask_each<L: Look>(
     updates: &mut Updates,
 ) -> (L, Result<(), Refusal>)
     ghost volume: { State }
-    requires version { IsVersion (L.standing look) (L.words look) version_page volume }
+    requires version { IsVersion (L.page_state look) (L.words look) version_page volume }
     requires rising { IsStrictlyIncreasing list.now }
     requires empty { (updates.old.created.items ≡ []) × (updates.old.removed.items ≡ []) }
     ensures created { OnOk result.1 (updates.new.created.items
@@ -105,7 +105,7 @@ pub(crate) fn ask_each<L: Look>(
     (source.into_look(), answer)
 }
 
-/// Removes a number from a rising list, if it is there.
+/// Removes a number from an ascending list, if it is there.
 fn take_one(list: &mut Vec<u64>, number: u64)
     requires { IsStrictlyIncreasing list.old.items }
     ensures rising { IsStrictlyIncreasing list.new.items }
@@ -121,7 +121,7 @@ fn take_one(list: &mut Vec<u64>, number: u64)
     list.remove(at);
 }
 
-/// Removes these numbers from a rising list.
+/// Removes these numbers from an ascending list.
 pub(crate) fn take_out(list: &mut Vec<u64>, numbers: &[u64])
     requires { IsStrictlyIncreasing list.old.items }
     ensures rising { IsStrictlyIncreasing list.new.items }
@@ -135,7 +135,7 @@ pub(crate) fn take_out(list: &mut Vec<u64>, numbers: &[u64])
     }
 }
 
-/// Puts a number into a rising list with room for it, if it isn't there.
+/// Inserts a number into an ascending list with room for it, unless it is there already.
 fn put_one(list: &mut Vec<u64>, number: u64)
     requires rising { IsStrictlyIncreasing list.old.items }
     requires room { vec_len list.old < vec_capacity list.old }
@@ -154,7 +154,7 @@ fn put_one(list: &mut Vec<u64>, number: u64)
     };
 }
 
-/// Puts these numbers into a rising list, which has room for them.
+/// Inserts these numbers into an ascending list, which has room for them.
 pub(crate) fn put_in(list: &mut Vec<u64>, numbers: &[u64])
     requires rising { IsStrictlyIncreasing list.old.items }
     requires room { vec_len list.old + length numbers.now ≤ vec_capacity list.old }

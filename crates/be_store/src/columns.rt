@@ -1,22 +1,23 @@
-//! Many attributes in one call, written to places of the caller.
+//! Reading many attributes in one call, into the caller's buffers.
 ghost use Rattle.std.specs.Prelude.{◌≡◌, ◌*◌, ◌^◌, ◌≤◌, ℕ, length, map as each};
 ghost use Rattle.be_volume.specs.Reading.{attribute};
-ghost use Rattle.be_paged_reading.specs.Cells.{IsReadInto, TellsColumns, name_in};
+ghost use Rattle.be_paged_reading.specs.Cells.{IsReadInto, ReportsColumns, name_in};
 ghost use Rattle.be_store.specs.Passes.{HasRead, IsPassOf, IsPinnedTo, volume_pinned};
 
 use crate::{Pass, Store};
 use be_paged::{Cell, HeldName, columns, get_into};
 
 impl Store {
-    /// Returns what each node has at each name in the pinned version, in a cell for each: the cells
-    /// of the first node, then those of the second, and so on. The bytes of all texts are put end
-    /// to end. It writes as many of both as there are places, and returns how many bytes there are.
+    /// Reads what each node has at each name in the pinned version, and writes one cell for each:
+    /// the cells of the first node, then those of the second, and so on. The bytes of all texts are
+    /// written end to end. It writes as many cells and bytes as fit, and returns how many bytes
+    /// there are.
     ///
-    /// A cell has the type code, the number and the bytes' offset and length of the node's
-    /// attribute of that name. If the node hasn't it, the cell has the number of NoAttr, and if the
-    /// node isn't there that of NoNode. It takes no memory. A node costs one descent of a tree if
-    /// its attributes of these names lie side by side, in this order; a name that it hasn't costs
-    /// one more, and so does a node that has none of them.
+    /// A cell has the attribute's type code, its number, and the offset and length of its bytes. If
+    /// the node has no such attribute, the cell has the number of NoAttr; if the node doesn't
+    /// exist, that of NoNode. No memory is allocated. A node costs one descent of a tree if its
+    /// attributes of these names are adjacent and in this order. Each name that it lacks costs one
+    /// more descent, and so does a node that has none of them.
     pub fn columns(
         &self,
         pass: &mut Pass,
@@ -29,7 +30,7 @@ impl Store {
         requires pinned { (n : ℕ) × IsPinnedTo pass.old.knows n }
         requires few { length nodes.now * length names.now ≤ 2 ^ 32 }
         ensures pass { IsPassOf self.now pass.new × HasRead pass.old.knows pass.new.knows }
-        ensures told { TellsColumns (volume_pinned pass.old.knows) nodes.now
+        ensures reported { ReportsColumns (volume_pinned pass.old.knows) nodes.now
             (each name_in names.now) cells.old cells.new bytes.old bytes.new result }
     {
         let (mut look, page) = self.reader(pass);
@@ -38,8 +39,9 @@ impl Store {
         needed
     }
 
-    /// A node's attribute in the pinned version as a cell, if it has one. The bytes of a text go to
-    /// the front of the places, as many as there are places. One descent of a tree, and no memory.
+    /// A node's attribute in the pinned version as a cell, if it has one. The bytes of a text are
+    /// written to the front of `bytes`, as many as fit. One descent of a tree; no memory is
+    /// allocated.
     #[inline(always)]
     pub fn get_into(
         &self,

@@ -1,16 +1,16 @@
-//! Writes on what was read: they happen only if no other write came between.
+//! Writes that depend on what was read: they happen only if no other write came in between.
 //!
-//! A program pins a version, reads it, and writes by `apply_if` with the pin's number. If another
-//! write came first, the call writes nothing and says so, and the program pins and reads again. So
-//! no update is lost; and a batch may name the nodes that it makes itself, since `Store::next`
-//! gives their numbers.
+//! A program pins a version, reads it, and calls `apply_if` with the pin's number. If another write
+//! came first, the call writes nothing and returns a Conflict; the program then pins and reads
+//! again. So no update is lost. A batch may also name the nodes that it makes itself, because
+//! `Store::next` returns their numbers.
 ghost use Rattle.std.specs.Prelude.{◌≡◌, ◌≤◌, [], IfOk, IfErr, OnErr, length};
 ghost use Rattle.be_store.specs.Conditional.{AcceptsAt, IsLastUnapplied, IsUnapplied, was_held};
 ghost use Rattle.be_store.specs.Passes.{IsPassOf};
 ghost use Rattle.be_store.specs.declared.conditional.ApplyIfError.TheVariants.{Refused};
 ghost use Rattle.be_value.specs.declared.refusals.Refusal.TheVariants.{OutOfMemory};
 
-use crate::tries::{is_busy, longer, stand_back};
+use crate::tries::{back_off, is_busy, longer};
 use crate::writing::write_if;
 use crate::{Pass, Store};
 use arrayvec::ArrayVec;
@@ -26,7 +26,7 @@ pub enum ApplyIfError {
     /// caller named.
     #[error("another write came first: the journal has {0} entries")]
     Conflict(u64),
-    /// The write was refused, as `Store::apply` refuses it.
+    /// The write was refused with an error that `Store::apply` also returns.
     #[error("{0}")]
     Refused(Refusal),
 }
@@ -48,12 +48,12 @@ impl<T: Drop> From<AllocFailed<T>> for ApplyIfError {
 }
 
 impl Store {
-    /// Writes as `apply_into` does if the journal has `number` entries, and otherwise nothing. So a
-    /// pass that is pinned to `number` writes on exactly what it read. A pin stays.
+    /// Writes as `apply_into` does if the journal has `number` entries, and otherwise writes
+    /// nothing. So a pass that is pinned to `number` writes on exactly what it read. A pin stays.
     ///
     /// Errors, in this order: Busy; Conflict with the length that was found; the others of
     /// `apply_into`. After an error nothing is written and the list is empty. A Conflict costs a
-    /// lock and its unlock: four atomic operations, and no memory.
+    /// lock and an unlock, which are four atomic operations, and allocates no memory.
     pub fn apply_if_into(
         &self,
         pass: &mut Pass,
@@ -83,7 +83,7 @@ impl Store {
         }
     }
 
-    /// Writes as `apply_if_into` does, and returns the outcomes in a list of their own.
+    /// Writes as `apply_if_into` does, and returns the outcomes in a new list.
     pub fn apply_if(
         &self,
         pass: &mut Pass,
@@ -105,8 +105,8 @@ impl Store {
     }
 
     /// Writes as `apply_if` does, and tries again while another pass holds the lock, up to `tries`
-    /// times in all; between two tries other threads may run, as in `apply_or_retry`. A Conflict is
-    /// returned at once, because the same call can't succeed any more.
+    /// times in all. Between two tries it yields to other threads, as `apply_or_retry` does. It
+    /// returns a Conflict at once, because the same call can't succeed any more.
     pub fn apply_if_or_retry(
         &self,
         pass: &mut Pass,
@@ -129,7 +129,7 @@ impl Store {
             if !was_held(&answer) {
                 return answer;
             }
-            stand_back(turns);
+            back_off(turns);
             turns = longer(turns);
         }
         self.apply_if(pass, number, ops)

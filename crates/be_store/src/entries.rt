@@ -1,4 +1,4 @@
-//! The journal's entries, read while the lock is held.
+//! Reading the journal's entries while the lock is held.
 ghost use Rattle.std.specs.Prelude.{◌≡◌, IfErr, IfOk};
 ghost use Rattle.be_value.specs.declared.refusals.Refusal.TheVariants.{OutOfMemory};
 ghost use Rattle.be_table.specs.Rule.{entries};

@@ -1,28 +1,26 @@
 //! The shared store: writes, pins and queries from many threads.
 //!
 //! # What callers hold
-//! A `Store` is shared by `&`. Each thread has a `Pass` of its own, the right to act as one user:
-//! what the pass has seen of the journal, its own accepted writes, and its pin. A call takes the
-//! store and its caller's pass, waits for nobody, and its clauses hold whatever other passes do
-//! meanwhile.
+//! A `Store` is shared by `&`. Each thread has its own `Pass`, a session. The pass holds what it
+//! has seen of the journal, its own accepted writes, and its pin. A call takes the store and its
+//! caller's pass. It waits for nobody, and its clauses hold whatever other passes do meanwhile.
 //!
-//! # What is proved
-//! Whatever calls run on whatever threads, the journal is the history of one thread
-//! (`specs/History.antt`). The reply of each accepted write is the sequential volume's at its
-//! place. The journal has the writes of each pass once and in their order. A pin names a prefix of
-//! the journal that contains all that its pass had seen, and the answer of a query is that of the
-//! volume after this prefix. A refused write is refused as the volume after what its pass has then
-//! seen refuses it. `laws` has what follows for what a pass has seen, for the only pass of a store,
-//! and for how large a pool has to be.
+//! # What is proved Whatever calls run on whatever threads, the journal is the history of one
+//! thread (`specs/History.antt`). Each accepted write returns what a sequential volume would return
+//! at that place. The journal has each pass's writes once, in their order. A pin names a prefix of
+//! the journal that contains all that its pass had seen. A query at the pin returns the answer of
+//! the volume after this prefix. If the volume refuses a write, it is the volume after all that the
+//! pass has then seen. `laws` says what follows about what a pass has seen, about a store's only
+//! pass, and about how large a pool has to be.
 //!
 //! # What a program names
-//! This crate alone. Names, values, operations, queries and their covers, the journal and the list
-//! of a write's outcomes are items of the crates below, and this crate exports them, too.
+//! Only this crate. It re-exports what programs need from the crates below: names, values,
+//! operations, queries and their covers, the journal, and the list of a write's outcomes.
 //!
 //! # How it uses the crates below
-//! The volume is in pages: be_paged_reading reads it by any reader of pages, and be_paged writes it
-//! in any room of pages. The pinned reader and the open write of be_table are such. Nothing here
-//! looks at a page or at a word.
+//! The volume is stored in pages. be_paged_reading reads it through any page reader, and be_paged
+//! writes it through any page writer. In be_table a pinned pass is a page reader, and an open write
+//! is a page writer. Nothing here looks at a page or a word.
 #![tactic(auto)]
 
 mod answers;

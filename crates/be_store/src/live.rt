@@ -1,4 +1,4 @@
-//! Live queries: what changed in an answer since it was asked last.
+//! Live queries: what changed in an answer since the last refresh.
 ghost use Rattle.std.specs.List.Sorted.{IsStrictlyIncreasing};
 ghost use Rattle.std.specs.Prelude.{◌≡◌, ◌≢◌, ◌⊎◌, ◌<◌, ◌≤◌, ◌-◌, ◌++◌, ℕ, [], IfOk, IfErr, OnOk};
 ghost use Rattle.std.specs.Prelude.{Err, OnErr, None, drop, false, get_or, length, take, true};
@@ -27,13 +27,14 @@ use be_value::Refusal;
 use std::alloc::Global;
 use std::marker::Model;
 
-/// Of fewer nodes the whole query costs less than reading which nodes were written.
-const LEAST: usize = 96;
+/// If the answer has fewer nodes than this, the whole query costs less than reading which nodes
+/// were written.
+const MINIMUM: usize = 96;
 
-/// A live query: it is asked again and again, and keeps its answer at the last refresh.
+/// A live query: it is refreshed again and again, and keeps the answer of its last refresh.
 ///
-/// It also keeps where that refresh was made, so that the next one reads what was written since
-/// then. So refresh it by passes of one store.
+/// It also keeps where that refresh was made, so that `refresh_changed` can read what was written
+/// since then. That call needs a pass of the same store; `refresh` works in any store.
 #[derive(Drop)]
 pub struct Live {
     alloc: Global,
@@ -63,7 +64,7 @@ impl Model for Live {
 }
 
 impl Live {
-    /// A query that was never refreshed: its last answer is empty. No memory.
+    /// A query that was never refreshed: its last answer is empty. No memory is allocated.
     pub fn new(alloc: Global, query: Query) -> Live
         ensures { result ≡ record { query = query; last = []; table = None } }
     {
@@ -75,15 +76,15 @@ impl Live {
         }
     }
 
-    /// The query that is asked.
+    /// The query that is refreshed.
     pub fn query(&self) -> &Query
         ensures { result.now ≡ self.now.query }
     {
         self.query.query()
     }
 
-    /// Asks the query in the pinned version, as `Store::query_prepared` does. What the last refresh
-    /// found stays.
+    /// Runs the query in the pinned version, as `Store::query_prepared` does. The last refresh's
+    /// answer stays.
     #[inline(always)]
     pub fn query_into(
         &mut self,
@@ -103,8 +104,8 @@ impl Live {
         store.query_prepared(self.alloc, pass, &mut self.query, nodes)
     }
 
-    /// Puts a page of the query's answer in the order of an index into a list, as `Store::ordered`
-    /// does. What the last refresh found stays.
+    /// Puts a page of the answer into a list, in the order of an index, as `Store::ordered` does.
+    /// The last refresh's answer stays.
     pub fn ordered(
         &mut self,
         store: &Store,
@@ -125,8 +126,8 @@ impl Live {
         store.ordered(self.alloc, pass, &mut self.query, order, cursor, nodes)
     }
 
-    /// Puts the nodes of the query's answer from a number on into a list, as `Store::first` does.
-    /// What the last refresh found stays.
+    /// Puts the answer's nodes from a number on into a list, as `Store::first` does. The last
+    /// refresh's answer stays.
     pub fn first(
         &mut self,
         store: &Store,
@@ -145,8 +146,8 @@ impl Live {
         store.first(self.alloc, pass, &mut self.query, first, most, nodes)
     }
 
-    /// Puts any nodes of the query's answer into a list, as `Store::any` does. What the last
-    /// refresh found stays.
+    /// Puts any nodes of the answer into a list, as `Store::any` does. The last refresh's answer
+    /// stays.
     pub fn any(
         &mut self,
         store: &Store,
@@ -166,11 +167,11 @@ impl Live {
         store.any(self.alloc, pass, &mut self.query, most, nodes)
     }
 
-    /// Takes the query's nodes as of now, wherever they were found, and returns which nodes came
-    /// and which went since the last time. The next refresh asks the whole query.
+    /// Takes the query's current nodes, wherever they were found, and returns which nodes came and
+    /// which went since the last time. The next refresh asks the whole query.
     ///
-    /// OutOfMemory leaves the live query as it was. It goes over both lists once, and takes memory
-    /// for what it returns.
+    /// OutOfMemory leaves the live query as it was. It goes through both lists once, and allocates
+    /// memory for what it returns.
     pub fn update(&mut self, answer: Vec<u64>) -> Result<Updates, Refusal>
         requires { IsStrictlyIncreasing answer.items }
         ensures ok { IfOk result (λ u. (self.new
@@ -186,7 +187,7 @@ impl Live {
     }
 
     /// Finds the nodes at which the answer in the pinned version can differ from the last one.
-    /// Returns false if the whole query is to be asked.
+    /// Returns false if the whole query has to be asked.
     fn find_changes(
         &mut self,
         store: &Store,
@@ -208,7 +209,7 @@ impl Live {
             (volume_pinned pass.old.knows) self.old.query self.old.last }
     {
         pass.is_pass();
-        if self.last.len() < LEAST {
+        if self.last.len() < MINIMUM {
             return false;
         }
         let Some(mut mark) = self.mark.take() else {
@@ -222,7 +223,7 @@ impl Live {
         found && nodes.len() <= most
     }
 
-    /// Asks the query of these nodes alone, and changes the last answer by what became of them.
+    /// Asks the query about these nodes only, and updates the last answer accordingly.
     fn ask_changed(
         &mut self,
         store: &Store,
@@ -265,8 +266,8 @@ impl Live {
     /// Asks the query in the pinned version, and returns which nodes came and which went since the
     /// last refresh, whatever store that was in. It reads at the pin and takes no lock.
     ///
-    /// NotCovered and OutOfMemory leave it as it was. It costs what `Store::query_prepared` and
-    /// `update` cost.
+    /// NotCovered and OutOfMemory leave the live query as it was. It costs what
+    /// `Store::query_prepared` and `update` cost.
     pub fn refresh(&mut self, store: &Store, pass: &mut Pass) -> Result<Updates, Refusal>
         requires pass { IsPassOf store.now pass.old }
         requires pinned { (n : ℕ) × IsPinnedTo pass.old.knows n }
@@ -287,17 +288,23 @@ impl Live {
         Ok(updates)
     }
 
-    /// Returns what `refresh` does, by what was written since the last refresh, which was made in
-    /// this store: it reads the journal's entries since then, and asks the query only of the nodes
-    /// that they name. The pin stays. Use it for a large answer of which little changes.
+    /// Returns what `refresh` returns. The last refresh has to be one in this store. It reads the
+    /// journal's entries since then, and asks the query only about the nodes that they name. The
+    /// pin stays. Use it for a large answer of which little changes.
     ///
-    /// NotCovered and OutOfMemory leave the query as it was. For the journal it tries the lock once
-    /// and gives it back when it has read those entries; other passes' writes are Busy meanwhile.
-    /// It asks the whole query, which costs what `refresh` costs, if the last answer has fewer than
-    /// 96 nodes, another pass holds the lock, the version is older than that of the last refresh,
-    /// an index was made or removed since then, or many nodes were written: more than 4 and one for
-    /// each 32 of the last answer, or more than 64. From 96 nodes on the pass has then also seen
-    /// what the last refresh had seen of the journal. Memory for what it returns.
+    /// NotCovered and OutOfMemory leave the live query as it was. To read the journal it tries the
+    /// lock once, and releases it after reading those entries. Other passes' writes return Busy
+    /// meanwhile. From 96 nodes on the pass has then also seen what the last refresh had seen of
+    /// the journal. It allocates memory for what it returns.
+    ///
+    /// It asks the whole query, which costs what `refresh` costs, in these cases:
+    /// - the last answer has fewer than 96 nodes;
+    /// - there was no refresh yet, or `update` has been called since the last one;
+    /// - another pass holds the lock, or there is no memory to read an entry;
+    /// - the version is older than that of the last refresh;
+    /// - an index was made or removed since then;
+    /// - many nodes were written: more than 64, or more than 4 plus one for each 32 nodes of the
+    ///   last answer.
     pub fn refresh_changed(&mut self, store: &Store, pass: &mut Pass) -> Result<Updates, Refusal>
         requires pass { IsPassOf store.now pass.old }
         requires pinned { (n : ℕ) × IsPinnedTo pass.old.knows n }
@@ -323,14 +330,14 @@ impl Live {
     }
 }
 
-/// How many nodes a refresh asks one by one if the last answer has so many. A node costs about as
-/// much as 32 in a range of an index.
+/// How many nodes a refresh asks about one by one, if the last answer has this many. One node costs
+/// about as much as 32 nodes in a range of an index.
 fn most_asked(nodes: usize) -> usize {
     MOST.min(4 + nodes / 32)
 }
 
-/// Adds the nodes that the entries from one number of a version to a later one name. Returns false
-/// if there are more than `most` entries, or if they make or remove an index.
+/// Adds the nodes that the entries between two version numbers name. Returns false if there are
+/// more than `most` entries, or if one of them makes or removes an index.
 #[tactic(auto, using(crate::proofs::Caught::learns_nothing))]
 fn add_changes(
     store: &Store,
@@ -360,8 +367,8 @@ fn add_changes(
     store.add_named_between(pass, from, end, nodes)
 }
 
-/// The first index from `from` on at which a rising list has this number or a greater one, or the
-/// list's length.
+/// The first index, from `from` on, at which an ascending list has this number or a greater one;
+/// otherwise the list's length.
 #[inline(always)]
 fn first_not_below(numbers: &[u64], from: usize, number: u64) -> usize
     requires from { from ≤ length numbers.now }
@@ -377,8 +384,7 @@ fn first_not_below(numbers: &[u64], from: usize, number: u64) -> usize
     numbers.len()
 }
 
-/// Which nodes came and which went from one rising list of nodes to another. It goes over both
-/// once.
+/// Which nodes came and which went between two ascending lists of nodes. It goes through both once.
 fn changes(alloc: Global, last: &[u64], now: &[u64]) -> Result<Updates, Refusal>
     requires rising { IsStrictlyIncreasing last.now × IsStrictlyIncreasing now.now }
     ensures ok { IfOk result (λ u. (u.created.items ≡ without now.now last.now)
@@ -402,7 +408,7 @@ fn changes(alloc: Global, last: &[u64], now: &[u64]) -> Result<Updates, Refusal>
     Ok(Updates { created, removed })
 }
 
-/// Adds the numbers from an index up to another to a list.
+/// Adds the numbers from the index `from` to just before the index `end` to a list.
 #[inline(always)]
 fn push_part(list: &mut Vec<u64>, numbers: &[u64], from: usize, end: usize) -> Result<(), Refusal>
     requires range { (from ≤ end) × (end ≤ length numbers.now) }
@@ -416,7 +422,7 @@ fn push_part(list: &mut Vec<u64>, numbers: &[u64], from: usize, end: usize) -> R
     Ok(())
 }
 
-/// Whether a list has this number at an index; false at its end.
+/// Whether a list has this number at an index; false beyond its end.
 #[inline(always)]
 fn is_at(numbers: &[u64], at: usize, number: u64) -> bool
     ensures found { result ≡ true → (at < length numbers.now) × (get_or numbers.now at 0 ≡ number) }

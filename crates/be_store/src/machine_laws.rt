@@ -1,10 +1,10 @@
-//! Each call of a pass is a step of one small machine, and what a whole run of it promises.
+//! Each call of a pass is a step of one small machine; and what a whole run of it promises.
 //!
-//! Each law does nothing; its contract is the law. The contract of a public call says what its pass
-//! knew before and after: the law makes that one step of the machine (`specs/SmallMachine.antt`),
-//! over what the pass has seen, has written and is pinned to (`specs/Views.antt`). Calls one after
-//! the other make a run, whose steps are theirs (`specs/Calls.antt`). The last law is the statement
-//! (`specs/OneHistory.antt`); a program that ensures it is example_history.
+//! Each law does nothing: its contract is the law. A public call's contract says what its pass knew
+//! before and after. The law makes that one step of the machine (`specs/SmallMachine.antt`), over
+//! what the pass has seen and written and is pinned to (`specs/Views.antt`). Consecutive calls make
+//! a run with the same steps (`specs/Calls.antt`). The last law is the statement
+//! (`specs/OneHistory.antt`); example_history is a program that ensures it.
 ghost use Rattle.std.specs.Prelude.{◌≡◌, ◌+◌, ℕ, List, None, Some, length, map, take};
 ghost use Rattle.be_journal.specs.declared.entries.Entry.{Entry};
 ghost use Rattle.be_journal.specs.Journal.{Agrees};
@@ -35,14 +35,14 @@ pub fn new_pass_has_first_view()
         ≡ first_view volume k }
 {}
 
-/// An accepted write is the step Apply, of its entry at the number that it returned.
+/// An accepted write is the step Apply, with its entry and the number that it returned.
 pub fn write_is_step()
     ensures { (a c : Knowledge) (ops : List Op) (n : ℕ) (dones : List Done)
         → Accepts a c ops n dones → IsStep a (Apply (entry_by a ops dones) n) c }
 {}
 
-/// An accepted conditional write is the same step at the next number after the one that it names.
-/// The volume accepts it as it was at the pin, if the pass was pinned to that number.
+/// An accepted conditional write is the same step, at the number after the one that the caller
+/// named. If the pass was pinned to that number, the volume as it was at the pin accepts the write.
 pub fn conditional_write_is_step()
     ensures { (a c : Knowledge) (number : ℕ) (ops : List Op) (n : ℕ) (dones : List Done)
         → AcceptsAt a c number ops n dones
@@ -60,7 +60,7 @@ pub fn refusal_is_step()
         → IsUnapplied a c number ops (Conflict found) → found ≡ length (entries c.seen) }
 {}
 
-/// A pin is the step Pin at the number that it returned.
+/// A pin is the step Pin, with the number that it returned.
 pub fn pin_is_step()
     ensures { (a c : Knowledge) (n : ℕ) → Pins a c n → IsStep a (Pin n) c }
 {}
@@ -70,9 +70,9 @@ pub fn unpin_is_step()
     ensures { (a c : Knowledge) → Unpins a c → IsStep a Unpin c }
 {}
 
-/// A read of a pinned pass is the step Read, whatever it asked of the volume of which its contract
-/// speaks: its answer is what that volume answers. A read that ran out of memory has none. Whether
-/// or not a read is among the steps of a run, one history says which volume it was.
+/// A read of a pinned pass is the step Read, whatever its question about the volume in its
+/// contract: it returns what that volume answers. A read that ran out of memory returns no answer.
+/// Whether or not a read is among the steps of a run, one history determines which volume it read.
 pub fn read_is_step()
     ensures answered { (a c : Knowledge) (n : ℕ) (ask : State → Answer) → IsPinnedTo a n
         → HasRead a c → IsStep a (Read ask (Some (ask (volume_pinned a)))) c }
@@ -83,16 +83,16 @@ pub fn read_is_step()
         → volume_pinned a ≡ state_of volume (take n log) }
 {}
 
-/// A live query that is refreshed by what changed makes two steps: its pass learns, and then reads
-/// at the pin, which has stayed.
+/// Refreshing a live query by what changed makes two steps. Its pass learns, and then reads at the
+/// pin, which has stayed.
 pub fn changed_refresh_is_steps()
     ensures { (a c : Knowledge) (n : ℕ) (ask : State → Answer) → Learns a c → IsPinnedTo a n
         → volume_pinned c ≡ volume_pinned a → IsStep a (Learn (entries c.seen)) c
         × IsStep c (Read ask (Some (ask (volume_pinned a)))) c }
 {}
 
-/// A join is the step Learn, and a meeting is that step of both passes; it returns how many entries
-/// they have then seen. So is a witness, which changes nothing.
+/// A join is the step Learn, and a meeting is that step for both passes. It returns how many
+/// entries they have then seen. Making a witness is a Learn, too, which changes nothing.
 pub fn meeting_is_step()
     ensures meets { (a c : Knowledge) (log : List Commit) → StartsWith log a.seen → c ≡ met a log
         → Call a (Learn (entries log)) c }
@@ -100,8 +100,8 @@ pub fn meeting_is_step()
     ensures witness { (a c : Knowledge) → c ≡ one_step_on a → Call a (Learn (entries a.seen)) c }
 {}
 
-/// The calls of one pass are a run of the machine, with the same steps, and with the views that the
-/// pass had after them. It keeps its number.
+/// One pass's calls are a run of the machine, with the same steps, and with the views that the pass
+/// had after each. The pass keeps its number.
 pub fn calls_are_run()
     ensures one { (a : Knowledge) (s : Step volume) (c : Knowledge) → Call a s c → IsStep a s c }
     ensures all { (a : Knowledge) (steps : List (Step volume)) (z : Knowledge)
@@ -114,16 +114,16 @@ pub fn calls_are_run()
         → Calls a steps z → z.number ≡ a.number }
 {}
 
-/// A store that was closed is the last step: what holds of its passes and its journal then.
+/// Closing a store is the last step: what then holds for its passes and its journal.
 pub fn close_is_step()
     ensures { (count : ℕ) (log : List Entry) (passes : List Knowledge) → IsClosed count log passes
         → Closes volume log (map view_of passes) }
 {}
 
-/// The journal that `close` returns explains all runs of its passes: `given`, of whatever runs end
-/// in what these passes know; `made`, of the calls that each of them made as a new pass. These runs
-/// have the numbers of the passes, the steps of their calls, and the views that they had after them
-/// and at last.
+/// The journal that `close` returns explains all runs of its passes. `given`: whatever runs end in
+/// what these passes know. `made`: the calls that each of them has made since it was new. These
+/// runs have the passes' numbers, their calls' steps, and the views that they had after each step
+/// and at the end.
 pub fn one_history()
     ensures given { (count : ℕ) (log : List Entry) (passes : List Knowledge)
         (runs : List (PassRun volume)) → IsClosed count log passes

@@ -1,7 +1,7 @@
 //! Which nodes the journal's entries name.
 //!
-//! A query's answer changes at no other nodes, if no index was made or removed. The numbers are
-//! collected in place, so none of it takes memory.
+//! If no index was made or removed, a query's answer can change only at these nodes. The numbers
+//! are collected in place, so no memory is allocated.
 ghost use Rattle.std.specs.List.Sorted.{IsStrictlyIncreasing};
 ghost use Rattle.std.specs.Prelude.{◌≡◌, ◌≤◌, ◌<◌, ℕ, true, get_or, length};
 ghost use Rattle.be_journal.specs.declared.entries.Entry.{Entry as AnyEntry};
@@ -16,10 +16,11 @@ use arrayvec::ArrayVec;
 use be_table::Writing;
 use be_volume::{Done, Op};
 
-/// The most nodes that a refresh asks one by one.
+/// The most nodes that a refresh asks about one by one.
 pub(crate) const MOST: usize = 64;
 
-/// Adds a node to a rising list, if it isn't there. Returns false if there is no room.
+/// Inserts a node into an ascending list, unless it is there already. Returns false if there is no
+/// room.
 fn add_node(nodes: &mut ArrayVec<u64, 64>, node: u64) -> bool
     requires rising { IsStrictlyIncreasing nodes.old.items }
     ensures rising { IsStrictlyIncreasing nodes.new.items }
@@ -33,8 +34,8 @@ fn add_node(nodes: &mut ArrayVec<u64, 64>, node: u64) -> bool
     }
 }
 
-/// The node that an operation changes: of one that makes a node the new one's number, and none of
-/// one on an index.
+/// The node that an operation changes. For `New` it is the new node's number; an operation on an
+/// index changes none.
 fn node_named(op: &Op, done: &Done) -> Option<u64>
     ensures { result ≡ node_named op.now done.now }
 {
@@ -48,8 +49,8 @@ fn node_named(op: &Op, done: &Done) -> Option<u64>
     }
 }
 
-/// Adds the node that an operation changes to a rising list. Returns false if it makes or removes
-/// an index, or there is no room for the node.
+/// Inserts the node that an operation changes into an ascending list. Returns false if the
+/// operation makes or removes an index, or if there is no room for the node.
 fn add_step(nodes: &mut ArrayVec<u64, 64>, op: &Op, done: &Done) -> bool
     requires rising { IsStrictlyIncreasing nodes.old.items }
     ensures rising { IsStrictlyIncreasing nodes.new.items }
@@ -63,9 +64,9 @@ fn add_step(nodes: &mut ArrayVec<u64, 64>, op: &Op, done: &Done) -> bool
     }
 }
 
-/// Adds the nodes that operations with these outcomes change to a rising list. Returns false if one
-/// of them makes or removes an index, or there is no room for a node; the list then has any
-/// numbers.
+/// Inserts the nodes that operations with these outcomes change into an ascending list. Returns
+/// false if one of them makes or removes an index, or if there is no room for a node. The list may
+/// then hold any numbers.
 fn add_named(nodes: &mut ArrayVec<u64, 64>, ops: &[Op], dones: &[Done]) -> bool
     requires rising { IsStrictlyIncreasing nodes.old.items }
     ensures rising { IsStrictlyIncreasing nodes.new.items }
@@ -84,8 +85,8 @@ fn add_named(nodes: &mut ArrayVec<u64, 64>, ops: &[Op], dones: &[Done]) -> bool
     true
 }
 
-/// Adds the nodes that one entry names, while the lock is held. False as above, and if there is no
-/// memory for the entry.
+/// Inserts the nodes that one entry names, while the lock is held. Returns false in the cases of
+/// `add_named`, and if there is no memory for the entry.
 fn add_entry(held: &Writing<'_>, i: u64, nodes: &mut ArrayVec<u64, 64>) -> bool
     requires inside { i < length held.now.knows.seen }
     requires rising { IsStrictlyIncreasing nodes.old.items }
@@ -101,7 +102,7 @@ fn add_entry(held: &Writing<'_>, i: u64, nodes: &mut ArrayVec<u64, 64>) -> bool
     add_named(nodes, entry.ops.as_slice(), entry.dones.as_slice())
 }
 
-/// Adds the nodes that the entries from one index to another name, while the lock is held.
+/// Inserts the nodes that the entries from one index up to another name, while the lock is held.
 fn add_between(held: &Writing<'_>, from: u64, end: u64, nodes: &mut ArrayVec<u64, 64>) -> bool
     requires end { end ≤ length held.now.knows.seen }
     requires rising { IsStrictlyIncreasing nodes.old.items }
@@ -118,10 +119,11 @@ fn add_between(held: &Writing<'_>, from: u64, end: u64, nodes: &mut ArrayVec<u64
 }
 
 impl Store {
-    /// Adds the nodes that the entries from one index to another name, which the pass has seen, to
-    /// a rising list. Returns false if one of the entries makes or removes an index, if there is no
-    /// room, or if the one try finds that another pass holds the lock; the list then has any
-    /// numbers. A pin stays.
+    /// Inserts the nodes that the entries from one index up to another name into an ascending list.
+    /// The pass has seen these entries. A pin stays.
+    ///
+    /// Returns false if an entry makes or removes an index, if there is no room or no memory, or if
+    /// another pass holds the lock; it tries once. The list may then hold any numbers.
     pub(crate) fn add_named_between(
         &self,
         pass: &mut Pass,

@@ -1,4 +1,5 @@
-//! Answers of prepared queries a part at a time: in the order of an index, by number, and any few.
+//! Parts of a prepared query's answer: a page in the order of an index, the first nodes by number,
+//! or any few.
 ghost use Rattle.std.specs.Prelude.{◌≡◌, ◌⊎◌, ℕ, Err, OnErr, OnOk, IfErr};
 ghost use Rattle.be_order.specs.Firsts.{IsAnyOf, from_number};
 ghost use Rattle.be_order.specs.Ordered.{cursor_bytes, page, page_with};
@@ -23,7 +24,7 @@ use std::alloc::Global;
 /// The kind of the index of that name, if there is one, and the reader back.
 fn kind_at<L: Look>(look: L, version_page: u64, name: &Name) -> (L, Option<Kind>)
     ghost volume: { State }
-    requires version { IsVersion (L.standing look) (L.words look) version_page volume }
+    requires version { IsVersion (L.page_state look) (L.words look) version_page volume }
     ensures kind { result.1 ≡ index_kind volume name.now }
     ensures kept { L.kept result.0 ≡ L.kept look }
 {
@@ -32,7 +33,7 @@ fn kind_at<L: Look>(look: L, version_page: u64, name: &Name) -> (L, Option<Kind>
     (source.into_look(), kind)
 }
 
-/// Puts a page of the answer into a list, in place of what it had, and gives the reader back.
+/// Replaces a list's content with a page of the answer, and returns the reader.
 fn ask_page<L: Look>(
     alloc: Global,
     look: L,
@@ -43,7 +44,7 @@ fn ask_page<L: Look>(
     found: &mut Vec<u64>,
 ) -> (L, Result<bool, Refusal>)
     ghost volume: { State }
-    requires version { IsVersion (L.standing look) (L.words look) version_page volume }
+    requires version { IsVersion (L.page_state look) (L.words look) version_page volume }
     ensures answer { Answers (page_with found.new.items (cursor_bytes cursor.new)) result.1
         (page volume prepared.old order.entry.by.now order.entry.descending
         (cursor_bytes cursor.old) order.entry.most) }
@@ -56,8 +57,8 @@ fn ask_page<L: Look>(
     (source.into_look(), answer)
 }
 
-/// Puts the nodes of the answer from a number on into a list, up to so many, in place of what it
-/// had, and gives the reader back.
+/// Replaces a list's content with up to `most` nodes of the answer from a number on, and returns
+/// the reader.
 fn ask_first<L: Look>(
     alloc: Global,
     look: L,
@@ -68,7 +69,7 @@ fn ask_first<L: Look>(
     found: &mut Vec<u64>,
 ) -> (L, Result<(), Refusal>)
     ghost volume: { State }
-    requires version { IsVersion (L.standing look) (L.words look) version_page volume }
+    requires version { IsVersion (L.page_state look) (L.words look) version_page volume }
     ensures answer { Answers (λ _. found.new.items) result.1
         (from_number volume prepared.old first most) }
     ensures same { prepared.new ≡ prepared.old }
@@ -79,8 +80,7 @@ fn ask_first<L: Look>(
     (source.into_look(), answer)
 }
 
-/// Puts any nodes of the answer into a list, up to so many, in place of what it had, and gives the
-/// reader back.
+/// Replaces a list's content with any nodes of the answer, up to `most`, and returns the reader.
 fn ask_any<L: Look>(
     alloc: Global,
     look: L,
@@ -90,7 +90,7 @@ fn ask_any<L: Look>(
     found: &mut Vec<u64>,
 ) -> (L, Result<(), Refusal>)
     ghost volume: { State }
-    requires version { IsVersion (L.standing look) (L.words look) version_page volume }
+    requires version { IsVersion (L.page_state look) (L.words look) version_page volume }
     ensures any { OnOk result.1 (IsAnyOf (scan volume prepared.old) most found.new.items) }
     ensures refused { IfErr result.1 (λ e. (e ≡ OutOfMemory) ⊎ (scan volume prepared.old ≡ Err e)) }
     ensures same { prepared.new ≡ prepared.old }
@@ -102,8 +102,8 @@ fn ask_any<L: Look>(
 }
 
 impl Store {
-    /// The kind of the index of that name in the pinned version, if there is one. It reads the
-    /// version page alone, and takes no memory.
+    /// The kind of the index of that name in the pinned version, if there is one. It reads only the
+    /// version page; no memory is allocated.
     pub fn index_kind(&self, pass: &mut Pass, name: &Name) -> Option<Kind>
         requires pass { IsPassOf self.now pass.old }
         requires pinned { (n : ℕ) × IsPinnedTo pass.old.knows n }
@@ -116,26 +116,27 @@ impl Store {
         kind
     }
 
-    /// Puts a page of the query's answer into a list, in place of what it had, and returns whether
-    /// there are more. The nodes are in the order of an index: by value, and those of one value by
-    /// number, rising or exactly the reverse. A page has the first `order.most` after the cursor;
-    /// a node without a pair in the index is in none. The cursor is then at the last of the page;
-    /// it is as it was if the page is empty. The first page has none.
+    /// Replaces a list's content with a page of the query's answer, and returns whether there are
+    /// more. The nodes are in the order of an index: by value, and by number within one value,
+    /// ascending or exactly the reverse. A page has the first `order.most` nodes after the cursor.
+    /// A node that has no pair in the index is on no page. The cursor then moves to the last node
+    /// of the page; an empty page leaves it as it was. For the first page it is None.
     ///
-    /// A cursor is a place in the order and no count. At a later version a page goes on from there,
-    /// whatever was written in between: a node whose value is now before the cursor isn't seen, and
-    /// one that was seen and is now after it comes again.
+    /// A cursor is a place in the order, and not a count. At a later version a page continues from
+    /// there, whatever was written in between. A node whose value is now before the cursor isn't
+    /// seen. One that was seen and is now after it comes again.
     ///
-    /// NoSuchIndex if that version has no index of the order's name; then NotCovered if the query
-    /// rests on no index of it; OutOfMemory. An error leaves the cursor as it was, and the list has
-    /// any numbers.
+    /// NoSuchIndex if that version has no index of the order's name; then NotCovered if none of its
+    /// indices covers the query; OutOfMemory. An error leaves the cursor as it was, and the list
+    /// may hold any numbers.
     ///
-    /// It costs the cheaper of three ways, or up to about twice that. If all comparisons are on the
-    /// order's name and their range decides the query: a walk over the page's keys and one more,
-    /// and no memory but for the list. Otherwise a walk over the order's index from the cursor, and
-    /// a question for each node that it passes until the page is full. If that costs more than the
-    /// whole answer: what `query_prepared` costs, two descents for each node that is found, and a
-    /// sort; it takes memory for the keys after the cursor.
+    /// It costs as much as the cheapest of three ways, or up to about twice that:
+    /// - A walk over the page's keys and one more, if all comparisons are on the order's name and
+    ///   their range decides the query. Memory is allocated only for the list.
+    /// - Otherwise a walk over the order's index from the cursor. It asks the query about each node
+    ///   that it passes until the page is full.
+    /// - If that costs more than the whole answer: what `query_prepared` costs, two descents for
+    ///   each node that is found, and a sort. It allocates memory for the keys after the cursor.
     pub fn ordered(
         &self,
         alloc: Global,
@@ -160,12 +161,11 @@ impl Store {
         more
     }
 
-    /// Puts the nodes of the query's answer from the number `first` on into a list, ascending, up
-    /// to `most` of them, in place of what it had. The next call goes on from the number after the
-    /// last of these.
+    /// Replaces a list's content with up to `most` nodes of the query's answer from the number
+    /// `first` on, in ascending order. To continue, call it with the number after the last of
+    /// these.
     ///
-    /// Errors are those of `query_prepared`, and so is the cost. After an error the list has any
-    /// numbers.
+    /// Errors and cost are those of `query_prepared`. After an error the list may hold any numbers.
     pub fn first(
         &self,
         alloc: Global,
@@ -188,11 +188,11 @@ impl Store {
         answer
     }
 
-    /// Puts any nodes of the query's answer into a list, in place of what it had: none twice,
-    /// `most` of them or as many as there are.
+    /// Replaces a list's content with any nodes of the query's answer, none of them twice: `most`
+    /// of them, or all if there are fewer.
     ///
-    /// Errors are those of `query_prepared`. After an error the list has any numbers. It costs a
-    /// walk over `most` keys if the range of one index decides the query, and otherwise what
+    /// Errors are those of `query_prepared`. After an error the list may hold any numbers. It costs
+    /// a walk over `most` keys if the range of one index decides the query, and otherwise what
     /// `query_prepared` costs.
     pub fn any(
         &self,

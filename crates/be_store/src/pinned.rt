@@ -1,7 +1,7 @@
 //! A pass while it is pinned.
 //!
 //! A pin that is forgotten holds its version's pages for as long as the store lives. So a program
-//! that leaves a function by `?` asks through a `Pinned`, which unpins when it goes.
+//! that leaves a function by `?` queries through a `Pinned`, which unpins when it is dropped.
 ghost use Rattle.std.specs.List.Sorted.{IsStrictlyIncreasing};
 ghost use Rattle.std.specs.Prelude.{◌≡◌, ◌⊎◌, ◌<◌, ◌≤◌, ◌++◌, ◌*◌, ◌^◌, ℕ, true, false, [], None};
 ghost use Rattle.std.specs.Prelude.{Ok, Err, IsOk, IfOk, IfErr, IfNone, IfSome, OnErr, OnOk};
@@ -15,7 +15,7 @@ ghost use Rattle.be_order.specs.Ordered.{cursor_bytes, page, page_with};
 ghost use Rattle.be_volume_state.specs.Places.{given, left};
 ghost use Rattle.be_plan.specs.Cover.{chosen, covers};
 ghost use Rattle.be_plan.specs.Explain.{are_places};
-ghost use Rattle.be_paged_reading.specs.Cells.{IsReadInto, TellsColumns, name_in};
+ghost use Rattle.be_paged_reading.specs.Cells.{IsReadInto, ReportsColumns, name_in};
 ghost use Rattle.be_paged_reading.specs.Nodes.{nodes_from};
 ghost use Rattle.be_table.specs.Seats.{pinned_number};
 ghost use Rattle.be_table.specs.Works.{IsSeatOf};
@@ -36,7 +36,7 @@ use be_volume::Op;
 use be_volume_state::Place;
 use std::alloc::Global;
 
-/// A pass that is pinned as long as this lives. Whichever way it goes, the pass is unpinned then.
+/// A pass that stays pinned for as long as this guard lives. Dropping the guard unpins the pass.
 pub struct Pinned<'a> {
     store: &'a Store,
     pass: &'a mut Pass,
@@ -46,8 +46,8 @@ pub struct Pinned<'a> {
 }
 
 impl Store {
-    /// Pins the current version, as `pin` does, until the guard that it returns goes. Three steps,
-    /// and one at the end; no memory.
+    /// Pins the current version, as `pin` does, until the guard that it returns is dropped. Three
+    /// steps, and one when it is dropped; no memory is allocated.
     pub fn pinned<'a>(&'a self, pass: &'a mut Pass) -> Pinned<'a>
         requires pass { IsPassOf self.now pass.old }
         requires unpinned { pinned_number pass.old.knows.phase ≡ None }
@@ -65,7 +65,7 @@ impl Store {
 }
 
 impl Pinned<'_> {
-    /// The number of the version that is read: how many entries of the journal it has.
+    /// The number of the version that is read, which is how many entries of the journal it has.
     pub fn number(&self) -> u64
         ensures { result ≡ self.now.number }
     {
@@ -255,7 +255,7 @@ impl Pinned<'_> {
         ensures store { (self.new.store.now ≡ self.old.store.now)
             × (self.new.number ≡ self.old.number) }
         ensures read { HasRead self.old.pass.now.knows self.new.pass.now.knows }
-        ensures told { TellsColumns (volume_pinned self.old.pass.now.knows) nodes.now
+        ensures reported { ReportsColumns (volume_pinned self.old.pass.now.knows) nodes.now
             (each name_in names.now) cells.old cells.new bytes.old bytes.new result }
     {
         self.store.columns(self.pass, nodes, names, cells, bytes)

@@ -1,4 +1,4 @@
-//! The operations that rebuild a version, over any reader of its pages.
+//! The operations that rebuild a version, read through any page reader.
 ghost use Rattle.std.specs.Prelude.{◌≡◌, ◌<◌, ◌≤◌, ◌++◌, [], IfNone, IfOk, IfSome, length};
 ghost use Rattle.be_volume.specs.Volume.{State};
 ghost use Rattle.be_volume_state.specs.Places.{given, left};
@@ -18,7 +18,7 @@ pub(crate) fn read_on<L: Look>(
     place: &mut Place,
 ) -> (L, Result<Option<Vec<Op>>, AllocError>)
     ghost volume: { State }
-    requires version { IsVersion (L.standing look) (L.words look) version_page volume }
+    requires version { IsVersion (L.page_state look) (L.words look) version_page volume }
     ensures list { left volume place.old ≡ given (λ ops. ops.items) result.1
         ++ left volume place.new }
     ensures length { IfOk result.1 (λ list. IfSome list

@@ -2,7 +2,7 @@
 ghost use Rattle.std.specs.Prelude.{◌≡◌, ◌⊎◌, ◌≤◌, ◌<◌, ◌++◌, ℕ, true, false, [], ◌∷◌, None, Some};
 ghost use Rattle.std.specs.Prelude.{Ok, MatchResult, IsOk, IfOk, IfErr, IfNone, IfSome, OnErr};
 ghost use Rattle.std.specs.Prelude.{OnOk, length, map, string_bytes};
-ghost use Rattle.be_store.specs.History.{Accepts, Learns, IsReason, IsLastReason, IsUntold};
+ghost use Rattle.be_store.specs.History.{Accepts, Learns, IsReason, IsLastReason, IsUnreported};
 ghost use Rattle.be_store.specs.History.{LocksAndUnlocks, Pins, entries_from, text_seen};
 ghost use Rattle.be_store.specs.Passes.{IsPassOf, IsPinnedTo, HasRead, volume_pinned};
 
@@ -10,7 +10,7 @@ use crate::answers::Answer;
 use crate::asking::{ask, ask_into, ask_prepared, choose_at};
 use crate::entries::entries_from;
 use crate::states::read_on;
-use crate::tries::{longer, stand_back, was_busy};
+use crate::tries::{back_off, longer, was_busy};
 use crate::writing::write;
 use crate::{Limits, Pass};
 use arrayvec::ArrayVec;
@@ -53,23 +53,23 @@ impl Store {
     ghost use Rattle.be_paged_reading.specs.Nodes.{nodes_from};
     ghost use Rattle.be_paged_reading.specs.Version.{IsVersion};
     ghost use Rattle.be_table.specs.History.{StartsWith, AreOfPasses};
-    ghost use Rattle.be_table.specs.Reading.{pinned_standing, word_of_page};
+    ghost use Rattle.be_table.specs.Reading.{pinned_page_state, word_of_page};
     ghost use Rattle.be_table.specs.Rule.{IsWithin, entries, one_step_on};
     ghost use Rattle.be_table.specs.Seats.{pinned_number};
     ghost use Rattle.be_table.specs.Steps.{Has, KeepsSeen, longer, met, unpins, with_history};
     ghost use Rattle.be_table.specs.Trace.{HasTrace};
-    ghost use Rattle.be_table.specs.Versions.{CanSpellEach};
+    ghost use Rattle.be_table.specs.Versions.{CanEncodeEach};
     ghost use Rattle.be_table.specs.Works.{AllAt, AreNew, FoundHeld, IsOpenRefused, IsWitnessOf};
     ghost use Rattle.be_table.specs.Works.{Moves, TakesLock, knows_of};
     ghost use Rattle.be_table.specs.declared.pass.Move.TheVariants as moves;
     ghost use Rattle.be_store.specs.Calls.{AreInOneTrace, HasWrites, ReadsFronts};
-    ghost use Rattle.be_store.specs.Statuses.{TellsStatus};
+    ghost use Rattle.be_store.specs.Statuses.{ReportsStatus};
 
     /// Opens an empty store. Returns it with its passes, in the order of their numbers from 0; they
     /// have seen nothing.
     ///
-    /// BadLimits exactly if a limit is out of its range; OutOfMemory. It takes the memory of all
-    /// pages, 4 KiB each, and for a moment their words once more.
+    /// BadLimits exactly if a limit is out of range; OutOfMemory. It allocates all pages, 4 KiB
+    /// each, and for a moment their words a second time.
     pub fn open(alloc: Global, limits: Limits) -> Result<(Store, Vec<Pass>), Refusal>
         ensures { MatchResult result
             (λ r. (r.0.limits ≡ limits) × (length r.1.items ≡ limits.passes)
@@ -80,8 +80,8 @@ impl Store {
         Ok((Store { table }, passes))
     }
 
-    /// An open write of the pass, which is blank until the write's seat is back. Busy if another
-    /// pass holds the lock.
+    /// Takes the lock and returns an open write. The pass is blank until the caller puts the
+    /// write's seat back. Busy if another pass holds the lock.
     pub(crate) fn lock(&self, pass: &mut Pass) -> Result<Writing<'_>, Refusal>
         requires pass { IsPassOf self.now pass.old }
         ensures held { IfOk result (λ w. (w.table ≡ self.now) × (w.reserved ≡ 0)
@@ -99,23 +99,27 @@ impl Store {
     }
 
     /// Writes a transaction of 1 to 64 operations, all or none. Returns its commit number, which is
-    /// the journal's length with it, and fills `dones` with the outcome of each operation, in place
-    /// of what the list had. A pin stays.
+    /// the length of the journal including it. The outcomes of the operations replace what was in
+    /// `dones`. A pin stays.
     ///
-    /// Errors, in this order: Busy if the one try finds that another pass holds the lock (the call
-    /// may be made again); NoNode to NotIndexable as the volume after the journal gives it;
-    /// CommitsSpent if the journal is at its limit; OutOfMemory if there is no room for the entry
-    /// (the call may be made again); Full if no page is free. After an error nothing is written and
-    /// the list is empty.
+    /// Errors, in this order:
+    /// - Busy if another pass holds the lock. The call tries once, and may be made again;
+    /// - an error of the volume as the journal leaves it, from NoNode to NotIndexable;
+    /// - CommitsSpent if the journal is at its limit;
+    /// - OutOfMemory if there is no room for the entry; the call may be made again;
+    /// - Full if no page is free.
     ///
-    /// It costs one compare-exchange to begin, new pages on the way to each change, one store to
-    /// publish and one to unlock. Each word that it reads is a load, and each that it changes a
-    /// store. If no page is free, or a page was retired since the last scan (32, if that had to
-    /// leave pages to readers), it reads each reader slot, and works on each page that this frees.
-    /// It takes memory for its entry alone. Busy costs the compare-exchange.
+    /// After an error nothing is written and the list is empty.
     ///
-    /// The list is filled in place, because one that is returned by value costs its whole capacity
-    /// at each move.
+    /// It costs one compare-exchange to begin, new pages on the path to each change, one store to
+    /// publish and one to unlock. Each word that it reads is a load, and each that it changes is a
+    /// store. It scans if no page is free, or if enough pages were retired since the last scan:
+    /// one, or 32 if that scan had to leave pages to readers. A scan reads each reader slot, and
+    /// works on each page that this frees. It allocates memory only for its entry. Busy costs the
+    /// compare-exchange.
+    ///
+    /// The list is filled in place, because returning one by value costs its whole capacity at each
+    /// move.
     pub fn apply_into(
         &self,
         pass: &mut Pass,
@@ -145,7 +149,7 @@ impl Store {
         }
     }
 
-    /// Writes as `apply_into` does, and returns the outcomes in a list of their own.
+    /// Writes as `apply_into` does, and returns the outcomes in a new list.
     pub fn apply(&self, pass: &mut Pass, ops: &[Op]) -> Result<(u64, ArrayVec<Done, 64>), Refusal>
         requires pass { IsPassOf self.now pass.old }
         requires count { (1 ≤ length ops.now) × (length ops.now ≤ 64) }
@@ -165,8 +169,8 @@ impl Store {
     /// Writes as `apply` does, and tries again while another pass holds the lock, up to `tries`
     /// times in all. Busy then names the pass that the last try found.
     ///
-    /// Before each further try other threads may run: once, then twice as often each time, up to
-    /// 1,024 times. A try that finds the lock taken costs one compare-exchange.
+    /// Before the second try it yields to other threads once, and before each later try twice as
+    /// often, up to 1,024 times. A try that finds the lock taken costs one compare-exchange.
     pub fn apply_or_retry(
         &self,
         pass: &mut Pass,
@@ -188,15 +192,15 @@ impl Store {
             if !was_busy(&answer) {
                 return answer;
             }
-            stand_back(turns);
+            back_off(turns);
             turns = longer(turns);
         }
         self.apply(pass, ops)
     }
 
-    /// Pins the current version and returns its number. The pass then reads the volume after that
-    /// many entries of the journal until it unpins, whatever is written meanwhile. Three steps, and
-    /// no memory.
+    /// Pins the current version and returns its number. Until it unpins, the pass reads the volume
+    /// after that many entries of the journal, whatever is written meanwhile. Three steps; no
+    /// memory is allocated.
     pub fn pin(&self, pass: &mut Pass) -> u64
         requires pass { IsPassOf self.now pass.old }
         requires unpinned { pinned_number pass.old.knows.phase ≡ None }
@@ -208,7 +212,7 @@ impl Store {
         self.table.look_again(pass).0
     }
 
-    /// Releases the pin. One step, and no memory.
+    /// Releases the pin. One step; no memory is allocated.
     pub fn unpin(&self, pass: &mut Pass)
         requires pass { IsPassOf self.now pass.old }
         requires pinned { (n : ℕ) × IsPinnedTo pass.old.knows n }
@@ -221,21 +225,21 @@ impl Store {
         self.table.unpin(pass);
     }
 
-    /// A reader of the pinned version, and its version page. The pass is blank until the reader's
-    /// seat is back.
+    /// A reader of the pinned version, and its version page. The pass is blank until the caller
+    /// puts the reader's seat back.
     pub(crate) fn reader(&self, pass: &mut Pass) -> (PinnedLook<'_>, u64)
         requires pass { IsPassOf self.now pass.old }
         requires pinned { (n : ℕ) × IsPinnedTo pass.old.knows n }
         ensures look { (result.0.table ≡ self.now) × (result.0.knows ≡ pass.old.knows) }
-        ensures version { IsVersion (pinned_standing result.0.knows)
+        ensures version { IsVersion (pinned_page_state result.0.knows)
             (word_of_page result.0.knows.image) result.1 (volume_pinned pass.old.knows) }
     {
         let page = pass.version_page();
         (self.table.pinned_look(pass.move_out()), page)
     }
 
-    /// The number that the next `Op::New` makes, in the pinned version. So a batch that is written
-    /// by `apply_if` at the pin's number may name the nodes that it makes. One load, and no memory.
+    /// The number that the next `Op::New` gets in the pinned version. A batch for `apply_if` at the
+    /// pin's number can therefore name the nodes that it makes. One load; no memory is allocated.
     pub fn next(&self, pass: &mut Pass) -> u64
         requires pass { IsPassOf self.now pass.old }
         requires pinned { (n : ℕ) × IsPinnedTo pass.old.knows n }
@@ -248,12 +252,14 @@ impl Store {
         number
     }
 
-    /// The nodes of which the query is true in the pinned version, ascending, and the pin's number.
+    /// The nodes that match the query in the pinned version, in ascending order, and the pin's
+    /// number.
     ///
-    /// NotCovered if the query rests on no index of that version; OutOfMemory. It costs a descent
+    /// NotCovered if no index of that version covers the query; OutOfMemory. It costs one descent
     /// of a tree for each chosen index, and a walk over the range of keys that the query leaves of
-    /// it. If the range doesn't decide the query, it looks up the other names at each key. It takes
-    /// memory for the plan, the nodes, and the marks by which many nodes are put in order.
+    /// it. If the range doesn't decide the query, it looks up the other names at each key. It
+    /// allocates memory for the plan, for the nodes, and for the marks that put many nodes in
+    /// order.
     pub fn query(&self, alloc: Global, pass: &mut Pass, query: &Query) -> Result<Answer, Refusal>
         requires pass { IsPassOf self.now pass.old }
         requires pinned { (n : ℕ) × IsPinnedTo pass.old.knows n }
@@ -272,11 +278,11 @@ impl Store {
         Ok(Answer { pin, nodes: nodes? })
     }
 
-    /// Puts the nodes of which the query is true in the pinned version into a list, ascending, in
-    /// place of what it had, and returns the pin's number. A list that has room for the nodes takes
-    /// no memory, and keeps its room.
+    /// Replaces a list's content with the nodes that match the query in the pinned version, in
+    /// ascending order. Returns the pin's number. A list that has room for the nodes allocates no
+    /// memory, and keeps its capacity.
     ///
-    /// Errors and cost are those of `query`. After an error the list has any numbers.
+    /// Errors and cost are those of `query`. After an error the list may hold any numbers.
     pub fn query_into(
         &self,
         alloc: Global,
@@ -302,11 +308,11 @@ impl Store {
         Ok(pin)
     }
 
-    /// As `query_into`, by a prepared query. What depends on the query alone is made when it is
-    /// asked for the first time: if all its comparisons are on one name and none is under `||`,
-    /// that is the range of keys in the name's index. Such a query costs one descent and a walk
-    /// over the range. The index is looked up again only if another one is now at its place. The
-    /// range is made again if the index has another kind. Any other query costs what `query` costs.
+    /// Does what `query_into` does, for a prepared query. The first call computes what depends only
+    /// on the query. If all comparisons are on one name and none is under `||`, that is the range
+    /// of keys in the name's index. Such a query costs one descent and a walk over the range. The
+    /// index is looked up again only if another index has taken its place. The range is computed
+    /// again only if the index has another kind. Any other query costs what `query` costs.
     #[inline(always)]
     pub fn query_prepared(
         &self,
@@ -334,11 +340,11 @@ impl Store {
         Ok(pin)
     }
 
-    /// What the query would be answered from in the pinned version: the comparisons whose indices
-    /// are chosen, and their score. `be_plan::explain` returns them as a text.
+    /// Explains how the query would be answered in the pinned version: the comparisons whose
+    /// indices are chosen, and their score. `be_plan::explain` makes a text of it.
     ///
-    /// NotCovered if the query rests on no index of that version; OutOfMemory. It asks for the
-    /// index of each comparison's name, and reads no key and no node. It takes memory for the plan.
+    /// NotCovered if no index of that version covers the query; OutOfMemory. It looks up the index
+    /// of each comparison's name, and reads no key and no node. It allocates memory for the plan.
     pub fn explain(&self, alloc: Global, pass: &mut Pass, query: &Query) -> Result<Cover, Refusal>
         requires pass { IsPassOf self.now pass.old }
         requires pinned { (n : ℕ) × IsPinnedTo pass.old.knows n }
@@ -357,8 +363,8 @@ impl Store {
         cover
     }
 
-    /// A node's attribute in the pinned version, if it has one. One descent of a tree, and no
-    /// memory.
+    /// A node's attribute in the pinned version, if it has one. One descent of a tree; no memory is
+    /// allocated.
     #[inline(always)]
     pub fn get(&self, pass: &mut Pass, node: u64, name: &Name) -> Option<Value>
         requires pass { IsPassOf self.now pass.old }
@@ -372,10 +378,10 @@ impl Store {
         value
     }
 
-    /// A node's attributes in the pinned version, by ascending bytes of their names.
+    /// A node's attributes in the pinned version, sorted by the bytes of their names.
     ///
-    /// NoNode if the node isn't there; OutOfMemory only if it is. It costs one descent, and a step
-    /// for each attribute. It takes memory for the list.
+    /// NoNode if the node doesn't exist; OutOfMemory only if it does. It costs one descent, and one
+    /// step for each attribute. It allocates memory for the list.
     pub fn attrs(
         &self,
         alloc: Global,
@@ -396,9 +402,9 @@ impl Store {
         list
     }
 
-    /// The names and kinds of the indices of the pinned version, by ascending bytes of the names.
+    /// The names and kinds of the pinned version's indices, sorted by the bytes of the names.
     ///
-    /// OutOfMemory. It reads the version page alone, and takes memory for the list.
+    /// OutOfMemory. It reads only the version page, and allocates memory for the list.
     pub fn indices(&self, alloc: Global, pass: &mut Pass) -> Result<Vec<(Name, Kind)>, Refusal>
         requires pass { IsPassOf self.now pass.old }
         requires pinned { (n : ℕ) × IsPinnedTo pass.old.knows n }
@@ -412,10 +418,10 @@ impl Store {
         list
     }
 
-    /// Up to `most` nodes of the pinned version from the number `from` on, ascending.
+    /// Up to `most` nodes of the pinned version, from the number `from` on, in ascending order.
     ///
-    /// OutOfMemory. It costs one descent, and a step for each node that it returns and for each of
-    /// their attributes. It takes memory for the list.
+    /// OutOfMemory. It costs one descent, one step for each node that it returns, and one for each
+    /// of their attributes. It allocates memory for the list.
     pub fn nodes(
         &self,
         alloc: Global,
@@ -435,14 +441,14 @@ impl Store {
         list
     }
 
-    /// The next batch of the operations that make the pinned version again on an empty store, 1 to
-    /// 64 of them, and None after the last. A new `Place` is before the first. From there on the
-    /// batches of one pin, put end to end, are be_volume_state's `state_ops` of that version, and
-    /// each but the last has 64. At another pin a place has no meaning: begin with a new one there.
+    /// The next batch of the operations that rebuild the pinned version on an empty store: 1 to 64
+    /// operations, or None after the last batch. A new `Place` begins with the first. Put end to
+    /// end, the batches of one pin are be_volume_state's `state_ops` of that version, and each but
+    /// the last has 64. A place means nothing at another pin: begin with a new one there.
     ///
-    /// OutOfMemory: nothing is lost then, and the call may be made again. All calls together read
-    /// the attributes of each number that was given twice, and for each attribute they search its
-    /// index twice. A call takes memory for its batch and for one node's operations.
+    /// OutOfMemory loses nothing, and the call may be made again. All calls together read the
+    /// attributes of each node number that was ever given, twice. For each attribute they search
+    /// its index twice. A call allocates memory for its batch and for one node's operations.
     pub fn state(
         &self,
         alloc: Global,
@@ -471,14 +477,14 @@ impl Store {
     /// The journal's text up to now, as `Journal::text` returns it, while passes are in use. A pin
     /// stays.
     ///
-    /// Busy if the one try finds that another pass holds the lock; OutOfMemory. It holds the lock
-    /// while it makes the text, so other passes' writes are Busy meanwhile.
+    /// Busy if another pass holds the lock (the call tries once); OutOfMemory. It holds the lock
+    /// while it makes the text, so other passes' writes return Busy meanwhile.
     pub fn journal_text(&self, pass: &mut Pass) -> Result<String, Refusal>
         requires pass { IsPassOf self.now pass.old }
         ensures pass { IsPassOf self.now pass.new }
         ensures learns { Learns pass.old.knows pass.new.knows }
         ensures text { IfOk result (λ text. string_bytes text ≡ text_seen pass.new.knows) }
-        ensures err { IfErr result (λ e. IsUntold pass.old.knows pass.new.knows e) }
+        ensures err { IfErr result (λ e. IsUnreported pass.old.knows pass.new.knows e) }
         ensures moves { OnOk result (LocksAndUnlocks pass.old.knows pass.new.knows) }
     {
         let held = self.lock(pass)?;
@@ -492,11 +498,11 @@ impl Store {
     }
 
     /// Up to `most` entries of the journal from the index `from` on, which counts from 0, while
-    /// passes are in use. Each has its pass, its operations and their outcomes. The entry with the
-    /// index n has the commit number n + 1. A pin stays.
+    /// passes are in use. Each entry has its pass, its operations and their outcomes. The entry
+    /// with the index n has the commit number n + 1. A pin stays.
     ///
-    /// Busy if the one try finds that another pass holds the lock; OutOfMemory. It holds the lock
-    /// while it reads the entries, so other passes' writes are Busy meanwhile.
+    /// Busy if another pass holds the lock (the call tries once); OutOfMemory. It holds the lock
+    /// while it reads the entries, so other passes' writes return Busy meanwhile.
     pub fn journal_from(
         &self,
         alloc: Global,
@@ -509,7 +515,7 @@ impl Store {
         ensures learns { Learns pass.old.knows pass.new.knows }
         ensures list { IfOk result (λ list. list.items
             ≡ entries_from (entries pass.new.knows.seen) from most) }
-        ensures err { IfErr result (λ e. IsUntold pass.old.knows pass.new.knows e) }
+        ensures err { IfErr result (λ e. IsUnreported pass.old.knows pass.new.knows e) }
         ensures moves { OnOk result (LocksAndUnlocks pass.old.knows pass.new.knows) }
     {
         let held = self.lock(pass)?;
@@ -525,14 +531,15 @@ impl Store {
     /// How full the store is, and which pass is the oldest active reader, while passes are in use.
     /// A pin stays.
     ///
-    /// Busy if the one try finds that another pass holds the lock, and no other error. It holds the
-    /// lock while it reads each reader slot, and frees the retired pages that none of them keeps:
-    /// so those that it counts as retired are kept. No memory.
+    /// Its only error is Busy, if another pass holds the lock; it tries once. While it holds the
+    /// lock, it reads each reader slot and frees the retired pages that no reader needs. So the
+    /// pages that it counts as retired are still needed. No memory is allocated.
     pub fn status(&self, pass: &mut Pass) -> Result<Status, Refusal>
         requires pass { IsPassOf self.now pass.old }
         ensures pass { IsPassOf self.now pass.new }
         ensures learns { Learns pass.old.knows pass.new.knows }
-        ensures told { IfOk result (λ status. TellsStatus pass.old.knows pass.new.knows status) }
+        ensures reported { IfOk result (λ status. ReportsStatus pass.old.knows pass.new.knows
+            status) }
         ensures busy { IfErr result (λ e. FoundHeld e pass.old.knows pass.new.knows) }
     {
         let mut held = self.lock(pass)?;
@@ -542,9 +549,9 @@ impl Store {
         Ok(status)
     }
 
-    /// Both passes have then seen what either had: of two prefixes of one journal the longer.
-    /// Returns its length. The moves of both so far lie in one trace, and a meeting makes none.
-    /// Three steps, and no memory.
+    /// Afterwards both passes have seen what either had seen: the longer of two prefixes of one
+    /// journal. Returns its length. The moves of both so far lie in one trace, and a meeting makes
+    /// no move. Three steps; no memory is allocated.
     pub fn meet(&self, left: &mut Pass, right: &mut Pass) -> u64
         requires passes { IsPassOf self.now left.old × IsPassOf self.now right.old }
         ensures passes { IsPassOf self.now left.new × IsPassOf self.now right.new }
@@ -565,8 +572,8 @@ impl Store {
         length
     }
 
-    /// A witness of all that the pass has seen of the journal. Send it to another thread, by
-    /// whatever channel: a pass that joins it there has seen as much. One step, and no memory.
+    /// A witness of all that the pass has seen of the journal. Send it to another thread, over any
+    /// channel: a pass that joins it there has then seen as much. One step; no memory is allocated.
     pub fn witness(&self, pass: &mut Pass) -> Witness
         requires pass { IsPassOf self.now pass.old }
         ensures pass { IsPassOf self.now pass.new × (pass.new.knows ≡ one_step_on pass.old.knows) }
@@ -575,10 +582,10 @@ impl Store {
         self.table.witness(pass)
     }
 
-    /// The pass and the witness have then seen what either had: of two prefixes of one journal the
-    /// longer. Returns its length. A pin stays, and the witness can be sent on. What the pass does
-    /// from then on comes after what the witness had seen (`laws::told_order`). Three steps, no
-    /// move, and no memory.
+    /// Afterwards the pass and the witness have seen what either had seen: the longer of two
+    /// prefixes of one journal. Returns its length. A pin stays, and the witness can be sent on.
+    /// Whatever the pass does from then on comes after what the witness had seen
+    /// (`laws::learned_order`). Three steps and no move; no memory is allocated.
     pub fn join(&self, pass: &mut Pass, witness: &mut Witness) -> u64
         requires pass { IsPassOf self.now pass.old }
         requires witness { IsWitnessOf self.now witness.old }
@@ -593,14 +600,14 @@ impl Store {
     }
 
     /// Closes the store and returns its journal. It takes all passes; they may be pinned. A store
-    /// whose pass was dropped can't be closed.
+    /// can't be closed if one of its passes was dropped.
     ///
-    /// `writes` and `reads` are the promise of the whole, whatever calls were made on whatever
+    /// `writes` and `reads` are the promise about the whole, whatever calls were made on whatever
     /// threads. A write that was accepted with the number n is the journal's n-th entry, with its
     /// pass, its operations and its outcomes. What a pass read at a pin n was the volume after the
-    /// journal's first n entries. `moves` is the order of all steps: there is one list of moves,
-    /// and after each call its pass's history is a prefix of it. It costs a load and a join for
-    /// each pass, and no memory.
+    /// journal's first n entries. `moves` orders all steps: there is one list of moves, and after
+    /// each call the pass's history is a prefix of it. It costs a load and a join for each pass,
+    /// and allocates no memory.
     pub fn close(self, passes: Vec<Pass>) -> Journal
         requires passes { AllAt self.id passes.items }
         requires all { (k : ℕ) → k < self.limits.passes → Has (map knows_of passes.items) k }
@@ -609,7 +616,7 @@ impl Store {
         ensures passes { KeepsSeen result.entries (map knows_of passes.items) }
         ensures writes { All (HasWrites result.entries) (map knows_of passes.items) }
         ensures reads { All (ReadsFronts result.entries) (map knows_of passes.items) }
-        ensures volumes { CanSpellEach self.limits.pages result.entries }
+        ensures volumes { CanEncodeEach self.limits.pages result.entries }
         ensures limit { result.limit ≡ self.limits.commits }
         ensures moves { AreInOneTrace self.limits (map knows_of passes.items) }
     {

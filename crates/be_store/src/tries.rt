@@ -7,14 +7,13 @@ use be_value::Refusal;
 use be_volume::Done;
 use std::thread;
 
-/// Other threads may run up to this many times before a further try. If two passes take turns at
-/// the lock for each write, each has to fetch from the other's processor what that one has just
-/// written. So a pass that doesn't get the lock lets the other one write on for a while, twice as
-/// long each time.
+/// The most times that a pass yields to other threads before it tries again. If two passes take
+/// turns at the lock for each write, each processor has to fetch what the other has just written.
+/// So a pass that doesn't get the lock lets the other go on writing for a while, twice as long each
+/// time.
 const MOST_TURNS: u64 = 1024;
 
-/// How many times other threads may run before a further try, if they ran `turns` times before the
-/// last one.
+/// How often to yield before the next try, if it was `turns` times before the last one.
 pub(crate) fn longer(turns: u64) -> u64
     ensures doubled { turns < 1024 → result ≡ 2 * turns }
     ensures enough { 1024 ≤ turns → result ≡ turns }
@@ -22,8 +21,8 @@ pub(crate) fn longer(turns: u64) -> u64
     if turns < MOST_TURNS { 2 * turns } else { turns }
 }
 
-/// Lets other threads run this many times.
-pub(crate) fn stand_back(turns: u64) {
+/// Lets other threads run, this many times.
+pub(crate) fn back_off(turns: u64) {
     for _ in 0..turns {
         thread::yield_now();
     }

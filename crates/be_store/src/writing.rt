@@ -6,7 +6,8 @@ ghost use Rattle.be_paged.specs.Changes.{Applies, IsRefusedList};
 ghost use Rattle.be_paged.specs.Stops.{TakesFew};
 ghost use Rattle.be_paged_reading.specs.Version.{IsVersion};
 ghost use Rattle.be_table.specs.Place.{Work};
-ghost use Rattle.be_table.specs.Reading.{open_of, standing_among, standing_in_work, word_of_page};
+ghost use Rattle.be_table.specs.Reading.{open_of, page_state_among, page_state_in_work};
+ghost use Rattle.be_table.specs.Reading.{word_of_page};
 ghost use Rattle.be_table.specs.Reading.{words_of};
 ghost use Rattle.be_table.specs.Trace.{upto_lock};
 ghost use Rattle.be_table.specs.Works.{IsFull, TakesLock};
@@ -21,8 +22,8 @@ use be_table::Writing;
 use be_value::Refusal;
 use be_volume::{Done, Op};
 
-/// Applies the operations to a version, in an open write, whose place for contents it takes and
-/// puts back.
+/// Applies the operations to a version in an open write. It borrows the write's buffer for the
+/// version's contents, and returns it.
 fn apply_to(
     writing: &mut Writing<'_>,
     version_page: u64,
@@ -30,18 +31,18 @@ fn apply_to(
     dones: &mut ArrayVec<Done, 64>,
 ) -> Result<u64, Refusal>
     ghost volume: { State }
-    requires version { IsVersion (standing_among writing.old.knows.places)
+    requires version { IsVersion (page_state_among writing.old.knows.places)
         (word_of_page writing.old.knows.words) version_page volume }
     requires count { (1 ≤ length ops.now) × (length ops.now ≤ 64) }
     requires fits { volume.next + 64 < 2 ^ 64 }
     requires open { writing.old.knows.published ≡ false }
     requires empty { dones.old.items ≡ [] }
-    ensures ok { IfOk result (λ page. Applies open_of standing_in_work words_of version_page page
+    ensures ok { IfOk result (λ page. Applies open_of page_state_in_work words_of version_page page
         volume ops.now dones.new.items writing.old writing.new) }
-    ensures err { IfErr result (λ e. IsRefusedList open_of standing_in_work words_of IsFull
+    ensures err { IfErr result (λ e. IsRefusedList open_of page_state_in_work words_of IsFull
         volume ops.now e writing.old writing.new) }
-    ensures few { OnErr result (TakesFew volume ops.now (standing_in_work writing.old)
-        (standing_in_work writing.new)) }
+    ensures few { OnErr result (TakesFew volume ops.now (page_state_in_work writing.old)
+        (page_state_in_work writing.new)) }
 {
     let mut space = writing.take_space();
     let answer = apply_in(writing, &mut space, version_page, ops, dones);
@@ -49,7 +50,7 @@ fn apply_to(
     answer
 }
 
-/// Applies the operations with a place for the version's contents, if there is one.
+/// Applies the operations with a buffer for the version's contents, if there is one.
 fn apply_in(
     writing: &mut Writing<'_>,
     space: &mut Option<Box<Version>>,
@@ -58,18 +59,18 @@ fn apply_in(
     dones: &mut ArrayVec<Done, 64>,
 ) -> Result<u64, Refusal>
     ghost volume: { State }
-    requires version { IsVersion (standing_among writing.old.knows.places)
+    requires version { IsVersion (page_state_among writing.old.knows.places)
         (word_of_page writing.old.knows.words) version_page volume }
     requires count { (1 ≤ length ops.now) × (length ops.now ≤ 64) }
     requires fits { volume.next + 64 < 2 ^ 64 }
     requires open { writing.old.knows.published ≡ false }
     requires empty { dones.old.items ≡ [] }
-    ensures ok { IfOk result (λ page. Applies open_of standing_in_work words_of version_page page
+    ensures ok { IfOk result (λ page. Applies open_of page_state_in_work words_of version_page page
         volume ops.now dones.new.items writing.old writing.new) }
-    ensures err { IfErr result (λ e. IsRefusedList open_of standing_in_work words_of IsFull
+    ensures err { IfErr result (λ e. IsRefusedList open_of page_state_in_work words_of IsFull
         volume ops.now e writing.old writing.new) }
-    ensures few { OnErr result (TakesFew volume ops.now (standing_in_work writing.old)
-        (standing_in_work writing.new)) }
+    ensures few { OnErr result (TakesFew volume ops.now (page_state_in_work writing.old)
+        (page_state_in_work writing.new)) }
 {
     match space {
         Some(version) => apply_into(writing, version, version_page, ops, dones),
@@ -77,8 +78,8 @@ fn apply_in(
     }
 }
 
-/// Applies the operations with a place of its own. It is a function apart, since a function clears
-/// all its places as it begins.
+/// Applies the operations with a buffer of its own. It is a separate function because a function
+/// clears all its local variables when it begins.
 #[inline(never)]
 fn apply_apart(
     writing: &mut Writing<'_>,
@@ -87,24 +88,24 @@ fn apply_apart(
     dones: &mut ArrayVec<Done, 64>,
 ) -> Result<u64, Refusal>
     ghost volume: { State }
-    requires version { IsVersion (standing_among writing.old.knows.places)
+    requires version { IsVersion (page_state_among writing.old.knows.places)
         (word_of_page writing.old.knows.words) version_page volume }
     requires count { (1 ≤ length ops.now) × (length ops.now ≤ 64) }
     requires fits { volume.next + 64 < 2 ^ 64 }
     requires open { writing.old.knows.published ≡ false }
     requires empty { dones.old.items ≡ [] }
-    ensures ok { IfOk result (λ page. Applies open_of standing_in_work words_of version_page page
+    ensures ok { IfOk result (λ page. Applies open_of page_state_in_work words_of version_page page
         volume ops.now dones.new.items writing.old writing.new) }
-    ensures err { IfErr result (λ e. IsRefusedList open_of standing_in_work words_of IsFull
+    ensures err { IfErr result (λ e. IsRefusedList open_of page_state_in_work words_of IsFull
         volume ops.now e writing.old writing.new) }
-    ensures few { OnErr result (TakesFew volume ops.now (standing_in_work writing.old)
-        (standing_in_work writing.new)) }
+    ensures few { OnErr result (TakesFew volume ops.now (page_state_in_work writing.old)
+        (page_state_in_work writing.new)) }
 {
     let mut version = Version::new();
     apply_into(writing, &mut version, version_page, ops, dones)
 }
 
-/// Scans if a scan is due, and only then, so that the write takes pages that were given up lately.
+/// Scans only if a scan is due, so that the write can take pages that were retired lately.
 fn scan_early(writing: &mut Writing<'_>)
     requires begins { Begins writing.old.knows }
     requires first { upto_lock writing.old.knows.number writing.old.knows.history
@@ -119,9 +120,9 @@ fn scan_early(writing: &mut Writing<'_>)
     }
 }
 
-/// Applies the operations to the current version, and publishes the result. Their outcomes enter an
-/// empty list, which is filled in place. A refusal by the volume is returned at once; a lack of
-/// room in the journal comes before a lack of pages.
+/// Applies the operations to the current version, and publishes the result. The outcomes are added
+/// to an empty list in place. If the volume refuses, it returns that at once. An error for lack of
+/// room in the journal comes before Full.
 fn write_current(
     writing: &mut Writing<'_>,
     ops: &[Op],
@@ -149,7 +150,7 @@ fn write_current(
     }
 }
 
-/// Writes to the current version, and scans before that if a scan is due.
+/// Writes to the current version, after a scan if one is due.
 pub(crate) fn write(
     writing: &mut Writing<'_>,
     ops: &[Op],
@@ -168,7 +169,7 @@ pub(crate) fn write(
     write_current(writing, ops, dones)
 }
 
-/// Writes as `write` does if the journal has this many entries, and otherwise nothing.
+/// Writes as `write` does if the journal has `number` entries, and otherwise writes nothing.
 pub(crate) fn write_if(
     writing: &mut Writing<'_>,
     number: u64,

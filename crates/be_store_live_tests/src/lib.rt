@@ -1,6 +1,6 @@
-//! A live query beside random writes, by the public calls of the store.
+//! A live query with random writes, by the store's public calls.
 //!
-//! It is in a crate of its own, so that be_store isn't proved a second time with it.
+//! It has a crate of its own, so that be_store isn't proved a second time with it.
 #![tactic(auto)]
 
 #[cfg(test)]

@@ -1,6 +1,6 @@
 //! Worked examples of the store, by its public calls.
 //!
-//! They are in a crate of their own, so that be_store isn't proved a second time with them.
+//! They are in a crate of their own, so that proving be_store doesn't prove them too.
 #![tactic(auto)]
 
 #[cfg(test)]

@@ -1,8 +1,8 @@
 //! Worked examples of the store, by its public calls.
 //!
-//! A test is a room and a text of requests with their replies. `0` and `1` before a request name
-//! the pass that makes it; `head` gives the first line of what pass 0 replies, and `state` the
-//! operations that rebuild its version.
+//! A test is a room, and a text of requests with their replies. `0` or `1` before a request names
+//! the pass that makes it. `head` takes only the first line of pass 0's reply. `state` lists the
+//! operations that rebuild pass 0's version.
 
 mod calls;
 mod carrying;
@@ -31,7 +31,7 @@ fn count_passes(alloc: Global, pages: u64, passes: u64, commits: u64) -> Result<
     Ok(dealt.len() as u64)
 }
 
-/// Limits that are out of range, the greatest ones, and each number of passes.
+/// Limits that are out of range, the largest ones, and each number of passes.
 #[test]
 fn open_limits(rt: HostRuntime) -> Result<(), Fail> {
     for (pages, passes, commits) in OUTSIDE_LIMITS {
@@ -46,7 +46,8 @@ fn open_limits(rt: HostRuntime) -> Result<(), Fail> {
     Ok(())
 }
 
-/// A pinned pass reads the version of its pin, whatever is written after. The next pin has it.
+/// A pinned pass reads its pinned version, whatever is written afterwards. The next pin sees the
+/// writes.
 #[test]
 fn two_passes(rt: HostRuntime) -> Result<(), Fail> {
     let lines = "0 new / 1 pin / 0 set 1 k CSTR v => commit 1 / node 1 / pin 1 / commit 2 / ok
@@ -55,8 +56,8 @@ fn two_passes(rt: HostRuntime) -> Result<(), Fail> {
     check_lines(rt.alloc(), &mut for_two(rt.alloc(), 64, 100)?, lines)
 }
 
-/// An index has the pairs that were set since it was made, and finds a node once its attribute is
-/// set again.
+/// An index has only pairs that were set after it was made. It finds an older node once the node's
+/// attribute is set again.
 #[test]
 fn index_made_later(rt: HostRuntime) -> Result<(), Fail> {
     let lines =
@@ -67,8 +68,7 @@ fn index_made_later(rt: HostRuntime) -> Result<(), Fail> {
     check_lines(rt.alloc(), &mut for_one(rt.alloc(), 64, 100)?, lines)
 }
 
-/// A store of two commits: what the volume refuses is reported before CommitsSpent, and reads go
-/// on.
+/// A store for two commits: an error of the volume comes before CommitsSpent, and reads still work.
 #[test]
 fn commits_spent(rt: HostRuntime) -> Result<(), Fail> {
     let lines = "0 new / 0 drop 9 => commit 1 / node 1 / refused 2 NoNode
@@ -77,15 +77,15 @@ fn commits_spent(rt: HostRuntime) -> Result<(), Fail> {
     check_lines(rt.alloc(), &mut for_one(rt.alloc(), 64, 2)?, lines)
 }
 
-/// Two passes that meet have both seen what one of them has.
+/// After two passes meet, both have seen what either had.
 #[test]
 fn meeting(rt: HostRuntime) -> Result<(), Fail> {
     let lines = "0 new / seen / meet / seen => commit 1 / node 1 / seen 1 0 / met 1 / seen 1 1";
     check_lines(rt.alloc(), &mut for_two(rt.alloc(), 64, 100)?, lines)
 }
 
-/// A pass that joins another one's witness has seen what that has seen. A pass that has seen more
-/// keeps it.
+/// A pass that joins another pass's witness has seen what the witness has. A pass that has seen
+/// more keeps that.
 #[test]
 fn joining(rt: HostRuntime) -> Result<(), Fail> {
     let lines = "0 new / seen / join / seen => commit 1 / node 1 / seen 1 0 / met 1 / seen 1 1
@@ -93,8 +93,8 @@ fn joining(rt: HostRuntime) -> Result<(), Fail> {
     check_lines(rt.alloc(), &mut for_two(rt.alloc(), 64, 100)?, lines)
 }
 
-/// A live query returns which nodes came into its range, and which went, since it was last
-/// refreshed.
+/// A live query returns which nodes have joined its answer, and which have left, since its last
+/// refresh.
 #[test]
 fn live_query(rt: HostRuntime) -> Result<(), Fail> {
     let lines =
@@ -107,7 +107,7 @@ fn live_query(rt: HostRuntime) -> Result<(), Fail> {
     check_lines(rt.alloc(), &mut for_one(rt.alloc(), 64, 100)?, lines)
 }
 
-/// A live query is refreshed by another pass, at an older pin, and once an index was removed and
+/// A live query is refreshed by another pass, at an older pin, and after its index was removed and
 /// made again.
 #[test]
 fn live_query_of_two_passes(rt: HostRuntime) -> Result<(), Fail> {
@@ -126,7 +126,8 @@ fn live_query_of_two_passes(rt: HostRuntime) -> Result<(), Fail> {
     check_lines(rt.alloc(), &mut for_two(rt.alloc(), 64, 100)?, lines)
 }
 
-/// A prepared query follows the index of its name: to another place, to another kind, and away.
+/// A prepared query follows its name's index to another place and to another kind, and notices when
+/// it is removed.
 #[test]
 fn prepared_query(rt: HostRuntime) -> Result<(), Fail> {
     let lines =
@@ -141,7 +142,8 @@ fn prepared_query(rt: HostRuntime) -> Result<(), Fail> {
     check_lines(rt.alloc(), &mut for_one(rt.alloc(), 64, 100)?, lines)
 }
 
-/// A pass that isn't pinned reads at a pin that goes with the read, even if the read is refused.
+/// A pass that isn't pinned reads at a pin made for the read. That pin is released even if the read
+/// is refused.
 #[test]
 fn pinned_for_a_read(rt: HostRuntime) -> Result<(), Fail> {
     let lines =
@@ -154,8 +156,8 @@ fn pinned_for_a_read(rt: HostRuntime) -> Result<(), Fail> {
     check_lines(rt.alloc(), &mut for_one(rt.alloc(), 64, 100)?, lines)
 }
 
-/// The operations that rebuild a version: a number that was dropped, an attribute outside of its
-/// index and one in it. A pin has the same ones, whatever is written meanwhile.
+/// The operations that rebuild a version: with a dropped number, an attribute outside its index,
+/// and one in it. At a pin they stay the same, whatever is written.
 #[test]
 fn states_in_order(rt: HostRuntime) -> Result<(), Fail> {
     let lines = "0 new;set 1 k LONG 5;new;drop 2 => commit 1 / node 1 / ok / node 2 / ok
@@ -170,7 +172,7 @@ state => new / set 1 \"j\" LONG 7 / set 1 \"k\" LONG 5 / new / drop 2 / new / mk
     check_lines(rt.alloc(), &mut for_two(rt.alloc(), 64, 100)?, lines)
 }
 
-/// A part, repeated `count` times.
+/// A text, repeated `count` times.
 fn times(alloc: Global, part: &str, count: u64) -> Result<String, AllocError> {
     let mut text = String::new(alloc);
     for _ in 0..count {
@@ -179,7 +181,7 @@ fn times(alloc: Global, part: &str, count: u64) -> Result<String, AllocError> {
     Ok(text)
 }
 
-/// The requests that set k of node 1 to 1 to 63, and then this last one.
+/// Requests that set k of node 1 to 1 to 63, and then this last one.
 fn after_63(alloc: Global, last: &str) -> Result<String, AllocError> {
     let mut text = String::new(alloc);
     for i in 1..=63 {
@@ -189,8 +191,8 @@ fn after_63(alloc: Global, last: &str) -> Result<String, AllocError> {
     Ok(text)
 }
 
-/// Three writes by pass 1, and a pin; then a list of 64 that is accepted by pass 1, and one that is
-/// refused by pass 0, which stays pinned; and what comes between and after.
+/// Three writes by pass 1, and a pin. Then pass 1 writes a list of 64, which is accepted, and pass
+/// 0 one that is refused; pass 0 stays pinned. Other requests come between and after these.
 fn lists_of_64(alloc: Global) -> Result<String, AllocError> {
     let accepted = after_63(alloc, "set 1 k LONG 64")?;
     let refused = after_63(alloc, "drop 9")?;
@@ -211,7 +213,7 @@ const ZERO: &str =
      ok
 1 pin => pin 3";
 
-/// The same, made again after running out of memory.
+/// The same, tried again if memory runs out.
 fn lines_of_64(alloc: Global) -> Result<String, AllocError> {
     match lists_of_64(alloc) {
         Err(_) => lists_of_64(alloc),
@@ -219,8 +221,7 @@ fn lines_of_64(alloc: Global) -> Result<String, AllocError> {
     }
 }
 
-/// The list that is accepted is by pass 1, and the one that is refused by pass 0, which stays
-/// pinned.
+/// Pass 1's list of 64 is accepted. Pass 0's is refused, and pass 0 stays pinned.
 #[test]
 fn batches_in_store(rt: HostRuntime) -> Result<(), Fail> {
     let lines = lines_of_64(rt.alloc())?;
@@ -231,7 +232,7 @@ fn batches_in_store(rt: HostRuntime) -> Result<(), Fail> {
     )
 }
 
-/// Sets the first 64 attributes of node 1 by number.
+/// Sets 64 attributes of node 1, named by number.
 fn set_most(room: &mut Room) -> Result<(), Refusal> {
     for number in 0..64u8 {
         room.write(Op::Set(1, numbered(number)?, Value::int32(1)))?;
@@ -239,7 +240,7 @@ fn set_most(room: &mut Room) -> Result<(), Refusal> {
     Ok(())
 }
 
-/// Makes the first 32 indices by number.
+/// Makes 32 indices, named by number.
 fn index_most(room: &mut Room) -> Result<(), Refusal> {
     for number in 0..32u8 {
         room.write(Op::MkIndex(numbered(number)?, Kind::Long))?;
@@ -247,21 +248,21 @@ fn index_most(room: &mut Room) -> Result<(), Refusal> {
     Ok(())
 }
 
-/// Makes node 1, its 64 attributes and 32 indices.
+/// Makes node 1 with 64 attributes, and 32 indices.
 fn make_most(room: &mut Room) -> Result<(), Refusal> {
     room.write(Op::New)?;
     set_most(room)?;
     index_most(room)
 }
 
-/// Writes them, and lists them.
+/// Writes the largest numbers of attributes and indices, and lists them.
 fn list_most(alloc: Global, room: &mut Room) -> Result<(), Fail> {
     make_most(room)?;
     let lines = "0 pin / head attrs 1 / head indices => pin 97 / attrs 64 / indices 32";
     check_lines(alloc, room, lines)
 }
 
-/// The most attributes of a node and the most indices are listed.
+/// The largest number of attributes of a node, and of indices, can be listed.
 #[test]
 fn longest_lists(rt: HostRuntime) -> Result<(), Fail> {
     list_most(rt.alloc(), &mut for_one(rt.alloc(), 256, 100)?)
@@ -272,9 +273,9 @@ fn set(room: &mut Room, number: i32) -> Result<u64, Refusal> {
     room.write(Op::Set(1, Name::new("k")?, Value::int32(number)))
 }
 
-/// Sets k of node 1 to one more number. Returns the first number that found no page, if the reply
-/// to this one is right: accepted if there is no such number before it, and otherwise refused by
-/// Full. BadLimits for any other reply.
+/// Sets k of node 1 to the next number. The reply has to be right: accepted if no earlier number
+/// was refused, otherwise Full. Returns the first number that found no page, or BadLimits for any
+/// other reply.
 fn set_next(room: &mut Room, number: i32, first: Option<i32>) -> Result<Option<i32>, Refusal> {
     match set(room, number) {
         Ok(_) if first.is_none() => Ok(None),
@@ -283,8 +284,8 @@ fn set_next(room: &mut Room, number: i32, first: Option<i32>) -> Result<Option<i
     }
 }
 
-/// Sets k of node 1 to 1 to 500, with these lines after each. Returns the first value that found no
-/// page, if each after it found none either.
+/// Sets k of node 1 to 1 to 500, and runs these lines after each. Returns the first number that
+/// found no page, if all later ones found none either.
 fn fill(alloc: Global, room: &mut Room, lines: &str) -> Result<i32, Fail> {
     let mut first = None;
     for i in 1..=500 {
@@ -294,8 +295,8 @@ fn fill(alloc: Global, room: &mut Room, lines: &str) -> Result<i32, Fail> {
     Ok(first.unwrap_or(500))
 }
 
-/// The first value that found no page in the room while pass 1 stays pinned. After its unpin a
-/// write is accepted. If the passes also met before and after it, that would follow from
+/// The first number that found no page while pass 1 was pinned. After its unpin a write is
+/// accepted. If the passes also met before and after that, this would follow from
 /// `be_store::laws::large_enough_unpinned`: the volume has 3 items and 1 index, for which a pool of
 /// 8 pages is large enough.
 fn fill_pinned(alloc: Global, room: &mut Room) -> Result<i32, Fail> {
@@ -306,21 +307,22 @@ fn fill_pinned(alloc: Global, room: &mut Room) -> Result<i32, Fail> {
     Ok(first)
 }
 
-/// The same in a pool of this many pages.
+/// The same, in a pool with this many pages.
 fn first_full(alloc: Global, pages: u64) -> Result<i32, Fail> {
     fill_pinned(alloc, &mut for_two(alloc, pages, 1000)?)
 }
 
-/// In a small pool the writes under a pin end with Full, and the pin reads what it read.
+/// In a small pool, writes end with Full while a pass is pinned, and the pin still reads its
+/// version.
 #[test]
 fn pinned_small_pool(rt: HostRuntime) -> Result<(), Fail> {
     assert!(rt; first_full(rt.alloc(), 64)? < 64);
     Ok(())
 }
 
-/// In a pool that is larger than what makes a scan due, writes scan before it is empty, under a pin
-/// all the while. What the pin reads stays, each page of the pool is used, and the write that finds
-/// none has scanned.
+/// A pool has more pages than it takes for a scan to be due. So writes scan before it is empty,
+/// with one pass pinned all the time. What the pin reads stays, every page is used, and the write
+/// that finds none has scanned.
 #[test]
 fn early_scan(rt: HostRuntime) -> Result<(), Fail> {
     let first = first_full(rt.alloc(), 1024)?;
@@ -328,7 +330,7 @@ fn early_scan(rt: HostRuntime) -> Result<(), Fail> {
     Ok(())
 }
 
-/// Makes up to 60 nodes. Returns how many there are, if from then on each was refused, with Full of
+/// Makes up to 60 nodes. Returns how many were made, if every later write was refused with Full of
 /// exactly this number.
 fn make_nodes(room: &mut Room) -> Option<u64> {
     let mut made = None;
@@ -342,8 +344,8 @@ fn make_nodes(room: &mut Room) -> Option<u64> {
     made
 }
 
-/// A list of several operations that finds no page is refused by Full, though there is memory; once
-/// the pin is gone it is accepted.
+/// A list of several operations that finds no page is refused with Full, though there is memory.
+/// Once the pin is released, it is accepted.
 #[test]
 fn list_at_full(rt: HostRuntime) -> Result<(), Fail> {
     let lines =
@@ -355,7 +357,7 @@ fn list_at_full(rt: HostRuntime) -> Result<(), Fail> {
     check_lines(rt.alloc(), &mut for_two(rt.alloc(), 8, 100)?, lines)
 }
 
-/// What is refused and read in a full pool with this many nodes.
+/// What is refused and what is read in a full pool with this many nodes.
 fn full_lines(alloc: Global, made: u64) -> Result<String, AllocError> {
     format!(in alloc;
         "0 new;drop 99 => refused 2 NoNode
@@ -374,8 +376,8 @@ fn fill_with_nodes(alloc: Global, room: &mut Room) -> Result<u64, Fail> {
     Ok(made)
 }
 
-/// In the smallest pool writes end with Full, of the number of nodes that were made. The volume's
-/// refusals, reads and the journal go on.
+/// In the smallest pool, writes end with Full of the number of nodes made. The volume's errors,
+/// reads and the journal still work.
 #[test]
 fn smallest_pool(rt: HostRuntime) -> Result<(), Fail> {
     let mut room = for_one(rt.alloc(), 8, 100)?;
@@ -402,7 +404,7 @@ fn write_many(alloc: Global, room: &mut Room) -> Result<u64, Fail> {
     Ok(set_many(room)?)
 }
 
-/// Ten thousand writes go through a pool of 64 pages, while nobody is pinned.
+/// Ten thousand writes run in a pool of 64 pages while no pass is pinned.
 #[test]
 fn pages_reused(rt: HostRuntime) -> Result<(), Fail> {
     let last = write_many(rt.alloc(), &mut for_one(rt.alloc(), 64, 20_000)?)?;
@@ -410,7 +412,7 @@ fn pages_reused(rt: HostRuntime) -> Result<(), Fail> {
     Ok(())
 }
 
-/// What is read of k if it is this number.
+/// Requests that read k, and their replies if it is this number.
 fn number_lines(alloc: Global, number: i32) -> Result<String, Refusal> {
     let pin = number.saturating_add(3);
     let nodes = if number == 0 { " 1" } else { "" };
@@ -424,8 +426,8 @@ fn check_number(alloc: Global, room: &mut Room, number: i32) -> Result<(), Fail>
     check_lines(alloc, room, lines.as_str())
 }
 
-/// The first value that found no page in the room once its pinned pass is dropped; the one before
-/// it is read.
+/// The first number that found no page after the pinned pass was dropped. The number before it is
+/// read.
 fn fill_alone(alloc: Global, room: &mut Room) -> Result<i32, Fail> {
     check_lines(alloc, room, ZERO)?;
     room.lose_second();
@@ -434,7 +436,7 @@ fn fill_alone(alloc: Global, room: &mut Room) -> Result<i32, Fail> {
     Ok(first)
 }
 
-/// A pass that is dropped while it is pinned keeps its pages for good, and the other one reads on.
+/// A pass that is dropped while pinned keeps its pages for good; the other pass can still read.
 #[test]
 fn dropped_pass(rt: HostRuntime) -> Result<(), Fail> {
     let first = fill_alone(rt.alloc(), &mut for_two(rt.alloc(), 64, 1000)?)?;
@@ -442,7 +444,7 @@ fn dropped_pass(rt: HostRuntime) -> Result<(), Fail> {
     Ok(())
 }
 
-/// Two threads write, and the journal has each write of both once, in an order that is legal.
+/// Two threads write. The journal has each write of both exactly once, and is legal.
 #[test]
 fn two_writers(rt: HostRuntime) -> Result<(), Fail> {
     let room = for_two(rt.alloc(), 64, 1000)?;
@@ -452,8 +454,8 @@ fn two_writers(rt: HostRuntime) -> Result<(), Fail> {
     Ok(())
 }
 
-/// A pass that joins a witness on a thread of its own pins what the witness had seen, or more,
-/// while the other pass writes on. There are pages for each write beside the pin.
+/// A pass joins a witness on its own thread, and pins what the witness had seen, or more, while the
+/// other pass writes. There are enough pages for all writes and the pin.
 #[test]
 fn handed_to_a_thread(rt: HostRuntime) -> Result<(), Fail> {
     let mut room = for_two(rt.alloc(), 1024, 1000)?;
@@ -465,9 +467,9 @@ fn handed_to_a_thread(rt: HostRuntime) -> Result<(), Fail> {
     Ok(())
 }
 
-/// Of two passes that have read the same, the second to write gets a Conflict, because another
-/// write came first, and nothing of its write is done. Without the condition the node that it names
-/// is the other pass's, and the write is accepted.
+/// Two passes have read the same version. The first one writes, so the second one's write gets a
+/// Conflict and does nothing. Without the condition, the write is accepted, and the node that it
+/// names is the other pass's.
 #[test]
 fn writes_on_what_was_read(rt: HostRuntime) -> Result<(), Fail> {
     let lines =
@@ -487,7 +489,7 @@ fn writes_on_what_was_read(rt: HostRuntime) -> Result<(), Fail> {
     check_lines(rt.alloc(), &mut for_one(rt.alloc(), 64, 1)?, spent)
 }
 
-/// The journal's entries, from any index on and up to any number of them.
+/// The journal's entries from any index on, up to any number of them.
 #[test]
 fn entries_of_the_journal(rt: HostRuntime) -> Result<(), Fail> {
     let lines =
@@ -501,8 +503,8 @@ fn entries_of_the_journal(rt: HostRuntime) -> Result<(), Fail> {
     check_lines(rt.alloc(), &mut for_two(rt.alloc(), 64, 9)?, lines)
 }
 
-/// Writes lists of different kinds: nodes and one that is dropped, an attribute outside of its
-/// index and two in theirs, and indices. Then it pins. The state there has two lists.
+/// Writes lists of different kinds: new nodes and a dropped one, an attribute outside its index and
+/// two in theirs, and indices. Then it pins. The state at that pin has two lists.
 fn write_and_pin(alloc: Global, room: &mut Room) -> Result<(), Fail> {
     let lines = "0 new;set 1 k LONG 5;new;drop 2 => commit 1 / node 1 / ok / node 2 / ok
 0 mkindex k LONG;mkindex j LONG;set 1 j LONG 6 => commit 2 / ok / ok / ok
@@ -514,7 +516,7 @@ fn write_and_pin(alloc: Global, room: &mut Room) -> Result<(), Fail> {
     check_lines(alloc, room, "0 pin => pin 67")
 }
 
-/// Fails unless the journal of the second room has two lists, which make this state.
+/// Fails unless the second room's journal has two lists, which make this state.
 fn check_carried(alloc: Global, carried: &mut Room, state: &str) -> Result<(), Fail> {
     check_lines(alloc, carried, "0 pin => pin 2")?;
     if carried.state(alloc)?.as_str() != state {
@@ -523,8 +525,8 @@ fn check_carried(alloc: Global, carried: &mut Room, state: &str) -> Result<(), F
     Ok(())
 }
 
-/// Writes the state of the room's pin to a second room, while a hundred nodes are made. Returns
-/// whether each was accepted.
+/// Writes the state at the room's pin to a second room, while a hundred nodes are made. Returns
+/// whether all of them were accepted.
 fn carry<R: Threads + Sync>(rt: &R, alloc: Global, room: &mut Room) -> Result<bool, Fail> {
     let state = room.state(alloc)?;
     let (mut carried, is_accepted) = room.carry(rt, alloc)?;
@@ -532,7 +534,7 @@ fn carry<R: Threads + Sync>(rt: &R, alloc: Global, room: &mut Room) -> Result<bo
     Ok(is_accepted)
 }
 
-/// A state is written to a second store while another thread writes: it is the one of the pin, and
+/// A state is written to a second store while another thread writes. It is the pinned state, and
 /// all writes are accepted.
 #[test]
 fn carried_meanwhile(rt: HostRuntime) -> Result<(), Fail> {

@@ -1,6 +1,6 @@
-//! Threads that write on what they read, by the public calls of the store.
+//! Threads whose writes depend on what they read, by the store's public calls.
 //!
-//! They are in a crate of their own, so that be_store isn't proved a second time with them.
+//! They have a crate of their own, so that be_store isn't proved a second time with them.
 #![tactic(auto)]
 
 #[cfg(test)]

@@ -1,4 +1,4 @@
-//! Threads that write on what they read, by the public calls of the store.
+//! Threads whose writes depend on what they read, by the store's public calls.
 
 mod writers;
 
@@ -6,8 +6,8 @@ use crate::tests::writers::change_by_four;
 use be_test_tools::again;
 use std::test::Fail;
 
-/// Four threads write on what they read, and none mixes its nodes with another's or loses an
-/// increment.
+/// Four threads make writes based on what they read. No thread mixes its nodes with another's or
+/// loses an increment.
 #[test]
 fn four_writers(rt: HostRuntime) -> Result<(), Fail> {
     let answer = again!(change_by_four(&rt));

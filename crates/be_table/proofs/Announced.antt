@@ -1,4 +1,4 @@
--- What a write that found no page knows: the pages that it holds still, and who had announced the least.
+-- What a write that found no page knows: the pages that it still holds, and who had announced the lowest number.
 use Rattle.std.proofs.Common.{◌≡◌, ℕ, suc, Bool, true, false, if◌then◌else◌, List, [], ◌∷◌, length, refl, sym, ap, ◌∙◌, subst, inl, inr, ⊎_elim, arith}
 use Rattle.std.specs.Prelude.{IsTrue}
 use Rattle.std.specs.List.{list_any}
@@ -19,12 +19,12 @@ use Rattle.be_table.specs.Steps.{FoundAt, scans_of, with_history, without_lock}
 use Rattle.be_table.specs.Trace.{Makes, RunsTo, is_lock_of, upto_lock}
 use Rattle.be_table.specs.Works.{HadAnnounced, HoldsStill, IsSpent, MakesScan, WasAnnounced}
 use Rattle.be_table.proofs.Frames.{starts_before}
-use Rattle.be_table.proofs.Ledgers.{place-map}
+use Rattle.be_table.proofs.WriterStates.{place-map}
 use Rattle.be_table.proofs.Listed.{listed, tested, untested}
 use Rattle.be_table.proofs.Scans.{makes_starts}
 use Rattle.be_table.proofs.Worked.{scan_kept, upto_one}
 
--- a sweep leaves what is in hand
+-- a sweep leaves what the write holds
 still_in_hand : (l : ℕ) (x : Place) → IsTrue (is_in_hand x) → IsTrue (is_in_hand (swept_place l x))
 still_in_hand l Free h = h
 still_in_hand l Reserved h = refl
@@ -36,7 +36,7 @@ still_in_hand l (Retired r) h = absurd (none h)
     none : false ≡ true → ⊥
     none e = cc
 
--- the pages that a write holds at a whole scan are in hand right after it
+-- the pages that a write holds at a whole scan are still held right after it
 pub held_still : (old new : Work) (least : ℕ) → MakesScan old new least → HoldsStill new.knows
 held_still old new least h p held =
     let was : is_in_hand (place_of old.knows.places p) ≡ true = elim (cases_lt p (length old.knows.places)) [
@@ -46,7 +46,7 @@ held_still old new least h p held =
     let same : place_of new.knows.places p ≡ swept_place least (place_of old.knows.places p) = ap (λ l. place_of l p) h.places ∙ place-map (swept_place least) refl old.knows.places p in
     subst (λ (x : Place). IsTrue (is_in_hand x)) (sym same) (still_in_hand least (place_of old.knows.places p) was)
 
--- a history goes on from its last lock
+-- a history extends the part up to its last lock
 upto_front : (k : ℕ) (h : List Move) → StartsWith h (upto_lock k h)
 upto_front k [] = ([], refl)
 upto_front k (m ∷ ms) = by (list_any (is_lock_of k) (m ∷ ms)) (upto_front k ms)
@@ -55,7 +55,7 @@ upto_front k (m ∷ ms) = by (list_any (is_lock_of k) (m ∷ ms)) (upto_front k 
     by true rest = (rest.0, ap (λ (l : List Move). m ∷ l) rest.1)
     by false rest = (m ∷ ms, refl)
 
--- what one scan of a whole one found
+-- what one reader slot of a whole scan contained
 found_since : (old new : Work) (least j word : ℕ) → MakesScan old new least → FoundAt old.knows.limits old.knows.number old.knows.history new.knows.history j word → word ≡ suc least → HadAnnounced new.knows j least
 found_since old new least j word h f e =
     let limits : new.knows.limits ≡ old.knows.limits = ap (λ (w : Work). w.knows.limits) h.same in
@@ -68,10 +68,10 @@ found_since old new least j word h f e =
       words = f.words;
       world = f.world;
       runs = subst (λ (l : Limits). RunsTo l f.words f.upto f.world) (sym limits) f.runs;
-      told = sym f.found ∙ e;
+      reported = sym f.found ∙ e;
     }
 
--- the least of a whole scan is the current number, or was announced
+-- the lowest number of a whole scan is the current number, or was announced
 pub was_announced : (old new : Work) (least : ℕ) → MakesScan old new least → WasAnnounced new.knows least
 was_announced old new least h =
     let seen : length new.knows.seen ≡ length old.knows.seen = ap (λ (w : Work). length w.knows.seen) h.same in
@@ -82,7 +82,7 @@ was_announced old new least h =
     (λ m. inr (m.0, (let lt = m.1 in omega arith), found_since old new least m.0 _ h (h.by.4 m.0 m.1) (get_or_default found m.0 0 (suc least) m.1 ∙ m.2)))
     h.by.3.one
 
--- a write that gives the lock back knows what it knew
+-- a write that gives the lock back still knows what it knew
 pub spent_unlocked : (v c : Knowledge) (least : ℕ) → c ≡ without_lock (with_history v c.history) → Makes v.number v.history (Unlock v.number ∷ []) c.history → IsSpent v least → IsSpent c least
 spent_unlocked v c least is moves s =
     subst (λ (k : Knowledge). IsSpent k least) (sym is) (
@@ -99,7 +99,7 @@ spent_unlocked v c least is moves s =
           words = x.2.words;
           world = x.2.world;
           runs = x.2.runs;
-          told = x.2.told;
+          reported = x.2.reported;
         },
       )) s.3,
     )

@@ -1,4 +1,4 @@
--- What accepted lists of operations answer, and how far they count.
+-- The outcomes of accepted lists of operations, and how far they count.
 use Rattle.std.proofs.Common.{◌≡◌, ◌<◌, ◌≤◌, ◌+◌, ◌*◌, ◌^◌, List, [], ◌∷◌, ◌++◌, length, Ok, Err, fold, refl, sym, ap, ◌∙◌, arith, length-append, All}
 use Rattle.std.proofs.lemmas.List.Elements.{All-head, All-tail}
 use Rattle.std.specs.Prelude.{Result}
@@ -18,7 +18,7 @@ answers_of : State → List Done → Result (State × List Done) Refusal → Lis
 answers_of s dones (Ok x) = x.1
 answers_of s dones (Err e) = dones
 
--- an accepted list has an answer for each operation
+-- an accepted list has an outcome for each operation
 steps_count : (s t : State) (old dones : List Done) (ops : List Op) → fold advance (Ok (s, old)) ops ≡ Ok (t, dones) → length dones ≡ length old + length ops
 unfolding answers_of
 steps_count s t old dones [] e = let same : length old ≡ length dones = ap (λ r. length (answers_of s old r)) e in omega (arith, same)
@@ -32,7 +32,7 @@ steps_count s t old dones (op ∷ ops) e = by (step s op) e (λ x. steps_count x
 pub answers_each : (s : State) (e : Entry) → Agrees s e → length e.dones ≡ length e.ops
 answers_each s e h = omega (arith, steps_count s h.0 [] e.dones e.ops h.1)
 
--- an entry takes 64 numbers at most
+-- an entry uses at most 64 numbers
 entered : (s : State) (ops : List Op) → length ops ≤ 64 → (state_after s ops).next ≤ s.next + 64
 entered s ops few = by (steps s ops) refl
   where
@@ -46,7 +46,7 @@ replayed s (e ∷ es) are =
     let have : HasOperations e = All-head HasOperations e es are in
     omega (arith, entered s e.ops have.0, replayed (state_after s e.ops) es (All-tail HasOperations e es are))
 
--- the next number after a journal is far from the last one that there is
+-- the next number after a journal is far below the largest number
 pub next_fits : (es : List Entry) → IsHistory es → length es < 4294967296 → (replay es).next + 64 < 2 ^ 64
 unfolding IsHistory
 next_fits es h short = omega (arith, short, replayed empty es h.1)

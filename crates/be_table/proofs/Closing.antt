@@ -1,35 +1,35 @@
--- All passes come back to one seat, and the slot has the journal.
+-- All passes return to one seat, and the slot has the journal.
 use Rattle.std.proofs.Common.{◌≡◌, ℕ, ◌<◌, eq-eqb, List, [], ◌∷◌, ◌++◌, map, length, false, true≢false, Option, Some, None, refl, sym, ap, ◌∙◌, subst, inl, inr, ⊎_elim}
 use Rattle.be_table.specs.declared.pass.View.{View}
 use mathlib.Core.Option.{some, none, some-injective}
 use lib.ListN.{get_elem?}
 use Rattle.atomic_table.specs.Table.{step, Enters, Final, Seen}
 use Rattle.atomic_table.specs.Seated.{TableId}
-use Rattle.be_core.specs.Machine.{World, Holder}
+use Rattle.be_core.specs.Machine.{World, Writer}
 use Rattle.be_table.specs.declared.pass.Move.{Move}
 use Rattle.be_table.specs.Trace.{RunsTo, AllRest, HasTrace}
 use Rattle.be_journal.specs.declared.entries.Entry.{Entry}
-use Rattle.be_table.specs.declared.ledger.Ledger.{Ledger}
+use Rattle.be_table.specs.declared.writer_state.WriterState.{WriterState}
 use Rattle.be_table.specs.declared.limits.Limits.{Limits}
 use Rattle.be_table.specs.declared.pass.Knowledge.{Knowledge}
 use Rattle.be_journal.specs.Journal.{IsLegal, Log}
 use Rattle.be_table.specs.History.{AreOfPasses}
 use Rattle.be_table.specs.Laws.{ArrivalIsNoEvent}
 use Rattle.be_table.specs.Place.{SeatFacts}
-use Rattle.be_table.specs.Rule.{ViewFits, empty_view, Board, entries, is_holder, IsHome, AllFit, IsTrace, Shows, everyone, one_step_on}
+use Rattle.be_table.specs.Rule.{ViewFits, empty_view, Board, entries, is_writer, IsHome, AllFit, IsTrace, Shows, everyone, one_step_on}
 use Rattle.be_table.specs.Steps.{Arrived, Has, AllIdle, KeepsSeen}
-use Rattle.be_table.specs.Versions.{CanSpellEach}
+use Rattle.be_table.specs.Versions.{CanEncodeEach}
 use Rattle.be_table.specs.Works.{AllAt, Gathered}
 use Rattle.be_table.proofs.Deals.{at_snoc_place}
 use Rattle.be_table.proofs.Histories.{is_legal}
-use Rattle.be_table.proofs.Frames.{entries-start, log_spelt}
+use Rattle.be_table.proofs.Frames.{entries-start, log_encoded}
 
--- a pass of these that is not the holder
-not_held : (limits : Limits) (b : Board) (i : ℕ) (v : List Knowledge) (h : ℕ) → AllFit limits b i v → AllIdle v → Has v h → is_holder b.world.holder h ≡ false
+-- one of these passes, which isn't the writer
+not_held : (limits : Limits) (b : Board) (i : ℕ) (v : List Knowledge) (h : ℕ) → AllFit limits b i v → AllIdle v → Has v h → is_writer b.world.writer h ≡ false
 not_held limits b i [] h f idle has = absurd has
-not_held limits b i (a ∷ v) h f idle has = ⊎_elim (λ e. ap (is_holder b.world.holder) (sym e) ∙ (sym f.0.writes ∙ idle.0)) (λ more. not_held limits b i v h f.2 idle.1 more) has
+not_held limits b i (a ∷ v) h f idle has = ⊎_elim (λ e. ap (is_writer b.world.writer) (sym e) ∙ (sym f.0.writes ∙ idle.0)) (λ more. not_held limits b i v h f.2 idle.1 more) has
 
-nobody_holds : (o : Option Holder) (passes : ℕ) → ((h : Holder) → o ≡ Some h → h.pass < passes) → ((h : ℕ) → h < passes → is_holder o h ≡ false) → o ≡ None
+nobody_holds : (o : Option Writer) (passes : ℕ) → ((h : Writer) → o ≡ Some h → h.pass < passes) → ((h : ℕ) → h < passes → is_writer o h ≡ false) → o ≡ None
 nobody_holds None passes b f = refl
 nobody_holds (Some h) passes b f = absurd (true≢false (sym (eq-eqb h.pass h.pass refl) ∙ f h.pass (b h refl)))
 
@@ -38,26 +38,26 @@ all_kept limits b i [] f = tt
 all_kept limits b i (a ∷ v) f = (entries-start b.log a.seen f.0.seen, f.0.mine, all_kept limits b i v f.2)
 
 -- once all passes are in one seat, the slot has the journal
-pub ends : (limits : Limits) (i : ℕ) (v : View) (words : List ℕ) (slots : List (Option Ledger)) → AllIdle v.passes → ((k : ℕ) → k < limits.passes → Has v.passes k) → Final (Seen (Shows limits) i v) words slots
-    → (ledger : Ledger) × (get_elem? slots 0 ≡ some (Some ledger)) × IsLegal ledger.journal.entries × AreOfPasses limits.passes ledger.journal.entries × KeepsSeen ledger.journal.entries v.passes
-    × CanSpellEach limits.pages ledger.journal.entries × (ledger.journal.limit ≡ limits.commits) × HasTrace limits v.passes
+pub ends : (limits : Limits) (i : ℕ) (v : View) (words : List ℕ) (slots : List (Option WriterState)) → AllIdle v.passes → ((k : ℕ) → k < limits.passes → Has v.passes k) → Final (Seen (Shows limits) i v) words slots
+    → (writer_state : WriterState) × (get_elem? slots 0 ≡ some (Some writer_state)) × IsLegal writer_state.journal.entries × AreOfPasses limits.passes writer_state.journal.entries × KeepsSeen writer_state.journal.entries v.passes
+    × CanEncodeEach limits.pages writer_state.journal.entries × (writer_state.journal.limit ≡ limits.commits) × HasTrace limits v.passes
 ends limits i v words slots idle all f =
     let s = f.0 in let b = f.1.0.0 in let h = f.1.0.1 in let t = f.1.0.2 in
     let fit = (h.views i v f.1.1).0 in
-    let none_is = nobody_holds b.world.holder limits.passes h.sound.holder (λ k lt. not_held limits b i v.passes k fit idle (all k lt)) in
-    let home : IsHome None b.world b.log s.homes = subst (λ (o : Option Holder). IsHome o b.world b.log s.homes) none_is h.table.home in
+    let none_is = nobody_holds b.world.writer limits.passes h.sound.writer (λ k lt. not_held limits b i v.passes k fit idle (all k lt)) in
+    let home : IsHome None b.world b.log s.homes = subst (λ (o : Option Writer). IsHome o b.world b.log s.homes) none_is h.table.home in
     let is = sym home.2.journal in (
       home.0,
       f.4 0 (Some home.0) (ap (λ hs. get_elem? hs 0) home.1),
       subst IsLegal is (is_legal (entries b.log) h.sound.legal),
       subst (AreOfPasses limits.passes) is h.sound.by_passes,
       subst (λ l. KeepsSeen l v.passes) is (all_kept limits b i v.passes fit),
-      subst (CanSpellEach limits.pages) is (log_spelt limits b h.sound),
+      subst (CanEncodeEach limits.pages) is (log_encoded limits b h.sound),
       home.2.limit ∙ h.sound.commits,
       record { trace = t.0; runs = (t.1.words, b.world, t.1.runs); rests = t.1.rests i v f.1.1 },
     )
 
--- what a joined seat has of each
+-- what a joined seat has of each seat
 has_counted : (v : List Knowledge) (k : ℕ) → Has v k → Has (map one_step_on v) k
 has_counted [] k h = h
 has_counted (a ∷ v) k h = ⊎_elim inl (λ m. inr (has_counted v k m)) h
@@ -113,20 +113,20 @@ pub record Closes (limits : Limits) (known : List Knowledge) (journal : Log) : T
   pub legal : IsLegal journal.entries
   pub by_passes : AreOfPasses limits.passes journal.entries
   pub keeps : KeepsSeen journal.entries known
-  pub volumes : CanSpellEach limits.pages journal.entries
+  pub volumes : CanEncodeEach limits.pages journal.entries
   pub limit : journal.limit ≡ limits.commits
   pub traced : HasTrace limits known
 
--- the ledger that was found in the slot has the journal
-pub closes : (limits : Limits) (known : List Knowledge) (i : ℕ) (v : View) (words : List ℕ) (slots : List (Option Ledger)) (ledger : Ledger) (journal : Log) → Gathered known v.passes → ((k : ℕ) → k < limits.passes → Has known k)
-    → Final (Seen (Shows limits) i v) words slots → get_elem? slots 0 ≡ some (Some ledger) → journal ≡ ledger.journal → Closes limits known journal
-closes limits known i v words slots ledger journal g all f at is =
+-- the writer state that was found in the slot has the journal
+pub closes : (limits : Limits) (known : List Knowledge) (i : ℕ) (v : View) (words : List ℕ) (slots : List (Option WriterState)) (writer_state : WriterState) (journal : Log) → Gathered known v.passes → ((k : ℕ) → k < limits.passes → Has known k)
+    → Final (Seen (Shows limits) i v) words slots → get_elem? slots 0 ≡ some (Some writer_state) → journal ≡ writer_state.journal → Closes limits known journal
+closes limits known i v words slots writer_state journal g all f at is =
     let e = ends limits i v words slots g.idle (λ k lt. g.all k (all k lt)) f in
-    let same : Some e.0 ≡ Some ledger = some-injective (Some e.0) (Some ledger) (sym e.1 ∙ at) in
-    let it : e.0 ≡ ledger = cc in
-    subst (Closes limits known) (ap (λ (l : Ledger). l.journal) it ∙ sym is) record { legal = e.2; by_passes = e.3; keeps = g.keeps e.0.journal.entries e.4; volumes = e.5; limit = e.6; traced = record { trace = e.7.trace; runs = e.7.runs; rests = g.rests e.7.trace e.7.rests } }
+    let same : Some e.0 ≡ Some writer_state = some-injective (Some e.0) (Some writer_state) (sym e.1 ∙ at) in
+    let it : e.0 ≡ writer_state = cc in
+    subst (Closes limits known) (ap (λ (l : WriterState). l.journal) it ∙ sym is) record { legal = e.2; by_passes = e.3; keeps = g.keeps e.0.journal.entries e.4; volumes = e.5; limit = e.6; traced = record { trace = e.7.trace; runs = e.7.runs; rests = g.rests e.7.trace e.7.rests } }
 
--- a seat with no pass may arrive
+-- a seat without a pass may arrive
 pub arrive_by : (limits : Limits) → ArrivalIsNoEvent limits
 arrive_by limits s b h = (
   b,

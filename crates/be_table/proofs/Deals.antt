@@ -1,4 +1,4 @@
--- Seats are cut and joined, and the rule at the start.
+-- Seats are split and joined; and the rule at the start.
 use Rattle.std.proofs.Common.{◌≡◌, ◌≢◌, ◌⊎◌, ℕ, zero, suc, ◌+◌, ◌*◌, ◌<◌, ◌≤◌, ◌==◌, eqb, eq-eqb, ne_eqb, List, [], ◌∷◌, ◌++◌, map, length, take, set, false, true≢false, if◌then◌else◌, Option, Some, None, refl, sym, ap, ◌∙◌, subst, inl, inr, ⊎_elim, arith, IsTrue, nat_lt, ◌&&◌, not}
 use Rattle.be_table.specs.declared.pass.View.{View}
 use Rattle.std.proofs.lemmas.Bool.{cases_lt}
@@ -14,7 +14,7 @@ use Rattle.be_core.specs.Machine.{World, first_state, has}
 use Rattle.be_table.specs.Trace.{RunsTo, AllRest}
 use Rattle.be_table.proofs.Traces.{rest_counted, rest_append}
 use Rattle.be_core.proofs.Schedules.{first-sound}
-use Rattle.be_table.specs.declared.ledger.Ledger.{Ledger}
+use Rattle.be_table.specs.declared.writer_state.WriterState.{WriterState}
 use Rattle.be_pages.specs.declared.page_pool.Place.{Place as PagePlace}
 use Rattle.be_pages.specs.declared.page_pool.Place.TheVariants.{Free, Current}
 use Rattle.be_table.specs.declared.limits.Limits.{Limits}
@@ -23,20 +23,20 @@ use Rattle.be_table.specs.declared.pass.Knowledge.{Knowledge}
 use Rattle.be_table.specs.declared.pass.Move.{Move}
 use Rattle.be_pages.specs.Place.{undone_place, place_of}
 use Rattle.be_table.specs.Laws.{SplitIsNoEvent, AttestIsNoEvent, JoinIsNoEvent}
-use Rattle.be_table.specs.Ledger.{ShowsPlaces, shows_free, shows_taken, retired_with}
+use Rattle.be_table.specs.WriterState.{ShowsPlaces, shows_free, shows_taken, retired_with}
 use Rattle.be_journal.specs.Journal.{replay}
 use Rattle.be_volume.specs.Volume.{empty}
-use Rattle.be_table.specs.Versions.{in_pages, CanSpellEach, SpellsVolume}
+use Rattle.be_table.specs.Versions.{in_pages, CanEncodeEach, EncodesVolume}
 use Rattle.be_table.specs.Place.{SeatFacts}
-use Rattle.be_table.specs.Rule.{alone, ViewFits, AreFronts, empty_view, witnessing, kept_seat, front_seat, undealt, ledger_places, Board, IsWithin, IsSoundBoard, AreInside, reach_at, page_at, word_place, Fits, IsAbsent, AllFit, IsTrace, Shows, newcomer, newcomers, everyone, one_step_on, first_seat, other_seats, seats_together}
-use Rattle.be_table.specs.Seats.{IsTold}
+use Rattle.be_table.specs.Rule.{alone, ViewFits, AreFronts, empty_view, witnessing, kept_seat, front_seat, undealt, writer_state_places, Board, IsWithin, IsSoundBoard, AreInside, reach_at, page_at, word_place, Fits, IsAbsent, AllFit, IsTrace, Shows, newcomer, newcomers, everyone, one_step_on, first_seat, other_seats, seats_together}
+use Rattle.be_table.specs.Seats.{IsReported}
 use Rattle.be_table.specs.Works.{AreNewAt}
 use Rattle.be_table.proofs.Histories.{starts_itself, by_pass-nil, legal-nil, below-nil}
 use Rattle.std.proofs.lemmas.List.{get_or_past}
-use Rattle.be_table.proofs.Ledgers.{mapped}
+use Rattle.be_table.proofs.WriterStates.{mapped}
 use Rattle.be_table.proofs.Frames.{all_fit, apart, views_change, views_step, fits_counted}
 
--- a list that is one longer has its old members, and the new one
+-- a list with one more member has its old members, and the new one
 pub at_snoc_place : {A : Type 0} (l : List A) (a b : A) (j : ℕ) → get_elem? (l ++ a ∷ []) j ≡ some b → (get_elem? l j ≡ some b) ⊎ ((j ≡ length l) × (a ≡ b))
 at_snoc_place [] a b zero e = inr (refl, some-injective a b e)
 at_snoc_place [] a b (suc j) e = absurd (some-ne-none b (sym e))
@@ -57,12 +57,12 @@ choose_then m k n o e = ap (λ b. if b then n else o) (eq-eqb m k e)
 choose_else : (m k n o : ℕ) → m ≢ k → (if eqb m k then n else o) ≡ o
 choose_else m k n o e = ap (λ b. if b then n else o) (ne_eqb m k e)
 
--- the board is the same but for where the passes sit
+-- the board stays the same, except for where the passes sit
 reseat : (limits : Limits) (b : Board) (f : ℕ → ℕ) (i j : ℕ) (a : Knowledge) → f a.number ≡ j → Fits limits b i a → Fits limits (record b { seat_of = f }) j a
-reseat limits b f i j a e h = record { number = h.number; limits_are = h.limits_are; seat_is = e; seen = h.seen; mine = h.mine; own = h.own; writes = h.writes; whole = λ t. let x = h.whole t in record { log = x.log; holder = x.holder; turn = x.turn; count = x.count; shown = x.shown; size = x.size; words = x.words }; phase = h.phase; pin = h.pin; image = h.image }
+reseat limits b f i j a e h = record { number = h.number; limits_are = h.limits_are; seat_is = e; seen = h.seen; mine = h.mine; own = h.own; writes = h.writes; whole = λ t. let x = h.whole t in record { log = x.log; writer = x.writer; turn = x.turn; count = x.count; shown = x.shown; size = x.size; words = x.words }; phase = h.phase; pin = h.pin; image = h.image }
 
 sound_seats : (limits : Limits) (b : Board) (f : ℕ → ℕ) → IsSoundBoard limits b → IsSoundBoard limits (record b { seat_of = f })
-sound_seats limits b f s = record { within = s.within; legal = s.legal; by_passes = s.by_passes; room = s.room; page = s.page; inside = s.inside; own_pages = s.own_pages; pages = s.pages; passes = s.passes; commits = s.commits; holder = s.holder; reaches = s.reaches; machine = s.machine; spelt = s.spelt }
+sound_seats limits b f s = record { within = s.within; legal = s.legal; by_passes = s.by_passes; room = s.room; page = s.page; inside = s.inside; own_pages = s.own_pages; pages = s.pages; passes = s.passes; commits = s.commits; writer = s.writer; reaches = s.reaches; machine = s.machine; encoded = s.encoded }
 
 absent_counted : (k : ℕ) (v : List Knowledge) → IsAbsent k v → IsAbsent k (map one_step_on v)
 absent_counted k [] h = tt
@@ -87,7 +87,7 @@ all_joined limits b d i j [] w ne f g h k = all_counted limits b d j i w g k
 all_joined limits b d i j (a ∷ v) w ne f g h k =
     (fits_counted limits d i a (f a h.0), absent_append a.number (map one_step_on v) (map one_step_on w) (absent_counted a.number v h.1) (absent_counted a.number w (absent_elsewhere limits b i j a w ne h.0 k)), all_joined limits b d i j v w ne f g h.2 k)
 
--- the others of a list in which a pass is absent
+-- the others in a list that doesn't have a pass
 all_others : (limits : Limits) (b d : Board) (i k : ℕ) (v : List Knowledge) → ((x : Knowledge) → x.number ≢ k → Fits limits b i x → Fits limits d i x) → IsAbsent k v → AllFit limits b i v → AllFit limits d i (map one_step_on v)
 all_others limits b d i k [] f n h = tt
 all_others limits b d i k (a ∷ v) f n h = (fits_counted limits d i a (f a n.0 h.0), absent_counted a.number v h.1, all_others limits b d i k v f n.1 h.2)
@@ -96,7 +96,7 @@ fronts_append : (log : List Commit) (fs gs : List (List Commit)) → AreFronts l
 fronts_append log [] gs h g = g
 fronts_append log (f ∷ fs) gs h g = (h.0, fronts_append log fs gs h.1 g)
 
--- a seat's view is cut in two, of which both rest
+-- a seat's view is split into two, and the passes of both rest
 cut_rests : (limits : Limits) (w : World) (views : List View) (t : List Move) → IsTrace limits w views t → (i : ℕ) (left right : View) → AllRest t left.passes → AllRest t right.passes
     → (j : ℕ) (u : View) → get_elem? (set views i left ++ right ∷ []) j ≡ some u → AllRest t u.passes
 cut_rests limits w views t tr i left right l r j u e =
@@ -109,7 +109,7 @@ cut_rests limits w views t tr i left right l r j u e =
     (at_snoc_place (set views i left) right u j e)
 
 module _ (limits : Limits) where
-  -- the first pass of a seat gets a seat of its own
+  -- the first pass of a seat gets its own seat
   pub split_by : (i : ℕ) (a : Knowledge) (v : List Knowledge) (fs : List (List Commit)) → SplitIsNoEvent limits i a v fs
   split_by i a v fs s b t at =
       let n = length s.views in
@@ -151,7 +151,7 @@ module _ (limits : Limits) where
         ),
       )
 
-  -- what a pass has seen gets a seat of its own
+  -- what a pass has seen gets its own seat
   pub attest_by : (i : ℕ) (a : Knowledge) → AttestIsNoEvent limits i a
   attest_by i a s b t at =
       let f = (t.views i (alone a) at).0.0 in
@@ -240,7 +240,7 @@ newcomers-absent limits j k (suc n) lt = ((λ e. omega arith), newcomers-absent 
 some_page : (limits : Limits) → IsWithin limits → 0 < limits.pages
 some_page limits within = let w = within.some_pages in omega arith
 
--- version 0 has the page 0 alone
+-- version 0 has only the page 0
 first_inside : (pages : ℕ) → 0 < pages → AreInside pages []
 first_inside pages positive zero zero le r = positive
 first_inside pages positive zero (suc p) le r = absurd (let e : has (0 ∷ []) (suc p) ≡ false = rw (ne_eqb 0 (suc p) (λ z. absurd (omega arith))) refl in cc)
@@ -250,9 +250,9 @@ first_own : (n : ℕ) → n ≤ 0 → IsTrue (has (reach_at [] n) (page_at [] n)
 first_own zero le = refl
 first_own (suc n) le = absurd (omega arith)
 
-none_spelt : (pages : ℕ) → CanSpellEach pages []
-unfolding CanSpellEach
-none_spelt pages = λ n lt. absurd (omega (arith, lt))
+none_encoded : (pages : ℕ) → CanEncodeEach pages []
+unfolding CanEncodeEach
+none_encoded pages = λ n lt. absurd (omega (arith, lt))
 
 abbrev first_board : Limits → List ℕ → Board
 first_board limits words = record { log = []; world = first_state limits.pages limits.passes limits.commits (λ p i. slice_index words (word_place p i)); seat_of = λ _. 0 }
@@ -275,16 +275,16 @@ zero_first : (p : ℕ) → (p == 0) ≡ has (0 ∷ []) p
 zero_first zero = refl
 zero_first (suc p) = rw (ne_eqb 0 (suc p) (λ z. absurd (omega arith)), ne_eqb (suc p) 0 (λ z. absurd (omega arith))) refl
 
-pub begins : (limits : Limits) (words : List ℕ) (ledger : Ledger) → IsWithin limits → length words ≡ 528 + 512 * limits.pages → ((k : ℕ) → k < 528 → slice_index words k ≡ 0)
-    → ledger.journal.entries ≡ [] → ledger.journal.limit ≡ limits.commits → ledger.page ≡ 0 → length (ledger_places ledger) ≡ limits.pages → ShowsPlaces (ledger_places ledger) (first_board limits words).world → map undone_place (ledger_places ledger) ≡ (ledger_places ledger) → ledger.left ≡ 0
-    → SpellsVolume (0 ∷ []) (in_pages (λ p i. slice_index words (word_place p i))) 0 empty
-    → Shows limits (opening words (Some ledger ∷ []) (everyone limits))
-begins limits words ledger within size blank none limit page count shown idle left first = (
+pub begins : (limits : Limits) (words : List ℕ) (writer_state : WriterState) → IsWithin limits → length words ≡ 528 + 512 * limits.pages → ((k : ℕ) → k < 528 → slice_index words k ≡ 0)
+    → writer_state.journal.entries ≡ [] → writer_state.journal.limit ≡ limits.commits → writer_state.page ≡ 0 → length (writer_state_places writer_state) ≡ limits.pages → ShowsPlaces (writer_state_places writer_state) (first_board limits words).world → map undone_place (writer_state_places writer_state) ≡ (writer_state_places writer_state) → writer_state.left ≡ 0
+    → EncodesVolume (0 ∷ []) (in_pages (λ p i. slice_index words (word_place p i))) 0 empty
+    → Shows limits (opening words (Some writer_state ∷ []) (everyone limits))
+begins limits words writer_state within size blank none limit page count shown idle left first = (
   first_board limits words,
   record {
     table = record {
       words = record { size = size; lock = blank 0 (omega arith); current = blank 8 (omega arith); announced = λ k lt. blank (16 + 8 * k) (let f = within.few in omega arith); pages = λ p i a b. refl; unused = λ k u. blank k u.0 };
-      home = (ledger, refl, record { journal = none; limit = limit; page = page; count = count; shown = shown; idle = idle; left = omega (arith, left) });
+      home = (writer_state, refl, record { journal = none; limit = limit; page = page; count = count; shown = shown; idle = idle; left = omega (arith, left) });
       version = refl;
     };
     sound = record {
@@ -298,10 +298,10 @@ begins limits words ledger within size blank none limit page count shown idle le
       pages = refl;
       passes = refl;
       commits = refl;
-      holder = λ h e. absurd (cc);
+      writer = λ h e. absurd (cc);
       reaches = λ n p le. reached n p le;
       machine = first-sound limits.pages limits.passes limits.commits (λ p i. slice_index words (word_place p i)) (some_page limits within);
-      spelt = λ n le. spelt n le;
+      encoded = λ n le. encoded n le;
     };
     views = one;
   },
@@ -312,9 +312,9 @@ begins limits words ledger within size blank none limit page count shown idle le
     rested zero u e = subst (λ (x : View). AllRest [] x.passes) (some-injective (everyone limits) u e) (newcomers_rest limits 0 limits.passes)
     rested (suc j) u e = absurd (some-ne-none u (sym e))
 
-    spelt : (n : ℕ) → n ≤ 0 → SpellsVolume (reach_at [] n) (in_pages ((first_board limits words).world.image n)) (page_at [] n) (replay (take n []))
-    spelt zero le = first
-    spelt (suc n) le = absurd (omega arith)
+    encoded : (n : ℕ) → n ≤ 0 → EncodesVolume (reach_at [] n) (in_pages ((first_board limits words).world.image n)) (page_at [] n) (replay (take n []))
+    encoded zero le = first
+    encoded (suc n) le = absurd (omega arith)
 
     reached : (n p : ℕ) → n ≤ 0 → (first_board limits words).world.reach n p ≡ has (reach_at [] n) p
     reached zero p le = zero_first p
@@ -324,7 +324,7 @@ begins limits words ledger within size blank none limit page count shown idle le
     one zero u e = subst (ViewFits limits (first_board limits words) 0) (some-injective (everyone limits) u e) (newcomers_fit limits words 0 limits.passes (omega arith), tt)
     one (suc j) u e = absurd (some-ne-none u (sym e))
 
--- the first of the newcomers is dealt a seat
+-- the first of the new passes is dealt a seat
 pub newcomers-first : (limits : Limits) (t k n : ℕ) → first_seat (undealt limits t k (suc n)) ≡ alone (newcomer limits (t + 1) k)
 unfolding newcomers
 newcomers-first limits t k n = refl
@@ -343,10 +343,10 @@ unfolding newcomers
 newcomers-deal limits of i t k n v e = subst (λ u. Splits (Shows limits) i u (other_seats u) (first_seat u)) (sym e) (deals limits i (newcomer of t k) (newcomers of t (suc k) n) [])
 
 abbrev pub Me2 : Type 0
-Me2 = Me (Option Ledger) View
+Me2 = Me (Option WriterState) View
 
-pub newcomer_told : (limits : Limits) (t k : ℕ) → IsWithin limits → k < limits.passes → IsTold (newcomer limits t k) k 0
-newcomer_told limits t k within lt = record { number_is = refl; seen_is = refl; writes = refl; pass = record { within = within; legal = legal-nil; number_below = lt; by_passes = below-nil limits.passes; room = omega arith; inside = first_inside limits.pages (some_page limits within); own_pages = first_own; volumes = none_spelt limits.pages; pin = tt; mine = by_pass-nil k; spelt = λ x n e. absurd (cc) } }
+pub newcomer_reported : (limits : Limits) (t k : ℕ) → IsWithin limits → k < limits.passes → IsReported (newcomer limits t k) k 0
+newcomer_reported limits t k within lt = record { number_is = refl; seen_is = refl; writes = refl; pass = record { within = within; legal = legal-nil; number_below = lt; by_passes = below-nil limits.passes; room = omega arith; inside = first_inside limits.pages (some_page limits within); own_pages = first_own; volumes = none_encoded limits.pages; pin = tt; mine = by_pass-nil k; encoded = λ x n e. absurd (cc) } }
 
 pub AreNewAt-push : (id : TableId) (limits : Limits) (k : ℕ) (ss : List SeatFacts) (s : SeatFacts) → AreNewAt id limits k ss → (s.blank ≡ false) × (s.table ≡ id) × (s.knows ≡ newcomer limits (k + length ss + 1) (k + length ss)) → AreNewAt id limits k (ss ++ s ∷ [])
 AreNewAt-push id limits k [] s h new = (subst (λ n. (s.blank ≡ false) × (s.table ≡ id) × (s.knows ≡ newcomer limits (n + 1) n)) (let e : k + length {A = SeatFacts} [] ≡ k = omega arith in e) new, tt)
@@ -362,7 +362,7 @@ pub newcomers-none : (limits : Limits) (t k n : ℕ) → n ≡ 0 → undealt lim
 unfolding newcomers
 newcomers-none limits t k n e = ap (undealt limits t k) e
 
--- the page 0 is current, and each other is free
+-- the page 0 is current, and all others are free
 pub first_places : (limits : Limits) (words : List ℕ) (places : List PagePlace) → IsWithin limits → length places ≡ limits.pages → ((q : ℕ) → q < 1 → place_of places q ≡ Current) → ((q : ℕ) → 1 ≤ q → q < limits.pages → place_of places q ≡ Free)
     → ShowsPlaces places (first_board limits words).world × (map undone_place places ≡ places)
 first_places limits words places within count used unused = (record { free = λ p. (at p).0; taken = λ p. (at p).1; retired = λ p. (at p).2 }, sym (mapped undone_place refl places places refl (λ q lt. (at q).3)))
@@ -374,11 +374,11 @@ first_places limits words places within count used unused = (record { free = λ 
       | inr le ↦ rw (get_or_past places (suc p) Current (omega (arith, le, count)), le-ltb (suc p) limits.pages le) (refl, refl, refl, refl)
     ]
 
-pub begins_as : (limits : Limits) (words : List ℕ) (slots : List (Option Ledger)) (ledger : Ledger) → slots ≡ Some ledger ∷ [] → IsWithin limits → length words ≡ 528 + 512 * limits.pages → ((k : ℕ) → k < 528 → slice_index words k ≡ 0)
-    → ledger.journal.entries ≡ [] → ledger.journal.limit ≡ limits.commits → ledger.page ≡ 0 → length (ledger_places ledger) ≡ limits.pages → ((q : ℕ) → q < 1 → place_of (ledger_places ledger) q ≡ Current) → ((q : ℕ) → 1 ≤ q → q < limits.pages → place_of (ledger_places ledger) q ≡ Free) → ledger.left ≡ 0 → SpellsVolume (0 ∷ []) (in_pages (λ p i. slice_index words (word_place p i))) 0 empty → Shows limits (opening words slots (everyone limits))
-begins_as limits words slots ledger e within size blank none limit page count used unused left first =
-    let x = first_places limits words (ledger_places ledger) within count used unused in
-    subst (λ (xs : List (Option Ledger)). Shows limits (opening words xs (everyone limits))) (sym e) (begins limits words ledger within size blank none limit page count x.0 x.1 left first)
+pub begins_as : (limits : Limits) (words : List ℕ) (slots : List (Option WriterState)) (writer_state : WriterState) → slots ≡ Some writer_state ∷ [] → IsWithin limits → length words ≡ 528 + 512 * limits.pages → ((k : ℕ) → k < 528 → slice_index words k ≡ 0)
+    → writer_state.journal.entries ≡ [] → writer_state.journal.limit ≡ limits.commits → writer_state.page ≡ 0 → length (writer_state_places writer_state) ≡ limits.pages → ((q : ℕ) → q < 1 → place_of (writer_state_places writer_state) q ≡ Current) → ((q : ℕ) → 1 ≤ q → q < limits.pages → place_of (writer_state_places writer_state) q ≡ Free) → writer_state.left ≡ 0 → EncodesVolume (0 ∷ []) (in_pages (λ p i. slice_index words (word_place p i))) 0 empty → Shows limits (opening words slots (everyone limits))
+begins_as limits words slots writer_state e within size blank none limit page count used unused left first =
+    let x = first_places limits words (writer_state_places writer_state) within count used unused in
+    subst (λ (xs : List (Option WriterState)). Shows limits (opening words xs (everyone limits))) (sym e) (begins limits words writer_state within size blank none limit page count x.0 x.1 left first)
 
-pub only_one : (r l : List (Option Ledger)) (x : Option Ledger) → r ≡ l ++ x ∷ [] → l ≡ [] → r ≡ x ∷ []
+pub only_one : (r l : List (Option WriterState)) (x : Option WriterState) → r ≡ l ++ x ∷ [] → l ≡ [] → r ≡ x ∷ []
 only_one r l x e f = e ∙ ap (λ xs. xs ++ x ∷ []) f

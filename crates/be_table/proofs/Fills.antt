@@ -1,11 +1,11 @@
--- A word of a page is filled, by one step or by two.
+-- A word of a page is filled, in one step or two.
 use Rattle.std.proofs.Common.{◌≡◌, ◌≢◌, ℕ, ◌+◌, ◌<◌, ◌||◌, if◌then◌else◌, List, [], ◌∷◌, length, Bool, slice_index, slice_set, subst, sym, ap, ◌∙◌, arith, eq-eqb, ne_eqb, length-set, get_or-set_same}
 use Rattle.std.proofs.lemmas.List.{set-set}
 use Rattle.be_pages.specs.declared.page_pool.Place.{Place}
 use Rattle.be_pages.specs.declared.page_pool.Place.TheVariants.{Filled, Current}
 use Rattle.be_table.specs.declared.pass.Knowledge.{Knowledge}
 use Rattle.be_table.specs.Rule.{alone, pass_of, word_place}
-use Rattle.be_table.specs.Ledger.{shows_free, shows_taken}
+use Rattle.be_table.specs.WriterState.{shows_free, shows_taken}
 use Rattle.be_table.specs.Steps.{MayBeFilled, fills, fill_steps, fills_word, fill_moves, with_history}
 use Rattle.be_table.specs.declared.pass.Move.{Move}
 use Rattle.be_table.specs.declared.pass.Move.TheVariants.{Fill}
@@ -32,7 +32,7 @@ stored a p i n x found other =
     let words : slice_set (slice_set a.words (word_place p i) n) (word_place p i) x ≡ slice_set a.words (word_place p i) x = set-set a.words (word_place p i) n x in
     ap (λ (q : List Place × List ℕ × ℕ). record a { places = q.0; words = q.1; steps = q.2 }) (λ k. (places k, words k, steps k))
 
--- the same, of seats before, between and after
+-- the same, for seats before, between and after
 pub there_as : (me r : Me1) (p i n x : ℕ) (h : List Move) → r ≡ (alone (fills (with_history (pass_of me.0) h) p i n), me.1) → n ≡ slice_index (pass_of me.0).words (word_place p i) → n ≡ x → r ≡ (alone (fills_word (with_history (pass_of me.0) (pass_of r.0).history) p i x), me.1)
 there_as me r p i n x h is found same =
     let a = pass_of me.0 in
@@ -47,7 +47,7 @@ stored_as me r q p i n x h g first next found other =
     next ∙ ap (λ (m : Me1). (alone (fills (with_history (pass_of m.0) g) p i x), m.1)) first ∙ ap (λ (k : Knowledge). (alone k, me.1)) (stored (with_history a g) p i n x found other)
     ∙ ap (λ (l : List Move). (alone (fills_word (with_history a l) p i x), me.1)) (sym last)
 
--- the moves of a fill, where the word was there or not
+-- the moves of a fill, depending on whether the word was there
 abbrev moves_if : Knowledge → ℕ → ℕ → ℕ → ℕ → Bool → List Move
 moves_if a p i x n z = Fill a.number p i n ∷ (if z then [] else Fill a.number p i x ∷ [])
 

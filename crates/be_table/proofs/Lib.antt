@@ -3,7 +3,7 @@ pub mod Frames
 pub mod Histories
 pub mod Traces
 pub mod Holding
-pub mod Ledgers
+pub mod WriterStates
 pub mod Locks
 pub mod Moves
 pub mod Runs
@@ -18,8 +18,8 @@ pub mod PinMarks
 pub mod Meetings
 pub mod Witnesses
 pub mod Closing
-pub mod Standings
-pub mod Told
+pub mod PageStates
+pub mod Reported
 pub mod Moved
 pub mod Keeping
 pub mod Answers

@@ -6,7 +6,7 @@ use mathlib.Core.Logic.{dite}
 use native.Mathlib.Decide.{dec_lt}
 use borrow.Author.Tests.{lt-ltb, le-ltb}
 use Rattle.atomic_table.specs.Table.{Step, keeps, step, Allows, Splits}
-use Rattle.be_table.specs.declared.ledger.Ledger.{Ledger}
+use Rattle.be_table.specs.declared.writer_state.WriterState.{WriterState}
 use Rattle.be_table.specs.declared.limits.Limits.{Limits}
 use Rattle.be_table.specs.declared.marks.PinnedVersion.{PinnedVersion}
 use Rattle.be_table.specs.declared.pass.Commit.{Commit}
@@ -14,7 +14,7 @@ use Rattle.be_table.specs.declared.pass.Knowledge.{Knowledge}
 use Rattle.be_table.specs.History.{StartsWith}
 use Rattle.be_table.specs.Laws.{AllowsBy, NoEvent}
 use Rattle.be_table.specs.Rule.{alone, beside, second_of, Board, entries, page_at, Fits, Shows, one_step_on, pass_of, seats_together, first_seat, other_seats}
-use Rattle.be_table.specs.Seats.{IsTold, pin_of}
+use Rattle.be_table.specs.Seats.{IsReported, pin_of}
 use Rattle.be_table.specs.Steps.{IsPass, Compared, CompareMoves, having_seen, longer}
 use Rattle.be_table.proofs.Histories.{starts_itself, by_pass-between}
 use Rattle.be_table.proofs.Deals.{deals}
@@ -22,9 +22,9 @@ use Rattle.be_table.proofs.Frames.{Me1, views_change, entries-start, longer_seen
 use Rattle.be_table.specs.Trace.{AllRest, HasTrace}
 use Rattle.be_table.proofs.Traces.{resting}
 use Rattle.be_table.proofs.PinMarks.{pin_stays}
-use Rattle.be_table.proofs.Told.{told_as, stepped_pass}
+use Rattle.be_table.proofs.Reported.{reported_as, stepped_pass}
 
--- two beginnings of one journal
+-- two prefixes of one journal
 two_fronts : (p r q z : List Commit) → p ++ r ≡ q ++ z → length p ≤ length q → StartsWith q p
 two_fronts [] r q z e le = (q, refl)
 two_fronts (x ∷ p) r [] z e le = absurd (omega arith)
@@ -60,7 +60,7 @@ sees_fits limits b i a log idle f more front = record {
   image = f.image;
 }
 
-module _ (limits : Limits) (slots i : ℕ) (a c : Knowledge) (carried : List (ℕ × Option Ledger)) where
+module _ (limits : Limits) (slots i : ℕ) (a c : Knowledge) (carried : List (ℕ × Option WriterState)) where
   pub compare_by : a.writes ≡ false → c.writes ≡ false → AllowsBy limits slots i (beside a c, carried) 0 (λ n. n) NoEvent (Compared (step slots 0 0 0 none) (beside a c, carried))
   compare_by idle idle' s b t sized at fits =
       let f = (t.views i (beside a c) at).0 in
@@ -86,7 +86,7 @@ module _ (limits : Limits) (slots i : ℕ) (a c : Knowledge) (carried : List (�
 pub joined_pair : (a c : Knowledge) (m n r : Me1) → m ≡ (alone a, []) → n ≡ (alone c, []) → r ≡ (seats_together m.0 n.0, m.1) → r ≡ (beside (one_step_on a) (one_step_on c), [])
 joined_pair a c m n r e f g = g ∙ (λ k. (seats_together ((e k).0) ((f k).0), (e k).1))
 
--- a comparison is no move, and tells that both histories are fronts of the trace
+-- a comparison is no move, and shows that both histories are prefixes of the trace
 comparing : (limits : Limits) (slots i : ℕ) (a c : Knowledge) → a.writes ≡ false → c.writes ≡ false → Allows (Shows limits) slots i (beside a c, []) 0 (λ n. n) (CompareMoves (step slots 0 0 0 none) (beside a c, []))
 comparing limits slots i a c idle idle' s h sized at fits =
     let y = resting limits slots i (beside a c) [] 0 (λ n. n) NoEvent (Compared (step slots 0 0 0 none) (beside a c, [])) (compare_by limits slots i a c [] idle idle')
@@ -107,7 +107,7 @@ pub compares_as : (limits : Limits) (slots i : ℕ) (a c : Knowledge) (me : Me1)
 compares_as limits slots i a c me e idle idle' =
     subst (λ (m : Me1). Allows (Shows limits) slots i m 0 (λ n. n) (CompareMoves (step slots 0 0 0 none) m)) (sym e) (comparing limits slots i a c idle idle')
 
--- what the two had done before they met lies in one trace
+-- what the two passes had done before they met lies in one trace
 pub traced : (a c : Knowledge) (m n j l : Me1) → m ≡ (alone a, []) → n ≡ (alone c, []) → j ≡ (seats_together m.0 n.0, m.1) → CompareMoves (step 0 0 0 0 none) j 0 l → HasTrace a.limits (a ∷ c ∷ [])
 traced a c m n j l left right pair compared =
     let t : HasTrace a.limits (one_step_on a ∷ one_step_on c ∷ []) =
@@ -117,9 +117,9 @@ traced a c m n j l left right pair compared =
 pub deals_as : (limits : Limits) (i : ℕ) (a c : Knowledge) (u : View) → u ≡ beside a c → Splits (Shows limits) i u (other_seats u) (first_seat u)
 deals_as limits i a c u e = subst (λ (w : View). Splits (Shows limits) i w (other_seats w) (first_seat w)) (sym e) (deals limits i a (c ∷ []) [])
 
--- what a comparison tells, at the two passes
-pub told : (a c : Knowledge) (m r : Me1) (st : Step (Option Ledger)) (n : ℕ) → m ≡ (beside a c, []) → Compared st m n r → Compared st (beside a c, []) n r
-told a c m r st n e t = subst (λ (x : Me1). Compared st x n r) e t
+-- what a comparison says, for the two passes
+pub reported : (a c : Knowledge) (m r : Me1) (st : Step (Option WriterState)) (n : ℕ) → m ≡ (beside a c, []) → Compared st m n r → Compared st (beside a c, []) n r
+reported a c m r st n e t = subst (λ (x : Me1). Compared st x n r) e t
 
 pub met_pin : (a : Knowledge) (log : List Commit) (pin : Option PinnedVersion) → IsPass a → pin ≡ pin_of a.phase a.seen → StartsWith log a.seen → pin ≡ pin_of a.phase log
 met_pin a log pin pass is more = is ∙ sym (pin_stays a.phase a.seen log pass.pin more)
@@ -131,15 +131,15 @@ right_longer p q lt = rw (lt-ltb (length p) (length q) lt) refl
 pub left_longer : (p q : List Commit) → length q ≤ length p → length (longer p q) ≡ length p
 left_longer p q le = rw (le-ltb (length p) (length q) le) refl
 
--- what the seats tell once they are cut apart
+-- what the seats say after they are split
 module _ (a c : Knowledge) (m n j l f : Me1) (number seen both : ℕ) (left : m ≡ (alone a, [])) (right : n ≡ (alone c, [])) (pair : j ≡ (seats_together m.0 n.0, m.1)) (compared : Compared (step 0 0 0 0 none) j 0 l) (long : length (longer a.seen c.seen) ≡ both) where
   after_all : Compared (step 0 0 0 0 none) (beside (one_step_on a) (one_step_on c), []) 0 l
-  after_all = told (one_step_on a) (one_step_on c) j l (step 0 0 0 0 none) 0 (joined_pair a c m n j left right pair) compared
+  after_all = reported (one_step_on a) (one_step_on c) j l (step 0 0 0 0 none) 0 (joined_pair a c m n j left right pair) compared
 
-  pub met_left : f.0 ≡ first_seat l.0 → IsTold a number seen → IsTold (pass_of f.0) number both
-  met_left e t = told_as (one_step_on (having_seen (one_step_on a) (longer a.seen c.seen))) f number both (ap pass_of e ∙ ap (λ (x : Me1). pass_of (first_seat x.0)) after_all.0)
+  pub met_left : f.0 ≡ first_seat l.0 → IsReported a number seen → IsReported (pass_of f.0) number both
+  met_left e t = reported_as (one_step_on (having_seen (one_step_on a) (longer a.seen c.seen))) f number both (ap pass_of e ∙ ap (λ (x : Me1). pass_of (first_seat x.0)) after_all.0)
       (record { number_is = t.number_is; seen_is = long; writes = t.writes; pass = stepped_pass (having_seen (one_step_on a) (longer a.seen c.seen)) _ after_all.3 })
 
-  pub met_right : f.0 ≡ other_seats l.0 → IsTold c number seen → IsTold (pass_of f.0) number both
-  met_right e t = told_as (one_step_on (having_seen (one_step_on c) (longer a.seen c.seen))) f number both (ap pass_of e ∙ ap (λ (x : Me1). pass_of (other_seats x.0)) after_all.0)
+  pub met_right : f.0 ≡ other_seats l.0 → IsReported c number seen → IsReported (pass_of f.0) number both
+  met_right e t = reported_as (one_step_on (having_seen (one_step_on c) (longer a.seen c.seen))) f number both (ap pass_of e ∙ ap (λ (x : Me1). pass_of (other_seats x.0)) after_all.0)
       (record { number_is = t.number_is; seen_is = long; writes = t.writes; pass = stepped_pass (having_seen (one_step_on c) (longer a.seen c.seen)) _ after_all.4 })

@@ -1,4 +1,4 @@
--- What is known of a pass after a scan, and after it published.
+-- What is known about a pass after a scan, and after it published.
 use Rattle.std.proofs.Common.{◌≡◌, ◌≢◌, ℕ, zero, suc, List, [], ◌∷◌, ◌++◌, true, false, refl, sym, ap, ◌∙◌, subst}
 use Rattle.be_journal.specs.declared.entries.Entry.{Entry}
 use Rattle.be_pages.specs.Place.{place_of}
@@ -10,7 +10,7 @@ use Rattle.be_table.specs.declared.pass.Move.{Move}
 use Rattle.be_table.specs.declared.pass.Move.TheVariants.{Scan, Publish}
 use Rattle.be_table.specs.Rule.{alone, Reaches, announce_word, pass_of}
 use Rattle.be_table.specs.Steps.{IsPass, publishes, given_of, NoneRetiredLater, scans, ScanMoves, PublishMoves, with_history}
-use Rattle.be_table.specs.Ledger.{shows_free}
+use Rattle.be_table.specs.WriterState.{shows_free}
 use Rattle.be_table.specs.Trace.{Makes}
 use Rattle.be_table.specs.Working.{HasNoneFree, HasReason, MakesForReason}
 use Rattle.be_table.specs.Works.{Moves}
@@ -18,7 +18,7 @@ use Rattle.be_table.proofs.Frames.{Me1}
 use Rattle.be_table.proofs.PinMarks.{any}
 use Rattle.be_table.proofs.Scans.{scans_history}
 
--- one announcement is read
+-- one reader slot is read
 pub scan_makes : (n : ℕ) (me r : Me1) → ScanMoves any me n r → let a = pass_of me.0 in let c = pass_of r.0 in
     (r ≡ (alone (scans (with_history a c.history) n), me.1)) × Makes a.number a.history (Scan a.number a.scanned ∷ []) c.history × Reaches c (λ w. n ≡ announce_word (w.phases a.scanned))
 scan_makes n me r t =
@@ -27,7 +27,7 @@ scan_makes n me r t =
     let h : (pass_of r.0).history ≡ t.0 = ap (λ (x : Knowledge). x.history) (k ∙ scans_history a n t.0) in
     (t.3.0.0 ∙ (λ j. (alone (scans (with_history a (sym h j)) n), me.1)), subst (Makes a.number a.history (Scan a.number a.scanned ∷ [])) (sym h) t.1, t.2)
 
--- a scan has its reason, where the pass knows of no free page
+-- a scan has its reason if the pass knows of no free page
 pub scan_reason : (n : ℕ) (me r : Me1) → ScanMoves any me n r → let a = pass_of me.0 in a.writes ≡ true → ((p : ℕ) → place_of a.places p ≢ Free) → MakesForReason a.limits a.number a.history (Scan a.number a.scanned ∷ []) (pass_of r.0).history
 scan_reason n me r t writes none =
     let a = pass_of me.0 in let s = t.3.1 in

@@ -6,17 +6,17 @@ use Rattle.be_core.specs.declared.event.Phase.{Phase}
 use Rattle.be_core.specs.declared.event.Phase.TheVariants.{Idle, Looked, Announced, Pinned}
 use Rattle.be_core.specs.Machine.{World, InTime, to, has, phase_after_look, phase_after_announce, phase_after_look_again, after_look, after_announce, after_look_again, after_unpin}
 use Rattle.be_core.proofs.Readers.{after_look-sound, after_announce-sound, after_look_again-sound, after_unpin-sound}
-use Rattle.be_table.specs.declared.ledger.Ledger.{Ledger}
+use Rattle.be_table.specs.declared.writer_state.WriterState.{WriterState}
 use Rattle.be_table.specs.declared.limits.Limits.{Limits}
 use Rattle.be_table.specs.declared.pass.Knowledge.{Knowledge}
 use Rattle.be_table.specs.Laws.{AllowsBy, IsLook, IsAnnounce, IsLookAgain, IsRead, IsUnpin}
 use Rattle.be_table.specs.declared.pass.Move.TheVariants.{Look, Announce, LookAgain, Unpin}
 use Rattle.be_table.specs.Rule.{alone, reach_at, page_at, current_word, HasCurrent, announce_word, word_place, Shows, one_step_on}
-use Rattle.be_table.specs.Steps.{looks, announces, pins, unpins, LookTold, Told, PinnedAt, Unpinned, PinnedRead, LookMoves, AnnounceMoves, LookAgainMoves, UnpinMoves, with_history}
+use Rattle.be_table.specs.Steps.{looks, announces, pins, unpins, LookReported, Reported, PinnedAt, Unpinned, PinnedRead, LookMoves, AnnounceMoves, LookAgainMoves, UnpinMoves, with_history}
 use Rattle.be_table.specs.Trace.{AllRest}
 use Rattle.be_table.proofs.Histories.{starts_itself}
 use Rattle.be_table.proofs.Traces.{moving, resting, as_me, one_of}
-use Rattle.be_table.proofs.Frames.{Me1, views_step, fits_counted, longer_seen, reach-front, is_pass, words_load, words_phase, words_announce, stands_phase}
+use Rattle.be_table.proofs.Frames.{Me1, views_step, fits_counted, longer_seen, reach-front, is_pass, words_load, words_phase, words_announce, fits_board_phase}
 
 look_pin : (p : Phase) (seen log : ℕ) → seen ≤ log → InTime seen p → InTime log (phase_after_look p log)
 look_pin Idle seen log le h = omega arith
@@ -39,8 +39,8 @@ same_pin (Pinned b m) c a n e = e
 pin_number : (a n x m : ℕ) → Pinned a n ≡ Pinned x m → n ≡ m
 pin_number a n x m e = cc
 
-module _ (limits : Limits) (slots i : ℕ) (a : Knowledge) (carried : List (ℕ × Option Ledger)) where
-  pub look_by : AllowsBy limits slots i (alone a, carried) 8 (λ n. n) (IsLook a.number) (LookTold (step slots 8 0 0 none) (alone a, carried))
+module _ (limits : Limits) (slots i : ℕ) (a : Knowledge) (carried : List (ℕ × Option WriterState)) where
+  pub look_by : AllowsBy limits slots i (alone a, carried) 8 (λ n. n) (IsLook a.number) (LookReported (step slots 8 0 0 none) (alone a, carried))
   look_by s b h sized at fits =
       let t = h.table in
       let fa = (h.views i (alone a) at).0.0 in
@@ -48,7 +48,7 @@ module _ (limits : Limits) (slots i : ℕ) (a : Knowledge) (carried : List (ℕ 
       let q = phase_after_look a.phase (length b.log) in
       let below : k < b.world.passes = rw h.sound.passes fa.number in
       let pq : phase_after_look (b.world.phases k) b.world.current ≡ q = (λ j. phase_after_look (fa.phase j) (t.version j)) in
-      let r = stands_phase limits s b i a (phase_after_look (b.world.phases k) b.world.current) q b.log a.image (set s.words 8 (slice_index s.words 8)) pq h at
+      let r = fits_board_phase limits s b i a (phase_after_look (b.world.phases k) b.world.current) q b.log a.image (set s.words 8 (slice_index s.words 8)) pq h at
       (after_look-sound b.world h.sound.machine k below)
       (words_phase b.world (page_at b.log (length b.log)) (set s.words 8 (slice_index s.words 8)) (words_load b.world (page_at b.log (length b.log)) s.words t.words 8) k (phase_after_look (b.world.phases k) b.world.current) (look_word (b.world.phases k) b.world.current))
       (look_pin a.phase (length a.seen) (length b.log) (longer_seen b.log a.seen fa.seen) fa.pin)
@@ -60,7 +60,7 @@ module _ (limits : Limits) (slots i : ℕ) (a : Knowledge) (carried : List (ℕ 
         (b.log, (refl, fa.seen, is_pass limits _ i (looks a b.log) r.0.sound r.1, t.words.current ∙ ap (λ n. current_word n (page_at b.log (length b.log))) t.version, h.sound.page)),
       )
 
-  pub announce_by : (x : ℕ) → a.phase ≡ Looked x → AllowsBy limits slots i (alone a, carried) (16 + 8 * a.number) (λ _. x + 1) (IsAnnounce a.number) (λ _. Told (step slots (16 + 8 * a.number) (x + 1) 0 none) (alone a, carried) (x + 1))
+  pub announce_by : (x : ℕ) → a.phase ≡ Looked x → AllowsBy limits slots i (alone a, carried) (16 + 8 * a.number) (λ _. x + 1) (IsAnnounce a.number) (λ _. Reported (step slots (16 + 8 * a.number) (x + 1) 0 none) (alone a, carried) (x + 1))
   announce_by x is s b h sized at fits =
       let t = h.table in
       let fa = (h.views i (alone a) at).0.0 in
@@ -71,7 +71,7 @@ module _ (limits : Limits) (slots i : ℕ) (a : Knowledge) (carried : List (ℕ 
       let looked : b.world.phases k ≡ Looked x = fa.phase ∙ is in
       let pq : phase_after_announce (b.world.phases k) ≡ Announced x = ap phase_after_announce looked in
       let one : x + 1 ≡ suc x = omega arith in
-      let r = stands_phase limits s b i a (phase_after_announce (b.world.phases k)) (Announced x) a.seen a.image (set s.words (16 + 8 * k) (x + 1)) pq h at
+      let r = fits_board_phase limits s b i a (phase_after_announce (b.world.phases k)) (Announced x) a.seen a.image (set s.words (16 + 8 * k) (x + 1)) pq h at
       (after_announce-sound b.world h.sound.machine k (below, (x, looked)))
       (words_announce b.world (page_at b.log (length b.log)) s.words t.words k (x + 1) (phase_after_announce (b.world.phases k)) below few (one ∙ ap announce_word (sym pq)))
       low fa.seen fa.own (λ w. (fa.whole w).log) (λ y n p i e. absurd (cc)) in
@@ -89,7 +89,7 @@ module _ (limits : Limits) (slots i : ℕ) (a : Knowledge) (carried : List (ℕ 
       let announced : b.world.phases k ≡ Announced x = fa.phase ∙ is in
       let pq : phase_after_look_again (b.world.phases k) b.world.current ≡ Pinned x (length b.log) = (λ j. phase_after_look_again (announced j) (t.version j)) in
       let c = pins a x b.log s.words in
-      let r = stands_phase limits s b i a (phase_after_look_again (b.world.phases k) b.world.current) (Pinned x (length b.log)) b.log s.words (set s.words 8 (slice_index s.words 8)) pq h at
+      let r = fits_board_phase limits s b i a (phase_after_look_again (b.world.phases k) b.world.current) (Pinned x (length b.log)) b.log s.words (set s.words 8 (slice_index s.words 8)) pq h at
       (after_look_again-sound b.world h.sound.machine k (below, (x, announced)))
       (words_phase b.world (page_at b.log (length b.log)) (set s.words 8 (slice_index s.words 8)) (words_load b.world (page_at b.log (length b.log)) s.words t.words 8) k (phase_after_look_again (b.world.phases k) b.world.current) (ap announce_word pq ∙ ap announce_word (sym announced)))
       (omega arith, omega arith) (starts_itself b.log) fa.mine (λ _. refl)
@@ -112,14 +112,14 @@ module _ (limits : Limits) (slots i : ℕ) (a : Knowledge) (carried : List (ℕ 
       let k = a.number in
       let below : k < b.world.passes = rw h.sound.passes fa.number in
       let few : b.world.passes ≤ 64 = rw h.sound.passes h.sound.within.few in
-      let r = stands_phase limits s b i a Idle Idle a.seen a.image (set s.words (16 + 8 * k) 0) refl h at
+      let r = fits_board_phase limits s b i a Idle Idle a.seen a.image (set s.words (16 + 8 * k) 0) refl h at
       (after_unpin-sound b.world h.sound.machine k (below, (x, n, fa.phase ∙ is)))
       (words_announce b.world (page_at b.log (length b.log)) s.words t.words k 0 Idle below few refl)
       tt fa.seen fa.own (λ w. (fa.whole w).log) (λ y n p i e. absurd (cc)) in
       (alone (unpins a), keeps, tt, (record b { world = after_unpin b.world k }, r.0, ((below, (x, n, fa.phase ∙ is)), refl)), refl)
 
-module _ (limits : Limits) (slots i : ℕ) (a : Knowledge) (carried : List (ℕ × Option Ledger)) where
-  -- a load of a word of a pinned version finds the word of its image
+module _ (limits : Limits) (slots i : ℕ) (a : Knowledge) (carried : List (ℕ × Option WriterState)) where
+  -- a load of a word of a pinned version finds the word in its image
   pub pinned_by : (x n p j : ℕ) → a.phase ≡ Pinned x n → IsTrue (has (reach_at a.seen n) p) → j < 512 → AllowsBy limits slots i (alone a, carried) (word_place p j) (λ n. n) (IsRead a.number n p j) (PinnedRead (step slots (word_place p j) 0 0 none) (alone a, carried))
   pinned_by x n p j is reached lt s b h sized at fits =
       let t = h.table in
@@ -145,10 +145,10 @@ module _ (limits : Limits) (slots i : ℕ) (a : Knowledge) (carried : List (ℕ 
         (refl, found ∙ sym (fa.image x n p j is r lt)),
       )
 
-module _ (limits : Limits) (slots i : ℕ) (a : Knowledge) (carried : List (ℕ × Option Ledger)) (me : Me1) (e : me ≡ (alone a, carried)) where
+module _ (limits : Limits) (slots i : ℕ) (a : Knowledge) (carried : List (ℕ × Option WriterState)) (me : Me1) (e : me ≡ (alone a, carried)) where
   pub looks_as : Allows (Shows limits) slots i me 8 (λ n. n) (LookMoves (step slots 8 0 0 none) me)
   looks_as = as_me limits slots i a carried me 8 (λ n. n) (λ m. LookMoves (step slots 8 0 0 none) m) e
-      (moving limits slots i a carried 8 (λ n. n) (λ n. Look a.number) (IsLook a.number) (λ h. LookTold (step slots 8 0 0 none) (alone (with_history a h), carried)) HasCurrent (λ n. refl)
+      (moving limits slots i a carried 8 (λ n. n) (λ n. Look a.number) (IsLook a.number) (λ h. LookReported (step slots 8 0 0 none) (alone (with_history a h), carried)) HasCurrent (λ n. refl)
       (λ h. look_by limits slots i (with_history a h) carried)
       (λ n v w x. ((x.0, x.1), (x.2.0, x.2.1 ∙ ap (λ (u : World). current_word u.current x.2.0) (sym x.1), x.2.2)))
       (λ h n r x. one_of a (looks (with_history a h) x.0) h carried r x.1.0 refl refl))
@@ -156,7 +156,7 @@ module _ (limits : Limits) (slots i : ℕ) (a : Knowledge) (carried : List (ℕ 
   pub announces_as : (x word new : ℕ) → a.phase ≡ Looked x → word ≡ 16 + 8 * a.number → new ≡ x + 1 → Allows (Shows limits) slots i me word (λ _. new) (λ _. AnnounceMoves (step slots word new 0 none) me new)
   announces_as x word new is at to =
       subst (λ (p : Me1 × ℕ × ℕ). Allows (Shows limits) slots i p.0 p.1 (λ _. p.2) (λ _. AnnounceMoves (step slots p.1 p.2 0 none) p.0 p.2)) (λ k. (sym e k, sym at k, sym to k))
-      (moving limits slots i a carried (16 + 8 * a.number) (λ _. x + 1) (λ n. Announce a.number) (IsAnnounce a.number) (λ h _. Told (step slots (16 + 8 * a.number) (x + 1) 0 none) (alone (with_history a h), carried) (x + 1)) (λ n w. Unit {0}) (λ n. refl)
+      (moving limits slots i a carried (16 + 8 * a.number) (λ _. x + 1) (λ n. Announce a.number) (IsAnnounce a.number) (λ h _. Reported (step slots (16 + 8 * a.number) (x + 1) 0 none) (alone (with_history a h), carried) (x + 1)) (λ n w. Unit {0}) (λ n. refl)
       (λ h. announce_by limits slots i (with_history a h) carried x is) (λ n v w g. (g, tt)) (λ h n r t. one_of a (announces (with_history a h) (x + 1 - 1)) h carried r t refl refl))
 
   pub looks_again_as : (x : ℕ) → a.phase ≡ Announced x → Allows (Shows limits) slots i me 8 (λ n. n) (LookAgainMoves (step slots 8 0 0 none) me)

@@ -6,14 +6,14 @@ use Rattle.be_value.specs.declared.refusals.Refusal.{Refusal}
 use Rattle.be_journal.specs.Journal.{Log, IsRefused}
 use Rattle.be_table.specs.declared.pass.Commit.{Commit}
 use Rattle.be_table.specs.declared.writing.Writing.TheInside.{Inside}
-use Rattle.be_table.specs.Rule.{alone, entries, ledger_places, LeftAreRetired, page_at, pass_of}
+use Rattle.be_table.specs.Rule.{alone, entries, writer_state_places, LeftAreRetired, page_at, pass_of}
 use Rattle.be_table.specs.Seats.{pin_of}
 use Rattle.be_table.specs.Working.{HasWorked}
 use Rattle.be_table.specs.Writes.{IsOpen}
 use Rattle.be_core.specs.Machine.{has}
 use Rattle.be_table.specs.Place.{Work}
 use Rattle.be_table.specs.Works.{MakesScan, HasNoRoom}
-use Rattle.be_table.proofs.Ledgers.{place-map}
+use Rattle.be_table.proofs.WriterStates.{place-map}
 use Rattle.be_table.proofs.Traces.{pass_history}
 use Rattle.be_table.proofs.Listed.{listed, tested}
 use Rattle.be_pages.specs.declared.page_pool.Place.{Place}
@@ -21,7 +21,7 @@ use Rattle.be_pages.specs.declared.page_pool.Place.TheVariants.{Free, Reserved, 
 use Rattle.be_table.specs.declared.pass.Knowledge.{Knowledge}
 use Rattle.be_table.specs.Steps.{IsPass, NoCommitReaches}
 use Rattle.be_pages.specs.Place.{is_in_hand, place_of, swept_place}
-use Rattle.be_table.specs.Ledger.{shows_taken, shows_free}
+use Rattle.be_table.specs.WriterState.{shows_taken, shows_free}
 
 pub may_fill : (x : Place) → IsTrue (is_in_hand x) → IsTrue (shows_taken x || shows_free x)
 may_fill Free h = refl
@@ -51,21 +51,21 @@ unswept l (Retired r) h = retired (nat_lt r l) h
     retired true z = z
     retired false z = z
 
--- where a whole scan leaves no page free, the write holds each page that no version from the least on reaches
+-- if a whole scan leaves no page free, the write holds each page that no version from the lowest number on has
 pub all_held : (old new : Work) (least : ℕ) → MakesScan old new least → ((p : ℕ) → p < length new.knows.places → place_of new.knows.places p ≢ Free)
     → (p : ℕ) → p < length new.knows.places → NoCommitReaches new.knows.seen least p → IsTrue (has new.knows.held p)
 all_held old new least h none p lp un =
-    let x = in_hand_of (place_of new.knows.places p) (h.leaves p lp (λ n lo hi. un n (let e = h.least_is in omega arith) hi)) (none p lp) in
+    let x = in_hand_of (place_of new.knows.places p) (h.leaves p lp (λ n lo hi. un n (let e = h.lowest_is in omega arith) hi)) (none p lp) in
     let same : place_of new.knows.places p ≡ swept_place least (place_of old.knows.places p) = ap (λ l. place_of l p) h.places ∙ place-map (swept_place least) refl old.knows.places p in
     let inside : p < length old.knows.places = (let e = ap length h.places in let f = length-map old.knows.places (swept_place least) in omega arith) in
     let y = unswept least (place_of old.knows.places p) (subst (λ z. IsTrue (is_in_hand z)) same x) in
     ap (λ l. has l p) h.held ∙ listed is_in_hand old.knows.places p ∙ tested is_in_hand old.knows.places p inside ∙ y
 
--- what a write does to the pages leaves the rest of what is so of the pass
+-- what a write does to the pages doesn't change what else holds for the pass
 pub going_pass : (a : Knowledge) (scanned least : ℕ) (places : List Place) (words held : List ℕ) (steps : ℕ) → IsPass a → IsPass (record a { scanned = scanned; least = least; places = places; words = words; held = held; steps = steps })
-going_pass a scanned least places words held steps h = record { within = h.within; legal = h.legal; number_below = h.number_below; by_passes = h.by_passes; room = h.room; inside = h.inside; own_pages = h.own_pages; volumes = h.volumes; pin = h.pin; mine = h.mine; spelt = h.spelt }
+going_pass a scanned least places words held steps h = record { within = h.within; legal = h.legal; number_below = h.number_below; by_passes = h.by_passes; room = h.room; inside = h.inside; own_pages = h.own_pages; volumes = h.volumes; pin = h.pin; mine = h.mine; encoded = h.encoded }
 
--- the journal in hand is as long as what the pass has seen
+-- the journal in the writer state is as long as what the pass has seen
 pub seen_length : (log : List Commit) → length (entries log) ≡ length log
 seen_length log = length-map log (λ c. c.entry)
 
@@ -78,10 +78,10 @@ no_room a log r e l h =
 pub has_room : (a : Knowledge) (log : Log) → log.entries ≡ entries a.seen → log.limit ≡ a.limits.commits → length log.entries < log.limit → length a.seen < a.limits.commits
 has_room a log e l lt = let long : length log.entries ≡ length a.seen = ap length e ∙ seen_length a.seen in omega arith
 
--- a write goes on: the pass, the places and the page words change, and the journal and the version page stay
-pub reopened : (w v : Inside) (c : Knowledge) → let a = pass_of w.base.me.0 in IsOpen w → v.table.now ≡ w.table.now → v.marks ≡ w.marks → v.reserved ≡ w.reserved → v.ledger.journal ≡ w.ledger.journal → v.ledger.page ≡ w.ledger.page
+-- a write continues: the pass, the places and the page words change, and the journal and the version page stay
+pub reopened : (w v : Inside) (c : Knowledge) → let a = pass_of w.base.me.0 in IsOpen w → v.table.now ≡ w.table.now → v.marks ≡ w.marks → v.reserved ≡ w.reserved → v.writer_state.journal ≡ w.writer_state.journal → v.writer_state.page ≡ w.writer_state.page
     → v.base.table_id ≡ w.base.table_id → v.base.me ≡ (alone c, (0, None) ∷ []) → c ≡ record a { scanned = c.scanned; least = c.least; places = c.places; words = c.words; held = c.held; steps = c.steps; history = c.history }
-    → c.scanned ≡ 0 → length c.words ≡ length a.words → length c.places ≡ length a.places → ledger_places v.ledger ≡ c.places → LeftAreRetired v.ledger
+    → c.scanned ≡ 0 → length c.words ≡ length a.words → length c.places ≡ length a.places → writer_state_places v.writer_state ≡ c.places → LeftAreRetired v.writer_state
     → (c.published ≡ false → HasWorked c.limits c.number c.history) → IsOpen v
 reopened w v c i table marks reserved journal page id me same turn size count places left worked =
     let a = pass_of w.base.me.0 in

@@ -5,11 +5,11 @@ use Rattle.std.proofs.lemmas.Bool.{cases_lt}
 use Rattle.std.proofs.lemmas.List.{length-map}
 use mathlib.Core.Option.{none}
 use Rattle.atomic_table.specs.Table.{keeps, step, Allows}
-use Rattle.be_core.specs.Machine.{World, Holder, Sound, InTime, has, MayPublish as MayPublishAt, after_publish}
+use Rattle.be_core.specs.Machine.{World, Writer, Sound, InTime, has, MayPublish as MayPublishAt, after_publish}
 use Rattle.be_core.proofs.Writers.{after_publish-sound}
 use Rattle.be_core.proofs.Places.{update-same, test-other}
 use Rattle.be_journal.specs.declared.entries.Entry.{Entry}
-use Rattle.be_table.specs.declared.ledger.Ledger.{Ledger}
+use Rattle.be_table.specs.declared.writer_state.WriterState.{WriterState}
 use Rattle.be_pages.specs.declared.page_pool.Place.{Place}
 use Rattle.be_pages.specs.declared.page_pool.Place.TheVariants.{Free, Reserved, Filled, Current, GivenUp, Retired}
 use Rattle.be_table.specs.declared.limits.Limits.{Limits}
@@ -21,18 +21,18 @@ use Rattle.be_journal.specs.Journal.{by_pass, replay}
 use Rattle.be_table.specs.History.{AreOfPasses, StartsWith, IsHistory}
 use Rattle.be_table.specs.Laws.{AllowsBy, IsPublish}
 use Rattle.be_pages.specs.Place.{retired_number, place_of, published_place}
-use Rattle.be_table.specs.Ledger.{ShowsPlaces, shows_free, shows_taken, is_current, is_of_next, is_given, retired_with}
-use Rattle.be_table.specs.Rule.{alone, Board, entries, nothing, reach_at, page_at, word_place, current_word, known_holder, WordsAgree, IsSoundBoard, ImageIs, Fits, Shows}
+use Rattle.be_table.specs.WriterState.{ShowsPlaces, shows_free, shows_taken, is_current, is_of_next, is_given, retired_with}
+use Rattle.be_table.specs.Rule.{alone, Board, entries, nothing, reach_at, page_at, word_place, current_word, known_writer, WordsAgree, IsSoundBoard, ImageIs, Fits, Shows}
 use Rattle.be_table.specs.Steps.{pages_from, commit_of, publishes, MayPublish, Published, PublishMoves, NoneRetiredLater, given_of, with_history}
 use Rattle.be_table.specs.Reading.{word_of_page}
-use Rattle.be_table.specs.Versions.{in_pages, SpellsVolume}
-use Rattle.be_table.proofs.Versions.{spells_same, clipped, take_front, take_all}
+use Rattle.be_table.specs.Versions.{in_pages, EncodesVolume}
+use Rattle.be_table.proofs.Versions.{encodes_same, clipped, take_front, take_all}
 use Rattle.be_table.proofs.Histories.{starts_itself, starts_more, by_pass-own, by_pass-other, legal-push, below-push}
-use Rattle.be_table.proofs.Frames.{Me1, views_step, entries-append, reach-append, page-append, is_pass, in_time_later, longer_seen, not_holder, pages_else}
+use Rattle.be_table.proofs.Frames.{Me1, views_step, entries-append, reach-append, page-append, is_pass, in_time_later, longer_seen, not_writer, pages_else}
 use Rattle.be_table.proofs.Traces.{moving, as_me, one_of}
 use Rattle.be_table.proofs.Locks.{at_work, held_by, same_some, unheld_by}
-use Rattle.be_table.proofs.Ledgers.{place-map}
-use Rattle.be_table.proofs.Standings.{reach_shown, reach_past}
+use Rattle.be_table.proofs.WriterStates.{place-map}
+use Rattle.be_table.proofs.PageStates.{reach_shown, reach_past}
 use Rattle.be_table.proofs.Listed.{listed, all_listed, distinct, tested, untested}
 
 at_end : (log : List Commit) (c : Commit) → slice_index_or (log ++ c ∷ []) (length log) nothing ≡ c
@@ -128,19 +128,19 @@ module _ (xs : List Place) (w : World) (s : Sound w) (shown : ShowsPlaces xs w) 
     | inr le ↦ absurd (let e : has (pages_from is_of_next 0 xs) q ≡ false = listed is_of_next xs q ∙ untested is_of_next xs q le in cc)
   ]
 
--- what an older version spells
-older_spelt : (log : List Commit) (c : Commit) (words : ℕ → ℕ → ℕ) (n : ℕ) → n ≤ length log → SpellsVolume (reach_at log n) (in_pages words) (page_at log n) (replay (take n (entries log)))
-    → SpellsVolume (reach_at (log ++ c ∷ []) n) (in_pages words) (page_at (log ++ c ∷ []) n) (replay (take n (entries (log ++ c ∷ []))))
-older_spelt log c words n le h =
+-- what an older version encodes
+older_encoded : (log : List Commit) (c : Commit) (words : ℕ → ℕ → ℕ) (n : ℕ) → n ≤ length log → EncodesVolume (reach_at log n) (in_pages words) (page_at log n) (replay (take n (entries log)))
+    → EncodesVolume (reach_at (log ++ c ∷ []) n) (in_pages words) (page_at (log ++ c ∷ []) n) (replay (take n (entries (log ++ c ∷ []))))
+older_encoded log c words n le h =
     let front : take n (entries (log ++ c ∷ [])) ≡ take n (entries log) = ap (take n) (entries-append log (c ∷ [])) ∙ take_front (entries log) (entries (c ∷ [])) n (let l = length-map log (λ (x : Commit). x.entry) in omega (arith, l, le)) in
-    subst (λ (q : List ℕ × ℕ × List Entry). SpellsVolume q.0 (in_pages words) q.1 (replay q.2)) (λ k. (sym (reach-append log (c ∷ []) n le) k, sym (page-append log (c ∷ []) n le) k, sym front k)) h
+    subst (λ (q : List ℕ × ℕ × List Entry). EncodesVolume q.0 (in_pages words) q.1 (replay q.2)) (λ k. (sym (reach-append log (c ∷ []) n le) k, sym (page-append log (c ∷ []) n le) k, sym front k)) h
 
 -- a filled page is one of the new version
 kept_filled : (xs : List Place) (v : ℕ) → v < length xs → place_of xs v ≡ Filled → IsTrue (has (pages_from is_of_next 0 xs) v)
 kept_filled xs v lt is = listed is_of_next xs v ∙ tested is_of_next xs v lt ∙ ap is_of_next is
 
 -- the current number is stored
-words_publish : (w : World) (page v : ℕ) (ws : List ℕ) (given : List ℕ) (n : ℕ) (h : Holder) → w.holder ≡ Some h → w.passes ≤ 64 → n ≡ current_word (suc w.current) v → WordsAgree w page ws → WordsAgree (after_publish w given) v (set ws 8 n)
+words_publish : (w : World) (page v : ℕ) (ws : List ℕ) (given : List ℕ) (n : ℕ) (h : Writer) → w.writer ≡ Some h → w.passes ≤ 64 → n ≡ current_word (suc w.current) v → WordsAgree w page ws → WordsAgree (after_publish w given) v (set ws 8 n)
 words_publish w page v ws given n g held few is h = record {
   size = length-set ws 8 n ∙ h.size;
   lock = get_or-set_other ws 8 0 n 0 (λ e. absurd (omega arith)) ∙ h.lock ∙ rw held refl;
@@ -169,12 +169,12 @@ no_later a g s shown now q = by_place (place_of a.places q) refl
     by_place GivenUp e = omega arith
     by_place (Retired r) e = let lt = (s.was_reached q r (shown.retired q ∙ ap retired_with e)).0 in omega arith
 
-module _ (limits : Limits) (slots i : ℕ) (a : Knowledge) (carried : List (ℕ × Option Ledger)) where
+module _ (limits : Limits) (slots i : ℕ) (a : Knowledge) (carried : List (ℕ × Option WriterState)) where
   pub publish_by : (e : Entry) (v new : ℕ) → MayPublish limits a e v → new ≡ current_word (length a.seen + 1) v
       → AllowsBy limits slots i (alone a, carried) 8 (λ _. new) (IsPublish a.number v (pages_from is_given 0 a.places)) (λ _. Published e v (step slots 8 new 0 none) (alone a, carried) new)
   publish_by e v new may is s b0 h0 sized at fits =
       let work = at_work limits s b0 i a h0 at may.writes in
-      let b : Board = held_by b0 (Some (known_holder a)) in
+      let b : Board = held_by b0 (Some (known_writer a)) in
       let h = work.0 in
       let m = work.1 in
       let g = b.world in
@@ -194,7 +194,7 @@ module _ (limits : Limits) (slots i : ℕ) (a : Knowledge) (carried : List (ℕ 
       let allowed : MayPublishAt g a.number v given = (
         rw (h.sound.commits, now) may.room,
         inside,
-        (known_holder a, (refl, refl, may.unpublished)),
+        (known_writer a, (refl, refl, may.unpublished)),
         rw (m.shown.taken v) (ap shows_taken may.filled),
         distinct is_given a.places,
         all_listed is_given (λ q. IsTrue (g.reach g.current q)) a.places (given_reached a.places g h.sound.machine m.shown m.count),
@@ -216,7 +216,7 @@ module _ (limits : Limits) (slots i : ℕ) (a : Knowledge) (carried : List (ℕ 
         mine = grown;
         own = ap (λ l. by_pass a.number (entries l)) grows ∙ grown;
         writes = fa.writes;
-        whole = λ _. record { log = grows; holder = refl; turn = m.turn; count = length-map a.places (published_place (length a.seen)) ∙ m.count; shown = shown; size = m.size; words = m.words };
+        whole = λ _. record { log = grows; writer = refl; turn = m.turn; count = length-map a.places (published_place (length a.seen)) ∙ m.count; shown = shown; size = m.size; words = m.words };
         phase = fa.phase;
         pin = in_time_later (length a.seen) (length c.seen) a.phase (let z = length-append a.seen (commit ∷ []) in omega arith) fa.pin;
         image = image_kept g given a.phase a.image (length a.seen) (omega arith) fa.pin fa.image;
@@ -244,7 +244,7 @@ module _ (limits : Limits) (slots i : ℕ) (a : Knowledge) (carried : List (ℕ 
         pages = h.sound.pages;
         passes = h.sound.passes;
         commits = h.sound.commits;
-        holder = λ k q. subst (λ (k : Holder). k.pass < limits.passes) (same_some _ _ q) fa.number;
+        writer = λ k q. subst (λ (k : Writer). k.pass < limits.passes) (same_some _ _ q) fa.number;
         reaches = λ n p le. elim (cases_lt n (suc g.current)) [
           | inl lt ↦ rw (test-other n (suc g.current) (λ z. absurd (omega arith))) (h.sound.reaches n p (omega arith) ∙ ap (λ l. has l p) (sym (reach-append b.log (commit ∷ []) n (omega arith))))
           | inr past ↦
@@ -253,18 +253,18 @@ module _ (limits : Limits) (slots i : ℕ) (a : Knowledge) (carried : List (ℕ 
               (ap (λ (f : ℕ → Bool). f p) (update-same g.reach (suc g.current) (λ p. (g.reach g.current p && not (has given p)) || g.taken p)) ∙ reach_new a.places g h.sound.machine m.shown m.count may.none_reserved p ∙ ap (λ l. has l p) (sym (ap (λ k. reach_at log (suc k)) version ∙ newest)))
         ];
         machine = sound;
-        spelt = λ n le. elim (cases_lt n (suc (length b.log))) [
-          | inl lt ↦ rw (test-other n (suc g.current) (λ z. absurd (omega arith))) (older_spelt b.log commit (g.image n) n (omega arith) (h.sound.spelt n (omega arith)))
+        encoded = λ n le. elim (cases_lt n (suc (length b.log))) [
+          | inl lt ↦ rw (test-other n (suc g.current) (λ z. absurd (omega arith))) (older_encoded b.log commit (g.image n) n (omega arith) (h.sound.encoded n (omega arith)))
           | inr past ↦
               let at_new : n ≡ suc (length b.log) = omega arith in
-              subst (λ n. SpellsVolume (reach_at log n) (in_pages (w.image n)) (page_at log n) (replay (take n (entries log)))) (sym at_new)
-              (subst (λ (q : List ℕ × (ℕ → ℕ → ℕ) × ℕ × List Entry). SpellsVolume q.0 (in_pages q.1) q.2 (replay q.3))
+              subst (λ n. EncodesVolume (reach_at log n) (in_pages (w.image n)) (page_at log n) (replay (take n (entries log)))) (sym at_new)
+              (subst (λ (q : List ℕ × (ℕ → ℕ → ℕ) × ℕ × List Entry). EncodesVolume q.0 (in_pages q.1) q.2 (replay q.3))
               (λ k. (sym newest k, sym (ap w.image (ap suc (sym version)) ∙ update-same g.image (suc g.current) g.words) k, sym (ap (page_at log) (sym long) ∙ page) k, sym whole k))
-              (spells_same commit.reach (word_of_page a.words) (in_pages g.words) v (replay (entries a.seen ++ e ∷ []))
+              (encodes_same commit.reach (word_of_page a.words) (in_pages g.words) v (replay (entries a.seen ++ e ∷ []))
               (λ q r.
               let z = kept_inside a.places g h.sound.machine m.shown m.count q r in
               clipped (g.words q) (λ j. slice_index a.words (word_place q j)) (λ j lt. sym (m.words q j (omega (arith, z, m.count)) lt)))
-              may.spelt))
+              may.encoded))
         ];
       } in (
         alone c,
@@ -274,7 +274,7 @@ module _ (limits : Limits) (slots i : ℕ) (a : Knowledge) (carried : List (ℕ 
           d,
           record {
             table = record {
-              words = subst (λ p. WordsAgree w p (set s.words 8 new)) (sym page) (words_publish g (page_at b.log (length b.log)) v s.words given new (known_holder a) refl few (is ∙ ap (λ n. current_word n v) (omega arith)) h.table.words);
+              words = subst (λ p. WordsAgree w p (set s.words 8 new)) (sym page) (words_publish g (page_at b.log (length b.log)) v s.words given new (known_writer a) refl few (is ∙ ap (λ n. current_word n v) (omega arith)) h.table.words);
               home = h.table.home;
               version = ap suc version ∙ sym long;
             };
@@ -288,19 +288,19 @@ module _ (limits : Limits) (slots i : ℕ) (a : Knowledge) (carried : List (ℕ 
                   mine = ap (by_pass x.number) (entries-append b.log (commit ∷ [])) ∙ by_pass-other x.number (entries b.log) e (λ q. ne (sym q ∙ may.by)) ∙ f.mine;
                   own = f.own;
                   writes = f.writes;
-                  whole = λ t. absurd (not_holder b a x ne refl (f.whole t));
+                  whole = λ t. absurd (not_writer b a x ne refl (f.whole t));
                   phase = f.phase;
                   pin = f.pin;
                   image = image_kept g given x.phase x.image (length x.seen) (let z = longer_seen b.log x.seen f.seen in omega arith) f.pin f.image;
                 })
                 fc;
           },
-          unheld_by b0.world (known_holder a) (λ u. IsPublish a.number v given 0 u w) ((h0.views i (alone a) at).0.0.whole may.writes).holder (allowed, refl),
+          unheld_by b0.world (known_writer a) (λ u. IsPublish a.number v given 0 u w) ((h0.views i (alone a) at).0.0.whole may.writes).writer (allowed, refl),
         ),
         (refl, is_pass limits d i c sd fc, no_later a g h.sound.machine m.shown now),
       )
 
-module _ (limits : Limits) (slots i : ℕ) (a : Knowledge) (carried : List (ℕ × Option Ledger)) (me : Me1) (m : me ≡ (alone a, carried)) where
+module _ (limits : Limits) (slots i : ℕ) (a : Knowledge) (carried : List (ℕ × Option WriterState)) (me : Me1) (m : me ≡ (alone a, carried)) where
   pub publishes_as : (e : Entry) (v new : ℕ) → MayPublish limits a e v → new ≡ current_word (length a.seen + 1) v → Allows (Shows limits) slots i me 8 (λ _. new) (λ _. PublishMoves e v (step slots 8 new 0 none) me new)
   publishes_as e v new may is =
       as_me limits slots i a carried me 8 (λ _. new) (λ m _. PublishMoves e v (step slots 8 new 0 none) m new) m
@@ -308,4 +308,4 @@ module _ (limits : Limits) (slots i : ℕ) (a : Knowledge) (carried : List (ℕ 
       (λ h. publish_by limits slots i (with_history a h) carried e v new (dated_may h) is) (λ n u w g. (g, tt)) (λ h n r t. one_of a (publishes (with_history a h) e v) h carried r t.0 refl refl))
     where
       dated_may : (h : List Move) → MayPublish limits (with_history a h) e v
-      dated_may h = record { writes = may.writes; unpublished = may.unpublished; by = may.by; agrees = may.agrees; operations = may.operations; room = may.room; inside = may.inside; filled = may.filled; none_reserved = may.none_reserved; spelt = may.spelt }
+      dated_may h = record { writes = may.writes; unpublished = may.unpublished; by = may.by; agrees = may.agrees; operations = may.operations; room = may.room; inside = may.inside; filled = may.filled; none_reserved = may.none_reserved; encoded = may.encoded }

@@ -15,10 +15,10 @@ use Rattle.be_tree.specs.Counting.{in_hand, one_of}
 use Rattle.be_table.specs.declared.pass.Commit.{Commit}
 use Rattle.be_table.specs.declared.pass.Knowledge.{Knowledge}
 use Rattle.be_table.specs.Counts.{count_below, is_reached, reached}
-use Rattle.be_table.specs.Reading.{standing_among, standing_at}
+use Rattle.be_table.specs.Reading.{page_state_among, page_state_at}
 use Rattle.be_table.specs.Rule.{reach_at}
 use Rattle.be_table.specs.Steps.{NoCommitReaches}
-use Rattle.be_table.specs.Versions.{SpellsVolume}
+use Rattle.be_table.specs.Versions.{EncodesVolume}
 use Rattle.be_table.specs.Works.{HoldsStill, IsSpent}
 use Rattle.be_volume.specs.Volume.{State}
 use Rattle.be_tree_reading.proofs.Frame.{times-cons}
@@ -48,7 +48,7 @@ one_of_them (suc n) p = elim (cases_eq p n) [
   | inr ne ↦ omega (arith, one_of_them n p, not_here p n ne)
 ]
 
--- a list has no more of the pages than it is long
+-- the number of pages in a list is at most its length
 none_of_none : (n : ℕ) → count_below (has []) n ≡ 0
 none_of_none zero = refl
 none_of_none (suc n) = omega (arith, none_of_none n)
@@ -65,7 +65,7 @@ listed : (ps : List ℕ) (n : ℕ) → count_below (has ps) n ≤ length ps
 listed [] n = omega (arith, none_of_none n)
 listed (p ∷ ps) n = omega (arith, one_more n p ps, one_of_them n p, listed ps n)
 
--- each page passes one of two tests
+-- each page passes at least one of two tests
 all_counted : (f g : ℕ → Bool) (n : ℕ) → ((p : ℕ) → p < n → 1 ≤ bit (f p) + bit (g p)) → n ≤ count_below f n + count_below g n
 all_counted f g zero each = omega arith
 all_counted f g (suc n) each = omega (arith, each n (omega arith), all_counted f g n (λ p lt. each p (omega (arith, lt))))
@@ -78,7 +78,7 @@ right_false : (a b : Bool) → (a || b) ≡ false → b ≡ false
 right_false true b e = cc
 right_false false b e = e
 
--- a page that is not reached is in none of the versions
+-- a page that isn't reached is in none of the versions
 unreached : (seen : List Commit) (first k j p : ℕ) → is_reached seen first k p ≡ false → j < k → has (reach_at seen (first + j)) p ≡ false
 unreached seen first zero j p e lt = absurd (omega (arith, lt))
 unreached seen first (suc k) j p e lt = elim (cases_eq j k) [
@@ -103,7 +103,7 @@ module _ (a : Knowledge) (least : ℕ) (spent : IsSpent a least) where
   pub shared : a.limits.pages ≤ reached a.seen least a.limits.pages + count_below (has a.held) a.limits.pages
   shared = all_counted (is_reached a.seen least (suc (length a.seen) - least)) (has a.held) a.limits.pages counted
 
--- of the current version alone
+-- for the current version only
 false_right : (a : Bool) → (a || false) ≡ a
 false_right true = refl
 false_right false = refl
@@ -127,8 +127,8 @@ shared_now a spent =
     plus_none : (n : ℕ) → n + 0 ≡ n
     plus_none n = omega arith
 
--- pages that are in hand are counted as such
-in_hand_taken : (x : Place) → IsTrue (is_in_hand x) → is_taken (standing_at x) ≡ true
+-- pages that the write holds are counted as such
+in_hand_taken : (x : Place) → IsTrue (is_in_hand x) → is_taken (page_state_at x) ≡ true
 in_hand_taken Nowhere h = h
 in_hand_taken Reserved h = refl
 in_hand_taken Filled h = refl
@@ -136,7 +136,7 @@ in_hand_taken Current h = h
 in_hand_taken GivenUp h = h
 in_hand_taken (Retired n) h = h
 
-taken_at : (xs : List Place) (p : ℕ) → p < 16384 → IsTrue (is_in_hand (place_of xs p)) → is_taken (standing_among xs p) ≡ true
+taken_at : (xs : List Place) (p : ℕ) → p < 16384 → IsTrue (is_in_hand (place_of xs p)) → is_taken (page_state_among xs p) ≡ true
 taken_at xs p small h = elim (cases_lt p (length xs)) [
   | inl lt ↦
       let in_range : nat_lt p 16384 ≡ true = lt-ltb p 16384 (omega (arith, small)) in
@@ -149,12 +149,12 @@ one_of_true : (b t : Bool) → (b ≡ true → t ≡ true) → bit b ≤ one_of 
 one_of_true false t h = omega arith
 one_of_true true t h = subst (λ (c : Bool). 1 ≤ one_of c) (sym (h refl)) (omega arith)
 
-pub still_counted : (a : Knowledge) (n : ℕ) → HoldsStill a → n ≤ 16384 → count_below (has a.held) n ≤ in_hand n (standing_among a.places)
+pub still_counted : (a : Knowledge) (n : ℕ) → HoldsStill a → n ≤ 16384 → count_below (has a.held) n ≤ in_hand n (page_state_among a.places)
 still_counted a zero still small = omega arith
 still_counted a (suc n) still small =
-    omega (arith, still_counted a n still (omega (arith, small)), one_of_true (has a.held n) (is_taken (standing_among a.places n)) (λ h. taken_at a.places n (omega (arith, small)) (still n h)))
+    omega (arith, still_counted a n still (omega (arith, small)), one_of_true (has a.held n) (is_taken (page_state_among a.places n)) (λ h. taken_at a.places n (omega (arith, small)) (still n h)))
 
--- the pages that a version has are those that it reaches
+-- the pages of a version are those that it reaches
 absent : (q : ℕ) (ps : List ℕ) → has ps q ≡ false → times q ps ≡ 0
 absent q [] h = refl
 absent q (p ∷ ps) h =
@@ -168,10 +168,10 @@ present pages ps q e = by (has ps q) refl
     by true h = at_most_one (has pages q)
     by false h = omega (arith, absent q ps h)
 
-spelt_few : (pages ps : List ℕ) (n : ℕ) → ((q : ℕ) → times q ps ≡ bit (has pages q)) → count_below (has pages) n ≤ count_below (has ps) n
-spelt_few pages ps zero exact = omega arith
-spelt_few pages ps (suc n) exact = omega (arith, spelt_few pages ps n exact, present pages ps n (exact n))
+encoded_few : (pages ps : List ℕ) (n : ℕ) → ((q : ℕ) → times q ps ≡ bit (has pages q)) → count_below (has pages) n ≤ count_below (has ps) n
+encoded_few pages ps zero exact = omega arith
+encoded_few pages ps (suc n) exact = omega (arith, encoded_few pages ps n exact, present pages ps n (exact n))
 
-pub spelt_counted : (pages : List ℕ) (words : ℕ → ℕ → ℕ) (page n most : ℕ) (volume : State) → SpellsVolume pages words page volume → 5 * length (reach words page) ≤ most → 5 * count_below (has pages) n ≤ most
-spelt_counted pages words page n most volume s few =
-    omega (arith, spelt_few pages (reach words page) n s.exact, listed (reach words page) n)
+pub encoded_counted : (pages : List ℕ) (words : ℕ → ℕ → ℕ) (page n most : ℕ) (volume : State) → EncodesVolume pages words page volume → 5 * length (reach words page) ≤ most → 5 * count_below (has pages) n ≤ most
+encoded_counted pages words page n most volume s few =
+    omega (arith, encoded_few pages (reach words page) n s.exact, listed (reach words page) n)

@@ -1,4 +1,4 @@
--- The oldest announcement of a scan, and where the pages are after it.
+-- The oldest number that a scan found announced, and where the pages are after the scan.
 use Rattle.std.proofs.Common.{◌≡◌, ℕ, zero, suc, ◌<◌, ◌≤◌, List, [], ◌∷◌, ◌++◌, length, slice_index, true, Some, None, refl, sym, ap, ◌∙◌, subst, arith, length-append}
 use Rattle.std.specs.declared.option.Option.{Option}
 use mathlib.Core.Logic.{dite}
@@ -23,7 +23,7 @@ in_front [] n i lt = absurd (omega (arith, lt))
 in_front (x ∷ xs) n zero lt = refl
 in_front (x ∷ xs) n (suc i) lt = in_front xs n i (omega (arith, lt))
 
--- one word more: what is so of each word, by its place
+-- one more word: what holds for each word, by its place
 each_word : (P : ℕ → ℕ → Type 0) (words : List ℕ) (n : ℕ) → ((k : ℕ) → k < length words → P k (slice_index words k)) → P (length words) n
     → (k : ℕ) → k < length (words ++ n ∷ []) → P k (slice_index (words ++ n ∷ []) k)
 each_word P words n front last k lt =
@@ -54,7 +54,7 @@ oldest_first words n a pass is long h =
           (λ b e. (omega (arith, e, is), λ low. absurd (omega (arith, low, long)))) k lt b word,
     )
 
--- it has announced a lesser number
+-- it has announced a lower number
 pub oldest_new : (words : List ℕ) (o : Announcement) (n a pass : ℕ) → n ≡ suc a → length words ≡ pass → a < o.number → IsOldest words (Some o) → IsOldest (words ++ n ∷ []) (Some record { number = a; pass = pass })
 oldest_new words o n a pass is long less h =
     let more = length-append words (n ∷ []) in (
@@ -65,7 +65,7 @@ oldest_new words o n a pass is long less h =
           (λ b e. (omega (arith, e, is), λ low. absurd (omega (arith, low, long)))) k lt b word,
     )
 
--- it has announced no lesser one
+-- it hasn't announced a lower number
 pub oldest_stays : (words : List ℕ) (o : Announcement) (n a : ℕ) → n ≡ suc a → o.number ≤ a → IsOldest words (Some o) → IsOldest (words ++ n ∷ []) (Some o)
 oldest_stays words o n a is le h =
     let more = length-append words (n ∷ []) in

@@ -1,4 +1,4 @@
--- The words for which the table has no use.
+-- The words that the table doesn't use.
 use Rattle.std.proofs.Common.{sym, ◌∙◌, arith, length-set, get_or-set_same}
 use Rattle.be_table.specs.Laws.{UnusedAreZero, UnusedStayZero}
 

@@ -69,17 +69,17 @@ any_locked : (k : ℕ) (h : List Move) → list_any (is_lock_of k) (h ++ Lock k 
 any_locked k [] = ap (λ (b : Bool). b || false) (eq-eqb k k refl)
 any_locked k (m ∷ h) = ap (λ (b : Bool). is_lock_of k m || b) (any_locked k h) ∙ true_after (is_lock_of k m)
 
--- a history that ends with a lock goes up to it
+-- a history that ends with a lock is the history up to that lock
 pub upto_locked : (k : ℕ) (h : List Move) → upto_lock k (h ++ Lock k ∷ []) ≡ h ++ Lock k ∷ []
 upto_locked k [] = ap (λ (b : Bool). if b then Lock k ∷ [] else []) (any_locked k [])
 upto_locked k (m ∷ h) =
     ap (λ (b : Bool). if b then m ∷ upto_lock k (h ++ Lock k ∷ []) else []) (any_locked k (m ∷ h)) ∙ ap (λ (l : List Move). m ∷ l) (upto_locked k h)
 
--- after the lock of this call the history goes up to it
+-- after this call's lock, the history is the one up to the lock
 pub upto_now : (k : ℕ) (old new : List Move) → Makes k old (Lock k ∷ []) new → upto_lock k new ≡ new
 upto_now k old new m = subst (λ (l : List Move). upto_lock k l ≡ l) (sym m.2) (upto_locked k (old ++ m.0))
 
--- a move that is no lock leaves it
+-- a move that isn't a lock doesn't change it
 pub upto_one : (k : ℕ) (old new : List Move) (x : Move) → is_lock_of k x ≡ false → Makes k old (x ∷ []) new → upto_lock k new ≡ upto_lock k old
 upto_one k old new x other m =
     ap (upto_lock k) m.2 ∙ upto_more k (old ++ m.0) (x ∷ []) (ap (λ (b : Bool). b || false) other) ∙ upto_more k old m.0 (none_locks k m.0 m.1)
@@ -128,7 +128,7 @@ pub reasons_left : (limits : Limits) (k : ℕ) (old own new : List Move) → Mak
 reasons_left limits k old [] new a = a
 reasons_left limits k old (m ∷ own) new a = (a.0, a.1, reasons_left limits k ((old ++ a.0) ++ m ∷ []) own new a.3)
 
--- each of the moves has a reason at any time
+-- none of these moves ever needs a reason
 abbrev NeedNone : Limits → List Move → Type 0
 NeedNone limits [] = Unit {0}
 NeedNone limits (m ∷ ms) = ((before : List Move) → HasReason limits before m) × NeedNone limits ms
@@ -154,13 +154,13 @@ given_needs limits a p = return_needs limits a.number p _
 pub take_needs : (limits : Limits) (a : Knowledge) (p : ℕ) → NeedNone limits (take_moves a p)
 take_needs limits a p = ((λ before. tt), tt)
 
--- ## A write that goes on
+-- ## A write that continues
 
 -- a pass that has just taken the lock has done nothing with it
 pub worked_none : (limits : Limits) (k : ℕ) (h : List Move) → upto_lock k h ≡ h → HasWorked limits k h
 worked_none limits k h e = record { first = []; early = inl refl; begun = upto_lock k h; scanned = refl; own = []; work = tt; made = sym e }
 
--- nor has it, where it has scanned once
+-- nor has a pass that has also scanned once
 pub worked_first : (limits : Limits) (k : ℕ) (old new : List Move) → upto_lock k old ≡ old → Makes k old (scans_of k limits.passes) new → HasWorked limits k new
 worked_first limits k old new e m =
     let upto : upto_lock k new ≡ old = upto_work k old (scans_of k limits.passes) new (scans_work k limits.passes) m ∙ e in

@@ -1,10 +1,10 @@
--- How many pages of a pool versions have, and an open write.
+-- How many pages of a pool versions and an open write have.
 use Rattle.std.specs.Prelude.{ℕ, zero, suc, ◌+◌, ◌-◌, ◌||◌, Bool, false, List, length}
 use Rattle.be_core.specs.Machine.{bit, has}
 use Rattle.be_table.specs.declared.pass.Commit.{Commit}
 use Rattle.be_table.specs.Rule.{reach_at}
 
--- one of so many versions, from the first on, has the page
+-- one of `count` versions, from the first on, has the page
 abbrev pub is_reached : List Commit → (first count : ℕ) → ℕ → Bool
 is_reached seen first zero p = false
 is_reached seen first (suc k) p = has (reach_at seen (first + k)) p || is_reached seen first k p
@@ -14,6 +14,6 @@ abbrev pub count_below : (ℕ → Bool) → ℕ → ℕ
 count_below test zero = 0
 count_below test (suc n) = bit (test n) + count_below test n
 
--- how many of the first n pages some version from the least to the current one has
+-- how many of the first n pages are in some version from `least` to the current one
 abbrev pub reached : List Commit → (least n : ℕ) → ℕ
 reached seen least n = count_below (is_reached seen least (suc (length seen) - least)) n

@@ -7,11 +7,11 @@ use Rattle.be_journal.specs.declared.entries.Entry.{Entry}
 abbrev pub StartsWith : {A : Type 0} → List A → List A → Type 0
 StartsWith {A} log seen = (rest : List A) × (log ≡ seen ++ rest)
 
--- each entry is by one of so many passes
+-- each entry is by one of this many passes
 unfoldable pub AreOfPasses : ℕ → List Entry → Type 0
 AreOfPasses passes [] = Unit {0}
 AreOfPasses passes (e ∷ es) = (e.by < passes) × AreOfPasses passes es
 
--- a legal journal, of operations of the program
+-- a legal journal of the program's operations
 unfoldable pub IsHistory : List Entry → Type 0
 IsHistory log = IsLegal log × All HasOperations log

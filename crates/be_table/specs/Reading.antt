@@ -1,4 +1,4 @@
--- What a reader of pages sees of an open write, and of a pinned version.
+-- What a page reader sees of an open write, and of a pinned version.
 use Rattle.std.specs.Prelude.{◌≢◌, ℕ, ◌<◌, ◌^◌, ◌&&◌, Bool, nat_lt, if◌then◌else◌, List, []}
 use Rattle.std.specs.Prelude.{slice_index, slice_index_or}
 use Rattle.std.proofs.Common.{inl, inr, arith, refl}
@@ -7,10 +7,10 @@ use borrow.Author.Tests.{le-ltb}
 use Rattle.be_core.specs.declared.event.Phase.{Phase}
 use Rattle.be_core.specs.declared.event.Phase.TheVariants.{Idle, Looked, Announced, Pinned}
 use Rattle.be_core.specs.Machine.{has}
-use Rattle.be_pages.specs.declared.room.Standing.{Standing}
-use Rattle.be_pages.specs.declared.room.Standing.TheVariants.{Free as Nowhere, Old}
-use Rattle.be_pages.specs.declared.room.Standing.TheVariants.{GivenUp as Given, Taken}
-use Rattle.be_pages.specs.declared.room.Standing.TheVariants.{Filled as Full}
+use Rattle.be_pages.specs.declared.room.PageState.{PageState}
+use Rattle.be_pages.specs.declared.room.PageState.TheVariants.{Free as Nowhere, Old}
+use Rattle.be_pages.specs.declared.room.PageState.TheVariants.{GivenUp as Given, Taken}
+use Rattle.be_pages.specs.declared.room.PageState.TheVariants.{Filled as Full}
 use Rattle.be_pages.specs.declared.page_pool.Place.{Place}
 use Rattle.be_pages.specs.declared.page_pool.Place.TheVariants.{Free, Reserved, Filled, Current}
 use Rattle.be_pages.specs.declared.page_pool.Place.TheVariants.{GivenUp, Retired}
@@ -22,17 +22,17 @@ use Rattle.be_table.specs.Place.{Opened, Work, Pin}
 use Rattle.be_table.specs.Rule.{reach_at, word_place}
 use Rattle.be_table.specs.Trace.{upto_lock}
 
-abbrev pub standing_at : Place → Standing
-standing_at Free = Nowhere
-standing_at Reserved = Taken
-standing_at Filled = Full
-standing_at Current = Old
-standing_at GivenUp = Given
-standing_at (Retired r) = Nowhere
+abbrev pub page_state_at : Place → PageState
+page_state_at Free = Nowhere
+page_state_at Reserved = Taken
+page_state_at Filled = Full
+page_state_at Current = Old
+page_state_at GivenUp = Given
+page_state_at (Retired r) = Nowhere
 
 -- the state of a page in a write with these places
-abbrev pub standing_among : List Place → ℕ → Standing
-standing_among places q = if nat_lt q 16384 then standing_at (slice_index_or places q Free)
+abbrev pub page_state_among : List Place → ℕ → PageState
+page_state_among places q = if nat_lt q 16384 then page_state_at (slice_index_or places q Free)
     else Nowhere
 
 -- word i of the page q
@@ -40,8 +40,8 @@ abbrev pub word_of_page : List ℕ → ℕ → ℕ → ℕ
 word_of_page words q i = if nat_lt i 512 then slice_index words (word_place q i) else 0
 
 -- the states of the pages in an open write, and their words
-abbrev pub standing_in_work : Work → ℕ → Standing
-standing_in_work w q = standing_among w.knows.places q
+abbrev pub page_state_in_work : Work → ℕ → PageState
+page_state_in_work w q = page_state_among w.knows.places q
 
 abbrev pub words_of : Work → ℕ → ℕ → ℕ
 words_of w q i = word_of_page w.knows.words q i
@@ -74,20 +74,20 @@ reach_of (Looked a) seen = []
 reach_of (Announced a) seen = []
 reach_of (Pinned a n) seen = reach_at seen n
 
-abbrev pub pinned_standing : Knowledge → ℕ → Standing
-pinned_standing a q = if nat_lt q 16384 && has (reach_of a.phase a.seen) q then Old else Nowhere
+abbrev pub pinned_page_state : Knowledge → ℕ → PageState
+pinned_page_state a q = if nat_lt q 16384 && has (reach_of a.phase a.seen) q then Old else Nowhere
 
--- the pass but for the count of its steps
+-- the pass without its count of steps
 abbrev pub steady : Knowledge → Knowledge
 steady a = record a { steps = 0 }
 
-pub small_open : (w : Work) (q : ℕ) → standing_among w.knows.places q ≢ Nowhere → q < 2 ^ 32
+pub small_open : (w : Work) (q : ℕ) → page_state_among w.knows.places q ≢ Nowhere → q < 2 ^ 32
 small_open w q some = elim (cases_lt q 16384) [
   | inl lt ↦ omega (arith, lt)
   | inr past ↦ absurd (some (rw (le-ltb q 16384 past) refl))
 ]
 
-pub small_pin : (p : Pin) (q : ℕ) → pinned_standing p.knows q ≢ Nowhere → q < 2 ^ 32
+pub small_pin : (p : Pin) (q : ℕ) → pinned_page_state p.knows q ≢ Nowhere → q < 2 ^ 32
 small_pin p q some = elim (cases_lt q 16384) [
   | inl lt ↦ omega (arith, lt)
   | inr past ↦ absurd (some (rw (le-ltb q 16384 past) refl))

@@ -1,4 +1,4 @@
--- The fact that holds of the table between any two steps.
+-- The rule that holds for the table between any two steps.
 use Rattle.std.specs.Prelude.{◌≡◌, ◌≢◌, ℕ, zero, suc, ◌+◌, ◌*◌, ◌<◌, ◌≤◌, ◌==◌, Bool, true, false}
 use Rattle.std.specs.Prelude.{List, [], ◌∷◌, ◌++◌, length, take, drop, map, Option, Some, None}
 use Rattle.std.specs.Prelude.{slice_index, slice_index_or, IsTrue, count_by}
@@ -7,10 +7,10 @@ use lib.ListN.{get_elem?}
 use Rattle.atomic_table.specs.Table.{State}
 use Rattle.be_core.specs.declared.event.Phase.{Phase}
 use Rattle.be_core.specs.declared.event.Phase.TheVariants.{Idle, Looked, Announced, Pinned}
-use Rattle.be_core.specs.Machine.{World, Holder, Sound, InTime, has, AreLimits}
+use Rattle.be_core.specs.Machine.{World, Writer, Sound, InTime, has, AreLimits}
 use Rattle.be_journal.specs.declared.entries.Entry.{Entry}
 use Rattle.be_pages.specs.PagePool.{places}
-use Rattle.be_table.specs.declared.ledger.Ledger.{Ledger}
+use Rattle.be_table.specs.declared.writer_state.WriterState.{WriterState}
 use Rattle.be_pages.specs.declared.page_pool.Place.{Place}
 use Rattle.be_table.specs.declared.limits.Limits.{Limits}
 use Rattle.be_table.specs.declared.pass.Commit.{Commit}
@@ -18,11 +18,11 @@ use Rattle.be_table.specs.declared.pass.Knowledge.{Knowledge}
 use Rattle.be_table.specs.declared.pass.Move.{Move}
 use Rattle.be_table.specs.declared.pass.View.{View}
 use Rattle.be_pages.specs.Place.{is_retired, undone_place}
-use Rattle.be_table.specs.Ledger.{ShowsPlaces}
+use Rattle.be_table.specs.WriterState.{ShowsPlaces}
 use Rattle.be_journal.specs.Journal.{by_pass, replay}
 use Rattle.be_table.specs.History.{StartsWith, AreOfPasses, IsHistory}
 use Rattle.be_table.specs.Trace.{RunsTo, NoneBy, AllRest}
-use Rattle.be_table.specs.Versions.{in_pages, SpellsVolume}
+use Rattle.be_table.specs.Versions.{in_pages, EncodesVolume}
 
 -- what the table shows: the journal with its versions, the machine, and which seat each pass has
 pub record Board : Type 0 where
@@ -36,7 +36,7 @@ entries log = map (λ c. c.entry) log
 abbrev pub nothing : Commit
 nothing = record { entry = record { by = 0; ops = []; dones = [] }; page = 0; reach = [] }
 
--- the pages of version n. Version 0 has the page 0 alone
+-- the pages of version n; version 0 has only the page 0
 abbrev pub reach_at : List Commit → ℕ → List ℕ
 reach_at log zero = 0 ∷ []
 reach_at log (suc n) = (slice_index_or log n nothing).reach
@@ -46,7 +46,7 @@ abbrev pub page_at : List Commit → ℕ → ℕ
 page_at log zero = 0
 page_at log (suc n) = (slice_index_or log n nothing).page
 
-abbrev pub lock_word : Option Holder → ℕ
+abbrev pub lock_word : Option Writer → ℕ
 lock_word None = 0
 lock_word (Some h) = h.pass + 1
 
@@ -67,49 +67,51 @@ HasCurrent n w = (page : ℕ) × (n ≡ current_word w.current page) × (page < 
 abbrev pub word_place : ℕ → ℕ → ℕ
 word_place p i = 528 + 512 * p + i
 
--- on any one page and place, the list has the word
+-- at each place of each page, the list has the word
 abbrev pub PagesAgree : ℕ → (ℕ → ℕ → ℕ) → List ℕ → Type 0
 PagesAgree pages words ws = (p i : ℕ) → p < pages → i < 512 → slice_index ws (word_place p i)
     ≡ words p i
 
 -- where each page is
-abbrev pub ledger_places : Ledger → List Place
-ledger_places ledger = places ledger.pool
+abbrev pub writer_state_places : WriterState → List Place
+writer_state_places writer_state = places writer_state.pool
 
--- as many pages as the last whole scan left retired are retired still
-abbrev pub LeftAreRetired : Ledger → Type 0
-LeftAreRetired ledger = ledger.left ≤ count_by is_retired (ledger_places ledger)
+-- at least as many pages as the last whole scan left retired are still retired
+abbrev pub LeftAreRetired : WriterState → Type 0
+LeftAreRetired writer_state = writer_state.left
+    ≤ count_by is_retired (writer_state_places writer_state)
 
-abbrev pub is_holder : Option Holder → ℕ → Bool
-is_holder None k = false
-is_holder (Some h) k = h.pass == k
+abbrev pub is_writer : Option Writer → ℕ → Bool
+is_writer None k = false
+is_writer (Some h) k = h.pass == k
 
--- a writer state that fits the table: the journal, the version page, and where each page is
-pub record AtHome (w : World) (log : List Commit) (ledger : Ledger) : Type 0 where
-  pub journal : ledger.journal.entries ≡ entries log
-  pub limit : ledger.journal.limit ≡ w.commits
-  pub page : ledger.page ≡ page_at log (length log)
-  pub count : length (ledger_places ledger) ≡ w.pages
-  pub shown : ShowsPlaces (ledger_places ledger) w
-  pub idle : map undone_place (ledger_places ledger) ≡ (ledger_places ledger)
-  pub left : LeftAreRetired ledger
+-- a writer state that agrees with the table: the journal, the version page, and where each page is
+pub record AtHome (w : World) (log : List Commit) (writer_state : WriterState) : Type 0 where
+  pub journal : writer_state.journal.entries ≡ entries log
+  pub limit : writer_state.journal.limit ≡ w.commits
+  pub page : writer_state.page ≡ page_at log (length log)
+  pub count : length (writer_state_places writer_state) ≡ w.pages
+  pub shown : ShowsPlaces (writer_state_places writer_state) w
+  pub idle : map undone_place (writer_state_places writer_state)
+      ≡ (writer_state_places writer_state)
+  pub left : LeftAreRetired writer_state
 
--- the writer state lies in its slot while nobody holds the lock, and fits the table
-abbrev pub IsHome : Option Holder → World → List Commit → List (Maybe (Option Ledger)) → Type 0
-IsHome None w log homes = (ledger : Ledger) × (homes ≡ some (Some ledger) ∷ [])
-    × AtHome w log ledger
+-- while nobody holds the lock, the writer state lies in its slot and agrees with the table
+abbrev pub IsHome : Option Writer → World → List Commit → List (Maybe (Option WriterState)) → Type 0
+IsHome None w log homes = (writer_state : WriterState) × (homes ≡ some (Some writer_state) ∷ [])
+    × AtHome w log writer_state
 IsHome (Some h) w log homes = homes ≡ none ∷ []
 
 -- ## The first part: the table shows the state
 
--- a word before the pages that is neither the lock, nor the current version, nor the announcement
--- of one of so many passes
+-- a word before the pages that is neither the lock, nor the current version, nor the reader slot of
+-- one of this many passes
 abbrev pub IsUnused : (passes k : ℕ) → Type 0
 IsUnused passes k = (k < 528) × (k ≢ 0) × (k ≢ 8) × ((j : ℕ) → j < passes → k ≢ 16 + 8 * j)
 
 pub record WordsAgree (w : World) (page : ℕ) (words : List ℕ) : Type 0 where
   pub size : length words ≡ 528 + 512 * w.pages
-  pub lock : slice_index words 0 ≡ lock_word w.holder
+  pub lock : slice_index words 0 ≡ lock_word w.writer
   pub current : slice_index words 8 ≡ current_word w.current page
   pub announced : (k : ℕ) → k < w.passes → slice_index words (16 + 8 * k)
       ≡ announce_word (w.phases k)
@@ -117,12 +119,12 @@ pub record WordsAgree (w : World) (page : ℕ) (words : List ℕ) : Type 0 where
   pub unused : (k : ℕ) → IsUnused w.passes k → slice_index words k ≡ 0
 
 -- the words, the slot and the journal's length are those of the machine
-pub record ShowsBoard (b : Board) (s : State (Option Ledger) View) : Type 0 where
+pub record ShowsBoard (b : Board) (s : State (Option WriterState) View) : Type 0 where
   pub words : WordsAgree b.world (page_at b.log (length b.log)) s.words
-  pub home : IsHome b.world.holder b.world b.log s.homes
+  pub home : IsHome b.world.writer b.world b.log s.homes
   pub version : b.world.current ≡ length b.log
 
--- ## The second part: the journal's and the machine's invariants, and what each version encodes
+-- ## The second part: the invariants of the journal and the machine, and what each version encodes
 
 -- limits that a table may have
 abbrev pub IsWithin : Limits → Type 0
@@ -155,28 +157,28 @@ pub record IsSoundBoard (limits : Limits) (b : Board) : Type 0 where
   pub pages : b.world.pages ≡ limits.pages
   pub passes : b.world.passes ≡ limits.passes
   pub commits : b.world.commits ≡ limits.commits
-  pub holder : (h : Holder) → b.world.holder ≡ Some h → h.pass < limits.passes
+  pub writer : (h : Writer) → b.world.writer ≡ Some h → h.pass < limits.passes
   pub reaches : ReachesAgree b.world b.log
   pub machine : Sound b.world
-  pub spelt : (n : ℕ) → n ≤ length b.log
-      → SpellsVolume (reach_at b.log n) (in_pages (b.world.image n)) (page_at b.log n)
+  pub encoded : (n : ℕ) → n ≤ length b.log
+      → EncodesVolume (reach_at b.log n) (in_pages (b.world.image n)) (page_at b.log n)
       (replay (take n (entries b.log)))
 
--- ## The third part: what each pass knows is so
+-- ## The third part: what each pass knows is true
 
--- the machine's holder, as a pass that holds the lock knows it
-abbrev pub known_holder : Knowledge → Holder
-known_holder a = record {
+-- the machine's writer, as the pass that holds the lock knows it
+abbrev pub known_writer : Knowledge → Writer
+known_writer a = record {
   pass = a.number;
   scanned = a.scanned;
   least = a.least;
   published = a.published;
 }
 
--- what the holder knows
+-- what the writer knows
 pub record Holds (b : Board) (a : Knowledge) : Type 0 where
   pub log : a.seen ≡ b.log
-  pub holder : b.world.holder ≡ Some (known_holder a)
+  pub writer : b.world.writer ≡ Some (known_writer a)
   pub turn : a.scanned < b.world.passes
   pub count : length a.places ≡ b.world.pages
   pub shown : ShowsPlaces a.places b.world
@@ -195,7 +197,7 @@ pub record Fits (limits : Limits) (b : Board) (seat : ℕ) (a : Knowledge) : Typ
   pub seen : StartsWith b.log a.seen
   pub mine : by_pass a.number (entries b.log) ≡ a.mine
   pub own : by_pass a.number (entries a.seen) ≡ a.mine
-  pub writes : a.writes ≡ is_holder b.world.holder a.number
+  pub writes : a.writes ≡ is_writer b.world.writer a.number
   pub whole : a.writes ≡ true → Holds b a
   pub phase : b.world.phases a.number ≡ a.phase
   pub pin : InTime (length a.seen) a.phase
@@ -206,7 +208,7 @@ abbrev pub IsAbsent : ℕ → List Knowledge → Type 0
 IsAbsent k [] = Unit {0}
 IsAbsent k (a ∷ v) = (a.number ≢ k) × IsAbsent k v
 
--- each pass of a seat's view, and no pass twice
+-- what each pass in a seat's view knows is true, and no pass is there twice
 abbrev pub AllFit : Limits → Board → ℕ → List Knowledge → Type 0
 AllFit limits b seat [] = Unit {0}
 AllFit limits b seat (a ∷ v) = Fits limits b seat a × IsAbsent a.number v × AllFit limits b seat v
@@ -216,7 +218,7 @@ abbrev pub AreFronts : List Commit → List (List Commit) → Type 0
 AreFronts log [] = Unit {0}
 AreFronts log (front ∷ fronts) = StartsWith log front × AreFronts log fronts
 
--- what a seat knows is so
+-- what a seat knows is true
 abbrev pub ViewFits : Limits → Board → ℕ → View → Type 0
 ViewFits limits b seat v = AllFit limits b seat v.passes × AreFronts b.log v.fronts
 
@@ -226,20 +228,21 @@ ViewsFit limits b views = (seat : ℕ) (v : View) → get_elem? views seat ≡ s
 
 -- ## The fourth part: the trace
 
--- The moves lead from the first state to this one, and none after the history of a pass is by it.
+-- The moves lead from the first state to this one. No move after a pass's history is by that pass.
 pub record IsTrace (limits : Limits) (w : World) (views : List View) (trace : List Move) : Type 0
   where
     pub words : ℕ → ℕ → ℕ
     pub runs : RunsTo limits words trace w
     pub rests : (seat : ℕ) (v : View) → get_elem? views seat ≡ some v → AllRest trace v.passes
 
-pub record Stands (limits : Limits) (s : State (Option Ledger) View) (b : Board) : Type 0 where
-  pub table : ShowsBoard b s
-  pub sound : IsSoundBoard limits b
-  pub views : ViewsFit limits b s.views
+pub record FitsBoard (limits : Limits) (s : State (Option WriterState) View) (b : Board) : Type 0
+  where
+    pub table : ShowsBoard b s
+    pub sound : IsSoundBoard limits b
+    pub views : ViewsFit limits b s.views
 
-abbrev pub Shows : Limits → State (Option Ledger) View → Type 0
-Shows limits s = (b : Board) × Stands limits s b
+abbrev pub Shows : Limits → State (Option WriterState) View → Type 0
+Shows limits s = (b : Board) × FitsBoard limits s b
     × ((trace : List Move) × IsTrace limits b.world s.views trace)
 
 -- ## What a history says
@@ -247,13 +250,13 @@ Shows limits s = (b : Board) × Stands limits s b
 -- the machine is as the pass knows it
 pub record IsAt (a : Knowledge) (w : World) : Type 0 where
   pub phase : w.phases a.number ≡ a.phase
-  pub writes : a.writes ≡ is_holder w.holder a.number
-  pub holds : a.writes ≡ true → w.holder ≡ Some (known_holder a)
+  pub writes : a.writes ≡ is_writer w.writer a.number
+  pub holds : a.writes ≡ true → w.writer ≡ Some (known_writer a)
   pub seen : length a.seen ≤ w.current
   pub shown : a.writes ≡ true → ShowsPlaces a.places w
   pub image : ImageIs w a.phase a.image
 
--- the machine after the history of the pass is as the pass knows it, and P is so of it
+-- after the pass's history the machine is as the pass knows it, and P holds for it
 pub record Reaches (a : Knowledge) (P : World → Type 0) : Type 0 where
   pub words : ℕ → ℕ → ℕ
   pub world : World
@@ -261,8 +264,8 @@ pub record Reaches (a : Knowledge) (P : World → Type 0) : Type 0 where
   pub known : IsAt a world
   pub so : P world
 
--- just before the move that ends this history, the machine was as the pass knew it
-pub record StoodBefore (a : Knowledge) (move : Move) (history : List Move) : Type 0 where
+-- just before the last move of this history, the machine was as the pass knew it
+pub record IsKnownBefore (a : Knowledge) (move : Move) (history : List Move) : Type 0 where
   pub others : List Move
   pub none : NoneBy a.number others
   pub ends : history ≡ (a.history ++ others) ++ move ∷ []
@@ -287,17 +290,17 @@ newcomer limits steps k = record {
   places = [];
   words = [];
   held = [];
-  holders = [];
+  writers = [];
   steps = steps;
   history = [];
 }
 
--- the passes from k on, so many
+-- `n` passes from k on
 unfoldable pub newcomers : Limits → ℕ → ℕ → ℕ → List Knowledge
 newcomers limits steps k zero = []
 newcomers limits steps k (suc n) = newcomer limits steps k ∷ newcomers limits steps (suc k) n
 
--- the view of a seat with this pass, with these two, with none
+-- the view of a seat with this pass, with these two, or with none
 abbrev pub alone : Knowledge → View
 alone a = record { passes = a ∷ []; fronts = [] }
 
@@ -307,7 +310,7 @@ beside a c = record { passes = a ∷ c ∷ []; fronts = [] }
 abbrev pub empty_view : View
 empty_view = record { passes = []; fronts = [] }
 
--- that of the seat which has the passes from k on, so many, before they are dealt
+-- the view of the seat that has `n` passes from k on, before they are dealt
 abbrev pub undealt : Limits → ℕ → ℕ → ℕ → View
 undealt limits steps k n = record { passes = newcomers limits steps k n; fronts = [] }
 
@@ -317,7 +320,7 @@ everyone limits = undealt limits 0 0 limits.passes
 abbrev pub one_step_on : Knowledge → Knowledge
 one_step_on a = record a { steps = a.steps + 1 }
 
--- the first pass gets a seat of its own
+-- the first pass gets its own seat
 abbrev pub first_seat : View → View
 first_seat v = record { passes = map one_step_on (take 1 v.passes); fronts = [] }
 
@@ -339,7 +342,7 @@ abbrev pub first_of : List Knowledge → Knowledge
 first_of [] = nobody
 first_of (a ∷ v) = a
 
--- the pass of a seat that has one, and the second if it has two
+-- the pass of a seat that has one, and the second pass if it has two
 abbrev pub pass_of : View → Knowledge
 pass_of v = first_of v.passes
 
@@ -348,11 +351,11 @@ second_of v = first_of (drop 1 v.passes)
 
 -- ## Witnesses
 
--- the view of a witness that the journal began so
+-- the view of a witness that the journal began with this front
 abbrev pub witnessing : List Commit → View
 witnessing front = record { passes = []; fronts = front ∷ [] }
 
--- that of a pass that has taken in a witness's seat
+-- the view of a pass that has taken in a witness's seat
 abbrev pub informed : Knowledge → List Commit → View
 informed a front = record { passes = a ∷ []; fronts = front ∷ [] }
 
@@ -360,7 +363,7 @@ informed a front = record { passes = a ∷ []; fronts = front ∷ [] }
 abbrev pub front_of : View → List Commit
 front_of v = slice_index_or v.fronts 0 []
 
--- a seat keeps its passes, and a new one has what the first of them has seen
+-- a seat keeps its passes, and a new seat has what the first of them has seen
 abbrev pub kept_seat : View → View
 kept_seat v = record v { passes = map one_step_on v.passes }
 

@@ -1,4 +1,4 @@
--- What is true of each seat.
+-- What holds for each seat.
 use Rattle.std.specs.Prelude.{◌≡◌, ℕ, ◌<◌, Bool, true, false, List, [], ◌∷◌, length, Option, Some}
 use Rattle.std.specs.Prelude.{None}
 use Rattle.be_core.specs.declared.event.Phase.{Phase}
@@ -29,7 +29,7 @@ facts_of s = record {
 }
 
 -- the seat's numbers are those of its pass, which doesn't hold the lock
-pub record IsTold (a : Knowledge) (number seen : ℕ) : Type 0 where
+pub record IsReported (a : Knowledge) (number seen : ℕ) : Type 0 where
   pub number_is : a.number ≡ number
   pub seen_is : length a.seen ≡ seen
   pub writes : a.writes ≡ false
@@ -51,7 +51,7 @@ pin_of (Pinned a n) seen = Some record { number = n; page = page_at seen n }
 
 abbrev pub IsSeated : List View → Marks → Type 0
 IsSeated [] m = Unit {0}
-IsSeated (v ∷ vs) m = ((v ∷ vs) ≡ alone (pass_of v) ∷ []) × IsTold (pass_of v) m.number m.seen
+IsSeated (v ∷ vs) m = ((v ∷ vs) ≡ alone (pass_of v) ∷ []) × IsReported (pass_of v) m.number m.seen
     × (m.pin ≡ pin_of (pass_of v).phase (pass_of v).seen)
 
 abbrev pub IsPlaced : Inside → Type 0

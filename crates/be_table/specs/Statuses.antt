@@ -1,4 +1,4 @@
--- What a table reports of itself.
+-- What a table reports about itself.
 use Rattle.std.specs.Prelude.{◌≡◌, ℕ, suc, ◌<◌, ◌≤◌, List, length, count_by, slice_index, Option}
 use Rattle.std.specs.Prelude.{Some, None}
 use Rattle.be_core.specs.Machine.{World}
@@ -9,12 +9,12 @@ use Rattle.be_table.specs.declared.pass.Knowledge.{Knowledge}
 use Rattle.be_table.specs.declared.pass.Move.{Move}
 use Rattle.be_table.specs.declared.status.Announcement.{Announcement}
 use Rattle.be_table.specs.declared.status.Status.{Status}
-use Rattle.be_table.specs.Ledger.{ShowsPlaces}
+use Rattle.be_table.specs.WriterState.{ShowsPlaces}
 use Rattle.be_table.specs.Steps.{AreFound}
 use Rattle.be_table.specs.Trace.{RunsTo}
 
--- The least announced number, and the first pass that has announced it, where each pass's word is
--- one more than what it has announced, or 0.
+-- The lowest announced number, and the first pass that has announced it. Each pass's word is the
+-- number that it has announced plus 1, or 0.
 abbrev pub IsOldest : List ℕ → Option Announcement → Type 0
 IsOldest words None = (k : ℕ) → k < length words → slice_index words k ≡ 0
 IsOldest words (Some o) =
@@ -22,13 +22,14 @@ IsOldest words (Some o) =
     × ((k a : ℕ) → k < length words → slice_index words k ≡ suc a → (o.number ≤ a)
     × (k < o.pass → o.number < a))
 
--- the oldest of the announcements that a whole scan of the pass k found, one after the other
+-- the oldest of the numbers that a whole scan by the pass k found in the reader slots, one after
+-- the other
 pub record FindsOldest (limits : Limits) (k : ℕ) (before after : List Move)
-    (told : Option Announcement) : Type 0 where
+    (reported : Option Announcement) : Type 0 where
   pub found : List ℕ
   pub each : length found ≡ limits.passes
   pub by_scans : AreFound limits k before after found
-  pub oldest : IsOldest found told
+  pub oldest : IsOldest found reported
 
 -- after these moves the machine's pages are at these places
 pub record LieAt (limits : Limits) (moves : List Move) (places : List Place) : Type 0 where
@@ -37,9 +38,9 @@ pub record LieAt (limits : Limits) (moves : List Move) (places : List Place) : T
   pub runs : RunsTo limits words moves world
   pub shown : ShowsPlaces places world
 
--- the numbers are those of the limits, of the pages as the pass knows them, and of the journal that
--- it has seen
-pub record Tells (a : Knowledge) (s : Status) : Type 0 where
+-- the status has the numbers of the limits, of the pages as the pass knows them, and of the journal
+-- that it has seen
+pub record Reports (a : Knowledge) (s : Status) : Type 0 where
   pub pages : s.pages ≡ a.limits.pages
   pub free : s.free ≡ count_by is_free a.places
   pub retired : s.retired ≡ count_by is_retired a.places

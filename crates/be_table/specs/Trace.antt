@@ -2,7 +2,7 @@
 use Rattle.std.specs.Prelude.{◌≡◌, ◌≢◌, ◌==◌, if◌then◌else◌, ℕ, Bool, false, List, [], ◌∷◌, ◌++◌}
 use Rattle.std.specs.Prelude.{Some, IsTrue}
 use Rattle.std.specs.List.{list_any}
-use Rattle.be_core.specs.Machine.{World, Holder, first_state, MayLook, MayAnnounce, MayLookAgain}
+use Rattle.be_core.specs.Machine.{World, Writer, first_state, MayLook, MayAnnounce, MayLookAgain}
 use Rattle.be_core.specs.Machine.{MayUnpin, MayLock, MayScan, MayFill, MayPublish, MayUnlock}
 use Rattle.be_core.specs.Machine.{after_look, after_announce, after_look_again, after_unpin}
 use Rattle.be_core.specs.Machine.{after_lock, after_scan, after_fill, after_publish, after_unlock}
@@ -28,7 +28,7 @@ mover (Return k p) = k
 
 -- the pass holds the lock, and has taken the page
 abbrev pub MayReturn : World → ℕ → ℕ → Type 0
-MayReturn w k p = ((h : Holder) × (w.holder ≡ Some h) × (h.pass ≡ k)) × IsTrue (w.taken p)
+MayReturn w k p = ((h : Writer) × (w.writer ≡ Some h) × (h.pass ≡ k)) × IsTrue (w.taken p)
 
 abbrev pub MayMove : World → Move → Type 0
 MayMove w (Look k) = MayLook w k
@@ -59,7 +59,7 @@ abbrev pub Run : World → List Move → World → Type 0
 Run w [] w' = w' ≡ w
 Run w (m ∷ ms) w' = MayMove w m × Run (after_move w m) ms w'
 
--- from the start of a table with these words in its pages
+-- the same, from the start of a table with these words in its pages
 abbrev pub RunsTo : Limits → (ℕ → ℕ → ℕ) → List Move → World → Type 0
 RunsTo limits words moves w = Run (first_state limits.pages limits.passes limits.commits words)
     moves w
@@ -73,24 +73,24 @@ abbrev pub NoneBy : ℕ → List Move → Type 0
 NoneBy k [] = Unit {0}
 NoneBy k (m ∷ ms) = (mover m ≢ k) × NoneBy k ms
 
--- The pass k makes these moves one after another, each after moves of others, and so its history
+-- The pass k makes these moves one after another, each after some moves of others. Its history thus
 -- goes from `old` to `new`.
 abbrev pub Makes : ℕ → List Move → List Move → List Move → Type 0
 Makes k old [] new = new ≡ old
 Makes k old (m ∷ ms) new = (others : List Move) × NoneBy k others
     × Makes k ((old ++ others) ++ m ∷ []) ms new
 
--- since its history the pass k has made no move
+-- the pass k has made no move since its history
 abbrev pub Rests : ℕ → List Move → List Move → Type 0
 Rests k history trace = (others : List Move) × NoneBy k others × (trace ≡ history ++ others)
 
--- the same of each of these passes
+-- the same for each of these passes
 abbrev pub AllRest : List Move → List Knowledge → Type 0
 AllRest trace [] = Unit {0}
 AllRest trace (a ∷ v) = Rests a.number a.history trace × AllRest trace v
 
--- One list of moves, of which the history of each of these passes is a front with no move of that
--- pass after it.
+-- There is one list of moves. Each of these passes has a history that is a prefix of the list, with
+-- no move of that pass after it.
 pub record HasTrace (limits : Limits) (passes : List Knowledge) : Type 0 where
   pub trace : List Move
   pub runs : IsRun limits trace
@@ -111,7 +111,7 @@ is_lock_of k (Publish j page given) = false
 is_lock_of k (Unlock j) = false
 is_lock_of k (Return j p) = false
 
--- the moves up to the last at which the pass k took the lock
+-- the moves up to the last one with which the pass k took the lock
 abbrev pub upto_lock : ℕ → List Move → List Move
 upto_lock k [] = []
 upto_lock k (m ∷ ms) = if list_any (is_lock_of k) (m ∷ ms) then m ∷ upto_lock k ms else []

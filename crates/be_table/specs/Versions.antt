@@ -2,8 +2,8 @@
 use Rattle.std.specs.Prelude.{◌≡◌, ℕ, suc, ◌<◌, Bool, true, false, nat_lt, if◌then◌else◌, List}
 use Rattle.std.specs.Prelude.{length, take, IsTrue}
 use Rattle.be_core.specs.Machine.{has, bit}
-use Rattle.be_pages.specs.declared.room.Standing.{Standing}
-use Rattle.be_pages.specs.declared.room.Standing.TheVariants.{Free as Nowhere, Old}
+use Rattle.be_pages.specs.declared.room.PageState.{PageState}
+use Rattle.be_pages.specs.declared.room.PageState.TheVariants.{Free as Nowhere, Old}
 use Rattle.be_pages.specs.Pages.{times}
 use Rattle.be_paged_reading.specs.Page.{reach}
 use Rattle.be_paged_reading.specs.Version.{IsVersion}
@@ -11,8 +11,8 @@ use Rattle.be_journal.specs.Journal.{replay}
 use Rattle.be_journal.specs.declared.entries.Entry.{Entry}
 use Rattle.be_volume.specs.Volume.{State}
 
--- when a write begins: a page of the current version, and any other
-abbrev pub at_start : Bool → Standing
+-- the state of a page when a write begins: a page of the current version, or any other page
+abbrev pub at_start : Bool → PageState
 at_start true = Old
 at_start false = Nowhere
 
@@ -20,22 +20,22 @@ at_start false = Nowhere
 abbrev pub in_pages : (ℕ → ℕ → ℕ) → ℕ → ℕ → ℕ
 in_pages words q i = if nat_lt i 512 then words q i else 0
 
--- The version of these pages, with these words, encodes the volume from its version page, and has
--- exactly the pages that it reaches from there.
-pub record SpellsVolume (pages : List ℕ) (words : ℕ → ℕ → ℕ) (page : ℕ) (volume : State) : Type 0
+-- The version with these pages and words encodes the volume from its version page, and has exactly
+-- the pages that are reached from there.
+pub record EncodesVolume (pages : List ℕ) (words : ℕ → ℕ → ℕ) (page : ℕ) (volume : State) : Type 0
   where
     pub version : IsVersion (λ q. at_start (has pages q)) words page volume
     pub exact : (q : ℕ) → times q (reach words page) ≡ bit (has pages q)
 
--- So many pages can encode the volume: some of them do, with some words, 512 each.
-pub record CanSpell (pages : ℕ) (volume : State) : Type 0 where
+-- This many pages can encode the volume: some of them do, with some words, 512 each.
+pub record CanEncode (pages : ℕ) (volume : State) : Type 0 where
   pub used : List ℕ
   pub words : ℕ → ℕ → ℕ
   pub page : ℕ
-  pub spelt : SpellsVolume used (in_pages words) page volume
+  pub encoded : EncodesVolume used (in_pages words) page volume
   pub inside : (p : ℕ) → IsTrue (has used p) → p < pages
 
--- so many pages can encode the volume after each entry of the journal
-unfoldable pub CanSpellEach : ℕ → List Entry → Type 0
-CanSpellEach pages journal = (n : ℕ) → n < length journal
-    → CanSpell pages (replay (take (suc n) journal))
+-- this many pages can encode the volume after each entry of the journal
+unfoldable pub CanEncodeEach : ℕ → List Entry → Type 0
+CanEncodeEach pages journal = (n : ℕ) → n < length journal
+    → CanEncode pages (replay (take (suc n) journal))

@@ -1,4 +1,4 @@
--- What is true of each witness.
+-- What holds for each witness.
 use Rattle.std.specs.Prelude.{◌≡◌, ℕ, List, [], ◌∷◌, length}
 use Rattle.be_table.specs.declared.pass.Commit.{Commit}
 use Rattle.be_table.specs.declared.pass.View.{View}

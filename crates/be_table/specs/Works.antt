@@ -1,4 +1,4 @@
--- What is true of each table and of each open write, and what calls promise.
+-- What holds for each table and each open write, and what calls promise.
 use Rattle.std.specs.Prelude.{◌≡◌, ◌≢◌, ◌⊎◌, ℕ, suc, ◌+◌, ◌<◌, false, List, [], ◌∷◌, length, map}
 use Rattle.std.specs.Prelude.{count_by, zero, IsTrue}
 use Rattle.atomic_table.specs.Seated.{TableId}
@@ -16,15 +16,15 @@ use Rattle.be_table.specs.History.{StartsWith}
 use Rattle.be_pages.specs.declared.page_pool.Place.TheVariants.{Free}
 use Rattle.be_pages.specs.Place.{undone_place, swept_place, place_of, is_in_hand, is_retired}
 use Rattle.be_table.specs.Place.{SeatFacts, WitnessFacts, Opened, Work}
-use Rattle.be_table.specs.Reading.{standing_among, word_of_page}
-use Rattle.be_table.specs.Versions.{at_start, SpellsVolume}
+use Rattle.be_table.specs.Reading.{page_state_among, word_of_page}
+use Rattle.be_table.specs.Versions.{at_start, EncodesVolume}
 use Rattle.be_journal.specs.Journal.{replay}
 use Rattle.be_table.specs.Trace.{AllRest, Makes, RunsTo, upto_lock}
 use Rattle.be_table.specs.Rule.{Reaches, AreBad, IsWithin, entries, page_at, reach_at, newcomer}
 use Rattle.be_table.specs.Rule.{announce_word}
 use Rattle.be_table.specs.Steps.{Has, AllIdle, KeepsSeen, IsPass, looks, finds_held, takes_lock}
-use Rattle.be_table.specs.Steps.{pins, takes_page, take_moves, scans_all, IsLeastAnnounced}
-use Rattle.be_table.specs.Steps.{IsOwnLeast, pages_from, UnreachedAreFree, NoCommitReaches}
+use Rattle.be_table.specs.Steps.{pins, takes_page, take_moves, scans_all, IsLowestAnnounced}
+use Rattle.be_table.specs.Steps.{IsOwnLowest, pages_from, UnreachedAreFree, NoCommitReaches}
 use Rattle.be_table.specs.Steps.{AreFound, scans_of, with_history}
 
 -- a seat of this table
@@ -35,7 +35,7 @@ IsSeatOf t s = (s.blank ≡ false) × (s.table ≡ t.id) × (s.knows.limits ≡ 
 abbrev pub IsWitnessOf : Opened → WitnessFacts → Type 0
 IsWitnessOf t w = (w.blank ≡ false) × (w.table ≡ t.id)
 
--- seats of this table, of passes that have seen nothing, from the pass k on
+-- seats of this table, for passes that have seen nothing, from the pass k on
 abbrev pub AreNewAt : TableId → Limits → ℕ → List SeatFacts → Type 0
 AreNewAt id limits k [] = Unit {0}
 AreNewAt id limits k (s ∷ ss) = ((s.blank ≡ false) × (s.table ≡ id)
@@ -52,12 +52,13 @@ AllAt id (s ∷ ss) = ((s.blank ≡ false) × (s.table ≡ id)) × AllAt id ss
 abbrev pub knows_of : SeatFacts → Knowledge
 knows_of s = s.knows
 
--- from a to c the pass has made these moves, in this order, and the machine is then as it knows it
+-- from a to c the pass has made these moves, in this order, and then the machine is as the pass
+-- knows it
 pub record Moves (a : Knowledge) (own : List Move) (c : Knowledge) : Type 0 where
   pub made : Makes a.number a.history own c.history
   pub at : Reaches c (λ w. Unit {0})
 
--- the same, if the pass has seen the journal up to the current number
+-- the same, and the pass has seen the journal up to the current number
 pub record MovesNow (a : Knowledge) (own : List Move) (c : Knowledge) : Type 0 where
   pub made : Makes a.number a.history own c.history
   pub at : Reaches c (λ w. w.current ≡ length c.seen)
@@ -76,13 +77,13 @@ pub record TakesLock (a c : Knowledge) : Type 0 where
   pub moves : Moves a (Lock a.number ∷ []) c
   pub same : c ≡ takes_lock (with_history a c.history) c.seen c.places c.words
   pub idle : map undone_place c.places ≡ c.places
-  pub begun : (q : ℕ) → standing_among c.places q
+  pub begun : (q : ℕ) → page_state_among c.places q
       ≡ at_start (has (reach_at c.seen (length c.seen)) q)
-  pub spelt : SpellsVolume (reach_at c.seen (length c.seen)) (word_of_page c.words)
+  pub encoded : EncodesVolume (reach_at c.seen (length c.seen)) (word_of_page c.words)
       (page_at c.seen (length c.seen)) (replay (entries c.seen))
   pub pass : IsPass c
 
--- the pass, which had announced x, is pinned at the current number
+-- the pass, which had announced x, is pinned to the current number
 pub record PinsCurrent (a c : Knowledge) : Type 0 where
   pub more : StartsWith c.seen a.seen
   pub moves : MovesNow a (LookAgain a.number ∷ []) c
@@ -101,16 +102,16 @@ abbrev pub HasNoRoom : Refusal → Knowledge → Type 0
 HasNoRoom r a = ((r ≡ CommitsSpent) × (length a.seen ≡ a.limits.commits))
     ⊎ ((r ≡ OutOfMemory) × (length a.seen < a.limits.commits))
 
--- the write has made a whole scan, with this least
+-- the write has made a whole scan, in which `least` is the lowest number
 pub record MakesScan (old new : Work) (least : ℕ) : Type 0 where
   pub by : (found : List ℕ) × (length found ≡ old.knows.limits.passes)
       × (new.knows ≡ with_history (scans_all old.knows found) new.knows.history)
-      × IsLeastAnnounced (length old.knows.seen) found least
+      × IsLowestAnnounced (length old.knows.seen) found least
       × AreFound old.knows.limits old.knows.number old.knows.history new.knows.history found
   pub moves : Makes old.knows.number old.knows.history
       (scans_of old.knows.number old.knows.limits.passes) new.knows.history
-  pub least_is : new.knows.least ≡ least
-  pub own : IsOwnLeast old.knows least
+  pub lowest_is : new.knows.least ≡ least
+  pub own : IsOwnLowest old.knows least
   pub places : new.knows.places ≡ map (swept_place least) old.knows.places
   pub held : new.knows.held ≡ pages_from is_in_hand 0 old.knows.places
   pub leaves : UnreachedAreFree new.knows
@@ -127,7 +128,7 @@ pub record MakesScan (old new : Work) (least : ℕ) : Type 0 where
     left = new.left;
   }
 
--- how many more pages are retired than the last whole scan left, if a scan is due
+-- how many more pages are retired than the last whole scan left, when a scan is due
 abbrev pub due_after : ℕ → ℕ
 due_after zero = 1
 due_after (suc n) = 32
@@ -136,11 +137,11 @@ due_after (suc n) = 32
 abbrev pub HasNoFree : Work → Type 0
 HasNoFree w = (p : ℕ) → p < length w.knows.places → place_of w.knows.places p ≢ Free
 
--- a whole scan has a reason: it comes right after the lock, or no page is free
+-- a whole scan has a reason: either it comes right after the lock, or no page is free
 abbrev pub HasReasonToScan : Work → Type 0
 HasReasonToScan w = HasNoFree w ⊎ (upto_lock w.knows.number w.knows.history ≡ w.knows.history)
 
--- a free page is taken, and a whole scan comes before that only if none was free
+-- a free page is taken; a whole scan comes before that only if none was free
 pub record TakesPage (old new : Work) (page : ℕ) : Type 0 where
   pub between : Work
   pub scan : (between ≡ old) ⊎ ((least : ℕ) × MakesScan old between least)
@@ -155,12 +156,12 @@ pub record TakesPage (old new : Work) (page : ℕ) : Type 0 where
   pub moves : Makes between.knows.number between.knows.history (take_moves between.knows page)
       new.knows.history
 
--- of the pages that no version from the least on reaches, each is held by the write
+-- the write holds each page that no version from `least` on has
 abbrev pub HoldsUnreached : Knowledge → ℕ → Type 0
 HoldsUnreached a least = (p : ℕ) → p < a.limits.pages → NoCommitReaches a.seen least p
     → IsTrue (has a.held p)
 
--- in the machine after some front of its history that goes on from the lock, the pass j had
+-- in the machine after some prefix of the pass's history that includes the lock, the pass j had
 -- announced this number
 pub record HadAnnounced (a : Knowledge) (j number : ℕ) : Type 0 where
   pub upto : List Move
@@ -169,37 +170,37 @@ pub record HadAnnounced (a : Knowledge) (j number : ℕ) : Type 0 where
   pub words : ℕ → ℕ → ℕ
   pub world : World
   pub runs : RunsTo a.limits words upto world
-  pub told : announce_word (world.phases j) ≡ suc number
+  pub reported : announce_word (world.phases j) ≡ suc number
 
 -- this is the current number, or some pass had announced it since the lock
 abbrev pub WasAnnounced : Knowledge → ℕ → Type 0
 WasAnnounced a least = (least ≡ length a.seen)
     ⊎ ((j : ℕ) × (j < a.limits.passes) × HadAnnounced a j least)
 
--- This is the least of the write's last whole scan, and of the pages that no version from there on
--- reaches the write held each. It is no more than the current number and what the pass has
--- announced; and of the only pass it is the least of the two. If it isn't the current number, some
--- pass had announced it.
+-- This is the lowest number of the write's last whole scan, and the write held each page that no
+-- version from there on has. It is at most the current number and what the pass has announced; for
+-- a table's only pass it is the lower of the two. If it isn't the current number, some pass had
+-- announced it.
 abbrev pub IsSpent : Knowledge → ℕ → Type 0
-IsSpent a least = (least ≡ a.least) × HoldsUnreached a least × IsOwnLeast a least
+IsSpent a least = (least ≡ a.least) × HoldsUnreached a least × IsOwnLowest a least
     × WasAnnounced a least
 
--- the pages that the write held at its last whole scan are in hand still
+-- the write still holds the pages that it held at its last whole scan
 abbrev pub HoldsStill : Knowledge → Type 0
 HoldsStill a = (p : ℕ) → IsTrue (has a.held p) → IsTrue (is_in_hand (place_of a.places p))
 
--- why an open write can take no page
+-- why an open write can't take a page
 abbrev pub IsFull : Work → ℕ → Type 0
 IsFull w least = IsSpent w.knows least × HoldsStill w.knows
 
--- no page was free, and none after a whole scan
+-- no page was free, and none is free after a whole scan
 pub record FindsNone (old new : Work) (least : ℕ) : Type 0 where
   pub before : HasNoFree old
   pub scan : MakesScan old new least
   pub none : (p : ℕ) → p < length new.knows.places → place_of new.knows.places p ≢ Free
   pub full : IsFull new least
 
--- why a table with these limits was not opened
+-- why a table with these limits wasn't opened
 abbrev pub IsOpenRefused : Limits → Refusal → Type 0
 IsOpenRefused l r = ((r ≡ BadLimits) × AreBad l) ⊎ ((r ≡ OutOfMemory) × IsWithin l)
 

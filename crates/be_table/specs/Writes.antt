@@ -1,8 +1,9 @@
--- What is true of each open write.
+-- What holds for each open write.
 use Rattle.std.specs.Prelude.{◌≡◌, ◌+◌, ◌*◌, ◌<◌, true, false, [], ◌∷◌, None, length}
 use Rattle.be_table.specs.declared.writing.Writing.TheInside.{Inside}
 use Rattle.be_table.specs.Place.{Work}
-use Rattle.be_table.specs.Rule.{alone, pass_of, entries, page_at, ledger_places, LeftAreRetired}
+use Rattle.be_table.specs.Rule.{alone, pass_of, entries, page_at, writer_state_places}
+use Rattle.be_table.specs.Rule.{LeftAreRetired}
 use Rattle.be_table.specs.Seats.{pin_of}
 use Rattle.be_table.specs.Steps.{IsPass}
 use Rattle.be_table.specs.Working.{HasWorked}
@@ -12,11 +13,11 @@ work_of w = record {
   table = w.table.now;
   knows = pass_of w.base.me.0;
   reserved = w.reserved;
-  left = w.ledger.left;
+  left = w.writer_state.left;
 }
 
--- the seat is at the table with the slot, the writer state has what the pass has seen, and until it
--- publishes, the pass has only worked
+-- The seat is at the table with the slot. The writer state has what the pass has seen. Until it
+-- publishes, the pass has only worked.
 pub record IsOpen (w : Inside) : Type 0 where
   pub table_is : w.base.table_id ≡ w.table.now.id
   pub me_is : w.base.me ≡ (alone (pass_of w.base.me.0), (0, None) ∷ [])
@@ -24,17 +25,18 @@ pub record IsOpen (w : Inside) : Type 0 where
   pub limits_are : (pass_of w.base.me.0).limits ≡ w.table.now.limits
   pub small : w.marks.number < 64
   pub writes : (pass_of w.base.me.0).writes ≡ true
-  pub journal : w.ledger.journal.entries ≡ entries (pass_of w.base.me.0).seen
-  pub page : w.ledger.page ≡ page_at (pass_of w.base.me.0).seen (length (pass_of w.base.me.0).seen)
-  pub places : (ledger_places w.ledger) ≡ (pass_of w.base.me.0).places
-  pub count : length (ledger_places w.ledger) ≡ w.table.now.limits.pages
+  pub journal : w.writer_state.journal.entries ≡ entries (pass_of w.base.me.0).seen
+  pub page : w.writer_state.page ≡ page_at (pass_of w.base.me.0).seen
+      (length (pass_of w.base.me.0).seen)
+  pub places : (writer_state_places w.writer_state) ≡ (pass_of w.base.me.0).places
+  pub count : length (writer_state_places w.writer_state) ≡ w.table.now.limits.pages
   pub size : length (pass_of w.base.me.0).words ≡ 528 + 512 * w.table.now.limits.pages
   pub turn : (pass_of w.base.me.0).scanned ≡ 0
   pub pin : w.marks.pin ≡ pin_of (pass_of w.base.me.0).phase (pass_of w.base.me.0).seen
   pub pass : IsPass (pass_of w.base.me.0)
-  pub limit : w.ledger.journal.limit ≡ w.table.now.limits.commits
-  pub left : LeftAreRetired w.ledger
-  pub room : 0 < w.reserved → (w.ledger.journal.reserved ≡ w.reserved)
+  pub limit : w.writer_state.journal.limit ≡ w.table.now.limits.commits
+  pub left : LeftAreRetired w.writer_state
+  pub room : 0 < w.reserved → (w.writer_state.journal.reserved ≡ w.reserved)
       × (length (pass_of w.base.me.0).seen < w.table.now.limits.commits)
   pub worked : (pass_of w.base.me.0).published ≡ false
       → HasWorked (pass_of w.base.me.0).limits (pass_of w.base.me.0).number

@@ -1,11 +1,11 @@
-//! How a pool is shared among the versions and an open write, if no page is left.
+//! How the versions and an open write share the pool, if no page is left.
 ghost use Rattle.std.specs.FinMap as map;
 ghost use Rattle.std.specs.Prelude.{ℕ, ◌+◌, ◌*◌, ◌≤◌, List, length};
 ghost use Rattle.be_core.specs.Machine.{has};
 ghost use Rattle.be_table.specs.Counts.{count_below, reached};
-ghost use Rattle.be_table.specs.Reading.{standing_among};
+ghost use Rattle.be_table.specs.Reading.{page_state_among};
 ghost use Rattle.be_table.specs.Rule.{reach_at};
-ghost use Rattle.be_table.specs.Versions.{SpellsVolume};
+ghost use Rattle.be_table.specs.Versions.{EncodesVolume};
 ghost use Rattle.be_table.specs.Works.{HoldsStill, IsSpent};
 ghost use Rattle.be_table.specs.declared.pass.Knowledge.{Knowledge};
 ghost use Rattle.be_tree.specs.Counting.{in_hand};
@@ -14,8 +14,8 @@ ghost use Rattle.be_volume.specs.Volume.{State};
 
 use be_paged::version_pages;
 
-/// If a write was refused since no page was left, the versions from the least on and the pages
-/// that it had in hand were the whole pool.
+/// If a write was refused because no page was left, the whole pool consisted of two parts: the
+/// pages of the versions from `least` on, and the pages that the write held.
 pub fn full_counts()
     ensures all { (a : Knowledge) (least : ℕ) → IsSpent a least
         → a.limits.pages ≤ reached a.seen least a.limits.pages
@@ -25,19 +25,18 @@ pub fn full_counts()
         + count_below (has a.held) a.limits.pages }
 {}
 
-/// A version that encodes a volume has one page for each five of its items, one for each index, and
-/// one more, at most.
-pub fn spelt_counts()
+/// A version that encodes a volume has at most one page for each five of its items, one for each
+/// index, and one more.
+pub fn encoded_counts()
     ensures { (pages : List ℕ) (words : ℕ → ℕ → ℕ) (page n : ℕ) (volume : State)
-        → SpellsVolume pages words page volume
+        → EncodesVolume pages words page volume
         → 5 * count_below (has pages) n ≤ items volume + 4 * map.len volume.indices + 9 }
 {
     version_pages();
 }
 
-/// Right after that, the pages that the write had in hand at the scan are among those that it has
-/// in hand.
+/// Right after that, the pages that the write held at the scan are among those that it holds.
 pub fn held_counts()
     ensures { (a : Knowledge) (n : ℕ) → HoldsStill a → n ≤ 16384
-        → count_below (has a.held) n ≤ in_hand n (standing_among a.places) }
+        → count_below (has a.held) n ≤ in_hand n (page_state_among a.places) }
 {}

@@ -1,4 +1,4 @@
-//! Seats are dealt when a table opens, and gathered when it closes.
+//! Dealing seats when a table opens, and gathering them when it closes.
 ghost use Rattle.std.specs.Prelude.{◌≡◌, ◌≤◌, ◌<◌, ℕ, slice_index, [], length, map, vec_capacity};
 ghost use Rattle.std.specs.Prelude.{vec_len, ◌+◌};
 ghost use Rattle.be_table.specs.Rule.{IsWithin, empty_view, everyone};
@@ -11,7 +11,7 @@ use crate::seat::{Base, Seat};
 use crate::table::{Inner, PAGES};
 use be_pages::PAGE_WORDS;
 
-/// Each pass gets a seat.
+/// Gives each pass a seat.
 pub(crate) fn deal(table: &Inner, rest: &mut Base, limits: Limits, seats: &mut Vec<Seat>)
     requires table { (0 < table.now.shared.table_id.words) × (table.now.shared.key ≡ limits)
         × IsWithin limits }
@@ -34,7 +34,7 @@ pub(crate) fn deal(table: &Inner, rest: &mut Base, limits: Limits, seats: &mut V
     }
 }
 
-/// The words of the first page lie at page 0.
+/// Writes the words of the first page to page 0.
 pub(crate) fn lay_first(words: &mut Vec<u64>, first: &[u64; PAGE_WORDS])
     requires { 528 + 512 ≤ vec_len words.old }
     ensures { (length words.new.items ≡ length words.old.items)
@@ -46,7 +46,7 @@ pub(crate) fn lay_first(words: &mut Vec<u64>, first: &[u64; PAGE_WORDS])
     }
 }
 
-/// The seats' passes go to one seat.
+/// Joins the seats' passes into one seat.
 pub(crate) fn gather(table: &Inner, rest: &mut Base, mut seats: Vec<Seat>)
     requires table { 0 < table.now.shared.table_id.words }
     requires rest { (rest.old.table_id ≡ table.now.shared.table_id)

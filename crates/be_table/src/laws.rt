@@ -1,11 +1,12 @@
 //! What each step on a word does to the reclamation machine.
 //!
 //! The rule of the table says that the words, the writer state and what the passes know show one
-//! state of be_core's machine. The machine's invariant holds in it. The functions here do nothing:
-//! their contracts say, over the definitions alone, which event of the machine each step is. In
-//! every state of the table, a pass that may step can step. The state that the table shows before
-//! the step allows the event, and the state that it shows afterwards is the event's. A step whose
-//! word has no event leaves the machine as it was. The calls of the table are proved from the same
+//! state of be_core's machine. The machine's invariant holds in it. The functions here do nothing.
+//! Their contracts say, in terms of definitions only, which event of the machine each step is.
+//!
+//! In every state of the table, a pass that may step can step. The state that the table shows
+//! before the step allows the event, and the state that it shows afterwards is the event's. A step
+//! whose word has no event leaves the machine as it was. The table's calls are proved from the same
 //! lemmas.
 ghost use Rattle.std.specs.Prelude.{ℕ, List, Option};
 ghost use Rattle.be_table.specs.Laws.{GiveUpIsNoEvent, PublishIsItsEvent, UnlockIsItsEvent};
@@ -17,7 +18,7 @@ ghost use Rattle.be_table.specs.Laws.{FillIsItsEvent, FoundFillIsItsEvent, OwnRe
 ghost use Rattle.be_table.specs.Laws.{TakeIsItsEvent};
 ghost use Rattle.be_table.specs.Laws.{LookIsItsEvent, AnnounceIsItsEvent, LookAgainIsItsEvent};
 ghost use Rattle.be_table.specs.Laws.{UnpinIsItsEvent, PinnedReadIsItsEvent};
-ghost use Rattle.be_table.specs.declared.ledger.Ledger.{Ledger};
+ghost use Rattle.be_table.specs.declared.writer_state.WriterState.{WriterState};
 ghost use Rattle.be_table.specs.declared.limits.Limits.{Limits};
 ghost use Rattle.be_table.specs.declared.pass.Commit.{Commit};
 ghost use Rattle.be_table.specs.declared.pass.Knowledge.{Knowledge};
@@ -25,98 +26,110 @@ ghost use Rattle.be_table.specs.declared.pass.View.{View};
 
 /// A load of the current number is Look.
 pub fn look()
-    ensures { (limits : Limits) (slots id : ℕ) (a : Knowledge) (carried : List (ℕ × Option Ledger))
+    ensures { (limits : Limits) (slots id : ℕ) (a : Knowledge)
+        (carried : List (ℕ × Option WriterState))
         → LookIsItsEvent limits slots id a carried }
 {}
 
-/// The store of an announcement is Announce.
+/// The store to a reader slot is Announce.
 pub fn announce()
-    ensures { (limits : Limits) (slots id : ℕ) (a : Knowledge) (carried : List (ℕ × Option Ledger))
+    ensures { (limits : Limits) (slots id : ℕ) (a : Knowledge)
+        (carried : List (ℕ × Option WriterState))
         → AnnounceIsItsEvent limits slots id a carried }
 {}
 
 /// The second load of the current number is LookAgain.
 pub fn look_again()
-    ensures { (limits : Limits) (slots id : ℕ) (a : Knowledge) (carried : List (ℕ × Option Ledger))
+    ensures { (limits : Limits) (slots id : ℕ) (a : Knowledge)
+        (carried : List (ℕ × Option WriterState))
         → LookAgainIsItsEvent limits slots id a carried }
 {}
 
-/// The store that takes an announcement back is Unpin.
+/// The store that clears a reader slot is Unpin.
 pub fn unpin()
-    ensures { (limits : Limits) (slots id : ℕ) (a : Knowledge) (carried : List (ℕ × Option Ledger))
+    ensures { (limits : Limits) (slots id : ℕ) (a : Knowledge)
+        (carried : List (ℕ × Option WriterState))
         → UnpinIsItsEvent limits slots id a carried }
 {}
 
 /// A load of a word of a pinned version is Read, and finds the word that the page had when the
 /// version was published.
 pub fn pinned_read()
-    ensures { (limits : Limits) (slots id : ℕ) (a : Knowledge) (carried : List (ℕ × Option Ledger))
+    ensures { (limits : Limits) (slots id : ℕ) (a : Knowledge)
+        (carried : List (ℕ × Option WriterState))
         → PinnedReadIsItsEvent limits slots id a carried }
 {}
 
-/// A compare-exchange of the lock that finds it free is Lock, and one that finds it held is no
-/// event.
+/// A compare-exchange of the lock that finds it free is Lock; one that finds it held is no event.
 pub fn lock()
-    ensures { (limits : Limits) (slots id : ℕ) (a : Knowledge) (carried : List (ℕ × Option Ledger))
+    ensures { (limits : Limits) (slots id : ℕ) (a : Knowledge)
+        (carried : List (ℕ × Option WriterState))
         → LockIsItsEvent limits slots id a carried }
 {}
 
-/// A load of an announcement by the holder is Scan.
+/// The writer's load of a reader slot is Scan.
 pub fn scan()
-    ensures { (limits : Limits) (slots id : ℕ) (a : Knowledge) (carried : List (ℕ × Option Ledger))
+    ensures { (limits : Limits) (slots id : ℕ) (a : Knowledge)
+        (carried : List (ℕ × Option WriterState))
         → ScanIsItsEvent limits slots id a carried }
 {}
 
-/// The store of a page word is Fill.
+/// The store of a page's word is Fill.
 pub fn fill()
-    ensures { (limits : Limits) (slots id : ℕ) (a : Knowledge) (carried : List (ℕ × Option Ledger))
+    ensures { (limits : Limits) (slots id : ℕ) (a : Knowledge)
+        (carried : List (ℕ × Option WriterState))
         → FillIsItsEvent limits slots id a carried }
 {}
 
-/// A load of a word of a page that the holder has in hand is Fill, of the word that is there.
+/// A load of a word of a page that the writer holds is Fill, with the word that is there.
 pub fn found_fill()
-    ensures { (limits : Limits) (slots id : ℕ) (a : Knowledge) (carried : List (ℕ × Option Ledger))
+    ensures { (limits : Limits) (slots id : ℕ) (a : Knowledge)
+        (carried : List (ℕ × Option WriterState))
         → FoundFillIsItsEvent limits slots id a carried }
 {}
 
-/// A load of a page word by the holder is no event.
+/// The writer's load of a page's word is no event.
 pub fn own_read()
-    ensures { (limits : Limits) (slots id : ℕ) (a : Knowledge) (carried : List (ℕ × Option Ledger))
+    ensures { (limits : Limits) (slots id : ℕ) (a : Knowledge)
+        (carried : List (ℕ × Option WriterState))
         → OwnReadIsNoEvent limits slots id a carried }
 {}
 
-/// The load by which a page is taken is Fill, of the word that is there.
+/// The load that takes a page is Fill, with the word that is there.
 pub fn take()
-    ensures { (limits : Limits) (slots id : ℕ) (a : Knowledge) (carried : List (ℕ × Option Ledger))
+    ensures { (limits : Limits) (slots id : ℕ) (a : Knowledge)
+        (carried : List (ℕ × Option WriterState))
         → TakeIsItsEvent limits slots id a carried }
 {}
 
-/// The load by which a page is given up is no event: a page that the write had taken goes back to
-/// the free ones, which is the holder's bookkeeping.
+/// The load that gives up a page is no event. A page that the write had taken goes back to the free
+/// ones, which is the writer's bookkeeping.
 pub fn give_up()
-    ensures { (limits : Limits) (slots id : ℕ) (a : Knowledge) (carried : List (ℕ × Option Ledger))
+    ensures { (limits : Limits) (slots id : ℕ) (a : Knowledge)
+        (carried : List (ℕ × Option WriterState))
         → GiveUpIsNoEvent limits slots id a carried }
 {}
 
-/// The store of the current number is Publish, of the pages that the write has given up.
+/// The store of the current number is Publish, with the pages that the write has given up.
 pub fn publish()
-    ensures { (limits : Limits) (slots id : ℕ) (a : Knowledge) (carried : List (ℕ × Option Ledger))
+    ensures { (limits : Limits) (slots id : ℕ) (a : Knowledge)
+        (carried : List (ℕ × Option WriterState))
         → PublishIsItsEvent limits slots id a carried }
 {}
 
 /// The store that frees the lock is Unlock.
 pub fn unlock()
-    ensures { (limits : Limits) (slots id : ℕ) (a : Knowledge) (ledger : Ledger)
-        → UnlockIsItsEvent limits slots id a ledger }
+    ensures { (limits : Limits) (slots id : ℕ) (a : Knowledge) (writer_state : WriterState)
+        → UnlockIsItsEvent limits slots id a writer_state }
 {}
 
 /// The load by which two passes of one seat compare what they have seen is no event.
 pub fn compare()
     ensures { (limits : Limits) (slots id : ℕ) (a c : Knowledge)
-        (carried : List (ℕ × Option Ledger)) → CompareIsNoEvent limits slots id a c carried }
+        (carried : List (ℕ × Option WriterState)) → CompareIsNoEvent limits slots id a c carried }
 {}
 
-/// The load by which a witness is made is no event: what a pass has seen gets a seat with no pass.
+/// The load that makes a witness is no event: what a pass has seen gets a seat without a pass.
 pub fn attest()
     ensures { (limits : Limits) (id : ℕ) (a : Knowledge) → AttestIsNoEvent limits id a }
 {}
@@ -124,42 +137,42 @@ pub fn attest()
 /// The load by which a pass takes in what a witness has seen is no event.
 pub fn learn()
     ensures { (limits : Limits) (slots id : ℕ) (a : Knowledge) (front : List Commit)
-        (carried : List (ℕ × Option Ledger)) → LearnIsNoEvent limits slots id a front carried }
+        (carried : List (ℕ × Option WriterState)) → LearnIsNoEvent limits slots id a front carried }
 {}
 
-/// The load by which a seat is cut in two is no event: its first pass gets a new seat.
+/// The load that splits a seat is no event: its first pass gets a new seat.
 pub fn split()
     ensures { (limits : Limits) (id : ℕ) (a : Knowledge) (v : List Knowledge)
         (fronts : List (List Commit)) → SplitIsNoEvent limits id a v fronts }
 {}
 
-/// The load by which two seats are joined is no event: one has what both had, and the other has
+/// The load that joins two seats is no event: one seat has what both had, and the other has
 /// nothing.
 pub fn join()
     ensures { (limits : Limits) (id : ℕ) (v : View) (other : ℕ) (w : View)
         → JoinIsNoEvent limits id v other w }
 {}
 
-/// The load by which a seat with no pass is made is no event.
+/// The load that makes a seat without a pass is no event.
 pub fn arrive()
     ensures { (limits : Limits) → ArrivalIsNoEvent limits }
 {}
 
-/// The moves of a trace are the events of the machine, but for a read, which changes nothing and
-/// isn't among them.
+/// The moves of a trace are the machine's events, except a read, which changes nothing and isn't a
+/// move.
 pub fn events_are_moves()
     ensures { EventsAreMoves }
 {}
 
-/// Wherever the moves of a trace lead, no page of a pinned version is free, taken or changed; and
-/// each beginning of them led somewhere.
+/// Wherever a trace's moves lead, no page of a pinned version is free, taken or changed. Each
+/// prefix of them led somewhere.
 pub fn runs()
     ensures sound { RunsAreSound }
     ensures fronts { FrontsRun }
 {}
 
-/// The words of the first 528 that are neither the lock, nor the current version, nor a pass's
-/// announcement are 0 between any two steps. So no call can have a lock of its own there.
+/// Each of the first 528 words is 0 between any two steps, except the lock, the current version and
+/// the passes' reader slots. So no call can have its own lock there.
 pub fn unused_words()
     ensures zero { UnusedAreZero }
     ensures stay { UnusedStayZero }

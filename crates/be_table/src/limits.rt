@@ -1,15 +1,15 @@
-//! The limits of a table, which are given once, when it is made.
+//! The limits of a table, which are set once, when it is made.
 ghost use Rattle.std.specs.Prelude.{◌≡◌, true, false};
 ghost use Rattle.be_table.specs.Rule.{AreBad, IsWithin};
 
-/// How large a table may grow. Nothing in it grows past these numbers.
+/// How large a table may grow. Nothing in it grows beyond these numbers.
 #[derive(Clone, Copy)]
 pub struct Limits {
-    /// The pages of the pool, of 512 words each: 8 to 16,384.
+    /// Pages of the pool, of 512 words each: 8 to 16,384.
     pub pages: u64,
-    /// The passes, each with a seat: 1 to 64.
+    /// Passes, each with a seat: 1 to 64.
     pub passes: u64,
-    /// The entries that the journal may have: 1 to 4,294,967,295.
+    /// Entries that the journal may have: 1 to 4,294,967,295.
     pub commits: u64,
 }
 
@@ -23,7 +23,7 @@ impl Limits {
     /// The most passes.
     pub const MAX_PASSES: u64 = 64;
 
-    /// The most entries, so that the number of a version fits half a word.
+    /// The most entries, so that a version's number fits into half a word.
     pub const MAX_COMMITS: u64 = 4294967295;
 
     /// Whether a table may have these limits.

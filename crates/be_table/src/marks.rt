@@ -1,4 +1,4 @@
-//! What a seat knows of its pass without a step.
+//! What a seat knows about its pass without a step.
 
 /// A pinned version: its number, and its version page.
 #[derive(Clone, Copy)]

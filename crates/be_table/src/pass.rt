@@ -1,9 +1,9 @@
-//! What a pass knows, for contracts alone: no value of these types is ever made.
+//! What a pass knows, only for contracts: no value of these types is ever made.
 //!
-//! A seat carries the knowledge of its pass as ghost data. Each step changes the knowledge of the
-//! pass that steps, and of no other. What a pass knows stays so whatever the others do: a beginning
-//! of the journal, its own entries, the image of the version that it is pinned to; and, while it
-//! holds the lock, where each page is and all page words.
+//! A seat carries its pass's knowledge as ghost data. Each step changes only the knowledge of the
+//! pass that steps. What a pass knows stays true whatever the others do. It is a prefix of the
+//! journal, the pass's own entries, and the image of the version to which it is pinned. While the
+//! pass holds the lock, it is also where each page is, and the words of all pages.
 use crate::limits::Limits;
 use be_core::Phase;
 use be_journal::Entry;
@@ -18,22 +18,23 @@ pub struct Commit {
     pub reach: LinkedList<u64>,
 }
 
-/// A move of the reclamation machine, by the pass that is its first number: one of its events, or
-/// the holder's return of a page. A read changes nothing there, so it isn't among them.
+/// A move of the reclamation machine, by the pass that is its first number. It is one of the
+/// machine's events, or the return of a page by the writer. A read changes nothing there, so it
+/// isn't a move.
 pub enum Move {
     Look(u64),
     Announce(u64),
     LookAgain(u64),
     Unpin(u64),
     Lock(u64),
-    /// Reads the announcement of the second pass.
+    /// Reads the reader slot of the second pass.
     Scan(u64, u64),
     /// Writes a word to a page at a place.
     Fill(u64, u64, u64, u64),
-    /// Publishes a version page, and gives up the pages of the list.
+    /// Publishes a version page, and gives up the pages in the list.
     Publish(u64, u64, LinkedList<u64>),
     Unlock(u64),
-    /// A page that the write had taken goes back to the free ones.
+    /// Returns a page that the write had taken to the free pages.
     Return(u64, u64),
 }
 
@@ -45,34 +46,34 @@ pub struct Knowledge {
     pub seen: LinkedList<Commit>,
     /// The entries of its own accepted writes.
     pub mine: LinkedList<Entry>,
-    /// How far it is with its pin.
+    /// How far its pin has got.
     pub phase: Phase,
-    /// The table's words when it pinned, of which those of the pinned version's pages stay.
+    /// The table's words at the time of its pin; those of the pinned version's pages don't change.
     pub image: LinkedList<u64>,
-    /// It holds the lock.
+    /// Whether it holds the lock.
     pub writes: bool,
-    /// How many announcements its scan has read, and the least so far. Once a scan is whole the
-    /// count is 0 again.
+    /// How many reader slots its scan has read, and the lowest number so far. After a whole scan
+    /// the count is 0 again.
     pub scanned: u64,
     pub least: u64,
-    /// It has entered its write.
+    /// Whether it has published its write.
     pub published: bool,
-    /// While it holds the lock, where each page is, and the table's words, of which those of the
-    /// pages stay.
+    /// While it holds the lock: where each page is, and the table's words, of which those of the
+    /// pages stay right.
     pub places: LinkedList<Place>,
     pub words: LinkedList<u64>,
     /// The pages that its write had taken and not given back when its last whole scan ended.
     pub held: LinkedList<u64>,
-    /// The passes that its tries to take the lock found holding it, the last one first.
-    pub holders: LinkedList<u64>,
+    /// The passes that its failed tries found holding the lock, the last one first.
+    pub writers: LinkedList<u64>,
     /// The number of its steps on words.
     pub steps: u64,
-    /// The moves of the machine, of all passes, up to its own last one.
+    /// The machine's moves, of all passes, up to its own last one.
     pub history: LinkedList<Move>,
 }
 
-/// What a seat knows: the knowledge of one pass, of several while seats are cut or joined, or of
-/// none; and the beginnings of the journal that it has in place of a pass, as the seat of a witness
+/// What a seat knows: the knowledge of one pass, of several while seats are split or joined, or of
+/// none. It also has prefixes of the journal that it has instead of a pass, as a witness's seat
 /// does.
 pub struct View {
     pub passes: LinkedList<Knowledge>,

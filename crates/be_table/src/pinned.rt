@@ -1,10 +1,10 @@
-//! A reader of the version that a pass is pinned to.
+//! A reader of the version to which a pass is pinned.
 //!
-//! Its readable pages are those of the version, with the words that they had when it was published.
-//! Each read is one load, and no other call is a step.
+//! Its readable pages are the version's, with the words that they had when it was published. Each
+//! read is one load, and no other call is a step.
 ghost use Rattle.std.specs.Prelude.{◌≡◌, ◌<◌, IsTrue, slice_index};
 ghost use Rattle.be_pages.specs.Pages.{is_readable};
-ghost use Rattle.be_table.specs.Reading.{pinned_standing};
+ghost use Rattle.be_table.specs.Reading.{pinned_page_state};
 ghost use Rattle.be_table.specs.Rule.{one_step_on, word_place};
 
 use crate::marks::Marks;
@@ -46,7 +46,7 @@ impl<'a> PinnedLook<'a> {
 
     /// Word i of a page of the pinned version. One load.
     fn read(&mut self, page: u64, i: usize) -> u64
-        requires page { IsTrue (is_readable (pinned_standing self.old.knows page)) }
+        requires page { IsTrue (is_readable (pinned_page_state self.old.knows page)) }
         requires place { i < 512 }
         ensures look { self.new ≡ record self.old { knows = one_step_on self.old.knows } }
         ensures word { result ≡ slice_index self.old.knows.image (word_place page i) }
@@ -56,7 +56,7 @@ impl<'a> PinnedLook<'a> {
         table.table.shared.load::<PinnedWord>(&mut self.base, word)
     }
 
-    /// Gives the seat back.
+    /// Returns the seat.
     pub fn into_seat(self) -> Seat
         ensures { IsSeatOf self.entry.table result × (result.knows ≡ self.entry.knows) }
     {
@@ -81,7 +81,7 @@ impl<'a> Look for PinnedLook<'a> {
 
     ghost is_open = { λ k. true };
 
-    ghost standing = { λ p q. pinned_standing p.knows q };
+    ghost page_state = { λ p q. pinned_page_state p.knows q };
 
     ghost words = { λ p q i. word_of_page p.knows.image q i };
 

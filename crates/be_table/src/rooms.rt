@@ -1,9 +1,9 @@
-//! An open write as a reader and a room of pages.
+//! An open write as a page reader and a page writer.
 //!
-//! Trees are built over the traits of be_pages. What an open write has in common with a room in
-//! memory is stated here: the state of each page, its words, and what no call changes. No call
-//! changes the table, the pass with its limits, its phase, what it has seen, that it isn't
-//! published, and the history up to its lock.
+//! Trees are built on the traits of be_pages. This module states what an open write has in common
+//! with a page writer in memory: the state of each page, its words, and what no call changes. No
+//! call changes the table or the pass's number, limits, phase and what it has seen. The write stays
+//! unpublished, and the history up to its lock stays.
 
 use crate::writing::Writing;
 use be_pages::{Look, Room};
@@ -11,7 +11,7 @@ use be_value::Refusal;
 
 impl<'a> Look for Writing<'a> {
     ghost use Rattle.std.specs.Prelude.{not};
-    ghost use Rattle.be_table.specs.Reading.{StaysOpen, open_of, standing_in_work, words_of};
+    ghost use Rattle.be_table.specs.Reading.{StaysOpen, open_of, page_state_in_work, words_of};
     ghost use Rattle.be_table.specs.Reading.{small_open};
 
     ghost Kept = { StaysOpen };
@@ -20,7 +20,7 @@ impl<'a> Look for Writing<'a> {
 
     ghost is_open = { λ k. not k.published };
 
-    ghost standing = { standing_in_work };
+    ghost page_state = { page_state_in_work };
 
     ghost words = { words_of };
 
@@ -36,7 +36,7 @@ impl<'a> Room for Writing<'a> {
 
     ghost full = { IsFull };
 
-    #[tactic(auto, using(crate::proofs::Standings::taken))]
+    #[tactic(auto, using(crate::proofs::PageStates::taken))]
     fn is_taken(&self, page: u64) -> bool {
         Writing::is_taken(self, page)
     }

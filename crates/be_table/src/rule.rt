@@ -10,15 +10,15 @@ ghost use Rattle.be_table.specs.Steps.{Arrived, AnnounceMoves, LookAgainMoves, U
 ghost use Rattle.be_table.specs.Steps.{ScanMoves, PinnedRead, OwnRead, FillMoves, FoundFillMoves};
 ghost use Rattle.be_table.specs.Steps.{TakeMoves, GiveUpMoves, PublishMoves};
 
-use crate::ledger::Ledger;
 use crate::limits::Limits;
 use crate::pass::View;
+use crate::writer_state::WriterState;
 use atomic_table::{Join, Play, Split, TableRule};
 use std::marker::{Brand, PhantomData};
 
 pub(crate) struct Law;
 
-impl TableRule<Option<Ledger>, View, Limits> for Law {
+impl TableRule<Option<WriterState>, View, Limits> for Law {
     ghost holds = { Shows };
 
     ghost first = { everyone };
@@ -26,23 +26,23 @@ impl TableRule<Option<Ledger>, View, Limits> for Law {
 
 pub(crate) struct Look;
 
-impl Play<Option<Ledger>, View> for Look {
+impl Play<Option<WriterState>, View> for Look {
     ghost then = { LookMoves };
 }
 
 pub(crate) struct Lock;
 
-impl Play<Option<Ledger>, View> for Lock {
+impl Play<Option<WriterState>, View> for Lock {
     ghost then = { LockMoves };
 }
 
 pub(crate) struct Unlock;
 
-impl Play<Option<Ledger>, View> for Unlock {
+impl Play<Option<WriterState>, View> for Unlock {
     ghost then = { UnlockMoves };
 }
 
-/// The first pass of the view gets a seat of its own.
+/// The first pass of the view gets its own seat.
 pub(crate) struct Deal;
 
 impl Split<View> for Deal {
@@ -57,14 +57,14 @@ impl Join<View> for Deal {
     ghost spent = { empty_view };
 }
 
-/// Two passes of one seat compare what they have seen.
+/// Two passes in one seat compare what they have seen.
 pub(crate) struct Compare;
 
-impl Play<Option<Ledger>, View> for Compare {
+impl Play<Option<WriterState>, View> for Compare {
     ghost then = { CompareMoves };
 }
 
-/// What the pass of the view has seen gets a seat of its own, with no pass.
+/// What the pass of the view has seen gets its own seat, without a pass.
 pub(crate) struct Attest;
 
 impl Split<View> for Attest {
@@ -76,79 +76,79 @@ impl Split<View> for Attest {
 /// The pass of a seat learns the front that its seat has.
 pub(crate) struct Learn;
 
-impl Play<Option<Ledger>, View> for Learn {
+impl Play<Option<WriterState>, View> for Learn {
     ghost then = { Learned };
 }
 
-/// A seat with no pass.
+/// A new seat without a pass.
 pub(crate) struct Arrive;
 
-impl Play<Option<Ledger>, View> for Arrive {
+impl Play<Option<WriterState>, View> for Arrive {
     ghost then = { Arrived };
 }
 
 pub(crate) struct Announce;
 
-impl Play<Option<Ledger>, View> for Announce {
+impl Play<Option<WriterState>, View> for Announce {
     ghost then = { AnnounceMoves };
 }
 
 pub(crate) struct LookAgain;
 
-impl Play<Option<Ledger>, View> for LookAgain {
+impl Play<Option<WriterState>, View> for LookAgain {
     ghost then = { LookAgainMoves };
 }
 
 pub(crate) struct Unpin;
 
-impl Play<Option<Ledger>, View> for Unpin {
+impl Play<Option<WriterState>, View> for Unpin {
     ghost then = { UnpinMoves };
 }
 
 pub(crate) struct Scan;
 
-impl Play<Option<Ledger>, View> for Scan {
+impl Play<Option<WriterState>, View> for Scan {
     ghost then = { ScanMoves };
 }
 
 pub(crate) struct PinnedWord;
 
-impl Play<Option<Ledger>, View> for PinnedWord {
+impl Play<Option<WriterState>, View> for PinnedWord {
     ghost then = { PinnedRead };
 }
 
 pub(crate) struct OwnWord;
 
-impl Play<Option<Ledger>, View> for OwnWord {
+impl Play<Option<WriterState>, View> for OwnWord {
     ghost then = { OwnRead };
 }
 
 pub(crate) struct Fill;
 
-impl Play<Option<Ledger>, View> for Fill {
+impl Play<Option<WriterState>, View> for Fill {
     ghost then = { FillMoves };
 }
 
 /// A load that fills a word with what is there.
 pub(crate) struct FoundFill;
 
-impl Play<Option<Ledger>, View> for FoundFill {
+impl Play<Option<WriterState>, View> for FoundFill {
     ghost then = { FoundFillMoves };
 }
 
 pub(crate) struct TakePage;
 
-impl Play<Option<Ledger>, View> for TakePage {
+impl Play<Option<WriterState>, View> for TakePage {
     ghost then = { TakeMoves };
 }
 
 pub(crate) struct GiveUp;
 
-impl Play<Option<Ledger>, View> for GiveUp {
+impl Play<Option<WriterState>, View> for GiveUp {
     ghost then = { GiveUpMoves };
 }
 
-/// The entry and the version page of a publishing step. Each call picks them.
+/// The entry and the version page of a publishing step. Each call chooses them.
 pub(crate) trait NextVersion {
     ghost use Rattle.std.specs.Prelude.{ℕ};
     ghost use Rattle.be_journal.specs.declared.entries.Entry.{Entry};
@@ -168,6 +168,6 @@ pub(crate) struct Publish<E> {
     marker: PhantomData<E>,
 }
 
-impl<E: NextVersion> Play<Option<Ledger>, View> for Publish<E> {
+impl<E: NextVersion> Play<Option<WriterState>, View> for Publish<E> {
     ghost then = { PublishMoves E.entry E.page };
 }

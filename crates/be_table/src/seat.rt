@@ -1,23 +1,23 @@
 //! A pass's seat at the table.
 //!
-//! A seat is the right to step for one pass: no two seats have the same pass, so only one holder
-//! has what a pass knows. Beside that right it carries three numbers from its steps: the number of
-//! the pass, how much of the journal the pass has seen, and its pin.
+//! A seat is the right to step for one pass. No two seats have the same pass, so only its owner has
+//! what the pass knows. Besides that right it carries three things from its steps: the pass's
+//! number, how much of the journal the pass has seen, and its pin.
 ghost use Rattle.std.specs.Prelude.{◌≡◌, ℕ, ◌<◌, true, false, [], length, IsTrue};
 ghost use Rattle.be_core.specs.Machine.{has};
 ghost use Rattle.be_core.specs.declared.event.Phase.TheVariants.{Pinned};
 ghost use Rattle.be_table.specs.Rule.{alone, pass_of, page_at, reach_at};
 
-use crate::ledger::Ledger;
 use crate::marks::Marks;
 use crate::pass::View;
+use crate::writer_state::WriterState;
 use atomic_table::Badge;
 use std::marker::Model;
 use std::mem;
 
-pub(crate) type Base = atomic_table::Seat<Option<Ledger>, View>;
+pub(crate) type Base = atomic_table::Seat<Option<WriterState>, View>;
 
-/// What a pass steps with. A seat that was moved out is blank, and steps no more.
+/// What a pass steps with. A seat that was moved out is blank, and can't step.
 #[derive(Drop)]
 pub struct Seat {
     badge: Badge<View>,
@@ -41,14 +41,14 @@ impl Seat {
     ghost use Rattle.be_journal.specs.Journal.{replay};
     ghost use Rattle.be_table.specs.Reading.{word_of_page};
     ghost use Rattle.be_table.specs.Rule.{entries};
-    ghost use Rattle.be_table.specs.Seats.{IsTold, pin_of, pinned_number};
+    ghost use Rattle.be_table.specs.Seats.{IsReported, pin_of, pinned_number};
     ghost use Rattle.be_table.specs.Steps.{IsPass};
-    ghost use Rattle.be_table.specs.Versions.{SpellsVolume};
+    ghost use Rattle.be_table.specs.Versions.{EncodesVolume};
 
     pub(crate) fn of(base: Base, marks: Marks) -> Seat
         requires number { marks.number < 64 }
         requires pass { base.me ≡ (alone (pass_of base.me.0), []) }
-        requires told { IsTold (pass_of base.me.0) marks.number marks.seen }
+        requires reported { IsReported (pass_of base.me.0) marks.number marks.seen }
         requires pin { marks.pin ≡ pin_of (pass_of base.me.0).phase (pass_of base.me.0).seen }
         ensures { (result.blank ≡ false) × (result.table ≡ base.table_id)
             × (result.knows ≡ pass_of base.me.0) }
@@ -59,18 +59,19 @@ impl Seat {
         }
     }
 
-    /// The base's seat, with the marks of the pass.
+    /// The underlying seat, with the pass's marks.
     pub(crate) fn into_base(self) -> (Base, Marks)
         requires { self.blank ≡ false }
         ensures pass { (result.0.table_id ≡ self.table) × (result.0.me ≡ (alone self.knows, [])) }
-        ensures told { (result.1.number < 64) × IsTold self.knows result.1.number result.1.seen }
+        ensures reported { (result.1.number < 64)
+            × IsReported self.knows result.1.number result.1.seen }
         ensures pin { result.1.pin ≡ pin_of self.knows.phase self.knows.seen }
     {
         let Seat { badge, marks } = self;
         (badge.into_seat(), marks)
     }
 
-    /// The number of the pass, counted from 0.
+    /// The pass's number, counted from 0.
     pub fn number(&self) -> u64
         requires { self.now.blank ≡ false }
         ensures { result ≡ self.now.knows.number }
@@ -97,9 +98,9 @@ impl Seat {
         }
     }
 
-    /// The version page of the version to which the pass is pinned. From there the version's pages,
-    /// with the words that they had when it was published, encode the volume after so many entries
-    /// as its number says.
+    /// The version page of the version to which the pass is pinned. The version's pages, with the
+    /// words that they had when it was published, encode the volume from there: the one after as
+    /// many entries as the version's number says.
     pub fn version_page(&self) -> u64
         requires seat { self.now.blank ≡ false }
         requires pinned { (x : ℕ) × (n : ℕ) × (self.now.knows.phase ≡ Pinned x n) }
@@ -107,8 +108,8 @@ impl Seat {
             ≡ page_at self.now.knows.seen n }
         ensures readable { (x n : ℕ) → self.now.knows.phase ≡ Pinned x n
             → IsTrue (has (reach_at self.now.knows.seen n) result) }
-        ensures spelt { (x n : ℕ) → self.now.knows.phase ≡ Pinned x n
-            → SpellsVolume (reach_at self.now.knows.seen n) (word_of_page self.now.knows.image)
+        ensures encoded { (x n : ℕ) → self.now.knows.phase ≡ Pinned x n
+            → EncodesVolume (reach_at self.now.knows.seen n) (word_of_page self.now.knows.image)
             (page_at self.now.knows.seen n)
             (replay (take n (entries self.now.knows.seen))) }
     {
@@ -119,8 +120,8 @@ impl Seat {
         }
     }
 
-    /// A law of one seat: what is always so of a pass is so of this one, as a contract can't tell
-    /// of a seat that it is lent. It does nothing.
+    /// A law of one seat: what always holds for a pass holds for this one, because a contract can't
+    /// say so about a seat that it borrows. It does nothing.
     pub fn is_pass(&self)
         requires { self.now.blank ≡ false }
         ensures { IsPass self.now.knows }
@@ -128,7 +129,7 @@ impl Seat {
         let _ = &self.badge;
     }
 
-    /// The seat, of which a blank one is left. No step.
+    /// Moves the seat out, and leaves a blank one. No step.
     pub fn move_out(&mut self) -> Seat
         ensures { (result ≡ self.old) × (self.new.blank ≡ true) }
     {

@@ -1,44 +1,44 @@
-//! What a table reports of itself: how full it is, and who is pinned.
+//! What a table reports about itself: how full it is, and who is pinned.
 ghost use Rattle.std.specs.Prelude.{◌≡◌, ◌++◌, ◌∷◌, [], ℕ, List, length};
 ghost use Rattle.be_table.specs.Statuses.{IsOldest};
 
-/// An announced version number, and the pass that has announced it.
+/// A version number in a reader slot, and the pass that published it there.
 #[derive(Clone, Copy)]
 pub struct Announcement {
-    /// The number. The pass is pinned to that version or to a later one, or is about to be.
+    /// The number. The pass is pinned to that version or a later one, or is about to be.
     pub number: u64,
-    /// The number of the pass.
+    /// The pass's number.
     pub pass: u64,
 }
 
 /// How full a table is, and whose pin is the oldest.
 #[derive(Clone, Copy)]
 pub struct Status {
-    /// The pages of the pool.
+    /// Pages of the pool.
     pub pages: u64,
-    /// The pages that a write may take.
+    /// Pages that a write may take.
     pub free: u64,
-    /// The pages of older versions that no write may take, since a pass has announced such a
-    /// version or an older one.
+    /// Pages of older versions that no write may take, because a pass has published the number of
+    /// such a version or an older one.
     pub retired: u64,
-    /// The entries of the journal.
+    /// Entries of the journal.
     pub entries: u64,
     /// The most entries that it may have.
     pub commits: u64,
-    /// The least announced number, and the first of the passes that have announced it. None if none
-    /// has.
+    /// The lowest number in a reader slot, and the first pass that has published it. None if all
+    /// slots are empty.
     pub oldest: Option<Announcement>,
 }
 
-/// What a scan found: the least of the current number and of the announcements, and the oldest
-/// announcement.
+/// What a scan found: the oldest active reader, and the oldest announcement. The oldest active
+/// reader is the lowest of the current number and the numbers in the reader slots.
 #[derive(Clone, Copy)]
 pub(crate) struct Found {
     pub least: u64,
     pub oldest: Option<Announcement>,
 }
 
-/// The oldest of some announcements, and of one pass more, whose word is this.
+/// The oldest of some announcements and that of one more pass, whose word is `found`.
 pub(crate) fn older(oldest: Option<Announcement>, found: u64, pass: u64) -> Option<Announcement>
     ensures { (words : List ℕ) → length words ≡ pass → IsOldest words oldest
         → IsOldest (words ++ found ∷ []) result }

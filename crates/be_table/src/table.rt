@@ -1,15 +1,14 @@
 //! The table that the passes share, and the steps of readers.
 //!
-//! Word 0 is LOCK: 0 when free, otherwise the holder's number + 1. Word 8 is CURRENT: the version's
-//! number times 2^32, plus its version page. Word 16 + 8 k is the announcement of pass k: 0 for
-//! none, otherwise the number + 1. Word i of page p is word 528 + 512 p + i.
+//! Word 0 is LOCK: 0 if free, otherwise the writer's pass + 1. Word 8 is CURRENT: the version's
+//! number times 2^32, plus its version page. Word 16 + 8 k is the reader slot of pass k: 0 if
+//! empty, otherwise the published number + 1. Word i of page p is word 528 + 512 p + i.
 ghost use Rattle.std.specs.Prelude.{◌≡◌, ℕ, ◌<◌, false, length, map, MatchResult, IsTrue};
 ghost use Rattle.std.specs.Prelude.{slice_index};
 ghost use Rattle.be_core.specs.Machine.{has};
 ghost use Rattle.be_table.specs.Rule.{one_step_on, reach_at, word_place, page_at};
 
 use crate::deal::{deal, gather, lay_first};
-use crate::ledger::{Ledger, first_space};
 use crate::limits::Limits;
 use crate::marks::PinnedVersion;
 use crate::pass::View;
@@ -19,6 +18,7 @@ use crate::rule::{
 };
 use crate::seat::Seat;
 use crate::witness::Witness;
+use crate::writer_state::{WriterState, first_space};
 use crate::writing::Writing;
 use atomic_table::Table;
 use be_core::Phase;
@@ -28,19 +28,19 @@ use be_value::Refusal;
 use std::alloc::Global;
 use std::marker::Model;
 
-/// 0 while no pass holds the lock, otherwise the holder's number + 1.
+/// 0 while no pass holds the lock, otherwise the writer's pass + 1.
 pub(crate) const LOCK: usize = 0;
 
 /// The current version: its number times 2^32, plus its version page.
 pub(crate) const CURRENT: usize = 8;
 
-/// The announcement of pass k is the word ANNOUNCE + 8 * k, on a cache line of its own.
+/// The reader slot of pass k is the word ANNOUNCE + 8 * k, on its own cache line.
 pub(crate) const ANNOUNCE: usize = 16;
 
-/// Then come the pages, of `PAGE_WORDS` each.
+/// Then come the pages, with `PAGE_WORDS` words each.
 pub(crate) const PAGES: usize = 528;
 
-pub(crate) type Inner = Table<Option<Ledger>, View, Limits, Law, Global>;
+pub(crate) type Inner = Table<Option<WriterState>, View, Limits, Law, Global>;
 
 /// The words, the slot and the limits. Passes share it by a `&`.
 #[derive(Drop)]
@@ -70,23 +70,23 @@ impl VersionTable {
     ghost use Rattle.be_journal.specs.Journal.{IsLegal, replay};
     ghost use Rattle.be_paged_reading.specs.Version.{IsVersion};
     ghost use Rattle.be_table.specs.History.{StartsWith, AreOfPasses};
-    ghost use Rattle.be_table.specs.Reading.{pinned_standing, word_of_page};
+    ghost use Rattle.be_table.specs.Reading.{pinned_page_state, word_of_page};
     ghost use Rattle.be_table.specs.Rule.{IsWithin, entries};
     ghost use Rattle.be_table.specs.Steps.{announces, unpins, met, longer, Has, KeepsSeen};
     ghost use Rattle.be_table.specs.Steps.{with_history};
     ghost use Rattle.be_table.specs.Trace.{HasTrace};
-    ghost use Rattle.be_table.specs.Versions.{at_start, CanSpellEach};
+    ghost use Rattle.be_table.specs.Versions.{at_start, CanEncodeEach};
     ghost use Rattle.be_table.specs.Works.{IsSeatOf, IsWitnessOf, SeesMore, TakesLock, FoundHeld};
     ghost use Rattle.be_table.specs.Works.{PinsCurrent, Moves, AreNew, IsOpenRefused, AllAt};
     ghost use Rattle.be_table.specs.Works.{knows_of};
     ghost use Rattle.be_table.specs.declared.pass.Move.TheVariants as moves;
 
-    /// A table with an empty journal, and the seats of its passes in the order of their numbers.
-    /// Version 0 is the page `first`, which encodes the empty volume, at page 0; the other pages
-    /// are free.
+    /// A table with an empty journal, and its passes' seats in the order of their numbers. Version
+    /// 0 has only the page `first`, which encodes the empty volume, at page 0. The other pages are
+    /// free.
     ///
-    /// BadLimits exactly if a limit is out of its range, and OutOfMemory if a growth was refused.
-    /// No later call but `reserve` takes memory.
+    /// BadLimits exactly if a limit is out of range; OutOfMemory. Later only `reserve`,
+    /// `journal_text` and `entry` allocate memory.
     pub fn open(
         alloc: Global,
         limits: Limits,
@@ -114,7 +114,7 @@ impl VersionTable {
         let Ok(space) = first_space(alloc) else {
             return Err(Refusal::OutOfMemory);
         };
-        slots.push_reserved(Some(Ledger {
+        slots.push_reserved(Some(WriterState {
             journal: Journal::new(alloc, limits.commits),
             page: 0,
             pool,
@@ -144,7 +144,7 @@ impl VersionTable {
         self.limits
     }
 
-    /// Sees the journal up to now, and returns its length. One load.
+    /// Looks at the journal up to now, and returns its length. One load.
     pub fn look(&self, seat: &mut Seat) -> u64
         requires { IsSeatOf self.now seat.old }
         ensures seat { IsSeatOf self.now seat.new }
@@ -158,8 +158,8 @@ impl VersionTable {
         version
     }
 
-    /// Announces the number that the pass looked at. From then on no write that scans frees a page
-    /// of that version or of a later one. One store.
+    /// Publishes the number at which the pass looked, in its reader slot. From then on no scanning
+    /// write frees a page of that version or a later one. One store.
     pub fn announce(&self, seat: &mut Seat, number: u64)
         requires seat { IsSeatOf self.now seat.old }
         requires looked { seat.old.knows.phase ≡ Phase.Looked number }
@@ -177,8 +177,8 @@ impl VersionTable {
         *seat = Seat::of(base, marks);
     }
 
-    /// Pins the version that is current once the announcement is made, which may be later than the
-    /// announced one. Returns its number and its version page. One load.
+    /// Pins the version that is current after the number was published; it may be later than that
+    /// number. Returns its number and its version page. One load.
     pub fn look_again(&self, seat: &mut Seat) -> (u64, u64)
         requires seat { IsSeatOf self.now seat.old }
         requires announced { (x : ℕ) × (seat.old.knows.phase ≡ Phase.Announced x) }
@@ -197,7 +197,7 @@ impl VersionTable {
         (number, page)
     }
 
-    /// Takes the announcement back. One store.
+    /// Clears the reader slot. One store.
     pub fn unpin(&self, seat: &mut Seat)
         requires seat { IsSeatOf self.now seat.old }
         requires pinned { (x : ℕ) × (n : ℕ) × (seat.old.knows.phase ≡ Phase.Pinned x n) }
@@ -214,8 +214,8 @@ impl VersionTable {
         *seat = Seat::of(base, marks);
     }
 
-    /// Takes the lock. If a pass holds it, the error is Busy with the pass that this try found
-    /// holding it, which is another one. One compare-exchange.
+    /// Takes the lock. If another pass holds it, the error is Busy with the pass that this try
+    /// found. One compare-exchange.
     pub fn lock(&self, seat: Seat) -> Result<Writing<'_>, (Seat, Refusal)>
         requires { IsSeatOf self.now seat }
         ensures { MatchResult result
@@ -226,8 +226,8 @@ impl VersionTable {
         let shared = &self.table.shared;
         let found = shared.compare_exchange::<Lock>(&mut base, LOCK, 0, marks.number + 1);
         if found == 0 {
-            let ledger = shared.exchange(&mut base, 0, None).unwrap();
-            Ok(Writing::of(self, base, marks, ledger))
+            let writer_state = shared.exchange(&mut base, 0, None).unwrap();
+            Ok(Writing::of(self, base, marks, writer_state))
         } else {
             Err((Seat::of(base, marks), Refusal::Busy(found - 1)))
         }
@@ -250,14 +250,14 @@ impl VersionTable {
         found
     }
 
-    /// A reader of the pages of the pinned version, which encode the volume after the journal's
-    /// entries up to the version's number. No step.
+    /// A reader of the pinned version's pages, which encode the volume after as many entries of the
+    /// journal as the version's number says. No step.
     pub fn pinned_look(&self, seat: Seat) -> PinnedLook<'_>
         requires seat { IsSeatOf self.now seat }
         requires pinned { (x : ℕ) × (n : ℕ) × (seat.knows.phase ≡ Phase.Pinned x n) }
         ensures look { (result.table ≡ self.now) × (result.knows ≡ seat.knows) }
         ensures version { (x n : ℕ) → seat.knows.phase ≡ Pinned x n
-            → IsVersion (pinned_standing result.knows) (word_of_page result.knows.image)
+            → IsVersion (pinned_page_state result.knows) (word_of_page result.knows.image)
             (page_at result.knows.seen n)
             (replay (take n (entries result.knows.seen))) }
     {
@@ -265,10 +265,10 @@ impl VersionTable {
         PinnedLook::of(self, seat)
     }
 
-    /// Two passes share what they have seen, in three steps: their seats are joined, a load
-    /// compares what they have seen, and the seats are cut apart again. Both passes have then seen
-    /// the longer of their two beginnings of the journal. Returns its length. What the two have
-    /// done so far lies in one trace, and a meeting adds nothing to it.
+    /// Lets two passes share what they have seen, in three steps: their seats are joined, a load
+    /// compares what they have seen, and the seats are split again. Both have then seen the longer
+    /// of their two prefixes of the journal. Returns its length. What the two have done so far lies
+    /// in one trace, and a meeting adds nothing to it.
     pub fn meet(&self, left: Seat, right: Seat) -> (Seat, Seat, u64)
         requires { IsSeatOf self.now left × IsSeatOf self.now right }
         ensures seats { IsSeatOf self.now result.0 × IsSeatOf self.now result.1 }
@@ -307,9 +307,9 @@ impl VersionTable {
         Witness::of(front, marks.seen)
     }
 
-    /// The pass and the witness share what they have seen, in three steps, as two passes do that
-    /// meet: the seats are joined, a load compares, and the witness gets a seat again. Both have
-    /// then seen the longer of their two beginnings of the journal. Returns its length. No move.
+    /// Lets the pass and the witness share what they have seen, in three steps, as in a meeting:
+    /// the seats are joined, a load compares, and the witness gets a seat again. Both have then
+    /// seen the longer of their two prefixes of the journal. Returns its length. No move.
     pub fn join(&self, seat: &mut Seat, witness: &mut Witness) -> u64
         requires { IsSeatOf self.now seat.old × IsWitnessOf self.now witness.old }
         ensures of { IsSeatOf self.now seat.new × IsWitnessOf self.now witness.new }
@@ -332,25 +332,27 @@ impl VersionTable {
         both
     }
 
-    /// The journal, once all seats are back. Their passes may be pinned.
+    /// Returns the journal, once all seats are back. Their passes may be pinned.
     pub fn close(self, seats: Vec<Seat>) -> Journal
         requires seats { AllAt self.id seats.items }
         requires all { (k : ℕ) → k < self.limits.passes → Has (map knows_of seats.items) k }
         ensures legal { IsLegal result.entries }
         ensures by { AreOfPasses self.limits.passes result.entries }
         ensures seats { KeepsSeen result.entries (map knows_of seats.items) }
-        ensures volumes { CanSpellEach self.limits.pages result.entries }
+        ensures volumes { CanEncodeEach self.limits.pages result.entries }
         ensures limit { result.limit ≡ self.limits.commits }
         ensures trace { HasTrace self.limits (map knows_of seats.items) }
     {
         let VersionTable { table, limits: _ } = self;
-        // A seat with no pass takes in the others.
+        // An empty seat takes in the others.
         let (_, mut rest) = table.shared.load_new_seat::<Arrive>(LOCK);
         gather(&table, &mut rest, seats);
         let mut closed = table.close_with(rest);
         let slot = closed.take(0);
         closed.free();
-        let Some(ledger) = slot else { unreachable!() };
-        ledger.into_journal()
+        let Some(writer_state) = slot else {
+            unreachable!()
+        };
+        writer_state.into_journal()
     }
 }

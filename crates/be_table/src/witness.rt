@@ -1,8 +1,8 @@
 //! Witnesses: what a pass has seen of the journal, for other passes.
 //!
-//! A pass makes a witness of what it has seen, and another thread may take it, by whatever channel.
-//! A pass there that joins it has then seen as much, so it pins that version or a later one, and
-//! its writes come after it.
+//! A pass makes a witness of what it has seen, and another thread may take it, over any channel. A
+//! pass there that joins it has then seen as much. So it pins that version or a later one, and its
+//! writes come after it.
 ghost use Rattle.std.specs.Prelude.{◌≡◌, true, false, [], length};
 ghost use Rattle.be_table.specs.Rule.{front_of, witnessing};
 
@@ -12,8 +12,8 @@ use atomic_table::Badge;
 use std::marker::Model;
 use std::mem;
 
-/// A beginning of the journal that some pass has seen. One that was moved out is blank, and no pass
-/// may join it.
+/// A prefix of the journal that some pass has seen. A witness that was moved out is blank, and no
+/// pass may join it.
 #[derive(Drop)]
 pub struct Witness {
     badge: Badge<View>,
@@ -32,7 +32,7 @@ impl Model for Witness {
     ghost invariant = { IsWitness };
 }
 
-/// The same value. It compiles only if values of the type may go to another thread.
+/// Returns the same value. It compiles only if values of the type may go to another thread.
 fn sent<T: Send>(value: T) -> T
     ensures { result ≡ value }
 {
@@ -52,7 +52,7 @@ impl Witness {
         }
     }
 
-    /// The base's seat, with the length of its front.
+    /// The underlying seat, with the length of its front.
     pub(crate) fn into_base(self) -> (Base, u64)
         requires { self.blank ≡ false }
         ensures front { (result.0.table_id ≡ self.table)
@@ -63,7 +63,7 @@ impl Witness {
         (badge.into_seat(), commits)
     }
 
-    /// How many entries of the journal it vouches for.
+    /// How many entries of the journal were seen.
     pub fn seen(&self) -> u64
         requires { self.now.blank ≡ false }
         ensures { result ≡ length self.now.seen }
@@ -78,7 +78,7 @@ impl Witness {
         sent(self)
     }
 
-    /// The witness, of which a blank one is left. No step.
+    /// Moves the witness out, and leaves a blank one. No step.
     pub fn move_out(&mut self) -> Witness
         ensures { (result ≡ self.old) × (self.new.blank ≡ true) }
     {

@@ -1,37 +1,38 @@
 //! An open write: the pass holds the lock and has the writer state.
 //!
 //! A write takes pages, fills them, gives pages up, and publishes. Until it publishes, others see
-//! nothing of it, and `unlock` undoes it. It has no `Drop`, so it can end by `unlock` alone, and
+//! nothing of it, and `unlock` undoes it. It has no `Drop`, so it can only end with `unlock`, and
 //! the writer state always comes back.
 ghost use Rattle.std.specs.Prelude.{map, get_or, slice_index, IsTrue, List, IfOk, IfErr, IfSome};
 ghost use Rattle.std.specs.Prelude.{IfNone, ◌≢◌, Ok, string_bytes, ◌≡◌, ◌≤◌, All, suc, ◌+◌, ◌*◌};
 ghost use Rattle.std.specs.Prelude.{◌^◌, ◌<◌, true, false, [], ◌∷◌, length, count_by, None};
 ghost use Rattle.std.specs.Prelude.{MatchResult, ℕ};
 ghost use Rattle.be_pages.specs.Place.{is_in_hand, is_held_page, is_retired, place_of, given_place};
-ghost use Rattle.be_pages.specs.declared.room.Standing.TheVariants.{Taken, Filled as Full};
+ghost use Rattle.be_pages.specs.declared.room.PageState.TheVariants.{Taken, Filled as Full};
 ghost use Rattle.be_volume.specs.Sound.{IsOperation};
-ghost use Rattle.be_table.specs.Reading.{standing_among};
+ghost use Rattle.be_table.specs.Reading.{page_state_among};
 ghost use Rattle.be_table.specs.Rule.{Reaches, alone, announce_word, pass_of, one_step_on};
 ghost use Rattle.be_table.specs.Rule.{word_place, current_word};
-ghost use Rattle.be_table.specs.Statuses.{FindsOldest, LieAt, Tells};
+ghost use Rattle.be_table.specs.Statuses.{FindsOldest, LieAt, Reports};
 ghost use Rattle.be_table.specs.Steps.{AreFound, take_moves, fill_moves, given_moves, given_of};
 ghost use Rattle.be_table.specs.Steps.{scans_of, NoneRetiredLater, IsPass, IsFound, MayPublish};
 ghost use Rattle.be_table.specs.Steps.{publishes, MayBeFilled, MayReadAnnouncement, IsPart};
 ghost use Rattle.be_table.specs.Steps.{fills_word, with_history};
 ghost use Rattle.be_table.specs.Steps.{takes_page, gives_up, scans, scans_out, scans_all};
-ghost use Rattle.be_table.specs.Steps.{least_found, IsLeastAnnounced, IsOwnLeast, UnreachedAreFree};
+ghost use Rattle.be_table.specs.Steps.{lowest_found, IsLowestAnnounced, IsOwnLowest};
+ghost use Rattle.be_table.specs.Steps.{UnreachedAreFree};
 ghost use Rattle.be_table.specs.Trace.{Makes, upto_lock};
 ghost use Rattle.be_table.specs.Working.{HasWorked, MakesForReason};
 ghost use Rattle.be_table.specs.Works.{due_after, HasReasonToScan, Moves};
 ghost use Rattle.be_table.specs.declared.pass.Move.TheVariants as moves;
 
-use crate::ledger::Ledger;
 use crate::limits::Limits;
 use crate::marks::Marks;
 use crate::rule::{Fill, FoundFill, GiveUp, NextVersion, OwnWord, Publish, Scan, TakePage, Unlock};
 use crate::seat::{Base, Seat};
 use crate::status::{Announcement, Found, Status, older};
 use crate::table::{ANNOUNCE, CURRENT, LOCK, PAGES, VersionTable};
+use crate::writer_state::WriterState;
 use be_journal::{Entry, replay_push};
 use be_paged::Version;
 use be_pages::{PAGE_WORDS, Place};
@@ -39,28 +40,28 @@ use be_value::Refusal;
 use be_volume::{Done, Op};
 use std::marker::{Brand, Model};
 
-/// A retired page is used again only once a scan has freed it. A write that lets the pool run empty
-/// first goes through the memory of every page, where those that were given up last are still near.
-/// A write gives up 6 to 16, all of which use the same few lines of the cache. So those of two or
-/// three writes are still in its nearest levels. While readers keep pages, a scan a write would
-/// find no more of them there, and costs a load for each pass.
+/// A retired page is only reused once a scan has freed it. A write that first lets the pool run
+/// empty goes through the memory of every page, although those given up last are still in the
+/// cache. A write gives up 6 to 16, all of which use the same few lines of the cache. So those of
+/// two or three writes are still in its nearest levels. While readers hold pages, scanning at every
+/// write frees nothing more and costs one load for each pass.
 const EARLY: usize = 32;
 
-/// How many more pages are retired than the last whole scan left, if a scan pays. If it left none,
-/// no reader keeps pages, and each write scans: then what the last write gave up is free, and each
-/// copy of a page can go to the page that it was copied from.
+/// How many more pages have to be retired than the last whole scan left, before a scan pays. If
+/// that scan left none, no reader holds pages, and each write scans. Then what the last write gave
+/// up is free, and each copy of a page can go to the page that it was copied from.
 fn due_after(left: usize) -> usize
     ensures { result ≡ due_after left }
 {
     if left == 0 { 1 } else { EARLY }
 }
 
-/// The lock is held by this pass. It has no `Drop`, so it ends in `unlock`.
+/// The lock is held by this pass. It has no `Drop`, so it ends with `unlock`.
 pub struct Writing<'a> {
     table: &'a VersionTable,
     base: Base,
     marks: Marks,
-    pub(crate) ledger: Ledger,
+    pub(crate) writer_state: WriterState,
     reserved: usize,
 }
 
@@ -97,7 +98,7 @@ impl<'a> Writing<'a> {
         table: &'a VersionTable,
         base: Base,
         marks: Marks,
-        ledger: Ledger,
+        writer_state: WriterState,
     ) -> Writing<'a>
         requires seat { (base.table_id ≡ table.now.id)
             × (base.me ≡ (alone (pass_of base.me.0), (0, None) ∷ [])) }
@@ -105,7 +106,7 @@ impl<'a> Writing<'a> {
             × ((pass_of base.me.0).limits ≡ table.now.limits)
             × (marks.number < 64) × ((pass_of base.me.0).writes ≡ true)
             × IsPass (pass_of base.me.0) }
-        requires ledger { IsFound ledger (pass_of base.me.0) }
+        requires writer_state { IsFound writer_state (pass_of base.me.0) }
         requires turn { (pass_of base.me.0).scanned ≡ 0 }
         requires pin { marks.pin ≡ pin_of (pass_of base.me.0).phase (pass_of base.me.0).seen }
         requires begun { upto_lock (pass_of base.me.0).number (pass_of base.me.0).history
@@ -117,49 +118,49 @@ impl<'a> Writing<'a> {
             table,
             base,
             marks,
-            ledger,
+            writer_state,
             reserved: 0,
         }
     }
 
-    /// The length of the journal, and the version page. The volume has 64 node numbers left,
-    /// however long the journal is. No step.
+    /// The length of the journal, and the version page. However long the journal is, the volume has
+    /// 64 node numbers left. No step.
     pub fn current(&self) -> (u64, u64)
         ensures version { (result.0 ≡ length self.now.knows.seen)
             × (result.1 ≡ page_at self.now.knows.seen (length self.now.knows.seen)) }
         ensures next { (replay (entries self.now.knows.seen)).next + 64 < 2 ^ 64 }
     {
-        (self.ledger.journal.len(), self.ledger.page)
+        (self.writer_state.journal.len(), self.writer_state.page)
     }
 
-    /// Takes out the place for a version's contents, which the next write finds if it is put back.
+    /// Takes out the buffer for a version's contents. The next write finds it if it is put back.
     pub fn take_space(&mut self) -> Option<Box<Version>>
         ensures { self.new ≡ self.old }
     {
-        self.ledger.space.take()
+        self.writer_state.space.take()
     }
 
     /// Puts back what `take_space` took out.
     pub fn put_space(&mut self, space: Option<Box<Version>>)
         ensures { self.new ≡ self.old }
     {
-        self.ledger.space = space;
+        self.writer_state.space = space;
     }
 
     /// The journal's text. OutOfMemory. No step.
     pub fn journal_text(&self) -> Result<String, Refusal>
         ensures { Answers string_bytes result (Ok (lines_from 1 (entries self.now.knows.seen))) }
     {
-        self.ledger.journal.text()
+        self.writer_state.journal.text()
     }
 
-    /// The journal's entry with this index, from 0, an entry of its own. OutOfMemory. No step.
+    /// The journal's entry with this index, from 0, as a copy. OutOfMemory. No step.
     pub fn entry(&self, i: u64) -> Result<Entry, Refusal>
         requires { i < length self.now.knows.seen }
         ensures ok { IfOk result (λ entry. entry ≡ get_or (entries self.now.knows.seen) i entry) }
         ensures err { IfErr result (λ e. e ≡ OutOfMemory) }
     {
-        Ok(self.ledger.journal.get(i).to_entry()?)
+        Ok(self.writer_state.journal.get(i).to_entry()?)
     }
 
     /// Word i of a page, as the current version has it or as this write filled it. One load.
@@ -178,11 +179,11 @@ impl<'a> Writing<'a> {
         requires page { page < length self.now.knows.places }
         ensures { result ≡ is_in_hand (place_of self.now.knows.places page) }
     {
-        self.ledger.pool.is_in_hand(page)
+        self.writer_state.pool.is_in_hand(page)
     }
 
-    /// Writes word i of a page that was taken in this write. One load, and one store if the word
-    /// isn't there yet: a page that is used again has many of its words, and a store costs far more
+    /// Writes word i of a page that this write took. One load, and one store if the word isn't
+    /// there yet. A page that is reused has many of its words already, and a store costs far more
     /// than a load.
     pub fn fill(&mut self, page: u64, i: usize, word: u64)
         requires open { self.old.knows.published ≡ false }
@@ -198,11 +199,11 @@ impl<'a> Writing<'a> {
         ensures inside { word_place page i < length self.old.knows.words }
     {
         fill_word(self.table, &mut self.base, page, i, word);
-        self.ledger.pool.fill(page);
+        self.writer_state.pool.fill(page);
     }
 
-    /// Writes word i of a page that has a word filled in this write, as `fill` does. Where the page
-    /// is needn't be looked up.
+    /// Writes word i of a page in which this write has filled a word, as `fill` does. The page's
+    /// place need not be looked up.
     pub fn refill(&mut self, page: u64, i: usize, word: u64)
         requires open { self.old.knows.published ≡ false }
         requires filled { (page < length self.old.knows.places)
@@ -219,8 +220,8 @@ impl<'a> Writing<'a> {
         fill_word(self.table, &mut self.base, page, i, word);
     }
 
-    /// Gives a page up. One that was taken in this write is free at once; one of the current
-    /// version keeps its words until a scan frees it. One load.
+    /// Gives a page up. A page that this write took is free at once; a page of the current version
+    /// keeps its words until a scan frees it. One load.
     pub fn give_up(&mut self, page: u64)
         requires open { self.old.knows.published ≡ false }
         requires held { (page < length self.old.knows.places)
@@ -236,11 +237,11 @@ impl<'a> Writing<'a> {
             .table
             .shared
             .load::<GiveUp>(&mut self.base, PAGES + PAGE_WORDS * page as usize);
-        self.ledger.pool.give_up(page);
+        self.writer_state.pool.give_up(page);
     }
 
-    /// Takes the page that was freed last, if one is free; one that is spared for a copy only if
-    /// there is no other.
+    /// Takes the page that was freed last, if one is free. It takes a page that is spared for a
+    /// copy only if there is no other.
     fn take_free(&mut self) -> Option<u64>
         requires open { self.old.knows.published ≡ false }
         ensures some { IfSome result (λ page. (page < length self.old.knows.places)
@@ -258,14 +259,14 @@ impl<'a> Writing<'a> {
         ensures count { IfNone result (length self.old.knows.places ≡ self.old.knows.limits.pages) }
         ensures same { IfNone result (self.new ≡ self.old) }
     {
-        let page = self.ledger.pool.take()?;
-        tell_taken(self.table, &mut self.base, page);
+        let page = self.writer_state.pool.take()?;
+        report_taken(self.table, &mut self.base, page);
         Some(page)
     }
 
     /// Takes a free page for a copy of a page: the one that this page was copied from, if that is
-    /// free and spared. While readers keep pages, what a write gives up isn't free at the next one,
-    /// so then it takes the page that `take_free` does.
+    /// free and spared. While readers hold pages, what a write gives up isn't free at the next
+    /// write. Then it takes the page that `take_free` would take.
     fn take_free_like(&mut self, page: u64) -> Option<u64>
         requires open { self.old.knows.published ≡ false }
         ensures some { IfSome result (λ page. (page < length self.old.knows.places)
@@ -280,18 +281,18 @@ impl<'a> Writing<'a> {
             (take_moves self.old.knows page) self.new.knows.history) }
         ensures same { IfNone result (self.new ≡ self.old) }
     {
-        if self.ledger.left > 0 {
+        if self.writer_state.left > 0 {
             return self.take_free();
         }
-        let copy = self.ledger.pool.take_like(page)?;
-        tell_taken(self.table, &mut self.base, copy);
+        let copy = self.writer_state.pool.take_like(page)?;
+        report_taken(self.table, &mut self.base, copy);
         Some(copy)
     }
 
-    /// Takes a free page, the one that was freed last; one that is spared for a copy only if there
-    /// is no other. If none is free, it scans. If none is free after the scan either, the error is
-    /// Full with the least number that the scan found: this write then holds each page that no
-    /// version from that number on has. One load; with a scan, the scan's loads too.
+    /// Takes the free page that was freed last. It takes a page that is spared for a copy only if
+    /// there is no other. If none is free, it scans. If none is free after the scan either, the
+    /// error is Full with the lowest number that the scan found. This write then holds each page
+    /// that no version from that number on has. One load; with a scan, also the scan's loads.
     pub fn take(&mut self) -> Result<u64, Refusal>
         requires open { self.old.knows.published ≡ false }
         ensures ok { IfOk result (λ page. TakesPage self.old self.new page) }
@@ -307,9 +308,10 @@ impl<'a> Writing<'a> {
         }
     }
 
-    /// Takes a free page for a copy of a page: the one that this page was copied from, if that is
-    /// free and spared, since it has most of the words already, and if the last whole scan left no
-    /// page to readers. Otherwise it takes the page that `take` does, at the same cost.
+    /// Takes a free page for a copy of a page: the one that this page was copied from, which has
+    /// most of the words already. That one has to be free and spared, and the last whole scan must
+    /// have left no page to readers. Otherwise it takes the page that `take` would take, at the
+    /// same cost.
     pub fn take_like(&mut self, page: u64) -> Result<u64, Refusal>
         requires open { self.old.knows.published ≡ false }
         ensures ok { IfOk result (λ page. TakesPage self.old self.new page) }
@@ -321,9 +323,9 @@ impl<'a> Writing<'a> {
         self.take()
     }
 
-    /// Whether a scan pays though pages may be free: more pages are retired than the last whole
-    /// scan had to leave for readers, one if it left none and 32 otherwise. Those that it left are
-    /// no more than are retired now. No step.
+    /// Whether a scan pays even if pages are free. More pages have to be retired than the last
+    /// whole scan had to leave for readers: one more if it left none, and otherwise 32 more. Those
+    /// that it left are no more than are retired now. No step.
     pub fn is_scan_due(&self) -> bool
         ensures due { result ≡ true → self.now.left + due_after self.now.left
             ≤ count_by is_retired self.now.knows.places }
@@ -331,13 +333,14 @@ impl<'a> Writing<'a> {
             < self.now.left + due_after self.now.left }
         ensures left { self.now.left ≤ count_by is_retired self.now.knows.places }
     {
-        let left = self.ledger.left;
-        self.ledger.pool.retired().saturating_sub(left) >= due_after(left)
+        let left = self.writer_state.left;
+        self.writer_state.pool.retired().saturating_sub(left) >= due_after(left)
     }
 
-    /// Reads every announcement once. Returns the least of them and of the current number; the
-    /// pages that were retired with a smaller number are then free. A load for each pass, and work
-    /// for each page that becomes free. It is called right after the lock, or if no page is free.
+    /// Reads every reader slot once. Returns the lowest of the numbers there and the current
+    /// number; the pages that were retired with a smaller number are then free. One load for each
+    /// pass, and work for each page that becomes free. It may be called right after the lock, or if
+    /// no page is free.
     pub fn scan(&mut self) -> u64
         requires open { self.old.knows.published ≡ false }
         requires reason { HasReasonToScan self.old }
@@ -346,7 +349,7 @@ impl<'a> Writing<'a> {
         self.survey().least
     }
 
-    /// Scans, and finds the oldest announcement too.
+    /// Scans, and also finds the oldest announcement.
     fn survey(&mut self) -> Found
         requires open { self.old.knows.published ≡ false }
         requires reason { HasReasonToScan self.old }
@@ -355,30 +358,30 @@ impl<'a> Writing<'a> {
             self.old.knows.history self.new.knows.history result.oldest }
         ensures places { LieAt self.old.knows.limits self.new.knows.history self.new.knows.places }
     {
-        let current = self.ledger.journal.len();
+        let current = self.writer_state.journal.len();
         let found = read_all(self.table, &mut self.base, current);
-        self.ledger.sweep(found.least);
+        self.writer_state.sweep(found.least);
         found
     }
 
     /// The table's numbers as they are now, with this announcement. No step.
     fn count(&self, oldest: Option<Announcement>) -> Status
-        ensures tells { Tells self.now.knows result }
+        ensures reports { Reports self.now.knows result }
         ensures oldest { result.oldest ≡ oldest }
     {
         let Limits { pages, commits, .. } = self.table.limits();
         Status {
             pages,
-            free: self.ledger.pool.free() as u64,
-            retired: self.ledger.pool.retired() as u64,
-            entries: self.ledger.journal.len(),
+            free: self.writer_state.pool.free() as u64,
+            retired: self.writer_state.pool.retired() as u64,
+            entries: self.writer_state.journal.len(),
             commits,
             oldest,
         }
     }
 
     /// Scans, and returns how full the table is then, and the oldest of the announcements that the
-    /// scan found. It costs what `scan` does.
+    /// scan found. It costs what `scan` costs.
     pub fn status(&mut self) -> Status
         requires open { self.old.knows.published ≡ false }
         requires reason { HasReasonToScan self.old }
@@ -386,14 +389,14 @@ impl<'a> Writing<'a> {
         ensures oldest { FindsOldest self.old.knows.limits self.old.knows.number
             self.old.knows.history self.new.knows.history result.oldest }
         ensures places { LieAt self.old.knows.limits self.new.knows.history self.new.knows.places }
-        ensures tells { Tells self.new.knows result }
+        ensures reports { Reports self.new.knows result }
     {
         let found = self.survey();
         self.count(found.oldest)
     }
 
-    /// Makes room for one entry of so many operations. CommitsSpent if the journal is as long as
-    /// the limit, and OutOfMemory if a growth was refused; either leaves the write as it was.
+    /// Makes room for one entry of `count` operations. CommitsSpent if the journal is at its limit;
+    /// OutOfMemory. Both leave the write as it was.
     #[tactic(auto, using(crate::proofs::Opened::no_room, crate::proofs::Opened::has_room))]
     pub fn reserve(&mut self, count: usize) -> Result<(), Refusal>
         requires open { self.old.knows.published ≡ false }
@@ -403,35 +406,35 @@ impl<'a> Writing<'a> {
             × (length self.old.knows.seen < self.old.knows.limits.commits))
             (λ r. (self.new ≡ self.old) × HasNoRoom r self.old.knows) }
     {
-        self.ledger.reserve(count)?;
+        self.writer_state.reserve(count)?;
         self.reserved = count;
         Ok(())
     }
 
-    /// A page whose state is filled is one of the table. It does nothing.
+    /// A page whose state is filled is a page of the table. It does nothing.
     fn is_filled(&self, page: u64)
-        requires { standing_among self.now.knows.places page ≡ Full }
+        requires { page_state_among self.now.knows.places page ≡ Full }
         ensures { (page < length self.now.knows.places)
             × (place_of self.now.knows.places page ≡ Place.Filled) }
     {}
 
     /// Enters a write into the journal, with the version of the pages that the write keeps. The
-    /// version encodes the volume after the entry and reaches exactly these pages. Returns the
-    /// journal's length, which is the new version's number. One store, which takes no memory, and
-    /// work for each page that the write took or gave up.
+    /// version has to encode the volume after the entry, and to reach exactly these pages. Returns
+    /// the journal's length, which is the new version's number. One store, and work for each page
+    /// that the write took or gave up; no memory is allocated.
     pub fn publish(&mut self, page: u64, ops: &[Op], dones: &[Done]) -> u64
         requires open { self.old.knows.published ≡ false }
         requires count { (1 ≤ length ops.now) × (length ops.now ≤ 64) }
         requires reserved { length ops.now ≡ self.old.reserved }
         requires entry { Agrees (replay (entries self.old.knows.seen))
             (entry_by self.old.knows ops.now dones.now) }
-        requires page { standing_among self.old.knows.places page ≡ Full }
-        requires filled { (q : ℕ) → standing_among self.old.knows.places q ≢ Taken }
-        requires volume { IsVersion (standing_among self.old.knows.places)
+        requires page { page_state_among self.old.knows.places page ≡ Full }
+        requires filled { (q : ℕ) → page_state_among self.old.knows.places q ≢ Taken }
+        requires volume { IsVersion (page_state_among self.old.knows.places)
             (word_of_page self.old.knows.words)
             page (state_after (replay (entries self.old.knows.seen)) ops.now) }
         requires exact { (q : ℕ) → times q (reach (word_of_page self.old.knows.words) page)
-            ≡ bit (is_kept (standing_among self.old.knows.places q)) }
+            ≡ bit (is_kept (page_state_among self.old.knows.places q)) }
         ensures write { self.new ≡ record self.old {
           knows = publishes (with_history self.old.knows self.new.knows.history)
               (entry_by self.old.knows ops.now dones.now) page;
@@ -448,10 +451,10 @@ impl<'a> Writing<'a> {
         replay_push();
         self.is_filled(page);
         let number = self.marks.number;
-        let version = self.ledger.journal.len() + 1;
+        let version = self.writer_state.journal.len() + 1;
         let word = (version << 32) + page;
         store_version::<Brand>(self.table, &mut self.base, number, ops, dones, page, word);
-        self.ledger.append(number, ops, dones, page);
+        self.writer_state.append(number, ops, dones, page);
         self.reserved = 0;
         version
     }
@@ -470,19 +473,19 @@ impl<'a> Writing<'a> {
             table,
             mut base,
             mut marks,
-            mut ledger,
+            mut writer_state,
             reserved: _,
         } = self;
-        marks.seen = ledger.journal.len();
-        ledger.rest();
+        marks.seen = writer_state.journal.len();
+        writer_state.rest();
         let shared = &table.table.shared;
-        let _ = shared.exchange(&mut base, 0, Some(ledger));
+        let _ = shared.exchange(&mut base, 0, Some(writer_state));
         shared.store::<Unlock>(&mut base, LOCK, 0);
         Seat::of(base, marks)
     }
 }
 
-/// The operations are such of the program, as their types have it.
+/// The operations are valid operations of the program, as their types guarantee.
 fn all_valid(ops: &[Op])
     ensures { All IsOperation ops.now }
 {
@@ -491,7 +494,7 @@ fn all_valid(ops: &[Op])
     }
 }
 
-/// The store to CURRENT, the one step at which the write takes effect.
+/// The store to CURRENT, which is the one step at which the write takes effect.
 fn store_version<E: NextVersion>(
     table: &VersionTable,
     base: &mut Base,
@@ -501,7 +504,7 @@ fn store_version<E: NextVersion>(
     page: u64,
     word: u64,
 )
-    requires told { (E.entry ≡ record { by = by; ops = ops.now; dones = dones.now })
+    requires reported { (E.entry ≡ record { by = by; ops = ops.now; dones = dones.now })
         × (page ≡ E.page) }
     requires seat { base.old.table_id ≡ table.now.id }
     requires pass { (base.old.me.0 ≡ alone (pass_of base.old.me.0))
@@ -522,8 +525,8 @@ fn store_version<E: NextVersion>(
     table.table.shared.store::<Publish<E>>(base, CURRENT, word)
 }
 
-/// The load by which a page is taken.
-fn tell_taken(table: &VersionTable, base: &mut Base, page: u64)
+/// The load that takes a page.
+fn report_taken(table: &VersionTable, base: &mut Base, page: u64)
     requires seat { base.old.table_id ≡ table.now.id }
     requires pass { (base.old.me.0 ≡ alone (pass_of base.old.me.0))
         × ((pass_of base.old.me.0).writes ≡ true) × ((pass_of base.old.me.0).published ≡ false) }
@@ -543,7 +546,7 @@ fn tell_taken(table: &VersionTable, base: &mut Base, page: u64)
     table.table.shared.load::<TakePage>(base, at);
 }
 
-/// Stores a word of a page in hand, if it isn't there already.
+/// Stores a word of a page that the write holds, if it isn't there already.
 fn fill_word(table: &VersionTable, base: &mut Base, page: u64, i: usize, word: u64)
     requires seat { base.old.table_id ≡ table.now.id }
     requires pass { (base.old.me.0 ≡ alone (pass_of base.old.me.0))
@@ -570,7 +573,7 @@ fn fill_word(table: &VersionTable, base: &mut Base, page: u64, i: usize, word: u
     }
 }
 
-/// One announcement, of the pass whose turn it is.
+/// Loads the reader slot of the pass whose turn it is.
 fn read_announcement(table: &VersionTable, base: &mut Base, pass: u64) -> u64
     requires seat { base.old.table_id ≡ table.now.id }
     requires pass { MayReadAnnouncement table.now.limits base.old.me pass }
@@ -602,7 +605,7 @@ fn read_announcement(table: &VersionTable, base: &mut Base, pass: u64) -> u64
 }
 
 fn lower(least: u64, found: u64) -> u64
-    ensures { result ≡ least_found least found }
+    ensures { result ≡ lowest_found least found }
 {
     if found == 0 {
         least
@@ -624,7 +627,7 @@ fn read_all(table: &VersionTable, base: &mut Base, current: u64) -> Found
               (pass_of base.new.me.0).history),
           base.old.me.1,
         ))
-        × IsLeastAnnounced current found result.least
+        × IsLowestAnnounced current found result.least
         × AreFound (pass_of base.old.me.0).limits (pass_of base.old.me.0).number
         (pass_of base.old.me.0).history (pass_of base.new.me.0).history found }
     ensures moves { Makes (pass_of base.old.me.0).number (pass_of base.old.me.0).history
@@ -637,7 +640,7 @@ fn read_all(table: &VersionTable, base: &mut Base, current: u64) -> Found
         (pass_of base.new.me.0).history }
     ensures part { IsPart table.now.limits.passes (pass_of base.old.me.0) (pass_of base.new.me.0)
         table.now.limits.passes result.least }
-    ensures own { IsOwnLeast (pass_of base.old.me.0) result.least }
+    ensures own { IsOwnLowest (pass_of base.old.me.0) result.least }
     ensures oldest { FindsOldest (pass_of base.old.me.0).limits (pass_of base.old.me.0).number
         (pass_of base.old.me.0).history (pass_of base.new.me.0).history result.oldest }
     ensures places { LieAt (pass_of base.old.me.0).limits (pass_of base.new.me.0).history

@@ -5,22 +5,22 @@ use Rattle.be_core.specs.declared.event.Phase.TheVariants.{Idle, Looked, Announc
 use Rattle.be_table.specs.Place.{Opened, SeatFacts}
 use Rattle.be_table.specs.Works.{IsSeatOf}
 
--- The pass is pinned, or it isn't; it has not stopped half way to a pin.
+-- The pass is pinned or idle; it hasn't stopped on the way to a pin.
 abbrev pub IsAtRest : Phase → Type 0
 IsAtRest Idle = Unit {0}
 IsAtRest (Looked x) = ⊥
 IsAtRest (Announced x) = ⊥
 IsAtRest (Pinned x n) = Unit {0}
 
--- a seat of this table, at rest
+-- a seat of this table at rest
 abbrev pub IsResting : Opened → SeatFacts → Type 0
 IsResting table seat = IsSeatOf table seat × IsAtRest seat.knows.phase
 
--- such a seat still, with its number
+-- it is still such a seat, with the same number
 abbrev pub StaysSeat : Opened → SeatFacts → SeatFacts → Type 0
 StaysSeat table old new = IsResting table new × (new.knows.number ≡ old.knows.number)
 
--- a seat of this table, and its pass is pinned
+-- a seat of this table whose pass is pinned
 abbrev pub IsPinnedSeat : Opened → SeatFacts → Type 0
 IsPinnedSeat table seat = IsSeatOf table seat
     × ((x : ℕ) × (n : ℕ) × (seat.knows.phase ≡ Pinned x n))

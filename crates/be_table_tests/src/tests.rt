@@ -1,8 +1,8 @@
 //! Worked examples of the table, by its public calls.
 //!
-//! A test is a room and a text of requests with their replies. `0` and `1` name the pass that makes
-//! a request. `hold` and `between` have the first pass hold the lock while others make requests;
-//! `turn` makes the next pass the first.
+//! A test has a table with its seats (a `Room`), and a text of requests with their replies. `0` and
+//! `1` name the pass that makes a request. In `hold` and `between`, the first pass holds the lock
+//! while others make requests; `turn` makes the next pass the first.
 
 mod calls;
 mod races;
@@ -19,7 +19,7 @@ use be_volume::Op;
 use std::alloc::Global;
 use std::test::Fail;
 
-/// Limits outside of their ranges are refused with BadLimits; the least ones open a table of one
+/// Limits out of range are refused with BadLimits; the smallest valid ones open a table with one
 /// seat.
 #[test]
 fn open_limits(rt: HostRuntime) -> Result<(), Fail> {
@@ -48,7 +48,7 @@ fn busy(rt: HostRuntime) -> Result<(), Fail> {
     check_lines(rt.alloc(), &mut opened(rt.alloc(), 64)?, lines)
 }
 
-/// Each of three passes learns which of the others holds the lock.
+/// Each of three passes learns which of the others has the lock.
 #[test]
 fn busy_of_three(rt: HostRuntime) -> Result<(), Fail> {
     let lines = "turn / turn / hold lock | lock => refused 1 Busy 2 / refused 1 Busy 2
@@ -63,8 +63,8 @@ fn reading_under_held_lock(rt: HostRuntime) -> Result<(), Fail> {
     check_lines(rt.alloc(), &mut opened(rt.alloc(), 64)?, lines)
 }
 
-/// A pinned version is the volume after the entries up to it, for the reader of pages and for
-/// queries, while a later write changes it.
+/// A pinned version is the volume after the entries up to it, while a later write changes the
+/// current version. This holds for the page reader and for queries.
 #[test]
 fn pinned_volume(rt: HostRuntime) -> Result<(), Fail> {
     let lines = "0 mkindex size LONG;new;set 1 size LONG 5 / 1 pin => 1 / pin 1
@@ -87,7 +87,8 @@ fn meeting(rt: HostRuntime) -> Result<(), Fail> {
     check_lines(rt.alloc(), &mut opened(rt.alloc(), 64)?, lines)
 }
 
-/// Enters nodes until a scan is due, and returns how many. BadLimits if none is due after 1,000.
+/// Creates nodes until a scan is due, and returns how many it created. BadLimits if no scan is due
+/// after 1,000 nodes.
 fn enter_until_due(room: &mut Room) -> Result<u64, Refusal> {
     for count in 0..1000 {
         if room.in_write(&[], "due")? == 1 {
@@ -98,8 +99,8 @@ fn enter_until_due(room: &mut Room) -> Result<u64, Refusal> {
     Err(Refusal::BadLimits)
 }
 
-/// How many writes make a scan due, and how many more do so once more, under a pin and with a scan
-/// between.
+/// The number of writes until a scan is due, and of further writes until the next one is, while a
+/// pass is pinned.
 fn count_until_due(alloc: Global, room: &mut Room) -> Result<(u64, u64), Fail> {
     check_lines(alloc, room, "1 pin => pin 0")?;
     let before = enter_until_due(room)?;
@@ -111,7 +112,7 @@ fn scanned(alloc: Global, written: u64) -> Result<String, Refusal> {
     Ok(format!(in alloc; "1 read / 1 unpin / 0 scan / 0 due => 1 / ok / {written} / 0")?)
 }
 
-/// What is read and found under the lock after so many writes.
+/// Checks what is read, and what a scan finds, after this many writes.
 fn check_scanned(alloc: Global, room: &mut Room, written: u64) -> Result<(), Fail> {
     let lines = again!(scanned(alloc, written))?;
     check_lines(alloc, room, lines.as_str())
@@ -123,16 +124,16 @@ fn scans_early(alloc: Global, room: &mut Room) -> Result<bool, Fail> {
     Ok(before == 1 && beyond == 15)
 }
 
-/// A scan is due once a page is retired, and, if a pin keeps it, again once there are 32 more. The
-/// first write of a node retires a page, later ones two while the catalog is one, and three once it
-/// has an inner page.
+/// A scan is due once a page is retired. If a pin keeps that page, the next scan is due after 32
+/// more. The first write of a node retires one page. Later ones retire two while the catalog is one
+/// page, and three once it has an inner page.
 #[test]
 fn scan_due(rt: HostRuntime) -> Result<(), Fail> {
     assert!(rt; scans_early(rt.alloc(), &mut opened(rt.alloc(), 1024)?)?);
     Ok(())
 }
 
-/// Two passes enter a hundred nodes each, each on a thread of its own.
+/// Two passes make a hundred nodes each, each on its own thread.
 #[test]
 fn two_writers(rt: HostRuntime) -> Result<(), Fail> {
     let (journal, entered) = race(&rt, rt.alloc())?;

@@ -1,1 +1,1 @@
-mod Standings
+mod PageStates

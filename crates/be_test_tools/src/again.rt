@@ -1,7 +1,7 @@
-//! A call that is made once more.
+//! A call that is tried twice.
 
-/// What the call returns; what it returns at a second try, if it ran out of memory at the first. So
-/// a test passes if any one request for memory is refused.
+/// What the call returns or, if it ran out of memory, what a second try returns. So a test passes
+/// even if any one request for memory is refused.
 #[macro_export]
 macro_rules! again {
     ($call:expr) => {

@@ -4,9 +4,9 @@ ghost use Rattle.std.specs.Prelude.{◌≡◌};
 use be_pages::{Look, Room};
 use be_value::Refusal;
 
-/// A reader of pages, or a room of them, which counts the words that are read and stored, and the
-/// pages that are taken. A word that a page has already isn't stored again, as in a table. Its
-/// facts are those of what it owns.
+/// A page reader or page writer that counts the words read and stored, and the pages taken. As in a
+/// table, a word that a page already has isn't stored again. Its facts are those of the reader or
+/// writer inside it.
 #[derive(Drop)]
 pub struct Counted<P> {
     pub pages: P,
@@ -16,7 +16,7 @@ pub struct Counted<P> {
 }
 
 impl<P: Drop> Counted<P> {
-    /// Counts from 0 what is asked of these pages.
+    /// Counts accesses to these pages, from 0.
     pub fn new(pages: P) -> Counted<P>
         ensures { result.pages ≡ pages }
     {
@@ -36,7 +36,7 @@ impl<L: Look> Look for Counted<L> {
 
     ghost is_open = { L.is_open };
 
-    ghost standing = { λ c. L.standing c.pages };
+    ghost page_state = { λ c. L.page_state c.pages };
 
     ghost words = { λ c. L.words c.pages };
 
@@ -65,7 +65,7 @@ impl<R: Room> Room for Counted<R> {
         self.pages.take_like(page)
     }
 
-    #[tactic(auto, using(crate::proofs::Standings::taken_readable))]
+    #[tactic(auto, using(crate::proofs::PageStates::taken_readable))]
     fn fill(&mut self, page: u64, i: usize, word: u64) {
         if self.pages.word(page, i) != word {
             self.stores = self.stores.wrapping_add(1);
@@ -73,7 +73,7 @@ impl<R: Room> Room for Counted<R> {
         self.pages.fill(page, i, word);
     }
 
-    #[tactic(auto, using(crate::proofs::Standings::filled_readable))]
+    #[tactic(auto, using(crate::proofs::PageStates::filled_readable))]
     fn refill(&mut self, page: u64, i: usize, word: u64) {
         if self.pages.word(page, i) != word {
             self.stores = self.stores.wrapping_add(1);

@@ -1,9 +1,11 @@
-//! What the tests of several crates share: worked examples as texts, the loop over their lines, the
-//! texts of replies, pages that count accesses, a writer of bytes that fails, a list with room for
-//! bytes, and the second try of a call.
+//! What the tests of several crates share.
 //!
-//! It is here once, and is proved once. A test checks results, and needs no contract, so most of
-//! this has none.
+//! There are worked examples as texts, the loop over their lines, and the texts of replies. There
+//! are also pages that count accesses, a writer that fails, a list with spare capacity, and the
+//! second try of a call.
+//!
+//! As a library it is proved only once. A test checks results and needs no contract, so most
+//! functions here have none.
 #![tactic(auto)]
 
 mod again;

@@ -1,4 +1,4 @@
-//! Lists of operations, and the texts of what calls return, in the words of scripts. Each is made
+//! Lists of operations, and the texts of what calls return, in the script language. Each is made
 //! again after running out of memory.
 use be_journal::done_text;
 use be_script_language::{Reply, Request, read_line, reply_text};
@@ -18,8 +18,8 @@ fn read_list(alloc: Global, list: &str) -> Result<Vec<Op>, Refusal> {
     Ok(ops)
 }
 
-/// The operations of a list, each a line of a script, with `;` between them. BadLimits if one of
-/// them is no operation.
+/// The operations of a list, each a line of a script, separated by `;`. `BadLimits` if one of them
+/// isn't an operation.
 pub fn list_of(alloc: Global, list: &str) -> Result<Vec<Op>, Refusal> {
     match read_list(alloc, list) {
         Err(Refusal::OutOfMemory) => read_list(alloc, list),
@@ -27,7 +27,7 @@ pub fn list_of(alloc: Global, list: &str) -> Result<Vec<Op>, Refusal> {
     }
 }
 
-fn text_of_dones(alloc: Global, dones: &[Done]) -> Result<String, AllocError> {
+fn text_of_outcomes(alloc: Global, dones: &[Done]) -> Result<String, AllocError> {
     let mut text = String::new(alloc);
     for done in dones {
         text.push_str(done_text(alloc, done)?.as_str())?;
@@ -36,10 +36,10 @@ fn text_of_dones(alloc: Global, dones: &[Done]) -> Result<String, AllocError> {
     Ok(text)
 }
 
-/// The outcomes of a list, a line each.
+/// The outcomes of a list, one per line.
 pub fn done_lines(alloc: Global, dones: &[Done]) -> Result<String, AllocError> {
-    match text_of_dones(alloc, dones) {
-        Err(_) => text_of_dones(alloc, dones),
+    match text_of_outcomes(alloc, dones) {
+        Err(_) => text_of_outcomes(alloc, dones),
         text => text,
     }
 }
@@ -52,7 +52,7 @@ pub fn reply_lines(alloc: Global, reply: &Reply) -> Result<String, AllocError> {
     }
 }
 
-/// The reply as lines. A refusal is a reply like any other, unless memory ran out.
+/// The reply as lines. An error is a reply like any other, unless memory ran out.
 pub fn answer_lines(alloc: Global, answer: Result<String, Refusal>) -> Result<String, Refusal> {
     match answer {
         Err(Refusal::OutOfMemory) => Err(Refusal::OutOfMemory),

@@ -1,5 +1,5 @@
-//! What the tests of the store and of its table have in common: limits, names, and the journal of
-//! two passes.
+//! What the tests of the store and of its table share: limits, names, and the journal of two
+//! passes.
 ghost use Rattle.std.specs.Prelude.{◌≡◌, ◌∷◌, [], IfOk};
 
 use be_journal::{EntryView, Journal};
@@ -8,7 +8,7 @@ use be_volume::Done;
 use std::alloc::{AllocError, Global};
 use std::str;
 
-/// Pages, passes and commits, of which one is just out of its range.
+/// Limits (pages, passes and commits), one of which is just out of range.
 pub const OUTSIDE_LIMITS: [(u64, u64, u64); 6] = [
     (7, 1, 1),
     (16385, 1, 1),
@@ -24,7 +24,7 @@ pub fn numbered(number: u8) -> Result<Name, Refusal> {
     Name::new(str::from_utf8(&letters).unwrap_or(""))
 }
 
-/// A list of two. Its room is asked for again after running out of memory.
+/// A list of two. After running out of memory, it is tried again.
 pub fn pair_of<T: Drop>(alloc: Global, first: T, second: T) -> Result<Vec<T>, AllocError>
     ensures { IfOk result (λ list. list.items ≡ first ∷ second ∷ []) }
 {
@@ -47,7 +47,7 @@ pub fn both_of<T: Drop>(mut list: Vec<T>) -> Result<(T, T), Refusal>
     }
 }
 
-/// Whether the journal is legal, checked again after running out of memory.
+/// Whether the journal is legal. After running out of memory, it is checked again.
 pub fn is_legal(journal: &Journal) -> Result<bool, Refusal> {
     match journal.check() {
         Err(Refusal::OutOfMemory) => journal.check(),
@@ -61,7 +61,7 @@ fn answers_node(entry: &EntryView<'_>, node: u64) -> bool {
     entry.len() == 1 && matches!(steps.next(), Some((_, Done::Node(it))) if it == node)
 }
 
-/// How many entries are by the pass, if each entry's outcome is the node with the entry's number.
+/// The number of entries by the pass, if each entry's outcome is the node with the entry's number.
 fn count_by(journal: &Journal, pass: u64) -> u64 {
     let mut count: u64 = 0;
     for i in 0..journal.len() {

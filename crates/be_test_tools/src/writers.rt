@@ -1,9 +1,9 @@
-//! What a test writes to: a writer that fails, and a list with room.
+//! What tests write to: a writer that fails, and a list with spare capacity.
 use std::alloc::{AllocError, Global};
 use std::io::{self, Write};
 
-/// Takes one byte for each write while it has room, and then fails or takes nothing. It needs no
-/// memory: it compares each byte with the one that is expected.
+/// A writer that takes one byte per write while it has room, and then fails or takes nothing. It
+/// needs no memory: it compares each byte with the expected one.
 #[derive(Drop)]
 pub struct Narrow<'a> {
     expected: &'a [u8],
@@ -13,8 +13,7 @@ pub struct Narrow<'a> {
 }
 
 impl Narrow<'_> {
-    /// A writer that expects these bytes and has room for `room` of them. Then it fails, or takes
-    /// nothing.
+    /// A writer that expects these bytes and takes `room` of them. Then it fails, or takes nothing.
     pub fn new(expected: &[u8], room: usize, fails: bool) -> Narrow<'_> {
         Narrow {
             expected,
@@ -24,8 +23,8 @@ impl Narrow<'_> {
         }
     }
 
-    /// Whether a writing may have ended so: well with all that is expected, or by a failed write
-    /// with a prefix of it and no room left.
+    /// Whether writing may end like this. It ends well once everything expected is written, or with
+    /// a failed write once a prefix of it has filled the room.
     pub fn may_end(&self, well: bool, by_write: bool) -> bool {
         let has_all = self.expected.is_empty();
         let is_so = if has_all {
@@ -63,16 +62,15 @@ impl Write for Narrow<'_> {
     }
 }
 
-/// Whether a writing may have written this: one of the two texts, or a front of one if it ran out
-/// of memory.
+/// Whether this may have been written: one of the two texts, or a prefix of one if memory ran out.
 pub fn may_write(written: &str, well: bool, by_memory: bool, texts: [&str; 2]) -> bool {
     let [one, other] = texts;
     (well && (written == one || written == other))
         || (by_memory && (one.starts_with(written) || other.starts_with(written)))
 }
 
-/// An empty list with room for 256 bytes, into which a test writes without a request for memory.
-/// The room is asked for once more after running out of memory.
+/// An empty list with capacity for 256 bytes, to which a test can write without requesting memory.
+/// After running out of memory, it is tried again.
 pub fn list_with_room(alloc: Global) -> Result<Vec<u8>, AllocError> {
     match Vec::with_capacity(alloc, 256) {
         Ok(list) => Ok(list),

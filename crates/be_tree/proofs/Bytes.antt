@@ -1,4 +1,4 @@
--- How bytes stand in words, and compare as words.
+-- How bytes are packed into words, and compared as words.
 pub mod Zeros
 pub mod Branches
 pub mod Joining

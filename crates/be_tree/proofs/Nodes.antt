@@ -1,6 +1,6 @@
--- The items of nodes in hand: as slots, alone, and of two neighbours under one parent.
+-- The items of unwritten nodes: as slots, and of one page or two neighbours under one parent.
 pub mod Slots
-pub mod Stands
+pub mod PageStates
 pub mod SlotLists
 pub mod Neighbours
 pub mod Children

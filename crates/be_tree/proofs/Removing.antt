@@ -1,4 +1,4 @@
--- A key is taken out of a tree, and a tree is given up.
+-- Taking a key out of a tree, and giving up a tree.
 pub mod Removes
 pub mod Rests
 pub mod Clears

@@ -1,12 +1,12 @@
--- Items of pages while words of one page are written.
+-- Pages' items while one page's words are written.
 use Rattle.std.proofs.Common.{◌≡◌, ◌≢◌, ℕ, ◌+◌, ◌-◌, ◌<◌, ◌≤◌, ◌⊎◌, ◌==◌, if◌then◌else◌, IsTrue, List, [], ◌++◌, length, map, take, drop, get_or, ap, sym, subst, ◌∙◌, inl, inr, refl, arith, length-append, length-drop}
 use Rattle.std.proofs.lemmas.Bool.{cases_eq, cases_lt}
 use Rattle.std.proofs.lemmas.Bool.Decides.{nat_tests}
-use Rattle.be_pages.specs.declared.room.Standing.{Standing}
+use Rattle.be_pages.specs.declared.room.PageState.{PageState}
 use Rattle.std.proofs.lemmas.List.{ext_get_or, get_or-append_right, get_or-drop, get_or-map, get_or-take, get_or_append_left, length-map, length-take-le}
 use mathlib.Core.Bool.{false≢true}
-use Rattle.be_pages.specs.declared.room.Standing.TheVariants.{Filled, Free}
-use Rattle.be_pages.specs.Pages.{OnlyWrites, StandsAt, is_readable}
+use Rattle.be_pages.specs.declared.room.PageState.TheVariants.{Filled, Free}
+use Rattle.be_pages.specs.Pages.{OnlyWrites, SetsStateAt, is_readable}
 use Rattle.be_tree.specs.declared.slot.Slot.{Slot}
 use Rattle.be_tree.specs.declared.slot.Slot.TheVariants.{At, Branch, New}
 use Rattle.be_tree_reading.specs.Page.{IsItem, IsPage, item_at, item_place, items_of}
@@ -16,11 +16,11 @@ use Rattle.be_tree.specs.declared.splicing.Cut.{Cut}
 use Rattle.be_tree.specs.Splicing.{AreCopies, HasGap, IsStored, spliced}
 use Rattle.be_tree.proofs.Bytes.Zeros.{IsItem_same}
 use Rattle.be_tree_reading.proofs.Codec.{item_at_same}
-use Rattle.be_tree.proofs.Nodes.Stands.{stands_at, stands_else}
+use Rattle.be_tree.proofs.Nodes.PageStates.{changed_state, other_states}
 use Rattle.be_tree_reading.proofs.Items.{item_get, items_count}
 use Rattle.be_tree.proofs.Nodes.Slots.{branch_same}
 
--- what a page has once its header is written and the items before and after a cut are copied
+-- what a page has after its header was written and the items before and after a cut were copied
 pub gap_of : (u v : ℕ → ℕ) (cut : Cut) (more rest : ℕ) → cut.at + cut.gone ≤ u 1 → rest ≡ u 1 - (cut.at + cut.gone) → v 0 ≡ u 0 → v 1 ≡ cut.at + more + rest
     → AreCopies u v 0 0 cut.at → AreCopies u v (cut.at + cut.gone) (cut.at + more) rest → HasGap u v cut more
 gap_of u v cut more rest in_range is level count front back = record {
@@ -33,28 +33,28 @@ gap_of u v cut more rest in_range is level count front back = record {
 pub other_word : (j i : ℕ) → (j ≡ i → ⊥) → (x y : ℕ) → (if j == i then x else y) ≡ y
 other_word j i ne x y = grind (arith, nat_tests)
 
--- a word of a page that has one filled
-pub fill_only : {S K : Type 0} (kept_of : S → K) (standing_of : S → ℕ → Standing) (words_of : S → ℕ → ℕ → ℕ) (page i word : ℕ) (old now : S)
-    → kept_of now ≡ kept_of old → StandsAt (standing_of old) (standing_of now) page Filled → standing_of old page ≡ Filled
+-- writing a word to a page that has a filled one
+pub fill_only : {S K : Type 0} (kept_of : S → K) (page_state_of : S → ℕ → PageState) (words_of : S → ℕ → ℕ → ℕ) (page i word : ℕ) (old now : S)
+    → kept_of now ≡ kept_of old → SetsStateAt (page_state_of old) (page_state_of now) page Filled → page_state_of old page ≡ Filled
     → ((j : ℕ) → words_of now page j ≡ (if j == i then word else words_of old page j)) → ((q : ℕ) → q ≢ page → words_of now q ≡ words_of old q)
-    → OnlyWrites kept_of standing_of words_of page i (i + 1) old now
-fill_only kept_of standing_of words_of page i word old now kept stands filled place others = record {
+    → OnlyWrites kept_of page_state_of words_of page i (i + 1) old now
+fill_only kept_of page_state_of words_of page i word old now kept states filled place others = record {
   kept = kept;
-  standing = λ q. elim (cases_eq q page) [
-    | inl e ↦ subst (λ p. standing_of now p ≡ standing_of old p) (sym e) (stands_at (standing_of old) (standing_of now) page Filled stands ∙ sym filled)
-    | inr ne ↦ stands_else (standing_of old) (standing_of now) page Filled stands q ne
+  page_state = λ q. elim (cases_eq q page) [
+    | inl e ↦ subst (λ p. page_state_of now p ≡ page_state_of old p) (sym e) (changed_state (page_state_of old) (page_state_of now) page Filled states ∙ sym filled)
+    | inr ne ↦ other_states (page_state_of old) (page_state_of now) page Filled states q ne
   ];
   others = others;
   before = λ j lt. place j ∙ other_word j i (λ e. absurd (omega (arith, lt, e))) word (words_of old page j);
   after = λ j ge. place j ∙ other_word j i (λ e. absurd (omega (arith, ge, e))) word (words_of old page j);
 }
 
--- since a page was only read
-pub only_since : {S K : Type 0} (kept_of : S → K) (standing_of : S → ℕ → Standing) (words_of : S → ℕ → ℕ → ℕ) (page lo hi : ℕ) (old read now : S)
-    → kept_of read ≡ kept_of old → standing_of read ≡ standing_of old → words_of read ≡ words_of old → OnlyWrites kept_of standing_of words_of page lo hi read now → OnlyWrites kept_of standing_of words_of page lo hi old now
-only_since kept_of standing_of words_of page lo hi old read now kept standing words only = record {
+-- after pages were only read
+pub only_since : {S K : Type 0} (kept_of : S → K) (page_state_of : S → ℕ → PageState) (words_of : S → ℕ → ℕ → ℕ) (page lo hi : ℕ) (old read now : S)
+    → kept_of read ≡ kept_of old → page_state_of read ≡ page_state_of old → words_of read ≡ words_of old → OnlyWrites kept_of page_state_of words_of page lo hi read now → OnlyWrites kept_of page_state_of words_of page lo hi old now
+only_since kept_of page_state_of words_of page lo hi old read now kept page_state words only = record {
   kept = only.kept ∙ kept;
-  standing = λ q. only.standing q ∙ ap (λ s. s q) standing;
+  page_state = λ q. only.page_state q ∙ ap (λ s. s q) page_state;
   others = λ q ne. only.others q ne ∙ ap (λ w. w q) words;
   before = λ j lt. only.before j lt ∙ ap (λ w. w page j) words;
   after = λ j ge. only.after j ge ∙ ap (λ w. w page j) words;
@@ -63,8 +63,8 @@ only_since kept_of standing_of words_of page lo hi old read now kept standing wo
 pub filled_word : (i x y : ℕ) → (if i == i then x else y) ≡ x
 filled_word i x y = grind (arith, nat_tests)
 
-module _ {S K : Type 0} (kept_of : S → K) (standing_of : S → ℕ → Standing) (words_of : S → ℕ → ℕ → ℕ) (page lo hi : ℕ) (old now : S) (only : OnlyWrites kept_of standing_of words_of page lo hi old now) where
-  -- an item that wasn't written
+module _ {S K : Type 0} (kept_of : S → K) (page_state_of : S → ℕ → PageState) (words_of : S → ℕ → ℕ → ℕ) (page lo hi : ℕ) (old now : S) (only : OnlyWrites kept_of page_state_of words_of page lo hi old now) where
+  -- an item that wasn't overwritten
   pub there : (from place : ℕ) → (from ≡ page → (hi ≤ place) ⊎ (place + 42 ≤ lo)) → IsItem (words_of old from) place
       → (item_at (words_of now from) place ≡ item_at (words_of old from) place) × IsItem (words_of now from) place
   there from place apart item = elim (cases_eq from page) [
@@ -79,20 +79,20 @@ module _ {S K : Type 0} (kept_of : S → K) (standing_of : S → ℕ → Standin
   ]
 
   -- words are written after others
-  pub only_then : (a b x y : ℕ) (new : S) → OnlyWrites kept_of standing_of words_of page a b now new → x ≤ lo → x ≤ a → hi ≤ y → b ≤ y → OnlyWrites kept_of standing_of words_of page x y old new
+  pub only_then : (a b x y : ℕ) (new : S) → OnlyWrites kept_of page_state_of words_of page a b now new → x ≤ lo → x ≤ a → hi ≤ y → b ≤ y → OnlyWrites kept_of page_state_of words_of page x y old new
   only_then a b x y new more xlo xa hiy by = record {
     kept = more.kept ∙ only.kept;
-    standing = λ q. more.standing q ∙ only.standing q;
+    page_state = λ q. more.page_state q ∙ only.page_state q;
     others = λ q ne. more.others q ne ∙ only.others q ne;
     before = λ j lt. more.before j (omega (arith, lt, xa)) ∙ only.before j (omega (arith, lt, xlo));
     after = λ j ge. more.after j (omega (arith, ge, by)) ∙ only.after j (omega (arith, ge, hiy));
   }
 
--- slots of other pages than one that is written
-module _ (page : ℕ) (s t : ℕ → Standing) (v w : ℕ → ℕ → ℕ) (stands : (q : ℕ) → q ≢ page → t q ≡ s q) (words : (q : ℕ) → q ≢ page → w q ≡ v q) where
+-- slots of pages other than the one that is written
+module _ (page : ℕ) (s t : ℕ → PageState) (v w : ℕ → ℕ → ℕ) (states : (q : ℕ) → q ≢ page → t q ≡ s q) (words : (q : ℕ) → q ≢ page → w q ≡ v q) where
   pub off_ready : (slot : Slot) → IsOff page slot → IsReady s v slot → IsReady t w slot
-  off_ready (At at from) off ready = (subst (λ u. IsTrue (is_readable u)) (sym (stands from off)) ready.0, (ready.1.0, subst (λ u. IsItem u at) (sym (words from off)) ready.1.1))
-  off_ready (Branch child) off ready = (subst (λ u. IsTrue (is_readable u)) (sym (stands child off)) ready.0, (ready.1.0, subst (λ u. IsItem u 2) (sym (words child off)) ready.1.1))
+  off_ready (At at from) off ready = (subst (λ u. IsTrue (is_readable u)) (sym (states from off)) ready.0, (ready.1.0, subst (λ u. IsItem u at) (sym (words from off)) ready.1.1))
+  off_ready (Branch child) off ready = (subst (λ u. IsTrue (is_readable u)) (sym (states child off)) ready.0, (ready.1.0, subst (λ u. IsItem u 2) (sym (words child off)) ready.1.1))
   off_ready New off ready = tt
 
   pub off_pair : (given : Pair) (slot : Slot) → IsOff page slot → pair_of w given slot ≡ pair_of v given slot
@@ -100,13 +100,13 @@ module _ (page : ℕ) (s t : ℕ → Standing) (v w : ℕ → ℕ → ℕ) (stan
   off_pair given (Branch child) off = branch_same v w child (words child off)
   off_pair given New off = refl
 
--- a page that was free is none of a ready slot's
-pub off_free : (page : ℕ) (s : ℕ → Standing) (v : ℕ → ℕ → ℕ) (slot : Slot) → s page ≡ Free → IsReady s v slot → IsOff page slot
+-- a page that was free isn't a ready slot's
+pub off_free : (page : ℕ) (s : ℕ → PageState) (v : ℕ → ℕ → ℕ) (slot : Slot) → s page ≡ Free → IsReady s v slot → IsOff page slot
 off_free page s v (At at from) free ready = λ e. false≢true (ap is_readable (sym free) ∙ ap (λ q. is_readable (s q)) (sym e) ∙ ready.0)
 off_free page s v (Branch child) free ready = λ e. false≢true (ap is_readable (sym free) ∙ ap (λ q. is_readable (s q)) (sym e) ∙ ready.0)
 off_free page s v New free ready = tt
 
--- a page once the room in the place of a cut is filled
+-- a page after the room in a cut's place was filled
 module _ (u v w : ℕ → ℕ) (cut : Cut) (slots : List Slot) (f : Slot → Pair) (gap : HasGap u v cut (length slots)) (in_range : cut.at + cut.gone ≤ u 1)
     (stored : (k : ℕ) (d : Slot) → k < length slots → IsStored w (cut.at + k) (f (get_or slots k d)))
     (before : (j : ℕ) → j < item_place cut.at → w j ≡ v j) (after : (j : ℕ) → item_place (cut.at + length slots) ≤ j → w j ≡ v j) where

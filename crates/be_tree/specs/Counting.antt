@@ -1,8 +1,8 @@
--- How many pages trees have, and how many of them a write has in hand.
+-- How many pages trees have, and how many pages a write holds.
 use Rattle.std.specs.Prelude.{◌≡◌, ℕ, zero, suc, ◌+◌, ◌*◌, ◌^◌, ◌<◌, ◌≤◌, ◌⊎◌, List, IsTrue, Bool}
 use Rattle.std.specs.Prelude.{true, false, OnErr, OnOk, Result}
 use Rattle.std.specs.List.{flat_map}
-use Rattle.be_pages.specs.declared.room.Standing.{Standing}
+use Rattle.be_pages.specs.declared.room.PageState.{PageState}
 use Rattle.be_pages.specs.Pages.{is_taken, times}
 use Rattle.be_value.specs.declared.refusals.Refusal.{Refusal}
 use Rattle.be_tree_reading.specs.Pair.{Pair}
@@ -12,7 +12,8 @@ use Rattle.be_tree_reading.specs.Tree.{pairs}
 abbrev pub pairs_of_all : (words : ℕ → ℕ → ℕ) (roots : List ℕ) → List Pair
 pairs_of_all words roots = flat_map (λ root. pairs words root) roots
 
--- so many pairs are enough for a tree of this level: each branch of its root has 6 ^ level pairs
+-- this many pairs are enough for a tree on this level: each branch of its root has at least 6 ^
+-- level pairs
 abbrev pub CanBeHigh : (level count : ℕ) → Type 0
 CanBeHigh level count = (level ≡ 0) ⊎ (2 * 6 ^ level ≤ count)
 
@@ -20,28 +21,28 @@ abbrev pub one_of : Bool → ℕ
 one_of true = 1
 one_of false = 0
 
--- how many of the first n pages a write has in hand: it has taken them and not given them up
-abbrev pub in_hand : ℕ → (standing : ℕ → Standing) → ℕ
-in_hand zero standing = 0
-in_hand (suc n) standing = one_of (is_taken (standing n)) + in_hand n standing
+-- how many of the first n pages a write holds: it has taken them and not given them up
+abbrev pub in_hand : ℕ → (page_state : ℕ → PageState) → ℕ
+in_hand zero page_state = 0
+in_hand (suc n) page_state = one_of (is_taken (page_state n)) + in_hand n page_state
 
--- it has at most so many pages more in hand than it had
-abbrev pub TakesAtMost : ℕ → (old new : ℕ → Standing) → Type 0
+-- it holds at most `most` pages more than before
+abbrev pub TakesAtMost : ℕ → (old new : ℕ → PageState) → Type 0
 TakesAtMost most old new = (n : ℕ) → in_hand n new ≤ in_hand n old + most
 
--- it has fewer than so many more
-abbrev pub TakesFewer : ℕ → (old new : ℕ → Standing) → Type 0
+-- it holds fewer than `most` pages more than before
+abbrev pub TakesFewer : ℕ → (old new : ℕ → PageState) → Type 0
 TakesFewer most old new = (n : ℕ) → in_hand n new < in_hand n old + most
 
--- a call takes up to so many, and fewer if it is refused
-abbrev pub Takes : {A : Type 0} → ℕ → Result A Refusal → (old new : ℕ → Standing) → Type 0
+-- a call takes up to `most` pages, and fewer if it is refused
+abbrev pub Takes : {A : Type 0} → ℕ → Result A Refusal → (old new : ℕ → PageState) → Type 0
 Takes most result old new = OnOk result (TakesAtMost most old new)
     × OnErr result (TakesFewer most old new)
 
--- one change of a tree of this level takes at most so many: two a level, and three at the root
+-- the most pages that a change of a tree on this level takes: two per level, and three at the root
 abbrev pub most_taken : (level : ℕ) → ℕ
 most_taken level = 2 * level + 3
 
--- the pages that it has in hand are among these
-abbrev pub HasInHand : (standing : ℕ → Standing) → List ℕ → Type 0
-HasInHand standing ps = (q : ℕ) → IsTrue (is_taken (standing q)) → 0 < times q ps
+-- the pages that the write holds are among these
+abbrev pub HasInHand : (page_state : ℕ → PageState) → List ℕ → Type 0
+HasInHand page_state ps = (q : ℕ) → IsTrue (is_taken (page_state q)) → 0 < times q ps

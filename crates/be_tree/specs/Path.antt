@@ -1,8 +1,8 @@
--- The way down to a key, and what becomes of a tree below it and up to its root.
+-- The path down to a key, and how a tree changes below it and up to its root.
 use Rattle.std.specs.Prelude.{◌≡◌, ℕ, suc, ◌-◌, ◌<◌, ◌≤◌, List, [], ◌∷◌, ◌++◌, length, take}
 use Rattle.std.specs.Prelude.{drop, All, true, IfOk, IfErr, Result}
 use Rattle.std.specs.declared.cmp.Ordering.TheVariants.{Equal}
-use Rattle.be_pages.specs.declared.room.Standing.{Standing}
+use Rattle.be_pages.specs.declared.room.PageState.{PageState}
 use Rattle.be_pages.specs.Pages.{Swaps}
 use Rattle.be_tree.specs.declared.path.Step.{Step}
 use Rattle.be_tree.specs.declared.path.Path.{Path}
@@ -14,130 +14,133 @@ use Rattle.be_tree_reading.specs.Key.{IsBranchFor, IsGap, IsRising, StartsAt, ke
 use Rattle.be_tree_reading.specs.Page.{item_at, item_place, items_of, level_of}
 use Rattle.be_tree.specs.Slot.{IsReady, pairs_of}
 use Rattle.be_tree.specs.Splicing.{spliced}
-use Rattle.be_tree_reading.specs.Tree.{Becomes, BecomesTree, IsTree, IsTreeAt, child, least_of_root}
+use Rattle.be_tree_reading.specs.Tree.{Becomes, BecomesTree, IsTree, IsTreeAt, child}
+use Rattle.be_tree_reading.specs.Tree.{minimum_of_root}
 use Rattle.be_tree_reading.specs.Tree.{pages, pages_at, pages_below, pairs, pairs_at, pairs_below}
 
--- a step of a way: one of an inner page's branches
+-- a step of a path: one of an inner page's branches
 pub record IsStep (words : ℕ → ℕ → ℕ) (page : ℕ) (step : Step) : Type 0 where
   pub is_page : step.page ≡ page
   pub inner : 0 < level_of (words page)
   pub in_range : step.at < words page 1
 
--- from a page each step's branch leads to the next one's page, and that of the last step to `last`
+-- from this page, each step's branch leads to the next step's page, and the last step's to `last`
 abbrev pub IsWay : (words : ℕ → ℕ → ℕ) (page : ℕ) → List Step → (last : ℕ) → Type 0
 IsWay words page [] last = page ≡ last
 IsWay words page (step ∷ below) last = IsStep words page step
     × IsWay words (child (item_at (words page) (item_place step.at))) below last
 
--- such a way from the root of a tree
-pub record IsWayIn (standing : ℕ → Standing) (words : ℕ → ℕ → ℕ) (root : ℕ) (above : List Step)
+-- such a path from a tree's root
+pub record IsWayIn (page_state : ℕ → PageState) (words : ℕ → ℕ → ℕ) (root : ℕ) (above : List Step)
     (last : ℕ) : Type 0 where
-  pub tree : IsTree standing words root
+  pub tree : IsTree page_state words root
   pub some : 0 < root
   pub way : IsWay words (root - 1) above last
 
--- the way down to a key
-pub record IsPathTo (standing : ℕ → Standing) (words : ℕ → ℕ → ℕ) (root : ℕ) (key : List ℕ)
+-- the path down to a key
+pub record IsPathTo (page_state : ℕ → PageState) (words : ℕ → ℕ → ℕ) (root : ℕ) (key : List ℕ)
     (path : Path) : Type 0 where
-  pub way : IsWayIn standing words root path.above.items path.leaf
+  pub way : IsWayIn page_state words root path.above.items path.leaf
   pub branches : All (λ step. IsBranchFor key (items_of (words step.page)) step.at) path.above.items
   pub is_leaf : level_of (words path.leaf) ≡ 0
   pub found : IfOk path.place (λ at. (at < words path.leaf 1)
       × (key_cmp (item_at (words path.leaf) (item_place at)).key key ≡ Equal))
   pub absent : IfErr path.place (IsGap key (items_of (words path.leaf)))
 
--- the way down to a key, whose place is this
-pub record IsPathAt {S : Type 0} (standing_of : S → ℕ → Standing) (words_of : S → ℕ → ℕ → ℕ)
+-- the path down to a key, with this place
+pub record IsPathAt {S : Type 0} (page_state_of : S → ℕ → PageState) (words_of : S → ℕ → ℕ → ℕ)
     (now : S) (root : ℕ) (key : List ℕ) (path : Path) (place : Result ℕ ℕ) : Type 0 where
-  pub leads : IsPathTo (standing_of now) (words_of now) root key path
+  pub leads : IsPathTo (page_state_of now) (words_of now) root key path
   pub place_is : path.place ≡ place
 
--- the way down to the key of a pair that may be put, whose place is this
-pub record IsPathFor {S : Type 0} (standing_of : S → ℕ → Standing) (words_of : S → ℕ → ℕ → ℕ)
+-- the path down to the key of a pair that may be put, with this place
+pub record IsPathFor {S : Type 0} (page_state_of : S → ℕ → PageState) (words_of : S → ℕ → ℕ → ℕ)
     (now : S) (root : ℕ) (pair : Pair) (path : Path) (place : Result ℕ ℕ) : Type 0 where
-  pub leads : IsPathTo (standing_of now) (words_of now) root pair.key path
+  pub leads : IsPathTo (page_state_of now) (words_of now) root pair.key path
   pub place_is : path.place ≡ place
   pub key_fits : length pair.key ≤ 264
 
--- if a write takes a key out of a tree, its pages become those of a tree without it
-abbrev pub TakesOut : {S K E : Type 0} → (S → K) → (S → ℕ → Standing) → (S → ℕ → ℕ → ℕ)
+-- if the write succeeds, the tree's pages become those of a tree without the key
+abbrev pub TakesOut : {S K E : Type 0} → (S → K) → (S → ℕ → PageState) → (S → ℕ → ℕ → ℕ)
     → (root : ℕ) (key : List ℕ) → Result ℕ E → (old new : S) → Type 0
-TakesOut kept_of standing_of words_of root key result old new =
-    IfOk result (λ to. BecomesTree kept_of standing_of words_of (pages (words_of old) root)
+TakesOut kept_of page_state_of words_of root key result old new =
+    IfOk result (λ to. BecomesTree kept_of page_state_of words_of (pages (words_of old) root)
     (without key (pairs (words_of old) root)) to old new)
 
--- if a write puts a pair into a tree, its pages become those of a tree with it
-abbrev pub PutsInto : {S K E : Type 0} → (S → K) → (S → ℕ → Standing) → (S → ℕ → ℕ → ℕ)
+-- if the write succeeds, the tree's pages become those of a tree with the pair
+abbrev pub PutsInto : {S K E : Type 0} → (S → K) → (S → ℕ → PageState) → (S → ℕ → ℕ → ℕ)
     → (root : ℕ) (pair : Pair) → Result ℕ E → (old new : S) → Type 0
-PutsInto kept_of standing_of words_of root pair result old new =
-    IfOk result (λ to. BecomesTree kept_of standing_of words_of (pages (words_of old) root)
+PutsInto kept_of page_state_of words_of root pair result old new =
+    IfOk result (λ to. BecomesTree kept_of page_state_of words_of (pages (words_of old) root)
     (put pair (pairs (words_of old) root)) to old new)
 
--- the pairs of a page, with these in the place of those below a step
+-- a page's pairs, with these replacing the ones below a step
 abbrev pub around : (words : ℕ → ℕ → ℕ) → Step → List Pair → List Pair
 around words step ps =
     pairs_below (level_of (words step.page)) words (take step.at (items_of (words step.page)))
     ++ (ps ++ pairs_below (level_of (words step.page)) words
     (drop (suc step.at) (items_of (words step.page))))
 
--- the pairs of a tree, with these in the place of those below a way
+-- a tree's pairs, with these replacing the ones below a path
 abbrev pub whole : (words : ℕ → ℕ → ℕ) → List Step → List Pair → List Pair
 whole words [] ps = ps
 whole words (step ∷ below) ps = around words step (whole words below ps)
 
--- how many items the page at the end of a way keeps at least
-abbrev pub least_at : List Step → (level : ℕ) → ℕ
-least_at [] level = least_of_root level
-least_at (step ∷ below) level = 6
+-- the smallest number of items of the page at the end of a path
+abbrev pub minimum_at : List Step → (level : ℕ) → ℕ
+minimum_at [] level = minimum_of_root level
+minimum_at (step ∷ below) level = 6
 
--- the first key is the same
-abbrev pub KeepsLeast : List Pair → List Pair → Type 0
-KeepsLeast before after = (k : List ℕ) → StartsAt k before → StartsAt k after
+-- the first key is unchanged
+abbrev pub KeepsMinimum : List Pair → List Pair → Type 0
+KeepsMinimum before after = (k : List ℕ) → StartsAt k before → StartsAt k after
 
--- the pages in use before have become those of a well-formed tree from this page of a level down
-pub record BecomesNode {S K : Type 0} (kept_of : S → K) (standing_of : S → ℕ → Standing)
+-- the pages in use before have become those of a well-formed tree from this page on this level down
+pub record BecomesNode {S K : Type 0} (kept_of : S → K) (page_state_of : S → ℕ → PageState)
     (words_of : S → ℕ → ℕ → ℕ)
     (before : List ℕ) (level least : ℕ) (page : ℕ) (old new : S) : Type 0 where
-  pub tree : IsTreeAt level least (standing_of new) (words_of new) page
-  pub swaps : Swaps kept_of standing_of words_of before (pages_at level (words_of new) page) old new
+  pub tree : IsTreeAt level least (page_state_of new) (words_of new) page
+  pub swaps : Swaps kept_of page_state_of words_of before (pages_at level (words_of new) page) old
+      new
 
--- of a tree the page at the end of a way, with what is below it, has become another
-pub record IsChanged {S K : Type 0} (kept_of : S → K) (standing_of : S → ℕ → Standing)
+-- in a tree, the page at the end of a path, with everything below it, has become another page
+pub record IsChanged {S K : Type 0} (kept_of : S → K) (page_state_of : S → ℕ → PageState)
     (words_of : S → ℕ → ℕ → ℕ)
     (root : ℕ) (above : List Step) (changed : Changed) (level : ℕ) (start now : S) : Type 0 where
-  pub way : IsWayIn (standing_of start) (words_of start) root above changed.was
+  pub way : IsWayIn (page_state_of start) (words_of start) root above changed.was
   pub at_level : level_of (words_of start changed.was) ≡ level
-  pub node : BecomesNode kept_of standing_of words_of (pages_at level (words_of start) changed.was)
-      level (least_at above level) changed.page start now
-  pub least : changed.same_least ≡ true
-      → KeepsLeast (pairs_at level (words_of start) changed.was)
+  pub node : BecomesNode kept_of page_state_of words_of
+      (pages_at level (words_of start) changed.was)
+      level (minimum_at above level) changed.page start now
+  pub least : changed.same_minimum ≡ true
+      → KeepsMinimum (pairs_at level (words_of start) changed.was)
       (pairs_at level (words_of now) changed.page)
   pub rising : IsRising (whole (words_of start) above (pairs_at level (words_of now) changed.page))
 
--- slots in the place of a cut of a leaf leave it enough items, and the tree's keys rise; if it says
--- so, the first key is the same
+-- if slots replace a cut of a leaf, the leaf has enough items and the tree's keys ascend; if
+-- `same_minimum` is set, the first key is unchanged
 pub record IsEdit (words : ℕ → ℕ → ℕ) (above : List Step) (leaf : ℕ) (edit : Edit) (given : Pair)
     (slots : List Slot) : Type 0 where
   pub is_leaf : level_of (words leaf) ≡ 0
-  pub enough : least_at above 0 ≤ length
+  pub enough : minimum_at above 0 ≤ length
       (spliced edit.cut (items_of (words leaf)) (pairs_of words given slots))
-  pub least : edit.same_least ≡ true → KeepsLeast (items_of (words leaf))
+  pub least : edit.same_minimum ≡ true → KeepsMinimum (items_of (words leaf))
       (spliced edit.cut (items_of (words leaf)) (pairs_of words given slots))
   pub rising : IsRising (whole words above
       (spliced edit.cut (items_of (words leaf)) (pairs_of words given slots)))
 
 -- what was below that page has become what is below these slots' items
-pub record IsInHand {S K : Type 0} (kept_of : S → K) (standing_of : S → ℕ → Standing)
+pub record IsInHand {S K : Type 0} (kept_of : S → K) (page_state_of : S → ℕ → PageState)
     (words_of : S → ℕ → ℕ → ℕ)
     (root : ℕ) (above : List Step) (was : ℕ) (given : Pair) (slots : List Slot) (level : ℕ)
     (start now : S) : Type 0 where
-  pub way : IsWayIn (standing_of start) (words_of start) root above was
+  pub way : IsWayIn (page_state_of start) (words_of start) root above was
   pub at_level : level_of (words_of start was) ≡ level
-  pub node : Becomes kept_of standing_of words_of
+  pub node : Becomes kept_of page_state_of words_of
       (pages_below level (words_of start) (items_of (words_of start was)))
       (pairs_below level (words_of now) (pairs_of (words_of now) given slots)) level
       (pairs_of (words_of now) given slots) start now
-  pub ready : All (IsReady (standing_of now) (words_of now)) slots
+  pub ready : All (IsReady (page_state_of now) (words_of now)) slots
   pub key_fits : length given.key ≤ 264
   pub rising : IsRising (whole (words_of start) above
       (pairs_below level (words_of now) (pairs_of (words_of now) given slots)))

@@ -1,4 +1,4 @@
-//! A tree is given up, page by page.
+//! Gives up a tree, page by page.
 ghost use Rattle.std.specs.Prelude.{◌≡◌, [], IsTrue};
 ghost use Rattle.be_pages.specs.Pages.{Swaps};
 ghost use Rattle.be_tree_reading.specs.Page.{items_of};
@@ -8,12 +8,12 @@ use be_pages::Room;
 use be_tree_reading::{HEADER_WORDS, ITEM_WORDS, child_at};
 
 /// Gives up each page of a tree. A page that was there when the write began keeps its words until
-/// the write is kept, so undoing the room brings the tree back. It gives each page up once, reads
-/// the inner ones, and takes none.
+/// the write is kept, so undoing the write brings the tree back. It gives each page up once, reads
+/// the inner pages, and takes none.
 pub fn clear<R: Room>(room: &mut R, root: u64)
-    requires tree { IsTree (R.standing room.old) (R.words room.old) root }
+    requires tree { IsTree (R.page_state room.old) (R.words room.old) root }
     requires open { IsTrue (R.is_open (R.kept room.old)) }
-    ensures pages { Swaps R.kept R.standing R.words (pages (R.words room.old) root) [] room.old
+    ensures pages { Swaps R.kept R.page_state R.words (pages (R.words room.old) root) [] room.old
         room.new }
     ensures words { R.words room.new ≡ R.words room.old }
 {
@@ -25,12 +25,12 @@ pub fn clear<R: Room>(room: &mut R, root: u64)
     clear_page(room, level, page);
 }
 
-/// Gives up a page and all below it.
+/// Gives up a page and all pages below it.
 #[cycle(clear)]
 fn clear_page<R: Room>(room: &mut R, level: u64, page: u64)
-    requires tree { IsTreeAt level 1 (R.standing room.old) (R.words room.old) page }
+    requires tree { IsTreeAt level 1 (R.page_state room.old) (R.words room.old) page }
     requires open { IsTrue (R.is_open (R.kept room.old)) }
-    ensures pages { Swaps R.kept R.standing R.words (pages_at level (R.words room.old) page) []
+    ensures pages { Swaps R.kept R.page_state R.words (pages_at level (R.words room.old) page) []
         room.old room.new }
     ensures words { R.words room.new ≡ R.words room.old }
 {
@@ -41,9 +41,9 @@ fn clear_page<R: Room>(room: &mut R, level: u64, page: u64)
 /// Gives up all pages below a page.
 #[cycle(clear)]
 fn clear_below<R: Room>(room: &mut R, level: u64, page: u64)
-    requires tree { IsTreeAt level 1 (R.standing room.old) (R.words room.old) page }
+    requires tree { IsTreeAt level 1 (R.page_state room.old) (R.words room.old) page }
     requires open { IsTrue (R.is_open (R.kept room.old)) }
-    ensures pages { Swaps R.kept R.standing R.words
+    ensures pages { Swaps R.kept R.page_state R.words
         (pages_below level (R.words room.old) (items_of (R.words room.old page))) [] room.old
         room.new }
     ensures words { R.words room.new ≡ R.words room.old }

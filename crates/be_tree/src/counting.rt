@@ -1,9 +1,9 @@
 //! How many pages trees have, and how high they are.
 //!
-//! Each page but a root has at least six items, so a tree's pages are few. Each of these laws is a
-//! function that does nothing and whose contract is the law.
+//! Each page except a root has at least six items, so a tree has few pages. These functions are
+//! laws: their bodies are empty, and their contracts are the laws.
 ghost use Rattle.std.specs.Prelude.{ℕ, ◌+◌, ◌*◌, ◌≤◌, List, length};
-ghost use Rattle.be_pages.specs.declared.room.Standing.{Standing as Stands};
+ghost use Rattle.be_pages.specs.declared.room.PageState.{PageState as AnyPageState};
 ghost use Rattle.be_pages.specs.Pages.{Swaps};
 ghost use Rattle.be_tree.specs.Counting.{CanBeHigh, HasInHand, TakesAtMost, TakesFewer, in_hand};
 ghost use Rattle.be_tree.specs.Counting.{pairs_of_all};
@@ -12,48 +12,50 @@ ghost use Rattle.be_tree_reading.specs.Tree.{IsTree, level_of_root, pages, pairs
 
 use be_pages::Look;
 
-/// A tree has at most one page for each five of its pairs, and one more for those that are left
-/// over.
+/// A tree has at most one page for each five of its pairs, and one more for the remaining pairs.
 pub fn tree_pages()
-    ensures { (standing : ℕ → Stands) (words : ℕ → ℕ → ℕ) (root : ℕ) → IsTree standing words root
-        → 5 * length (pages words root) ≤ length (pairs words root) + 4 }
+    ensures { (page_state : ℕ → AnyPageState) (words : ℕ → ℕ → ℕ) (root : ℕ)
+        → IsTree page_state words root → 5 * length (pages words root) ≤ length (pairs words root)
+        + 4 }
 {}
 
-/// The same of several trees, in each of which some may be left over.
+/// The same for several trees, each of which may have remaining pairs.
 pub fn forest_pages()
-    ensures { (standing : ℕ → Stands) (words : ℕ → ℕ → ℕ) (roots : List ℕ)
-        → AreTrees standing words roots
+    ensures { (page_state : ℕ → AnyPageState) (words : ℕ → ℕ → ℕ) (roots : List ℕ)
+        → AreTrees page_state words roots
         → 5 * length (pages_of words roots) ≤ length (pairs_of_all words roots)
         + 4 * length roots }
 {}
 
-/// A tree is only as high as its pairs allow: a leaf, or twice 6 to the power of its level.
+/// A tree has a level only if it has enough pairs: a leaf, or at least two times 6 to the power of
+/// the level.
 pub fn tree_level()
-    ensures { (standing : ℕ → Stands) (words : ℕ → ℕ → ℕ) (root : ℕ) → IsTree standing words root
-        → CanBeHigh (level_of_root words root) (length (pairs words root)) }
+    ensures { (page_state : ℕ → AnyPageState) (words : ℕ → ℕ → ℕ) (root : ℕ)
+        → IsTree page_state words root → CanBeHigh (level_of_root words root)
+        (length (pairs words root)) }
 {}
 
-/// What two changes take, one after the other, adds up.
+/// Two changes in sequence take at most the sum of what each takes.
 pub fn takes_add()
-    ensures both { (a b : ℕ) (s t u : ℕ → Stands) → TakesAtMost a s t → TakesAtMost b t u
+    ensures both { (a b : ℕ) (s t u : ℕ → AnyPageState) → TakesAtMost a s t → TakesAtMost b t u
         → TakesAtMost (a + b) s u }
-    ensures refused { (a b : ℕ) (s t u : ℕ → Stands) → TakesAtMost a s t → TakesFewer b t u
+    ensures refused { (a b : ℕ) (s t u : ℕ → AnyPageState) → TakesAtMost a s t → TakesFewer b t u
         → TakesFewer (a + b) s u }
 {}
 
-/// If pages in use are replaced, no more come into hand than are in use then; and if all pages in
-/// hand were among those in use, they still are.
+/// If pages in use are replaced, a write gets at most as many more pages as are then in use. If all
+/// pages that it held were among those in use, they still are.
 pub fn swaps_take<L: Look>()
     ensures takes { (before after : List ℕ) (old new : L)
-        → Swaps L.kept L.standing L.words before after old new
-        → TakesAtMost (length after) (L.standing old) (L.standing new) }
+        → Swaps L.kept L.page_state L.words before after old new
+        → TakesAtMost (length after) (L.page_state old) (L.page_state new) }
     ensures has { (before after : List ℕ) (old new : L)
-        → Swaps L.kept L.standing L.words before after old new
-        → HasInHand (L.standing old) before → HasInHand (L.standing new) after }
+        → Swaps L.kept L.page_state L.words before after old new
+        → HasInHand (L.page_state old) before → HasInHand (L.page_state new) after }
 {}
 
-/// A write has no more pages in hand than there are in a list that has them all.
+/// A write holds at most as many pages as a list that has them all.
 pub fn few_in_hand()
-    ensures { (standing : ℕ → Stands) (ps : List ℕ) → HasInHand standing ps → (n : ℕ)
-        → in_hand n standing ≤ length ps }
+    ensures { (page_state : ℕ → AnyPageState) (ps : List ℕ) → HasInHand page_state ps → (n : ℕ)
+        → in_hand n page_state ≤ length ps }
 {}

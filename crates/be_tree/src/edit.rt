@@ -1,10 +1,10 @@
-//! A pair is put into a tree.
+//! Puts a pair into a tree.
 //!
 //! # Full pages
-//! A full leaf shares items with its left neighbour, which takes all that it can hold, or is split
-//! if that one is full too, and the first of the two pages takes as many items as leave six for
-//! the second. So does a page above that has got one branch too many. So keys that rise leave full
-//! pages after them. An insertion writes two pages a level at most, and three at the root.
+//! A full leaf shares items with its left neighbour, which takes all that it can hold. If that one
+//! is full too, the leaf is split. The first of the two pages takes as many items as leave six for
+//! the second. A page above that gets one branch too many does the same. So ascending keys produce
+//! full pages. An insertion writes at most two pages per level, and three at the root.
 ghost use Rattle.std.specs.Prelude.{◌+◌, ◌≤◌, length, IfOk, OnErr, IfErr, IsTrue};
 ghost use Rattle.be_pages.specs.Pages.{KeepsStart};
 ghost use Rattle.be_pages.specs.Refusal.{IsFullOf};
@@ -20,22 +20,22 @@ use crate::writing::write_first_root;
 use be_pages::Room;
 use be_value::Refusal;
 
-/// Puts a pair into a tree, in place of any pair of its key, and returns the new root. The old
-/// tree's pages that the new one has not are given up; those that this write had taken before may
-/// be written over. After an error, undoing the room brings the tree back.
+/// Puts a pair into a tree, replacing any pair with its key, and returns the new root. The old
+/// tree's pages that the new one doesn't have are given up; those that this write had taken before
+/// may be overwritten. After an error, undoing the write brings the tree back.
 pub fn insert<R: Room>(room: &mut R, root: u64, key: &[u8], payload: &[u8]) -> Result<u64, Refusal>
-    requires tree { IsTree (R.standing room.old) (R.words room.old) root }
+    requires tree { IsTree (R.page_state room.old) (R.words room.old) root }
     requires key_fits { length key.now ≤ 264 }
     requires fits { length key.now + length payload.now ≤ 328 }
     requires open { IsTrue (R.is_open (R.kept room.old)) }
-    ensures ok { IfOk result (λ new. BecomesTree R.kept R.standing R.words
+    ensures ok { IfOk result (λ new. BecomesTree R.kept R.page_state R.words
         (pages (R.words room.old) root)
         (put (record { key = key.now; payload = payload.now }) (pairs (R.words room.old) root)) new
         room.old room.new) }
-    ensures err { OnErr result (KeepsStart R.kept R.standing R.words room.old room.new) }
+    ensures err { OnErr result (KeepsStart R.kept R.page_state R.words room.old room.new) }
     ensures full { IfErr result (IsFullOf (R.full room.new)) }
     ensures takes { Takes (most_taken (level_of_root (R.words room.old) root)) result
-        (R.standing room.old) (R.standing room.new) }
+        (R.page_state room.old) (R.page_state room.new) }
 {
     let pair = Item::new(key, payload);
     if root == 0 {

@@ -1,4 +1,4 @@
-//! A pair is put where a path leads.
+//! Puts a pair where a path leads.
 ghost use Rattle.std.specs.Prelude.{◌≡◌, ◌≤◌, IsTrue, Ok, Err, length};
 ghost use Rattle.be_tree.specs.Counting.{most_taken};
 ghost use Rattle.be_tree.specs.Path.{IsPathFor, IsPathTo, PutsInto};
@@ -16,13 +16,13 @@ use arrayvec::ArrayVec;
 use be_pages::Room;
 use be_tree_reading::MOST_ITEMS;
 
-/// Puts a pair where a path to its key leads, and gives the new root.
+/// Puts a pair where a path to its key leads, and returns the new root.
 pub(crate) fn put_on<R: Room>(room: &mut R, root: u64, path: &Path, pair: &Item) -> NewRoot
-    requires path { IsPathTo (R.standing room.old) (R.words room.old) root pair.now.key path.now }
+    requires path { IsPathTo (R.page_state room.old) (R.words room.old) root pair.now.key path.now }
     requires key_fits { length pair.now.key ≤ 264 }
     requires open { IsTrue (R.is_open (R.kept room.old)) }
-    ensures ok { PutsInto R.kept R.standing R.words root pair.now result room.old room.new }
-    ensures refused { Refuses R.kept R.standing R.words R.full
+    ensures ok { PutsInto R.kept R.page_state R.words root pair.now result room.old room.new }
+    ensures refused { Refuses R.kept R.page_state R.words R.full
         (most_taken (length path.now.above.items)) result room.old room.new }
 {
     match path.place {
@@ -31,27 +31,27 @@ pub(crate) fn put_on<R: Room>(room: &mut R, root: u64, path: &Path, pair: &Item)
     }
 }
 
-/// Puts a pair in the place of the one that has its key.
+/// Replaces the pair that has this key.
 fn put_over<R: Room>(room: &mut R, root: u64, path: &Path, at: usize, pair: &Item) -> NewRoot
-    requires path { IsPathFor R.standing R.words room.old root pair.now path.now (Ok at) }
+    requires path { IsPathFor R.page_state R.words room.old root pair.now path.now (Ok at) }
     requires open { IsTrue (R.is_open (R.kept room.old)) }
-    ensures ok { PutsInto R.kept R.standing R.words root pair.now result room.old room.new }
-    ensures refused { Refuses R.kept R.standing R.words R.full
+    ensures ok { PutsInto R.kept R.page_state R.words root pair.now result room.old room.new }
+    ensures refused { Refuses R.kept R.page_state R.words R.full
         (most_taken (length path.now.above.items)) result room.old room.new }
 {
     let edit = Edit {
         cut: Cut { at, gone: 1 },
-        same_least: true,
+        same_minimum: true,
     };
     change_leaf(room, root, path, edit, &[Slot::New], pair)
 }
 
-/// Puts a pair between two others, where none has its key.
+/// Puts a pair between two others, if no pair has its key.
 fn put_in<R: Room>(room: &mut R, root: u64, path: &Path, at: usize, pair: &Item) -> NewRoot
-    requires path { IsPathFor R.standing R.words room.old root pair.now path.now (Err at) }
+    requires path { IsPathFor R.page_state R.words room.old root pair.now path.now (Err at) }
     requires open { IsTrue (R.is_open (R.kept room.old)) }
-    ensures ok { PutsInto R.kept R.standing R.words root pair.now result room.old room.new }
-    ensures refused { Refuses R.kept R.standing R.words R.full
+    ensures ok { PutsInto R.kept R.page_state R.words root pair.now result room.old room.new }
+    ensures refused { Refuses R.kept R.page_state R.words R.full
         (most_taken (length path.now.above.items)) result room.old room.new }
 {
     if count_of(room, path.leaf) == MOST_ITEMS {
@@ -59,7 +59,7 @@ fn put_in<R: Room>(room: &mut R, root: u64, path: &Path, at: usize, pair: &Item)
     }
     let edit = Edit {
         cut: Cut { at, gone: 0 },
-        same_least: at > 0,
+        same_minimum: at > 0,
     };
     change_leaf(room, root, path, edit, &[Slot::New], pair)
 }
@@ -67,11 +67,11 @@ fn put_in<R: Room>(room: &mut R, root: u64, path: &Path, at: usize, pair: &Item)
 /// Puts a pair into a full leaf.
 #[inline(never)]
 fn overflow<R: Room>(room: &mut R, root: u64, path: &Path, at: usize, pair: &Item) -> NewRoot
-    requires path { IsPathFor R.standing R.words room.old root pair.now path.now (Err at) }
+    requires path { IsPathFor R.page_state R.words room.old root pair.now path.now (Err at) }
     requires full { R.words room.old path.now.leaf 1 ≡ 12 }
     requires open { IsTrue (R.is_open (R.kept room.old)) }
-    ensures ok { PutsInto R.kept R.standing R.words root pair.now result room.old room.new }
-    ensures refused { Refuses R.kept R.standing R.words R.full
+    ensures ok { PutsInto R.kept R.page_state R.words root pair.now result room.old room.new }
+    ensures refused { Refuses R.kept R.page_state R.words R.full
         (most_taken (length path.now.above.items)) result room.old room.new }
 {
     let mut slots = ArrayVec::new();

@@ -5,7 +5,7 @@ ghost use Rattle.be_tree_reading.specs.Tree.{child};
 use arrayvec::ArrayVec;
 use std::marker::Model;
 
-/// A key with its payload, in at most 328 bytes.
+/// A key with its payload, in up to 328 bytes.
 #[derive(Drop)]
 pub(crate) struct Item {
     bytes: ArrayVec<u8, 328>,
@@ -65,14 +65,14 @@ impl Item {
         &self.bytes
     }
 
-    /// How long the key is.
+    /// The length of the key in bytes.
     pub(crate) fn key_len(&self) -> usize
         ensures { result ≡ length self.now.key }
     {
         self.key_len
     }
 
-    /// The page that a branch names.
+    /// The page of a branch.
     #[tactic(auto, unfolding(be_tree_reading::specs::Tree::child))]
     pub(crate) fn child(&self) -> u64
         requires { length self.now.payload ≡ 8 }

@@ -1,23 +1,23 @@
 //! Copy-on-write B+trees over pages of words.
 //!
-//! # Who holds the pages
-//! be_tree_reading says what a tree is, and be_pages what a page is to a reader (`Look`) and to a
+//! # Who has the pages
+//! be_tree_reading says what a tree is, and be_pages what a page is for a reader (`Look`) and for a
 //! write (`Room`). A tree reads words through the one, and takes, fills and gives up pages through
-//! the other. So it is the same tree in a test's vector and in the shared table, and nothing here
-//! knows of versions or of other threads.
+//! the other. So trees work the same in a test's vector and in the shared table, and nothing here
+//! knows about versions or other threads.
 //!
 //! # How a tree changes
 //! `insert` and `remove` go down to a leaf, write it and the pages above it, and return the root of
-//! a new tree. The new tree shares all other pages with the old one. No page that was there when
-//! the write began is changed: its node is written to a page that is taken for it, and the old one
-//! is given up. A page that the write has taken before is written over in place, so a second change
-//! near the first one mostly takes no page. `clear` gives up each page of a tree.
+//! a new tree. The new tree shares all other pages with the old one. A page that was there when the
+//! write began isn't changed: its node is written to a page that is taken for it, and the old one
+//! is given up. A page that the write has taken before is overwritten in place, so a second change
+//! nearby usually takes no page. `clear` gives up each page of a tree.
 //!
 //! # What is proved
 //! `insert`, `remove` and `clear` are put, removal and the empty list, on the list that
-//! be_tree_reading decodes from the words. The pages of the old tree that the new one has not are
-//! given up, those that it has besides were taken, and no other page has changed; `laws` has what
-//! follows for the other trees of a room.
+//! be_tree_reading decodes from the words. The old tree's pages that the new one doesn't have are
+//! given up. Those that only the new one has were taken, and no other page has changed. `laws` says
+//! what follows for other trees in the same pages.
 #![tactic(auto)]
 
 mod clearing;

@@ -1,7 +1,7 @@
-//! The way down to a key.
+//! The path down to a key.
 //!
-//! A change goes down a tree once. It keeps which page it met on each level and which branch it
-//! took there, so it goes up again with no other search.
+//! A change goes down a tree once. It keeps the page on each level and the branch that it took
+//! there, so it goes up again without another search.
 ghost use Rattle.std.specs.Prelude.{◌≡◌, ◌<◌, [], IfOk, IfErr, IsTrue};
 ghost use Rattle.std.specs.declared.cmp.Ordering.TheVariants.{Equal};
 ghost use Rattle.be_pages.specs.Pages.{IsUnchanged, is_readable};
@@ -16,7 +16,7 @@ use be_pages::Look;
 use be_tree_reading::{branch_in, child_at, first_word, item_number, search};
 use be_value::Refusal;
 
-/// An inner page on the way down, and the number of the branch that the way takes.
+/// An inner page on the path, and the number of the branch that the path takes.
 #[derive(Clone, Copy)]
 pub(crate) struct Step {
     pub(crate) page: u64,
@@ -29,7 +29,7 @@ impl Default for Step {
     }
 }
 
-/// The way from a tree's root down to a key. It serves as long as the tree's pages keep their
+/// The path from a tree's root down to a key. It is valid as long as the tree's pages keep their
 /// words.
 #[derive(Drop)]
 pub(crate) struct Path {
@@ -37,12 +37,12 @@ pub(crate) struct Path {
     pub(crate) above: ArrayVec<Step, 13>,
     /// The leaf's page.
     pub(crate) leaf: u64,
-    /// The number of the leaf's item that has the key, or how many have lesser keys.
+    /// The number of the leaf's item that has the key, or how many items have lower keys.
     pub(crate) place: Result<usize, usize>,
 }
 
 impl Path {
-    /// A path to be filled.
+    /// An empty path, to be filled.
     pub(crate) fn new() -> Path
         ensures { result.above.items ≡ [] }
     {
@@ -54,19 +54,20 @@ impl Path {
     }
 }
 
-/// The root of a tree that was changed, or why it wasn't.
+/// A changed tree's root, or why the tree wasn't changed.
 pub(crate) type NewRoot = Result<u64, Refusal>;
 
-/// The place of a key among a page's items: which one has it, or how many have lesser keys.
+/// The place of a key among a page's items: the number of the item that has it, or how many have
+/// lower keys.
 fn search_number<L: Look>(look: &mut L, page: u64, key: &[u8], first: u64) -> Result<usize, usize>
-    requires readable { IsTrue (is_readable (L.standing look.old page)) }
+    requires readable { IsTrue (is_readable (L.page_state look.old page)) }
     requires page { IsPage (L.words look.old page) }
     requires first { IsFirst key.now first }
     ensures in_range { IfOk result (λ at. at < L.words look.old page 1) }
     ensures same { IfOk result (λ at. key_cmp (item_at (L.words look.old page) (item_place at)).key
         key.now ≡ Equal) }
     ensures absent { IfErr result (IsGap key.now (items_of (L.words look.old page))) }
-    ensures unchanged { IsUnchanged L.kept L.standing L.words look.old look.new }
+    ensures unchanged { IsUnchanged L.kept L.page_state L.words look.old look.new }
 {
     match search(look, page, key, first) {
         Ok(place) => Ok(item_number(place)),
@@ -74,14 +75,14 @@ fn search_number<L: Look>(look: &mut L, page: u64, key: &[u8], first: u64) -> Re
     }
 }
 
-/// Goes down a tree that isn't empty to a key, and keeps the way in an empty path. It costs one
-/// descent.
+/// Goes down to a key in a tree that isn't empty, and keeps the path in `path`, which has to be
+/// empty. It costs one descent.
 pub(crate) fn find_path<L: Look>(look: &mut L, root: u64, key: &[u8], path: &mut Path)
-    requires tree { IsTree (L.standing look.old) (L.words look.old) root }
+    requires tree { IsTree (L.page_state look.old) (L.words look.old) root }
     requires some { 0 < root }
     requires empty { path.old.above.items ≡ [] }
-    ensures path { IsPathTo (L.standing look.old) (L.words look.old) root key.now path.new }
-    ensures unchanged { IsUnchanged L.kept L.standing L.words look.old look.new }
+    ensures path { IsPathTo (L.page_state look.old) (L.words look.old) root key.now path.new }
+    ensures unchanged { IsUnchanged L.kept L.page_state L.words look.old look.new }
 {
     let first = first_word(key);
     let mut page = root - 1;

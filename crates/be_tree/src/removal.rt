@@ -1,13 +1,13 @@
-//! A key is taken out of a tree.
+//! Takes a key out of a tree.
 //!
 //! # Neighbours
-//! A page that is left with less than six items is written anew together with a neighbour under the
-//! same parent, the next one where there is one: the items of both go into one page where they fit,
-//! else into two. So no page is left under-full, and pages that were thin are joined. A removal
-//! writes two pages a level at most.
+//! A page that is left with fewer than six items is rewritten together with a neighbour under the
+//! same parent. That is the next page if there is one. The items of both go to one page if they
+//! fit, otherwise to two. So no page is left with too few items, and thin pages are joined. A
+//! removal writes at most two pages per level.
 //!
 //! # Absent keys
-//! Nothing is written on the way down, and where the leaf hasn't the key, nothing has changed.
+//! Nothing is written on the way down, so if the leaf doesn't have the key, nothing has changed.
 ghost use Rattle.std.specs.Prelude.{◌≡◌, IfOk, OnErr, IfErr, IsTrue, None, Ok};
 ghost use Rattle.be_pages.specs.Pages.{IsUnchanged, KeepsStart};
 ghost use Rattle.be_pages.specs.Refusal.{IsFullOf};
@@ -21,20 +21,20 @@ use be_pages::Room;
 use be_value::Refusal;
 
 /// Takes a key out of a tree, and returns the new root. An absent key gives the same root and takes
-/// no page. After an error, undoing the room brings the tree back.
+/// no page. After an error, undoing the write brings the tree back.
 pub fn remove<R: Room>(room: &mut R, root: u64, key: &[u8]) -> Result<u64, Refusal>
-    requires tree { IsTree (R.standing room.old) (R.words room.old) root }
+    requires tree { IsTree (R.page_state room.old) (R.words room.old) root }
     requires open { IsTrue (R.is_open (R.kept room.old)) }
-    ensures ok { IfOk result (λ new. BecomesTree R.kept R.standing R.words
+    ensures ok { IfOk result (λ new. BecomesTree R.kept R.page_state R.words
         (pages (R.words room.old) root)
         (without key.now (pairs (R.words room.old) root)) new room.old room.new) }
     ensures absent { payload_at (pairs (R.words room.old) root) key.now ≡ None → result ≡ Ok root }
     ensures still { payload_at (pairs (R.words room.old) root) key.now ≡ None
-        → IsUnchanged R.kept R.standing R.words room.old room.new }
-    ensures err { OnErr result (KeepsStart R.kept R.standing R.words room.old room.new) }
+        → IsUnchanged R.kept R.page_state R.words room.old room.new }
+    ensures err { OnErr result (KeepsStart R.kept R.page_state R.words room.old room.new) }
     ensures full { IfErr result (IsFullOf (R.full room.new)) }
     ensures takes { Takes (most_taken (level_of_root (R.words room.old) root)) result
-        (R.standing room.old) (R.standing room.new) }
+        (R.page_state room.old) (R.page_state room.new) }
 {
     if root == 0 {
         return Ok(root);

@@ -1,8 +1,8 @@
-//! The pages above a page that was changed are changed, as far as they have to be.
+//! Changes the pages above a changed page, as far as necessary.
 //!
-//! A page that is copied has another number, so the branch to it is changed. A page of which the
-//! least key is another one is named by it above. If neither is so, the pages above stay as they
-//! are.
+//! A page that is copied gets another number, so the branch to it changes. If a page's lowest key
+//! changes, the branch above has to have the new key. If neither happens, the pages above stay as
+//! they are.
 ghost use Rattle.std.specs.Prelude.{◌≡◌, ◌+◌, ◌<◌, ◌⊎◌, IfOk, IsTrue, length, true};
 ghost use Rattle.be_tree_reading.specs.Page.{items_of, level_of};
 ghost use Rattle.be_tree.specs.Path.{IsChanged, IsEdit, IsWayIn, whole};
@@ -18,50 +18,50 @@ use crate::splicing::{Cut, splice};
 use be_pages::Room;
 use be_value::Refusal;
 
-/// A page of a tree that was changed.
+/// A changed page of a tree.
 #[derive(Clone, Copy)]
 pub(crate) struct Changed {
-    /// The page as the tree has it.
+    /// The page before the change.
     pub(crate) was: u64,
-    /// The page that has the items now: the same one, or its copy.
+    /// The page that now has the items: the same one, or its copy.
     pub(crate) page: u64,
-    /// Whether the least key below it is known to be the same.
-    pub(crate) same_least: bool,
+    /// Whether the lowest key below it is known to be unchanged.
+    pub(crate) same_minimum: bool,
 }
 
-/// Whether the least key below a page is known to be the same, where the child of its branch of
-/// this number was changed.
-fn keeps_least(child: Changed, at: usize) -> bool
-    ensures { result ≡ true → (0 < at) ⊎ (child.same_least ≡ true) }
+/// Whether the lowest key below a page is known to be unchanged, after the child of branch `at` was
+/// changed.
+fn keeps_minimum(child: Changed, at: usize) -> bool
+    ensures { result ≡ true → (0 < at) ⊎ (child.same_minimum ≡ true) }
 {
-    child.same_least || at > 0
+    child.same_minimum || at > 0
 }
 
 /// Writes the branches to a changed page and to those above it that change with it, the lowest
-/// first, and gives the new root. Above a page that was changed where it is, with its least key,
-/// nothing changes.
+/// first, and returns the new root. If a page was changed in place and keeps its lowest key,
+/// nothing above it changes.
 pub(crate) fn rise<R: Room>(
     room: &mut R,
     root: u64,
     above: &[Step],
     changed: Changed,
 ) -> Result<u64, Refusal>
-    requires changed { (start : R) × IsChanged R.kept R.standing R.words root above.now changed
+    requires changed { (start : R) × IsChanged R.kept R.page_state R.words root above.now changed
         (level_of (R.words start changed.was)) start room.old }
     requires open { IsTrue (R.is_open (R.kept room.old)) }
     ensures ok { IfOk result (λ new. (start : R)
-        → IsChanged R.kept R.standing R.words root above.now changed
+        → IsChanged R.kept R.page_state R.words root above.now changed
         (level_of (R.words start changed.was)) start room.old
-        → BecomesTree R.kept R.standing R.words (pages (R.words start) root)
+        → BecomesTree R.kept R.page_state R.words (pages (R.words start) root)
         (whole (R.words start) above.now (pairs_at (level_of (R.words start changed.was))
         (R.words room.old) changed.page)) new start room.new) }
-    ensures refused { Refuses R.kept R.standing R.words R.full (length above.now) result
+    ensures refused { Refuses R.kept R.page_state R.words R.full (length above.now) result
         room.old room.new }
 {
     let none = Item::new(&[], &[]);
     let mut below = changed;
     for i in 0..above.len() {
-        if below.page == below.was && below.same_least {
+        if below.page == below.was && below.same_minimum {
             return Ok(root);
         }
         let step = above[above.len() - 1 - i];
@@ -79,21 +79,21 @@ pub(crate) fn rise<R: Room>(
         below = Changed {
             was: step.page,
             page,
-            same_least: keeps_least(below, step.at),
+            same_minimum: keeps_minimum(below, step.at),
         };
     }
     Ok(below.page + 1)
 }
 
-/// Which items of a leaf are left out, and whether its first key is known to be the same once
-/// others are put there.
+/// Which items of a leaf are left out, and whether its first key is known to be unchanged after
+/// others were put in their place.
 #[derive(Clone, Copy)]
 pub(crate) struct Edit {
     pub(crate) cut: Cut,
-    pub(crate) same_least: bool,
+    pub(crate) same_minimum: bool,
 }
 
-/// Puts slots in the place of a cut of the leaf that a path leads to, and gives the new root.
+/// Replaces a cut of the leaf at the end of a path by slots, and returns the new root.
 pub(crate) fn change_leaf<R: Room>(
     room: &mut R,
     root: u64,
@@ -102,26 +102,26 @@ pub(crate) fn change_leaf<R: Room>(
     slots: &[Slot],
     pair: &Item,
 ) -> Result<u64, Refusal>
-    requires way { IsWayIn (R.standing room.old) (R.words room.old) root path.now.above.items
+    requires way { IsWayIn (R.page_state room.old) (R.words room.old) root path.now.above.items
         path.now.leaf }
-    requires cut { CanBeSpliced (R.standing room.old) (R.words room.old) path.now.leaf edit.cut
+    requires cut { CanBeSpliced (R.page_state room.old) (R.words room.old) path.now.leaf edit.cut
         pair.now slots.now }
     requires edit { IsEdit (R.words room.old) path.now.above.items path.now.leaf edit pair.now
         slots.now }
     requires open { IsTrue (R.is_open (R.kept room.old)) }
-    ensures ok { IfOk result (λ new. BecomesTree R.kept R.standing R.words
+    ensures ok { IfOk result (λ new. BecomesTree R.kept R.page_state R.words
         (pages (R.words room.old) root)
         (whole (R.words room.old) path.now.above.items
         (spliced edit.cut (items_of (R.words room.old path.now.leaf))
         (pairs_of (R.words room.old) pair.now slots.now))) new room.old room.new) }
-    ensures refused { Refuses R.kept R.standing R.words R.full
+    ensures refused { Refuses R.kept R.page_state R.words R.full
         (length path.now.above.items + 1) result room.old room.new }
 {
     let page = splice(room, path.leaf, edit.cut, slots, pair)?;
     let changed = Changed {
         was: path.leaf,
         page,
-        same_least: edit.same_least,
+        same_minimum: edit.same_minimum,
     };
     rise(room, root, &path.above, changed)
 }

@@ -1,11 +1,11 @@
-//! A node that has too many items or too few is settled: it is split, or shares items with a
+//! Settles nodes that have too many or too few items: such a node is split, or shares items with a
 //! neighbour, or joins one.
 //!
-//! A node of thirteen items is written with those of its left neighbour, if that one has room:
-//! it takes all that it can hold. Otherwise it is split. A node of five is written with those of a
-//! neighbour, the next one if there is one: to one page if they fit, otherwise to two. So the page
-//! above has one branch more or less, or as many as before, and may be too large or too small in
-//! turn.
+//! If a node has thirteen items and its left neighbour has room, the items of both are written
+//! together. The neighbour takes all that it can hold. If it has no room, the node is split. If a
+//! node has five items, they are written together with those of a neighbour, the next one if there
+//! is one. They go to one page if they fit, otherwise to two. So the page above gets one branch
+//! more or fewer, or as many as before, and may itself become too large or too small.
 ghost use Rattle.std.specs.Prelude.{◌≡◌, ◌≤◌, ◌+◌, ◌-◌, ◌<◌, ◌⊎◌, ◌++◌, suc, take, drop};
 ghost use Rattle.std.specs.Prelude.{length, true, IfOk, IsTrue};
 ghost use Rattle.be_pages.specs.Pages.{IsUnchanged, is_readable};
@@ -28,28 +28,28 @@ use crate::storing::fill_slots;
 use crate::writing::{pack, pack_two, write_rest};
 use arrayvec::ArrayVec;
 use be_pages::{Look, Room};
-use be_tree_reading::{HEADER_WORDS, ITEM_WORDS, LEAST_ITEMS, MOST_ITEMS, child_at};
+use be_tree_reading::{HEADER_WORDS, ITEM_WORDS, MINIMUM_ITEMS, MOST_ITEMS, child_at};
 use be_value::Refusal;
 
-/// What is in the place of some of a node's branches: the branches to the pages that were written.
+/// The branches to the pages that were written, which replace some of a node's branches.
 #[derive(Drop)]
 pub(crate) struct Settled {
     pub(crate) cut: Cut,
     pub(crate) branches: ArrayVec<Slot, 2>,
 }
 
-/// What a node in hand was settled to, or why it wasn't.
+/// How an unwritten node was settled, or why it wasn't.
 type Settling = Result<Settled, Refusal>;
 
-/// Writes a node in hand that is too large, whose page is the child of a step, in two pages.
+/// Writes an unwritten node that is too large to two pages. Its page is the child at a step.
 fn settle_split<R: Room>(room: &mut R, step: Step, was: u64, node: Node<'_>) -> Settling
-    requires child { (start : R) × IsChildInHand R.kept R.standing R.words step was node.level
+    requires child { (start : R) × IsChildInHand R.kept R.page_state R.words step was node.level
         node.pair.now node.slots.now start room.old }
     requires crowded { 12 < length node.slots.now }
     requires open { IsTrue (R.is_open (R.kept room.old)) }
-    ensures ok { Settles R.kept R.standing R.words step was node.entry.level node.entry.pair.now
+    ensures ok { Settles R.kept R.page_state R.words step was node.entry.level node.entry.pair.now
         node.entry.slots.now result room.old room.new }
-    ensures refused { Refuses R.kept R.standing R.words R.full 2 result room.old room.new }
+    ensures refused { Refuses R.kept R.page_state R.words R.full 2 result room.old room.new }
 {
     let at = step.at;
     let branches = pack(room, was, node)?;
@@ -57,18 +57,18 @@ fn settle_split<R: Room>(room: &mut R, step: Step, was: u64, node: Node<'_>) -> 
     Ok(Settled { cut, branches })
 }
 
-/// Writes it together with the items of the child before it.
+/// Writes the node together with the items of the child before it.
 fn settle_left<R: Room>(room: &mut R, step: Step, was: u64, node: Node<'_>) -> Settling
-    requires child { (start : R) × IsChildInHand R.kept R.standing R.words step was node.level
+    requires child { (start : R) × IsChildInHand R.kept R.page_state R.words step was node.level
         node.pair.now node.slots.now start room.old }
     requires beyond { 0 < step.at }
     requires room { R.words room.old (child
         (item_at (R.words room.old step.page) (item_place (step.at - 1)))) 1 + length node.slots.now
         ≤ 24 }
     requires open { IsTrue (R.is_open (R.kept room.old)) }
-    ensures ok { Settles R.kept R.standing R.words step was node.entry.level node.entry.pair.now
+    ensures ok { Settles R.kept R.page_state R.words step was node.entry.level node.entry.pair.now
         node.entry.slots.now result room.old room.new }
-    ensures refused { Refuses R.kept R.standing R.words R.full 2 result room.old room.new }
+    ensures refused { Refuses R.kept R.page_state R.words R.full 2 result room.old room.new }
 {
     let at = step.at - 1;
     let left = child_at(room, step.page, HEADER_WORDS + ITEM_WORDS * at);
@@ -85,16 +85,16 @@ fn settle_left<R: Room>(room: &mut R, step: Step, was: u64, node: Node<'_>) -> S
     Ok(Settled { cut, branches })
 }
 
-/// Writes it together with the items of the child after it.
+/// Writes the node together with the items of the child after it.
 fn settle_right<R: Room>(room: &mut R, step: Step, was: u64, node: Node<'_>) -> Settling
-    requires child { (start : R) × IsChildInHand R.kept R.standing R.words step was node.level
+    requires child { (start : R) × IsChildInHand R.kept R.page_state R.words step was node.level
         node.pair.now node.slots.now start room.old }
     requires before { step.at + 1 < R.words room.old step.page 1 }
     requires few { length node.slots.now ≤ 12 }
     requires open { IsTrue (R.is_open (R.kept room.old)) }
-    ensures ok { Settles R.kept R.standing R.words step was node.entry.level node.entry.pair.now
+    ensures ok { Settles R.kept R.page_state R.words step was node.entry.level node.entry.pair.now
         node.entry.slots.now result room.old room.new }
-    ensures refused { Refuses R.kept R.standing R.words R.full 2 result room.old room.new }
+    ensures refused { Refuses R.kept R.page_state R.words R.full 2 result room.old room.new }
 {
     let right = child_at(room, step.page, HEADER_WORDS + ITEM_WORDS * (step.at + 1));
     let mut others = ArrayVec::new();
@@ -113,14 +113,14 @@ fn settle_right<R: Room>(room: &mut R, step: Step, was: u64, node: Node<'_>) -> 
     Ok(Settled { cut, branches })
 }
 
-/// Whether the child before a step's is there and has room for an item.
+/// Whether there is a child before the step's that has room for an item.
 fn left_has_room<R: Room>(room: &mut R, step: Step, was: u64, node: Node<'_>) -> bool
-    requires child { (start : R) × IsChildInHand R.kept R.standing R.words step was node.level
+    requires child { (start : R) × IsChildInHand R.kept R.page_state R.words step was node.level
         node.pair.now node.slots.now start room.old }
     ensures beyond { result ≡ true → 0 < step.at }
     ensures room { result ≡ true → R.words room.old
         (child (item_at (R.words room.old step.page) (item_place (step.at - 1)))) 1 < 12 }
-    ensures unchanged { IsUnchanged R.kept R.standing R.words room.old room.new }
+    ensures unchanged { IsUnchanged R.kept R.page_state R.words room.old room.new }
 {
     if step.at == 0 {
         return false;
@@ -129,14 +129,14 @@ fn left_has_room<R: Room>(room: &mut R, step: Step, was: u64, node: Node<'_>) ->
     count_of(room, left) < MOST_ITEMS
 }
 
-/// Settles a node in hand, whose page is the child of a step.
+/// Settles an unwritten node, whose page is the child at a step.
 fn settle_child<R: Room>(room: &mut R, step: Step, was: u64, node: Node<'_>) -> Settling
-    requires child { (start : R) × IsChildInHand R.kept R.standing R.words step was node.level
+    requires child { (start : R) × IsChildInHand R.kept R.page_state R.words step was node.level
         node.pair.now node.slots.now start room.old }
     requires open { IsTrue (R.is_open (R.kept room.old)) }
-    ensures ok { Settles R.kept R.standing R.words step was node.entry.level node.entry.pair.now
+    ensures ok { Settles R.kept R.page_state R.words step was node.entry.level node.entry.pair.now
         node.entry.slots.now result room.old room.new }
-    ensures refused { Refuses R.kept R.standing R.words R.full 2 result room.old room.new }
+    ensures refused { Refuses R.kept R.page_state R.words R.full 2 result room.old room.new }
 {
     if node.slots.len() > MOST_ITEMS {
         if left_has_room(room, step, was, node) {
@@ -150,7 +150,7 @@ fn settle_child<R: Room>(room: &mut R, step: Step, was: u64, node: Node<'_>) -> 
     settle_left(room, step, was, node)
 }
 
-/// Leaves out one slot of a cut of two.
+/// Removes one slot of a cut if the cut has two.
 fn leave_one(slots: &mut ArrayVec<Slot, 24>, cut: Cut)
     requires in_range { cut.at + cut.gone ≤ length slots.old.items }
     requires gone { (0 < cut.gone) × (cut.gone ≤ 2) }
@@ -162,16 +162,16 @@ fn leave_one(slots: &mut ArrayVec<Slot, 24>, cut: Cut)
     }
 }
 
-/// The slots of a page's items, with others in the place of a cut.
+/// The slots of a page's items, with others replacing a cut.
 fn slots_with<L: Look>(look: &mut L, page: u64, settled: Settled) -> ArrayVec<Slot, 24>
-    requires readable { IsTrue (is_readable (L.standing look.old page)) }
+    requires readable { IsTrue (is_readable (L.page_state look.old page)) }
     requires page { IsPage (L.words look.old page) }
     requires in_range { settled.cut.at + settled.cut.gone ≤ L.words look.old page 1 }
     requires gone { (0 < settled.cut.gone) × (settled.cut.gone ≤ 2) }
     requires some { (0 < length settled.branches.items) × (length settled.branches.items ≤ 2) }
     ensures slots { result.items ≡ spliced settled.cut (loaded page (L.words look.old page 1))
         settled.branches.items }
-    ensures unchanged { IsUnchanged L.kept L.standing L.words look.old look.new }
+    ensures unchanged { IsUnchanged L.kept L.page_state L.words look.old look.new }
 {
     let mut slots = ArrayVec::new();
     fill_slots(look, page, &mut slots);
@@ -191,8 +191,8 @@ fn insert_all(slots: &mut ArrayVec<Slot, 24>, at: usize, mut more: ArrayVec<Slot
     }
 }
 
-/// Puts slots in the place of the one at a number. If one replaces one, as mostly, no other is
-/// moved.
+/// Replaces the slot at a place by others. If it is replaced by a single one, as usual, no other
+/// slot is moved.
 fn replace_at(slots: &mut ArrayVec<Slot, 24>, at: usize, mut more: ArrayVec<Slot, 2>)
     requires in_range { at < length slots.old.items }
     requires room { length slots.old.items + length more.items ≤ 25 }
@@ -210,28 +210,28 @@ fn replace_at(slots: &mut ArrayVec<Slot, 24>, at: usize, mut more: ArrayVec<Slot
     }
 }
 
-/// Whether a page may have so many items: a root needs two branches, and each other page six.
+/// Whether a page may have this many items: a root needs two branches, any other page six items.
 fn fits(count: usize, is_root: bool) -> bool
     ensures most { result ≡ true → count ≤ 12 }
     ensures least { result ≡ true → 2 ≤ count }
-    ensures least_below { result ≡ true → (is_root ≡ true) ⊎ (6 ≤ count) }
+    ensures minimum_below { result ≡ true → (is_root ≡ true) ⊎ (6 ≤ count) }
 {
     if count > MOST_ITEMS || count < 2 {
         return false;
     }
-    is_root || count >= LEAST_ITEMS
+    is_root || count >= MINIMUM_ITEMS
 }
 
-/// What a node in hand has become once it was settled.
+/// What happened to an unwritten node when it was settled.
 #[derive(Drop)]
 pub(crate) enum Turn {
     /// The tree is whole, and has this root.
     Whole(u64),
-    /// The page above has too many items now, or too few, and these slots are to be written for it.
+    /// The page above now has too many items or too few. These slots are to be written for it.
     Above(u64, ArrayVec<Slot, 24>),
 }
 
-/// Settles a node in hand that isn't the root, and writes what is above where that can be.
+/// Settles an unwritten node that isn't the root, and writes what is above it if possible.
 fn settle_once<R: Room>(
     room: &mut R,
     root: u64,
@@ -240,20 +240,20 @@ fn settle_once<R: Room>(
     slots: &[Slot],
     pair: &Item,
 ) -> Result<Turn, Refusal>
-    requires in_hand { (start : R) × IsInHand R.kept R.standing R.words root above.now was pair.now
-        slots.now (level_of (R.words start was)) start room.old }
+    requires in_hand { (start : R) × IsInHand R.kept R.page_state R.words root above.now was
+        pair.now slots.now (level_of (R.words start was)) start room.old }
     requires below { 0 < length above.now }
     requires size { (5 ≤ length slots.now) × (length slots.now ≤ 13) }
     requires open { IsTrue (R.is_open (R.kept room.old)) }
     ensures ok { IfOk result (λ turn. (start : R)
-        → IsInHand R.kept R.standing R.words root above.now was pair.now slots.now
+        → IsInHand R.kept R.page_state R.words root above.now was pair.now slots.now
         (level_of (R.words start was)) start room.old
-        → IsTurned R.kept R.standing R.words root above.now pair.now (whole (R.words start)
+        → IsTurned R.kept R.page_state R.words root above.now pair.now (whole (R.words start)
         above.now (pairs_below (level_of (R.words start was)) (R.words room.old)
         (pairs_of (R.words room.old) pair.now slots.now))) turn start room.new) }
     ensures takes { IfOk result (λ turn. TakesAtMost (taken_for turn (length above.now))
-        (R.standing room.old) (R.standing room.new)) }
-    ensures refused { Refuses R.kept R.standing R.words R.full (length above.now + 2) result
+        (R.page_state room.old) (R.page_state room.new)) }
+    ensures refused { Refuses R.kept R.page_state R.words R.full (length above.now + 2) result
         room.old room.new }
 {
     let level = room.word(was, 0);
@@ -267,7 +267,7 @@ fn settle_once<R: Room>(
         let changed = Changed {
             was: step.page,
             page,
-            same_least: settled.cut.at > 0,
+            same_minimum: settled.cut.at > 0,
         };
         let whole = rise(room, root, &above[..last], changed)?;
         return Ok(Turn::Whole(whole));
@@ -276,8 +276,8 @@ fn settle_once<R: Room>(
     Ok(Turn::Above(step.page, slots))
 }
 
-/// Settles a node in hand and the pages above it that have too many items or too few then, and
-/// writes the others above. Gives the new root.
+/// Settles an unwritten node, and the pages above it that then have too many items or too few.
+/// Writes the other pages above, and returns the new root.
 #[inline(never)]
 pub(crate) fn settle<R: Room>(
     room: &mut R,
@@ -287,19 +287,19 @@ pub(crate) fn settle<R: Room>(
     in_hand: ArrayVec<Slot, 24>,
     pair: &Item,
 ) -> Result<u64, Refusal>
-    requires in_hand { (start : R) × IsInHand R.kept R.standing R.words root above.now was pair.now
-        in_hand.items (level_of (R.words start was)) start room.old }
+    requires in_hand { (start : R) × IsInHand R.kept R.page_state R.words root above.now was
+        pair.now in_hand.items (level_of (R.words start was)) start room.old }
     requires few { length in_hand.items ≤ 13 }
     requires some { 0 < length above.now → 5 ≤ length in_hand.items }
     requires open { IsTrue (R.is_open (R.kept room.old)) }
     ensures ok { IfOk result (λ new. (start : R)
-        → IsInHand R.kept R.standing R.words root above.now was pair.now in_hand.items
+        → IsInHand R.kept R.page_state R.words root above.now was pair.now in_hand.items
         (level_of (R.words start was)) start room.old
-        → BecomesTree R.kept R.standing R.words (pages (R.words start) root)
+        → BecomesTree R.kept R.page_state R.words (pages (R.words start) root)
         (whole (R.words start) above.now (pairs_below (level_of (R.words start was))
         (R.words room.old) (pairs_of (R.words room.old) pair.now in_hand.items))) new start
         room.new) }
-    ensures refused { Refuses R.kept R.standing R.words R.full
+    ensures refused { Refuses R.kept R.page_state R.words R.full
         (most_taken (length above.now)) result room.old room.new }
 {
     let mut slots = in_hand;

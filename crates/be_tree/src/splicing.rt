@@ -1,12 +1,12 @@
-//! Items are put in the place of a page's items.
+//! Replaces some of a page's items by others.
 //!
-//! A page that this write has taken is changed where it is: the items after the place are moved up
-//! or down, and the others stay. A page that was there when the write began keeps its words: its
-//! items are copied to a page that is taken for them, each to the place that it has then.
+//! A page that this write has taken is changed in place: the items after the cut are moved up or
+//! down, and the others stay. A page that was there when the write began keeps its words: its items
+//! are copied to a page that is taken for them, directly to their new places.
 ghost use Rattle.std.specs.Prelude.{◌≡◌, ℕ, ◌+◌, ◌^◌, ◌<◌, ◌≤◌, All, IsTrue, length};
 ghost use Rattle.std.specs.Prelude.{IfErr, IfOk, OnErr, slice_index_or};
-ghost use Rattle.be_pages.specs.declared.room.Standing.TheVariants.{Free, Taken, Filled};
-ghost use Rattle.be_pages.specs.Pages.{OnlyWrites, StandsAt, is_kept, is_readable};
+ghost use Rattle.be_pages.specs.declared.room.PageState.TheVariants.{Free, Taken, Filled};
+ghost use Rattle.be_pages.specs.Pages.{OnlyWrites, SetsStateAt, is_kept, is_readable};
 ghost use Rattle.be_pages.specs.Refusal.{IsFullOf};
 ghost use Rattle.be_tree.specs.declared.slot.Slot.{Slot as Slots};
 ghost use Rattle.be_tree_reading.specs.Page.{IsItem, IsPage, item_place};
@@ -22,16 +22,16 @@ use be_pages::Room;
 use be_tree_reading::{HEADER_WORDS, ITEM_WORDS};
 use be_value::Refusal;
 
-/// Copies items to lower places, or to another page, from the first one on.
+/// Copies items to lower places, or to another page, starting with the first.
 fn copy_down<R: Room>(room: &mut R, from: u64, first: usize, page: u64, at: usize, count: usize)
-    requires filled { R.standing room.old page ≡ Filled }
+    requires filled { R.page_state room.old page ≡ Filled }
     requires in_page { (at + count ≤ 12) × (first + count ≤ 12) }
-    requires readable { IsTrue (is_readable (R.standing room.old from)) }
+    requires readable { IsTrue (is_readable (R.page_state room.old from)) }
     requires down { from ≡ page → at ≤ first }
     requires items { (k : ℕ) → k < count → IsItem (R.words room.old from) (item_place (first + k)) }
     requires open { IsTrue (R.is_open (R.kept room.old)) }
     ensures copied { AreCopies (R.words room.old from) (R.words room.new page) first at count }
-    ensures only { WritesItems R.kept R.standing R.words page at (at + count) room.old room.new }
+    ensures only { WritesItems R.kept R.page_state R.words page at (at + count) room.old room.new }
 {
     for i in 0..count {
         let to = HEADER_WORDS + ITEM_WORDS * (at + i);
@@ -40,15 +40,15 @@ fn copy_down<R: Room>(room: &mut R, from: u64, first: usize, page: u64, at: usiz
     }
 }
 
-/// Copies items to higher places, from the last one on.
+/// Copies items to higher places, starting with the last.
 fn copy_up<R: Room>(room: &mut R, page: u64, first: usize, at: usize, count: usize)
-    requires filled { R.standing room.old page ≡ Filled }
+    requires filled { R.page_state room.old page ≡ Filled }
     requires in_page { at + count ≤ 12 }
     requires up { first < at }
     requires items { (k : ℕ) → k < count → IsItem (R.words room.old page) (item_place (first + k)) }
     requires open { IsTrue (R.is_open (R.kept room.old)) }
     ensures copied { AreCopies (R.words room.old page) (R.words room.new page) first at count }
-    ensures only { WritesItems R.kept R.standing R.words page at (at + count) room.old room.new }
+    ensures only { WritesItems R.kept R.page_state R.words page at (at + count) room.old room.new }
 {
     for i in 0..count {
         let j = count - 1 - i;
@@ -58,14 +58,14 @@ fn copy_up<R: Room>(room: &mut R, page: u64, first: usize, at: usize, count: usi
     }
 }
 
-/// Copies items of a page to other places of it, so that none is written over before it is copied.
+/// Moves items within a page, so that none is overwritten before it is copied.
 fn move_items<R: Room>(room: &mut R, page: u64, first: usize, at: usize, count: usize)
-    requires filled { R.standing room.old page ≡ Filled }
+    requires filled { R.page_state room.old page ≡ Filled }
     requires in_page { (at + count ≤ 12) × (first + count ≤ 12) }
     requires items { (k : ℕ) → k < count → IsItem (R.words room.old page) (item_place (first + k)) }
     requires open { IsTrue (R.is_open (R.kept room.old)) }
     ensures copied { AreCopies (R.words room.old page) (R.words room.new page) first at count }
-    ensures only { WritesItems R.kept R.standing R.words page at (at + count) room.old room.new }
+    ensures only { WritesItems R.kept R.page_state R.words page at (at + count) room.old room.new }
 {
     if first < at {
         copy_up(room, page, first, at, count);
@@ -74,23 +74,23 @@ fn move_items<R: Room>(room: &mut R, page: u64, first: usize, at: usize, count: 
     copy_down(room, page, first, page, at, count);
 }
 
-/// Which of a node's items are left out: `gone` of them from number `at` on.
+/// The items of a node that are left out: `gone` of them from number `at` on.
 #[derive(Clone, Copy)]
 pub(crate) struct Cut {
     pub(crate) at: usize,
     pub(crate) gone: usize,
 }
 
-/// Moves the items after a cut of a page that this write has taken, so that there is room for
-/// `more` in its place.
+/// Moves the items after a cut, on a page that this write has taken, to make room for `more` items
+/// in the cut's place.
 fn open_here<R: Room>(room: &mut R, page: u64, cut: Cut, more: usize)
-    requires filled { R.standing room.old page ≡ Filled }
+    requires filled { R.page_state room.old page ≡ Filled }
     requires page { IsPage (R.words room.old page) }
     requires in_range { cut.at + cut.gone ≤ R.words room.old page 1 }
     requires few { R.words room.old page 1 + more ≤ 12 + cut.gone }
     requires open { IsTrue (R.is_open (R.kept room.old)) }
     ensures gap { HasGap (R.words room.old page) (R.words room.new page) cut more }
-    ensures only { OnlyWrites R.kept R.standing R.words page 0 512 room.old room.new }
+    ensures only { OnlyWrites R.kept R.page_state R.words page 0 512 room.old room.new }
 {
     let count = room.word(page, 1) as usize;
     let next = cut.at + cut.gone;
@@ -99,14 +99,15 @@ fn open_here<R: Room>(room: &mut R, page: u64, cut: Cut, more: usize)
     move_items(room, page, next, cut.at + more, rest);
 }
 
-/// Takes a page for a copy of one of a level. From level 2 on a page is copied by so many writes
-/// that its earlier copy is near; below that a page that was freed last is nearer.
+/// Takes a page for the copy of a page on this level. From level 2 on, it asks for the page that
+/// this one was copied from, which has most of the words already. Lower pages have usually left the
+/// cache by then, so a page that was freed last is nearer.
 fn take_copy<R: Room>(room: &mut R, page: u64, level: u64) -> Result<u64, Refusal>
     requires open { IsTrue (R.is_open (R.kept room.old)) }
-    ensures page { IfOk result (λ copy. (copy < 2 ^ 32) × (R.standing room.old copy ≡ Free)) }
-    ensures ok { IfOk result (λ copy. StandsAt (R.standing room.old) (R.standing room.new) copy
-        Taken) }
-    ensures err { OnErr result (R.standing room.new ≡ R.standing room.old) }
+    ensures page { IfOk result (λ copy. (copy < 2 ^ 32) × (R.page_state room.old copy ≡ Free)) }
+    ensures ok { IfOk result (λ copy. SetsStateAt (R.page_state room.old) (R.page_state room.new)
+        copy Taken) }
+    ensures err { OnErr result (R.page_state room.new ≡ R.page_state room.old) }
     ensures full { IfErr result (IsFullOf (R.full room.new)) }
     ensures words { R.words room.new ≡ R.words room.old }
     ensures kept { R.kept room.new ≡ R.kept room.old }
@@ -117,18 +118,19 @@ fn take_copy<R: Room>(room: &mut R, page: u64, level: u64) -> Result<u64, Refusa
     room.take_like(page)
 }
 
-/// Copies a page to one that is taken for it, with room for `more` items in the place of a cut, and
-/// gives the copy.
+/// Copies a page to one that is taken for it, with room for `more` items in a cut's place, and
+/// returns the copy.
 fn open_copy<R: Room>(room: &mut R, page: u64, cut: Cut, more: usize) -> Result<u64, Refusal>
-    requires in_use { IsTrue (is_kept (R.standing room.old page)) }
+    requires in_use { IsTrue (is_kept (R.page_state room.old page)) }
     requires page { IsPage (R.words room.old page) }
     requires in_range { cut.at + cut.gone ≤ R.words room.old page 1 }
     requires few { R.words room.old page 1 + more ≤ 12 + cut.gone }
     requires open { IsTrue (R.is_open (R.kept room.old)) }
     ensures gap { IfOk result (λ copy. HasGap (R.words room.old page) (R.words room.new copy) cut
         more) }
-    ensures taken { IfOk result (λ copy. IsTaken R.kept R.standing R.words copy room.old room.new) }
-    ensures refused { Refuses R.kept R.standing R.words R.full 1 result room.old room.new }
+    ensures taken { IfOk result (λ copy. IsTaken R.kept R.page_state R.words copy room.old
+        room.new) }
+    ensures refused { Refuses R.kept R.page_state R.words R.full 1 result room.old room.new }
 {
     let level = room.word(page, 0);
     let copy = take_copy(room, page, level)?;
@@ -142,18 +144,18 @@ fn open_copy<R: Room>(room: &mut R, page: u64, cut: Cut, more: usize) -> Result<
     Ok(copy)
 }
 
-/// Writes slots one after the other, the first as a page's item of this number.
+/// Writes the items of slots one after another, from item number `at` of a page on.
 pub(crate) fn store_slots<R: Room>(room: &mut R, page: u64, at: usize, slots: &[Slot], pair: &Item)
-    requires filled { R.standing room.old page ≡ Filled }
+    requires filled { R.page_state room.old page ≡ Filled }
     requires in_page { at + length slots.now ≤ 12 }
-    requires ready { All (IsReady (R.standing room.old) (R.words room.old)) slots.now }
+    requires ready { All (IsReady (R.page_state room.old) (R.words room.old)) slots.now }
     requires off { All (IsOff page) slots.now }
     requires key_fits { length pair.now.key ≤ 264 }
     requires open { IsTrue (R.is_open (R.kept room.old)) }
     ensures items { (k : ℕ) (d : Slots) → k < length slots.now
         → IsStored (R.words room.new page) (at + k)
         (pair_of (R.words room.old) pair.now (slice_index_or slots.now k d)) }
-    ensures only { WritesItems R.kept R.standing R.words page at (at + length slots.now) room.old
+    ensures only { WritesItems R.kept R.page_state R.words page at (at + length slots.now) room.old
         room.new }
 {
     for i in 0..slots.len() {
@@ -167,8 +169,8 @@ pub(crate) fn store_slots<R: Room>(room: &mut R, page: u64, at: usize, slots: &[
     }
 }
 
-/// Puts slots in the place of a cut: on the page itself, if this write has taken it, otherwise on a
-/// copy, and the page is given up. Gives the page that has the items then.
+/// Replaces a cut by slots. This happens on the page itself if this write has taken it, otherwise
+/// on a copy, and the page is given up. Returns the page that now has the items.
 pub(crate) fn splice<R: Room>(
     room: &mut R,
     page: u64,
@@ -176,12 +178,12 @@ pub(crate) fn splice<R: Room>(
     slots: &[Slot],
     pair: &Item,
 ) -> Result<u64, Refusal>
-    requires cut { CanBeSpliced (R.standing room.old) (R.words room.old) page cut pair.now
+    requires cut { CanBeSpliced (R.page_state room.old) (R.words room.old) page cut pair.now
         slots.now }
     requires open { IsTrue (R.is_open (R.kept room.old)) }
-    ensures ok { IfOk result (λ to. IsSpliced R.kept R.standing R.words page cut pair.now slots.now
-        to room.old room.new) }
-    ensures refused { Refuses R.kept R.standing R.words R.full 1 result room.old room.new }
+    ensures ok { IfOk result (λ to. IsSpliced R.kept R.page_state R.words page cut pair.now
+        slots.now to room.old room.new) }
+    ensures refused { Refuses R.kept R.page_state R.words R.full 1 result room.old room.new }
 {
     if room.is_taken(page) {
         open_here(room, page, cut, slots.len());

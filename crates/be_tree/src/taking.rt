@@ -1,7 +1,7 @@
-//! The item that a path leads to is taken out.
+//! Takes out the item that a path leads to.
 ghost use Rattle.std.specs.Prelude.{◌≡◌, IsTrue, Ok, length};
 ghost use Rattle.be_tree.specs.Counting.{most_taken};
-ghost use Rattle.be_tree.specs.Path.{IsPathAt, TakesOut, least_at};
+ghost use Rattle.be_tree.specs.Path.{IsPathAt, TakesOut, minimum_at};
 ghost use Rattle.be_tree.specs.Writing.{Refuses};
 
 use crate::item::Item;
@@ -13,9 +13,9 @@ use crate::splicing::Cut;
 use crate::storing::fill_slots;
 use arrayvec::ArrayVec;
 use be_pages::Room;
-use be_tree_reading::LEAST_ITEMS;
+use be_tree_reading::MINIMUM_ITEMS;
 
-/// Takes out the item that a path leads to, which has this number, and gives the new root.
+/// Takes out the item that a path leads to, which has number `at`, and returns the new root.
 pub(crate) fn take_out<R: Room>(
     room: &mut R,
     root: u64,
@@ -23,30 +23,30 @@ pub(crate) fn take_out<R: Room>(
     path: &Path,
     at: usize,
 ) -> NewRoot
-    requires path { IsPathAt R.standing R.words room.old root key.now path.now (Ok at) }
+    requires path { IsPathAt R.page_state R.words room.old root key.now path.now (Ok at) }
     requires open { IsTrue (R.is_open (R.kept room.old)) }
-    ensures ok { TakesOut R.kept R.standing R.words root key.now result room.old room.new }
-    ensures refused { Refuses R.kept R.standing R.words R.full
+    ensures ok { TakesOut R.kept R.page_state R.words root key.now result room.old room.new }
+    ensures refused { Refuses R.kept R.page_state R.words R.full
         (most_taken (length path.now.above.items)) result room.old room.new }
 {
-    if count_of(room, path.leaf) <= least_of_leaf(&path.above) {
+    if count_of(room, path.leaf) <= minimum_of_leaf(&path.above) {
         return underflow(room, root, key, path, at);
     }
     let none = Item::new(&[], &[]);
     let edit = Edit {
         cut: Cut { at, gone: 1 },
-        same_least: at > 0,
+        same_minimum: at > 0,
     };
     change_leaf(room, root, path, edit, &[], &none)
 }
 
-/// Takes an item out of a leaf that has no more than it has to keep.
+/// Takes an item out of a leaf that has only as many as it needs.
 #[inline(never)]
 fn underflow<R: Room>(room: &mut R, root: u64, key: &[u8], path: &Path, at: usize) -> NewRoot
-    requires path { IsPathAt R.standing R.words room.old root key.now path.now (Ok at) }
+    requires path { IsPathAt R.page_state R.words room.old root key.now path.now (Ok at) }
     requires open { IsTrue (R.is_open (R.kept room.old)) }
-    ensures ok { TakesOut R.kept R.standing R.words root key.now result room.old room.new }
-    ensures refused { Refuses R.kept R.standing R.words R.full
+    ensures ok { TakesOut R.kept R.page_state R.words root key.now result room.old room.new }
+    ensures refused { Refuses R.kept R.page_state R.words R.full
         (most_taken (length path.now.above.items)) result room.old room.new }
 {
     let none = Item::new(&[], &[]);
@@ -56,9 +56,9 @@ fn underflow<R: Room>(room: &mut R, root: u64, key: &[u8], path: &Path, at: usiz
     settle(room, root, &path.above, path.leaf, slots, &none)
 }
 
-/// How many items a leaf below these pages keeps at least.
-fn least_of_leaf(above: &[Step]) -> usize
-    ensures { result ≡ least_at above.now 0 }
+/// The smallest number of items of a leaf below these pages.
+fn minimum_of_leaf(above: &[Step]) -> usize
+    ensures { result ≡ minimum_at above.now 0 }
 {
-    if above.len() == 0 { 1 } else { LEAST_ITEMS }
+    if above.len() == 0 { 1 } else { MINIMUM_ITEMS }
 }

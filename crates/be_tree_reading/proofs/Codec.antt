@@ -1,4 +1,4 @@
--- Bytes of words, and items of pages.
+-- The bytes in words, and the items on pages.
 use Rattle.std.proofs.Common.{◌≡◌, ℕ, zero, suc, ◌+◌, ◌*◌, ◌/◌, ◌%◌, ◌^◌, ◌<◌, ◌≤◌, ◌-◌, List, [], ◌∷◌, ◌++◌, length, map, take, drop, get_or, ap, sym, ◌∙◌, refl, arith, zero-add, add-zero}
 use Rattle.std.specs.Int.{to_be_bytes, w64}
 use Rattle.std.specs.List.{flat_map, range_with_len}
@@ -15,7 +15,7 @@ pub flat_map_more : {A B : Type 0} (w : B → List A) (f : ℕ → B) (i : ℕ) 
 flat_map_more w f i =
     ap (flat_map w) (map-range_with_len_more f 0 i i (omega arith)) ∙ flat_map-append w (map f (range_with_len 0 i)) (f i ∷ []) ∙ ap (λ x. flat_map w (map f (range_with_len 0 i)) ++ x) (append-nil (w (f i)))
 
--- functions that agree on a range make one list of it
+-- functions that agree on a range give the same list for it
 pub map_same : {A : Type 0} (f g : ℕ → A) (a n : ℕ) → ((k : ℕ) → a ≤ k → k < a + n → f k ≡ g k) → map f (range_with_len a n) ≡ map g (range_with_len a n)
 map_same f g a zero h = refl
 map_same f g a (suc n) h = ap2 (h a (omega arith) (omega arith)) (map_same f g (a + 1) n (λ k le lt. h k (omega arith) (omega arith)))
@@ -31,7 +31,7 @@ map_range_append f a (suc n) m =
     let b : (a + 1) + n ≡ a + suc n = omega arith in
     rw e (ap (λ xs. f a ∷ xs) (map_range_append f (a + 1) n m ∙ ap (λ b. map f (range_with_len (a + 1) n) ++ map f (range_with_len b m)) b))
 
--- the words whose bytes are those of a list, eight at a time
+-- the words whose bytes are a list's, eight at a time
 pub flat_map_stored : (words : ℕ → ℕ) (at : ℕ) (bs : List ℕ) (m : ℕ)
     → ((i : ℕ) → i < m → to_be_bytes w64 (words (at + i)) ≡ map (λ k. get_or bs k 0) (range_with_len (8 * i) 8))
     → flat_map (to_be_bytes w64) (map (λ i. words (at + i)) (range_with_len 0 m)) ≡ map (λ k. get_or bs k 0) (range_with_len 0 (8 * m))
@@ -59,7 +59,7 @@ bytes_at_stored words at bs h =
     ∙ take-map-range_with_len b 0 (8 * m) (length bs) (omega arith)
     ∙ sym (fill_by_all b bs (length bs) 0 refl (λ k lt. refl))
 
--- bytes that lie in words which agree
+-- bytes in words that agree
 pub bytes_at_same : (v w : ℕ → ℕ) (at n : ℕ) → n ≤ 328 → ((j : ℕ) → at ≤ j → j < at + 41 → w j ≡ v j) → bytes_at w at n ≡ bytes_at v at n
 bytes_at_same v w at n le same =
     ap (λ ws. take n (flat_map (to_be_bytes w64) ws)) (map_same (λ i. w (at + i)) (λ i. v (at + i)) 0 (words_for n) (λ k ge lt. same (at + k) (omega arith) (omega arith)))
@@ -72,7 +72,7 @@ item_at_same v w at fits same =
     let bytes = bytes_at_same v w (at + 1) (key_len v at + payload_len v at) fits.fits (λ j ge lt. same j (omega arith) (omega arith)) in
     rw header (rw bytes refl)
 
--- an item is read back from its header and its bytes
+-- an item, read back from its header and its bytes
 pub item_at_stored : (words : ℕ → ℕ) (at : ℕ) (item : Pair) → words at ≡ length item.key * 2 ^ 32 + length item.payload → length item.payload < 2 ^ 32
     → bytes_at words (at + 1) (length (item.key ++ item.payload)) ≡ item.key ++ item.payload → item_at words at ≡ item
 unfolding item_at
@@ -98,7 +98,7 @@ item_at_copied v w from at header same =
     (map_same (λ i. w (at + 1 + i)) (λ i. v (from + 1 + i)) 0 (words_for (key_len v from + payload_len v from)) (λ k ge lt. same k (omega (arith, lt)))) in
     rw header (rw bytes refl)
 
--- the first bytes of bytes
+-- the first of some bytes
 pub flat_map_length : (words : ℕ → ℕ) (n : ℕ) → length (flat_map (to_be_bytes w64) (map words (range_with_len 0 n))) ≡ 8 * n
 flat_map_length words zero = refl
 flat_map_length words (suc n) =
@@ -128,12 +128,12 @@ bytes_at_prefix words at k n le =
     take_take (suc k) (suc n) [] le = refl
     take_take (suc k) (suc n) (x ∷ xs) le = ap (λ ys. x ∷ ys) (take_take k n xs (omega (arith, le)))
 
--- the key of an item, read alone
+-- an item's key, read without the payload
 pub key_at : (words : ℕ → ℕ) (at : ℕ) → (item_at words at).key ≡ bytes_at words (at + 1) (key_len words at)
 unfolding item_at
 key_at words at = bytes_at_prefix words (at + 1) (key_len words at) (key_len words at + payload_len words at) (omega arith)
 
--- the same words, counted from elsewhere
+-- the same words, counted from another place
 pub maps_along : {A : Type 0} (g h : ℕ → A) (a b n : ℕ) → ((k : ℕ) → g (a + k) ≡ h (b + k)) → map g (range_with_len a n) ≡ map h (range_with_len b n)
 maps_along g h a b zero same = refl
 maps_along g h a b (suc n) same =
@@ -174,7 +174,7 @@ bytes_at_copied v w from at i same =
     ap (λ ws. take (8 * i) (flat_map (to_be_bytes w64) ws))
     (map_same (λ j. w (at + j)) (λ j. v (from + j)) 0 (words_for (8 * i)) (λ k ge lt. same k (omega (arith, lt))))
 
--- the payload of an item, read from the word where it begins
+-- an item's payload, read from the word where it begins
 pub payload_from : (words : ℕ → ℕ) (at : ℕ) → (item_at words at).payload ≡ drop (key_len words at % 8) (bytes_at words (at + 1 + key_len words at / 8) (key_len words at % 8 + payload_len words at))
 unfolding item_at
 payload_from words at =
@@ -189,7 +189,7 @@ payload_from words at =
     ∙ sym (drop-drop r (8 * i) (bytes_at words (at + 1) (8 * i + (r + p))))
     ∙ ap (drop r) (bytes_at_later words (at + 1) i (r + p))
 
--- how long a payload is
+-- the length of a payload
 pub item_payload_length : (words : ℕ → ℕ) (at : ℕ) → length (item_at words at).payload ≡ payload_len words at
 unfolding item_at
 item_payload_length words at =

@@ -1,14 +1,14 @@
--- Rooms whose pages in use change.
+-- Changes of the pages in use.
 use Rattle.std.proofs.Common.{◌≡◌, ℕ, zero, suc, ◌+◌, ◌<◌, ◌≤◌, List, [], ◌∷◌, ◌++◌, IsTrue, ap, sym, subst, ◌∙◌, refl, inl, inr, arith, cond, ◌==◌}
 use Rattle.std.proofs.lemmas.Bool.{cases_eq}
 use Rattle.std.proofs.lemmas.Bool.Decides.{nat_tests}
 use Rattle.std.proofs.lemmas.List.Sums.{sum_by-append, sum_by-cons}
 use mathlib.Core.Bool.{false≢true}
-use Rattle.be_pages.specs.declared.room.Standing.{Standing}
-use Rattle.be_pages.specs.declared.room.Standing.TheVariants.{Free, Old, GivenUp, Taken, Filled}
+use Rattle.be_pages.specs.declared.room.PageState.{PageState}
+use Rattle.be_pages.specs.declared.room.PageState.TheVariants.{Free, Old, GivenUp, Taken, Filled}
 use Rattle.be_pages.specs.Pages.{is_readable, is_taken, is_kept, is_from_before, after_undo, times, PageStep, untouched, unused, fresh, given_old, given_new, stays_old, stays_new, Swaps, KeepsStart, IsUnchanged}
 
--- how often a page is among a part's pages
+-- how often a page is among the pages of two parts
 pub times_append : (q : ℕ) (xs ys : List ℕ) → times q (xs ++ ys) ≡ times q xs + times q ys
 times_append q xs ys = sum_by-append (λ p. cond (p == q) 1 0) xs ys
 
@@ -36,14 +36,14 @@ one_page q p = elim (cases_eq q p) [
   | inr ne ↦ omega (arith, times_other q p ne)
 ]
 
--- what holds of a page holds of each of a list of it alone
+-- what holds for a page holds for each page in a list of only that page
 pub alone : (P : ℕ → Type 0) (page : ℕ) → P page → (q : ℕ) → 0 < times q (page ∷ []) → P q
 alone P page here q some = elim (cases_eq q page) [
   | inl e ↦ subst P (sym e) here
   | inr ne ↦ absurd (omega (arith, some, times_other q page ne))
 ]
 
--- one page more, and two, that are none of these
+-- one more page, and two more, that aren't among these
 pub one_beside : (page : ℕ) (ps : List ℕ) → times page ps ≡ 0 → ((q : ℕ) → times q ps ≤ 1) → (q : ℕ) → times q (page ∷ []) + times q ps ≤ 1
 one_beside page ps none once q = elim (cases_eq q page) [
   | inl e ↦ subst (λ p. times p (page ∷ []) + times p ps ≤ 1) (sym e) (omega (arith, times_itself page, none))
@@ -56,8 +56,8 @@ two_beside l r ps ne nl nr once q = elim (cases_eq q l) [
   | inr other ↦ omega (arith, times_append q (l ∷ []) (r ∷ []), times_other q l other, one_beside r ps nr once q)
 ]
 
--- one change of a page after another
-step_trans : {P Q S : Type 0} {b m a : ℕ} {s t u : Standing} → (P → Q → S) → PageStep P b m s t → PageStep Q m a t u → PageStep S b a s u
+-- two changes of a page in sequence
+step_trans : {P Q S : Type 0} {b m a : ℕ} {s t u : PageState} → (P → Q → S) → PageStep P b m s t → PageStep Q m a t u → PageStep S b a s u
 step_trans f (untouched p) (untouched q) = untouched (f p q)
 step_trans f (untouched p) unused = unused
 step_trans f (untouched p) fresh = fresh
@@ -75,15 +75,15 @@ step_trans f (stays_old p) (stays_old q) = stays_old (f p q)
 step_trans f stays_new given_new = given_new
 step_trans f stays_new stays_new = stays_new
 
--- a page in use that is untouched is in use before and after
-stays_used : {P : Type 0} (s : Standing) → IsTrue (is_kept s) → P → (n m : ℕ) → PageStep P (suc n) (suc m) s s
+-- a page in use that isn't touched is in use before and after
+stays_used : {P : Type 0} (s : PageState) → IsTrue (is_kept s) → P → (n m : ℕ) → PageStep P (suc n) (suc m) s s
 stays_used Free used p n m = absurd (false≢true used)
 stays_used Old used p n m = stays_old p
 stays_used GivenUp used p n m = absurd (false≢true used)
 stays_used Taken used p n m = absurd (false≢true used)
 stays_used Filled used p n m = stays_new
 
-step_stays : {P : Type 0} {b a : ℕ} {s t : Standing} → IsTrue (is_kept s) → b ≡ 0 → PageStep P b a s t → (n m : ℕ) → PageStep P (suc n) (suc m) s t
+step_stays : {P : Type 0} {b a : ℕ} {s t : PageState} → IsTrue (is_kept s) → b ≡ 0 → PageStep P b a s t → (n m : ℕ) → PageStep P (suc n) (suc m) s t
 step_stays used e (untouched {s} p) n m = stays_used s used p n m
 step_stays used e unused n m = absurd (false≢true used)
 step_stays used e fresh n m = absurd (false≢true used)
@@ -92,8 +92,8 @@ step_stays used e (given_new {b}) n m = absurd (omega (arith, e))
 step_stays used e (stays_old {b} p) n m = absurd (omega (arith, e))
 step_stays used e (stays_new {b}) n m = absurd (omega (arith, e))
 
--- the same change, seen beside other pages in use
-step_frame : {P : Type 0} {b a : ℕ} {s t : Standing} (x : ℕ) → x + b ≤ 1 → (0 < x → IsTrue (is_kept s)) → PageStep P b a s t → PageStep P (x + b) (x + a) s t
+-- the same change, together with other pages in use
+step_frame : {P : Type 0} {b a : ℕ} {s t : PageState} (x : ℕ) → x + b ≤ 1 → (0 < x → IsTrue (is_kept s)) → PageStep P b a s t → PageStep P (x + b) (x + a) s t
 step_frame {P = P} {b = b} {a = a} {s = s} {t = t} zero once used step =
     let e : b ≡ 0 + b = omega arith in
     let f : a ≡ 0 + a = omega arith in
@@ -104,7 +104,7 @@ step_frame {P = P} {b = b} {a = a} {s = s} {t = t} (suc x) once used step =
     subst (λ n. PageStep P n (suc x + a) s t) e (subst (λ n. PageStep P (suc (x + b)) n s t) f (step_stays (used (omega arith)) (omega (arith, once)) step (x + b) (x + a)))
 
 -- a page that others use keeps its words
-step_same : {P : Type 0} {b a : ℕ} {s t : Standing} → b ≡ 0 → IsTrue (is_readable s) → PageStep P b a s t → P
+step_same : {P : Type 0} {b a : ℕ} {s t : PageState} → b ≡ 0 → IsTrue (is_readable s) → PageStep P b a s t → P
 step_same none read (untouched p) = p
 step_same none read unused = absurd (false≢true read)
 step_same none read fresh = absurd (false≢true read)
@@ -113,18 +113,18 @@ step_same none read (given_new {b}) = absurd (omega (arith, none))
 step_same none read (stays_old p) = p
 step_same none read (stays_new {b} {a}) = absurd (omega (arith, none))
 
--- and stands where it stood
-step_stands : {P : Type 0} {b a : ℕ} {s t : Standing} → b ≡ 0 → IsTrue (is_readable s) → PageStep P b a s t → t ≡ s
-step_stands none read (untouched p) = refl
-step_stands none read unused = refl
-step_stands none read fresh = absurd (false≢true read)
-step_stands none read (given_old {b} p) = absurd (omega (arith, none))
-step_stands none read (given_new {b}) = absurd (omega (arith, none))
-step_stands none read (stays_old p) = refl
-step_stands none read stays_new = refl
+-- and its state
+step_state_stays : {P : Type 0} {b a : ℕ} {s t : PageState} → b ≡ 0 → IsTrue (is_readable s) → PageStep P b a s t → t ≡ s
+step_state_stays none read (untouched p) = refl
+step_state_stays none read unused = refl
+step_state_stays none read fresh = absurd (false≢true read)
+step_state_stays none read (given_old {b} p) = absurd (omega (arith, none))
+step_state_stays none read (given_new {b}) = absurd (omega (arith, none))
+step_state_stays none read (stays_old p) = refl
+step_state_stays none read stays_new = refl
 
--- a page in use afterwards is held
-step_after : {P : Type 0} {b a : ℕ} {s t : Standing} → 0 < a → PageStep P b a s t → IsTrue (is_kept t)
+-- a page in use afterwards is kept
+step_after : {P : Type 0} {b a : ℕ} {s t : PageState} → 0 < a → PageStep P b a s t → IsTrue (is_kept t)
 step_after some (untouched p) = absurd (omega (arith, some))
 step_after some unused = absurd (omega (arith, some))
 step_after some fresh = refl
@@ -133,8 +133,8 @@ step_after some given_new = absurd (omega (arith, some))
 step_after some (stays_old p) = refl
 step_after some stays_new = refl
 
--- a page that comes into use was free
-step_fresh : {P : Type 0} {b a : ℕ} {s t : Standing} → b ≡ 0 → 0 < a → PageStep P b a s t → s ≡ Free
+-- a page that newly comes into use was free
+step_fresh : {P : Type 0} {b a : ℕ} {s t : PageState} → b ≡ 0 → 0 < a → PageStep P b a s t → s ≡ Free
 step_fresh none some (untouched p) = absurd (omega (arith, some))
 step_fresh none some unused = refl
 step_fresh none some fresh = refl
@@ -143,7 +143,7 @@ step_fresh none some given_new = absurd (omega (arith, some))
 step_fresh none some (stays_old {b} p) = absurd (omega (arith, none))
 step_fresh none some (stays_new {b}) = absurd (omega (arith, none))
 
-step_undone : {P : Type 0} {b a : ℕ} {s t : Standing} → PageStep P b a s t → after_undo t ≡ after_undo s
+step_undone : {P : Type 0} {b a : ℕ} {s t : PageState} → PageStep P b a s t → after_undo t ≡ after_undo s
 step_undone (untouched p) = refl
 step_undone unused = refl
 step_undone fresh = refl
@@ -152,7 +152,7 @@ step_undone given_new = refl
 step_undone (stays_old p) = refl
 step_undone stays_new = refl
 
-step_older : {P : Type 0} {b a : ℕ} {s t : Standing} → IsTrue (is_from_before s) → PageStep P b a s t → P
+step_older : {P : Type 0} {b a : ℕ} {s t : PageState} → IsTrue (is_from_before s) → PageStep P b a s t → P
 step_older old (untouched p) = p
 step_older old unused = absurd (false≢true old)
 step_older old fresh = absurd (false≢true old)
@@ -161,58 +161,58 @@ step_older old given_new = absurd (false≢true old)
 step_older old (stays_old p) = p
 step_older old stays_new = absurd (false≢true old)
 
--- what stands the same once undone was there alike
-from_before : (s t : Standing) → after_undo t ≡ after_undo s → IsTrue (is_from_before s) → IsTrue (is_from_before t)
+-- if two states are the same after an undo, and one is that of a page from before the write, so is the other
+from_before : (s t : PageState) → after_undo t ≡ after_undo s → IsTrue (is_from_before s) → IsTrue (is_from_before t)
 from_before s t e old = same t ∙ ap is_from_before e ∙ sym (same s) ∙ old
   where
-    same : (s : Standing) → is_from_before s ≡ is_from_before (after_undo s)
+    same : (s : PageState) → is_from_before s ≡ is_from_before (after_undo s)
     same Free = refl
     same Old = refl
     same GivenUp = refl
     same Taken = refl
     same Filled = refl
 
-module _ {S K : Type 0} (kept_of : S → K) (standing_of : S → ℕ → Standing) (words_of : S → ℕ → ℕ → ℕ) where
-  pub swaps_trans : (b m a : List ℕ) (old mid new : S) → Swaps kept_of standing_of words_of b m old mid → Swaps kept_of standing_of words_of m a mid new → Swaps kept_of standing_of words_of b a old new
+module _ {S K : Type 0} (kept_of : S → K) (page_state_of : S → ℕ → PageState) (words_of : S → ℕ → ℕ → ℕ) where
+  pub swaps_trans : (b m a : List ℕ) (old mid new : S) → Swaps kept_of page_state_of words_of b m old mid → Swaps kept_of page_state_of words_of m a mid new → Swaps kept_of page_state_of words_of b a old new
   swaps_trans b m a old mid new first then = record {
     kept = then.kept ∙ first.kept;
     each = λ q. step_trans (λ x y. y ∙ x) (first.each q) (then.each q);
   }
 
-  pub swaps_frame : (b a b' a' : List ℕ) (x : ℕ → ℕ) (old new : S) → Swaps kept_of standing_of words_of b a old new
-      → ((q : ℕ) → times q b' ≡ x q + times q b) → ((q : ℕ) → times q a' ≡ x q + times q a) → ((q : ℕ) → times q b' ≤ 1) → ((q : ℕ) → 0 < x q → IsTrue (is_kept (standing_of old q)))
-      → Swaps kept_of standing_of words_of b' a' old new
+  pub swaps_frame : (b a b' a' : List ℕ) (x : ℕ → ℕ) (old new : S) → Swaps kept_of page_state_of words_of b a old new
+      → ((q : ℕ) → times q b' ≡ x q + times q b) → ((q : ℕ) → times q a' ≡ x q + times q a) → ((q : ℕ) → times q b' ≤ 1) → ((q : ℕ) → 0 < x q → IsTrue (is_kept (page_state_of old q)))
+      → Swaps kept_of page_state_of words_of b' a' old new
   swaps_frame b a b' a' x old new swaps eb ea once used = record {
     kept = swaps.kept;
-    each = λ q. subst (λ n. PageStep (words_of new q ≡ words_of old q) n (times q a') (standing_of old q) (standing_of new q)) (sym (eb q))
-        (subst (λ n. PageStep (words_of new q ≡ words_of old q) (x q + times q b) n (standing_of old q) (standing_of new q)) (sym (ea q))
+    each = λ q. subst (λ n. PageStep (words_of new q ≡ words_of old q) n (times q a') (page_state_of old q) (page_state_of new q)) (sym (eb q))
+        (subst (λ n. PageStep (words_of new q ≡ words_of old q) (x q + times q b) n (page_state_of old q) (page_state_of new q)) (sym (ea q))
         (step_frame (x q) (omega (arith, eb q, once q)) (used q) (swaps.each q)));
   }
 
-  pub swaps_same : (b a : List ℕ) (old new : S) → Swaps kept_of standing_of words_of b a old new → (q : ℕ) → times q b ≡ 0 → IsTrue (is_readable (standing_of old q)) → words_of new q ≡ words_of old q
+  pub swaps_same : (b a : List ℕ) (old new : S) → Swaps kept_of page_state_of words_of b a old new → (q : ℕ) → times q b ≡ 0 → IsTrue (is_readable (page_state_of old q)) → words_of new q ≡ words_of old q
   swaps_same b a old new swaps q none read = step_same none read (swaps.each q)
 
-  pub swaps_stands : (b a : List ℕ) (old new : S) → Swaps kept_of standing_of words_of b a old new → (q : ℕ) → times q b ≡ 0 → IsTrue (is_readable (standing_of old q)) → standing_of new q ≡ standing_of old q
-  swaps_stands b a old new swaps q none read = step_stands none read (swaps.each q)
+  pub swaps_stays : (b a : List ℕ) (old new : S) → Swaps kept_of page_state_of words_of b a old new → (q : ℕ) → times q b ≡ 0 → IsTrue (is_readable (page_state_of old q)) → page_state_of new q ≡ page_state_of old q
+  swaps_stays b a old new swaps q none read = step_state_stays none read (swaps.each q)
 
-  pub swaps_after : (b a : List ℕ) (old new : S) → Swaps kept_of standing_of words_of b a old new → (q : ℕ) → 0 < times q a → IsTrue (is_kept (standing_of new q))
+  pub swaps_after : (b a : List ℕ) (old new : S) → Swaps kept_of page_state_of words_of b a old new → (q : ℕ) → 0 < times q a → IsTrue (is_kept (page_state_of new q))
   swaps_after b a old new swaps q some = step_after some (swaps.each q)
 
-  pub swaps_fresh : (b a : List ℕ) (old new : S) → Swaps kept_of standing_of words_of b a old new → (q : ℕ) → times q b ≡ 0 → 0 < times q a → standing_of old q ≡ Free
+  pub swaps_fresh : (b a : List ℕ) (old new : S) → Swaps kept_of page_state_of words_of b a old new → (q : ℕ) → times q b ≡ 0 → 0 < times q a → page_state_of old q ≡ Free
   swaps_fresh b a old new swaps q none some = step_fresh none some (swaps.each q)
 
-  -- a change beside a page in use
-  pub swaps_with : (page : ℕ) (b a : List ℕ) (old new : S) → Swaps kept_of standing_of words_of b a old new → times page b ≡ 0 → ((q : ℕ) → times q b ≤ 1) → IsTrue (is_kept (standing_of old page))
-      → Swaps kept_of standing_of words_of (page ∷ b) (page ∷ a) old new
+  -- a change, together with a page in use
+  pub swaps_with : (page : ℕ) (b a : List ℕ) (old new : S) → Swaps kept_of page_state_of words_of b a old new → times page b ≡ 0 → ((q : ℕ) → times q b ≤ 1) → IsTrue (is_kept (page_state_of old page))
+      → Swaps kept_of page_state_of words_of (page ∷ b) (page ∷ a) old new
   swaps_with page b a old new swaps none once used =
       swaps_frame b a (page ∷ b) (page ∷ a) (λ q. times q (page ∷ [])) old new swaps
       (λ q. times_append q (page ∷ []) b) (λ q. times_append q (page ∷ []) a) (λ q. omega (arith, times_append q (page ∷ []) b, one_beside page b none once q))
-      (alone (λ q. IsTrue (is_kept (standing_of old q))) page used)
+      (alone (λ q. IsTrue (is_kept (page_state_of old q))) page used)
 
   -- some pages are replaced, and then others
-  pub swaps_both : (b1 a1 b2 a2 b a : List ℕ) (old mid new : S) → Swaps kept_of standing_of words_of b1 a1 old mid → Swaps kept_of standing_of words_of b2 a2 mid new
+  pub swaps_both : (b1 a1 b2 a2 b a : List ℕ) (old mid new : S) → Swaps kept_of page_state_of words_of b1 a1 old mid → Swaps kept_of page_state_of words_of b2 a2 mid new
       → ((q : ℕ) → times q b ≡ times q b1 + times q b2) → ((q : ℕ) → times q a ≡ times q a1 + times q a2) → ((q : ℕ) → times q b ≤ 1) → ((q : ℕ) → times q a1 ≤ 1)
-      → ((q : ℕ) → 0 < times q b2 → IsTrue (is_kept (standing_of old q))) → Swaps kept_of standing_of words_of b a old new
+      → ((q : ℕ) → 0 < times q b2 → IsTrue (is_kept (page_state_of old q))) → Swaps kept_of page_state_of words_of b a old new
   swaps_both b1 a1 b2 a2 b a old mid new first last eb ea once few used =
       swaps_trans b (a1 ++ b2) a old mid new
       (swaps_frame b1 a1 b (a1 ++ b2) (λ q. times q b2) old mid first (λ q. omega (arith, eb q)) (λ q. omega (arith, times_append q a1 b2)) once used)
@@ -228,96 +228,96 @@ module _ {S K : Type 0} (kept_of : S → K) (standing_of : S → ℕ → Standin
               let free = swaps_fresh b1 a1 old mid first q (omega (arith, eb q, once q, en)) (omega (arith, em)) in
               absurd (false≢true (ap is_kept (sym free) ∙ used q (omega (arith, en))))
 
-  pub swaps_start : (b a : List ℕ) (old new : S) → Swaps kept_of standing_of words_of b a old new → KeepsStart kept_of standing_of words_of old new
+  pub swaps_start : (b a : List ℕ) (old new : S) → Swaps kept_of page_state_of words_of b a old new → KeepsStart kept_of page_state_of words_of old new
   swaps_start b a old new swaps = record {
     kept = swaps.kept;
     undone = λ q. step_undone (swaps.each q);
     words = λ q old. step_older old (swaps.each q);
   }
 
-  pub start_trans : (old mid new : S) → KeepsStart kept_of standing_of words_of old mid → KeepsStart kept_of standing_of words_of mid new → KeepsStart kept_of standing_of words_of old new
+  pub start_trans : (old mid new : S) → KeepsStart kept_of page_state_of words_of old mid → KeepsStart kept_of page_state_of words_of mid new → KeepsStart kept_of page_state_of words_of old new
   start_trans old mid new first then = record {
     kept = then.kept ∙ first.kept;
     undone = λ q. then.undone q ∙ first.undone q;
-    words = λ q was. then.words q (from_before (standing_of old q) (standing_of mid q) (first.undone q) was) ∙ first.words q was;
+    words = λ q was. then.words q (from_before (page_state_of old q) (page_state_of mid q) (first.undone q) was) ∙ first.words q was;
   }
 
-pub readable_kept : (s : Standing) → IsTrue (is_kept s) → IsTrue (is_readable s)
+pub readable_kept : (s : PageState) → IsTrue (is_kept s) → IsTrue (is_readable s)
 readable_kept Free used = absurd (false≢true used)
 readable_kept Old used = refl
 readable_kept GivenUp used = refl
 readable_kept Taken used = refl
 readable_kept Filled used = refl
 
--- a page that was free is taken and filled
-pub written_swaps : {S K : Type 0} (kept_of : S → K) (standing_of : S → ℕ → Standing) (words_of : S → ℕ → ℕ → ℕ) (page : ℕ) (old new : S)
-    → kept_of new ≡ kept_of old → standing_of old page ≡ Free → standing_of new page ≡ Filled
-    → ((q : ℕ) → (q ≡ page → ⊥) → standing_of new q ≡ standing_of old q) → ((q : ℕ) → (q ≡ page → ⊥) → words_of new q ≡ words_of old q)
-    → Swaps kept_of standing_of words_of [] (page ∷ []) old new
-written_swaps kept_of standing_of words_of page old new kept free filled stands words = record {
+-- a free page is taken and filled
+pub written_swaps : {S K : Type 0} (kept_of : S → K) (page_state_of : S → ℕ → PageState) (words_of : S → ℕ → ℕ → ℕ) (page : ℕ) (old new : S)
+    → kept_of new ≡ kept_of old → page_state_of old page ≡ Free → page_state_of new page ≡ Filled
+    → ((q : ℕ) → (q ≡ page → ⊥) → page_state_of new q ≡ page_state_of old q) → ((q : ℕ) → (q ≡ page → ⊥) → words_of new q ≡ words_of old q)
+    → Swaps kept_of page_state_of words_of [] (page ∷ []) old new
+written_swaps kept_of page_state_of words_of page old new kept free filled states words = record {
   kept = kept;
   each = λ q. elim (cases_eq q page) [
     | inl e ↦
-        step q (words_of new q ≡ words_of old q) 1 0 (standing_of old q) (standing_of new q) (ap (λ p. times p (page ∷ [])) e ∙ times_itself page) (ap (standing_of old) e ∙ free) (ap (standing_of new) e ∙ filled)
+        step q (words_of new q ≡ words_of old q) 1 0 (page_state_of old q) (page_state_of new q) (ap (λ p. times p (page ∷ [])) e ∙ times_itself page) (ap (page_state_of old) e ∙ free) (ap (page_state_of new) e ∙ filled)
     | inr ne ↦
-        subst (λ n. PageStep (words_of new q ≡ words_of old q) zero n (standing_of old q) (standing_of new q)) (sym (times_other q page ne))
-        (subst (λ t. PageStep (words_of new q ≡ words_of old q) zero zero (standing_of old q) t) (sym (stands q ne)) (untouched (words q ne)))
+        subst (λ n. PageStep (words_of new q ≡ words_of old q) zero n (page_state_of old q) (page_state_of new q)) (sym (times_other q page ne))
+        (subst (λ t. PageStep (words_of new q ≡ words_of old q) zero zero (page_state_of old q) t) (sym (states q ne)) (untouched (words q ne)))
   ];
 }
   where
-    step : (q : ℕ) (P : Type 0) (n m : ℕ) (s t : Standing) → times q (page ∷ []) ≡ 1 → s ≡ Free → t ≡ Filled → PageStep P zero (times q (page ∷ [])) s t
+    step : (q : ℕ) (P : Type 0) (n m : ℕ) (s t : PageState) → times q (page ∷ []) ≡ 1 → s ≡ Free → t ≡ Filled → PageStep P zero (times q (page ∷ [])) s t
     step q P n m s t once free filled =
         subst (λ n. PageStep P zero n s t) (sym once) (subst (λ u. PageStep P zero 1 u t) (sym free) (subst (λ u. PageStep P zero 1 Free u) (sym filled) fresh))
 
-pub filled_is : (s : Standing) → IsTrue (is_kept s) → IsTrue (is_taken s) → s ≡ Filled
+pub filled_is : (s : PageState) → IsTrue (is_kept s) → IsTrue (is_taken s) → s ≡ Filled
 filled_is Free used taken = absurd (false≢true used)
 filled_is Old used taken = absurd (false≢true taken)
 filled_is GivenUp used taken = absurd (false≢true used)
 filled_is Taken used taken = absurd (false≢true used)
 filled_is Filled used taken = refl
 
--- a page in use that the write has taken is written over
-pub rewritten_swaps : {S K : Type 0} (kept_of : S → K) (standing_of : S → ℕ → Standing) (words_of : S → ℕ → ℕ → ℕ) (page : ℕ) (old new : S)
-    → kept_of new ≡ kept_of old → IsTrue (is_kept (standing_of old page)) → IsTrue (is_taken (standing_of old page)) → standing_of new page ≡ Filled
-    → ((q : ℕ) → (q ≡ page → ⊥) → standing_of new q ≡ standing_of old q) → ((q : ℕ) → (q ≡ page → ⊥) → words_of new q ≡ words_of old q)
-    → Swaps kept_of standing_of words_of (page ∷ []) (page ∷ []) old new
-rewritten_swaps kept_of standing_of words_of page old new kept used taken filled stands words = record {
+-- a page in use that the write has taken is overwritten
+pub rewritten_swaps : {S K : Type 0} (kept_of : S → K) (page_state_of : S → ℕ → PageState) (words_of : S → ℕ → ℕ → ℕ) (page : ℕ) (old new : S)
+    → kept_of new ≡ kept_of old → IsTrue (is_kept (page_state_of old page)) → IsTrue (is_taken (page_state_of old page)) → page_state_of new page ≡ Filled
+    → ((q : ℕ) → (q ≡ page → ⊥) → page_state_of new q ≡ page_state_of old q) → ((q : ℕ) → (q ≡ page → ⊥) → words_of new q ≡ words_of old q)
+    → Swaps kept_of page_state_of words_of (page ∷ []) (page ∷ []) old new
+rewritten_swaps kept_of page_state_of words_of page old new kept used taken filled states words = record {
   kept = kept;
   each = λ q. elim (cases_eq q page) [
     | inl e ↦
-        step q (words_of new q ≡ words_of old q) (standing_of old q) (standing_of new q) (ap (λ p. times p (page ∷ [])) e ∙ times_itself page)
-        (ap (standing_of old) e ∙ filled_is (standing_of old page) used taken) (ap (standing_of new) e ∙ filled)
+        step q (words_of new q ≡ words_of old q) (page_state_of old q) (page_state_of new q) (ap (λ p. times p (page ∷ [])) e ∙ times_itself page)
+        (ap (page_state_of old) e ∙ filled_is (page_state_of old page) used taken) (ap (page_state_of new) e ∙ filled)
     | inr ne ↦
-        subst (λ n. PageStep (words_of new q ≡ words_of old q) n n (standing_of old q) (standing_of new q)) (sym (times_other q page ne))
-        (subst (λ t. PageStep (words_of new q ≡ words_of old q) zero zero (standing_of old q) t) (sym (stands q ne)) (untouched (words q ne)))
+        subst (λ n. PageStep (words_of new q ≡ words_of old q) n n (page_state_of old q) (page_state_of new q)) (sym (times_other q page ne))
+        (subst (λ t. PageStep (words_of new q ≡ words_of old q) zero zero (page_state_of old q) t) (sym (states q ne)) (untouched (words q ne)))
   ];
 }
   where
-    step : (q : ℕ) (P : Type 0) (s t : Standing) → times q (page ∷ []) ≡ 1 → s ≡ Filled → t ≡ Filled → PageStep P (times q (page ∷ [])) (times q (page ∷ [])) s t
+    step : (q : ℕ) (P : Type 0) (s t : PageState) → times q (page ∷ []) ≡ 1 → s ≡ Filled → t ≡ Filled → PageStep P (times q (page ∷ [])) (times q (page ∷ [])) s t
     step q P s t once was filled =
         subst (λ n. PageStep P n n s t) (sym once) (subst (λ u. PageStep P 1 1 u t) (sym was) (subst (λ u. PageStep P 1 1 Filled u) (sym filled) stays_new))
 
--- a change of what was only read since
-pub swaps_since : {S K : Type 0} (kept_of : S → K) (standing_of : S → ℕ → Standing) (words_of : S → ℕ → ℕ → ℕ) (b a : List ℕ) (old read new : S) → IsUnchanged kept_of standing_of words_of old read
-    → Swaps kept_of standing_of words_of b a read new → Swaps kept_of standing_of words_of b a old new
-swaps_since kept_of standing_of words_of b a old read new same swaps = record {
+-- a change, after pages were only read
+pub swaps_since : {S K : Type 0} (kept_of : S → K) (page_state_of : S → ℕ → PageState) (words_of : S → ℕ → ℕ → ℕ) (b a : List ℕ) (old read new : S) → IsUnchanged kept_of page_state_of words_of old read
+    → Swaps kept_of page_state_of words_of b a read new → Swaps kept_of page_state_of words_of b a old new
+swaps_since kept_of page_state_of words_of b a old read new same swaps = record {
   kept = swaps.kept ∙ same.kept;
-  each = λ q. subst (λ s. PageStep (words_of new q ≡ words_of old q) (times q b) (times q a) (s q) (standing_of new q)) same.standing
-      (subst (λ w. PageStep (words_of new q ≡ w q) (times q b) (times q a) (standing_of read q) (standing_of new q)) same.words (swaps.each q));
+  each = λ q. subst (λ s. PageStep (words_of new q ≡ words_of old q) (times q b) (times q a) (s q) (page_state_of new q)) same.page_state
+      (subst (λ w. PageStep (words_of new q ≡ w q) (times q b) (times q a) (page_state_of read q) (page_state_of new q)) same.words (swaps.each q));
 }
 
-pub unchanged_start : {S K : Type 0} (kept_of : S → K) (standing_of : S → ℕ → Standing) (words_of : S → ℕ → ℕ → ℕ) (old read : S) → IsUnchanged kept_of standing_of words_of old read → KeepsStart kept_of standing_of words_of old read
-unchanged_start kept_of standing_of words_of old read same = record {
+pub unchanged_start : {S K : Type 0} (kept_of : S → K) (page_state_of : S → ℕ → PageState) (words_of : S → ℕ → ℕ → ℕ) (old read : S) → IsUnchanged kept_of page_state_of words_of old read → KeepsStart kept_of page_state_of words_of old read
+unchanged_start kept_of page_state_of words_of old read same = record {
   kept = same.kept;
-  undone = λ q. ap (λ s. after_undo (s q)) same.standing;
+  undone = λ q. ap (λ s. after_undo (s q)) same.page_state;
   words = λ q old. ap (λ w. w q) same.words;
 }
 
--- one reading after another
-pub unchanged_trans : {S K : Type 0} (kept_of : S → K) (standing_of : S → ℕ → Standing) (words_of : S → ℕ → ℕ → ℕ) (old mid new : S)
-    → IsUnchanged kept_of standing_of words_of old mid → IsUnchanged kept_of standing_of words_of mid new → IsUnchanged kept_of standing_of words_of old new
-unchanged_trans kept_of standing_of words_of old mid new first last = record {
+-- two reads in sequence
+pub unchanged_trans : {S K : Type 0} (kept_of : S → K) (page_state_of : S → ℕ → PageState) (words_of : S → ℕ → ℕ → ℕ) (old mid new : S)
+    → IsUnchanged kept_of page_state_of words_of old mid → IsUnchanged kept_of page_state_of words_of mid new → IsUnchanged kept_of page_state_of words_of old new
+unchanged_trans kept_of page_state_of words_of old mid new first last = record {
   kept = last.kept ∙ first.kept;
-  standing = last.standing ∙ first.standing;
+  page_state = last.page_state ∙ first.page_state;
   words = last.words ∙ first.words;
 }

@@ -1,4 +1,4 @@
--- Lists of pairs that rise by key.
+-- Lists of pairs with ascending keys.
 use Rattle.std.proofs.Common.{◌≡◌, ◌≢◌, ℕ, true, false, List, [], ◌∷◌, ◌++◌, Some, None, ap, sym, ◌∙◌, refl, if◌then◌else◌}
 use Rattle.std.specs.declared.cmp.Ordering.{Ordering}
 use Rattle.std.specs.declared.cmp.Ordering.TheVariants.{Less, Equal, Greater}
@@ -34,7 +34,7 @@ key_cmp_flip a b e = key_total.antisymm b a ∙ ap ordering_reverse e
 pub key_cmp_flip_less : (a b : List ℕ) → key_cmp a b ≡ Less → key_cmp b a ≡ Greater
 key_cmp_flip_less a b e = key_total.antisymm b a ∙ ap ordering_reverse e
 
--- x above a, and a not above k: k is not below.. so x < ..
+-- a below b, and b not above k: a is below k
 pub less_to_at_most : (a b k : List ℕ) → key_cmp a b ≡ Less → key_cmp b k ≢ Greater → key_cmp a k ≡ Less
 less_to_at_most a b k lt le =
     elim (key_cmp b k) as (λ r. key_cmp b k ≡ r → key_cmp a k ≡ Less) [
@@ -46,7 +46,7 @@ less_to_at_most a b k lt le =
 pub greater_than_above : (a b k : List ℕ) → key_cmp a b ≡ Greater → key_cmp b k ≡ Greater → key_cmp a k ≡ Greater
 greater_than_above a b k gt gk = key_cmp_flip_less k a (key_total.trans k b a (key_cmp_flip b k gk) (key_cmp_flip a b gt))
 
--- what is above b is above a k that b is above
+-- what is above b is above every k that b is above
 pub AllAbove_trans : (b k : List ℕ) (xs : List Pair) → key_cmp b k ≡ Greater → AllAbove b xs → AllAbove k xs
 AllAbove_trans b k [] gt above = tt
 AllAbove_trans b k (x ∷ xs) gt above = (greater_than_above x.key b k above.0 gt, AllAbove_trans b k xs gt above.1)
@@ -68,18 +68,18 @@ pub IsRising_right : (xs ys : List Pair) → IsRising (xs ++ ys) → IsRising ys
 IsRising_right [] ys h = h
 IsRising_right (x ∷ xs) ys h = IsRising_right xs ys h.1
 
--- what stands before a pair that is not above k is below k
+-- what comes before a pair that isn't above k is below k
 pub AllBelow_before : (k : List ℕ) (xs : List Pair) (y : Pair) (ys : List Pair) → IsRising (xs ++ y ∷ ys) → key_cmp y.key k ≢ Greater → AllBelow k xs
 AllBelow_before k [] y ys rising le = tt
 AllBelow_before k (x ∷ xs) y ys rising le =
     let at_y = AllAbove_right x.key xs (y ∷ ys) rising.0 in
     (less_to_at_most x.key y.key k (key_cmp_flip y.key x.key at_y.0) le, AllBelow_before k xs y ys rising.1 le)
 
--- from a pair that is above k, all are
+-- if a pair is above k, so are all after it
 pub AllAbove_from : (k : List ℕ) (y : Pair) (ys : List Pair) → IsRising (y ∷ ys) → key_cmp y.key k ≡ Greater → AllAbove k (y ∷ ys)
 AllAbove_from k y ys rising gt = (gt, AllAbove_trans y.key k ys gt rising.0)
 
--- a look-up in three parts, of which the first is below the key and the last above it
+-- a look-up in three parts, the first below the key and the last above it
 pub payload_at_above : (k : List ℕ) (xs : List Pair) → AllAbove k xs → payload_at xs k ≡ None
 payload_at_above k [] h = refl
 payload_at_above k (x ∷ xs) h = rw h.0 (payload_at_above k xs h.1)

@@ -1,4 +1,4 @@
--- The pairs of a rising list from a key on.
+-- The pairs of an ascending list from a key on.
 use Rattle.std.proofs.Common.{◌≡◌, ℕ, suc, ◌+◌, ◌-◌, ◌<◌, List, [], ◌∷◌, ◌++◌, length, get_or, take, drop, ap, sym, subst, ◌∙◌, refl, arith, Bool, true, false, not, cond, Some, drop-cons}
 use Rattle.std.specs.List.{flat_map, slice_get}
 use Rattle.std.specs.declared.cmp.Ordering.TheVariants.{Less, Equal, Greater}
@@ -24,7 +24,7 @@ pub from_equal : (k : List ℕ) (after : Bool) (key : List ℕ) → key_cmp key 
 from_equal k false key e = ap is_ge e
 from_equal k true key e = ap is_gt e
 
--- what is above k is from k on, and what is below it is not
+-- what is above k is from k on, and what is below k isn't
 pub from_above : (k : List ℕ) (after : Bool) (xs : List Pair) → AllAbove k xs → pairs_from xs k after ≡ xs
 from_above k after [] h = refl
 from_above k after (x ∷ xs) h =
@@ -38,7 +38,7 @@ from_below k after (x ∷ xs) h =
 pub from_append : (k : List ℕ) (after : Bool) (xs ys : List Pair) → pairs_from (xs ++ ys) k after ≡ pairs_from xs k after ++ pairs_from ys k after
 from_append k after xs ys = filter-append (λ (x : Pair). is_from k after x.key) xs ys
 
--- what the items of a node give from a key on: that of the branch on its way, and all that later branches give
+-- what a node's items give from a key on: that of the branch on the key's way, and all that later branches give
 pub from_split : (f : Pair → List Pair) (k : List ℕ) (items : List Pair) (at : ℕ) → IsSplit f k items at → (after : Bool) (d : Pair)
     → pairs_from (flat_map f items) k after ≡ pairs_from (f (get_or items at d)) k after ++ flat_map f (drop (suc at) items)
 from_split f k items at split after d =
@@ -64,7 +64,7 @@ one_taken k after x e = ap (λ b. cond b (x ∷ []) []) e
 one_skipped : (k : List ℕ) (after : Bool) (x : Pair) → is_from k after x.key ≡ false → pairs_from (x ∷ []) k after ≡ []
 one_skipped k after x e = ap (λ b. cond b (x ∷ []) []) e
 
--- a leaf's items from a key on, by where the last item stands that is not above it
+-- a leaf's items from a key on, by the place of the last item that isn't above the key
 module _ (items : List Pair) (rising : IsRising items) (k : List ℕ) (r at : ℕ) (item : Pair) (rank : IsRank k items r) (some : 0 < length items) (place : at ≡ r - 1) (is : get_or items at item ≡ item)
     (after : Bool) where
   in_items : r - 1 < length items
@@ -99,7 +99,7 @@ first_pair k after (x ∷ xs) = by (is_from k after x.key) (first_pair k after x
     by true rest = refl
     by false rest = rest
 
--- what is above a pair that is from k on is above k
+-- what is above a pair from k on is above k
 above_k : (k : List ℕ) (after : Bool) (y : Pair) (ys : List Pair) → is_from k after y.key ≡ true → AllAbove y.key ys → AllAbove k ys
 above_k k after y ys from above =
     elim (key_cmp y.key k) as (λ r. key_cmp y.key k ≡ r → AllAbove k ys) [
@@ -116,7 +116,7 @@ above_filter q k after (x ∷ xs) h = by (is_from k after x.key) (above_filter q
     by true rest = (h.0, rest)
     by false rest = rest
 
--- after the first pair from a key on come those strictly after that pair
+-- the first pair from a key on is followed by those strictly after it
 pub next_from : (all : List Pair) (k : List ℕ) (after : Bool) (x : Pair) (xs : List Pair) → IsRising all → pairs_from all k after ≡ x ∷ xs → pairs_from all x.key true ≡ xs
 next_from [] k after x xs rising e = absurd (omega (arith, ap length e))
 next_from (y ∷ ys) k after x xs rising e =

@@ -1,4 +1,4 @@
--- What a cursor reads, and the numbers that keys end with.
+-- What a cursor reads, and the numbers at the ends of keys.
 pub mod Cursors
 pub mod Backward
 pub mod LastBytes

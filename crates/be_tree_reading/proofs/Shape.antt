@@ -1,4 +1,4 @@
--- The shape of a tree: what stands below a node, and how high it is.
+-- The shape of a tree: what is below a node, and how high it is.
 pub mod Below
 pub mod Levels
 pub mod Heights

@@ -1,4 +1,4 @@
--- The branch of a node on the way to a key.
+-- A node's branch on the way to a key.
 use Rattle.std.proofs.Common.{◌≡◌, ◌≢◌, ℕ, zero, suc, ◌+◌, ◌-◌, ◌<◌, ◌≤◌, List, [], ◌∷◌, ◌++◌, length, get_or, take, drop, All, Some, None, ap, sym, subst, ◌∙◌, refl, inl, inr, if◌then◌else◌, arith, zero-add, drop-cons}
 use Rattle.std.specs.List.{flat_map, range_with_len}
 use Rattle.std.specs.declared.cmp.Ordering.TheVariants.{Greater}
@@ -6,7 +6,7 @@ use Rattle.std.specs.Ordering.{is_eq}
 use Rattle.std.proofs.lemmas.Bool.{cases_lt}
 use Rattle.std.proofs.lemmas.List.{take-append-drop, map-id, length-take}
 use Rattle.std.proofs.lemmas.List.Concat.{flat_map-append, flat_map_single}
-use Rattle.be_pages.specs.declared.room.Standing.{Standing}
+use Rattle.be_pages.specs.declared.room.PageState.{PageState}
 use Rattle.be_pages.specs.Pages.{times}
 use Rattle.be_tree_reading.specs.Pair.{Pair}
 use Rattle.be_tree_reading.specs.Key.{key_cmp, AllBelow, AllAbove, IsRising, payload_at, put, StartsAt, IsRank}
@@ -27,7 +27,7 @@ pub flat_map_in_three : {A : Type 0} (f : Pair → List A) (items : List Pair) (
 flat_map_in_three f items at d lt =
     ap (flat_map f) (in_three items at d lt) ∙ flat_map-append f (take at items) (get_or items at d ∷ drop (suc at) items)
 
--- the keys that the items before `at` give are below k, and those after it above
+-- the keys that items before `at` give are below k, and those that items after it give are above k
 pub record IsSplit (f : Pair → List Pair) (k : List ℕ) (items : List Pair) (at : ℕ) : Type 0 where
   pub in_range : at < length items
   pub below : AllBelow k (flat_map f (take at items))
@@ -42,7 +42,7 @@ starts_above k key [] zs starts rising gt = absurd starts
 starts_above k key (y ∷ ys) zs starts rising gt = AllAbove_from k y (ys ++ zs) rising (ap (λ q. key_cmp q k) starts ∙ gt)
 
 module _ (f : Pair → List Pair) (k : List ℕ) (items : List Pair) (rising : IsRising (flat_map f items)) (starts : All (λ b. StartsAt b.key (f b)) items) where
-  -- from an item above k on, all that the items give is above k
+  -- if an item is above k, so is everything that it and later items give
   above_from : (i : ℕ) → ((d : Pair) → i < length items → key_cmp (get_or items i d).key k ≡ Greater) → AllAbove k (flat_map f (drop i items))
   above_from i gt = elim (cases_lt i (length items)) [
     | inl lt ↦
@@ -60,13 +60,13 @@ module _ (f : Pair → List Pair) (k : List ℕ) (items : List Pair) (rising : I
       nothing_past (x ∷ xs) zero le = absurd (omega (arith, le))
       nothing_past (x ∷ xs) (suc i) le = nothing_past xs i (omega (arith, le))
 
-  -- before an item that is not above k, all is below k
+  -- everything that comes before an item that isn't above k is below k
   below_before : (i : ℕ) (d : Pair) → i < length items → key_cmp (get_or items i d).key k ≢ Greater → AllBelow k (flat_map f (take i items))
   below_before i d lt le =
       starts_below k (get_or items i d).key (flat_map f (take i items)) (f (get_or items i d)) (flat_map f (drop (suc i) items)) (starts i d lt)
       (subst IsRising (flat_map_in_three f items i d lt) rising) le
 
-  -- the branch to go down is the last whose key is not above k, or the first
+  -- the branch to descend is the last one whose key isn't above k, or the first one
   pub rank_split : (r : ℕ) → IsRank k items r → 0 < length items → IsSplit f k items (r - 1)
   rank_split zero rank some =
       let all = above_from 0 rank.above in
@@ -94,7 +94,7 @@ module _ (f : Pair → List Pair) (k : List ℕ) (items : List Pair) (at : ℕ) 
       ∙ payload_at_right k (flat_map f (take at items)) (f (get_or items at d) ++ flat_map f (drop (suc at) items)) split.below
       ∙ payload_at_left k (f (get_or items at d)) (flat_map f (drop (suc at) items)) split.above
 
-  -- so does a put
+  -- a put does, too
   pub put_split : (pair d : Pair) → pair.key ≡ k → put pair (flat_map f items) ≡ flat_map f (take at items) ++ (put pair (f (get_or items at d)) ++ flat_map f (drop (suc at) items))
   put_split pair d e =
       ap (put pair) (flat_map_in_three f items at d split.in_range)
@@ -110,7 +110,7 @@ times_part f q items at d lt =
       times_append q (f (get_or items at d)) (flat_map f (drop (suc at) items)),
     )
 
--- the keys of a page fit
+-- a page's keys fit
 pub key_fits : (words : ℕ → ℕ) (at : ℕ) → IsItem words at → length (item_at words at).key ≤ 264
 unfolding item_at
 key_fits words at item = omega (arith, length-take (key_len words at) (bytes_at words (at + 1) (key_len words at + payload_len words at)), item.key_fits)
@@ -120,9 +120,9 @@ page_keys words page = All-map (λ item. length item.key ≤ 264) (λ (j : ℕ).
     let at : get_or (range_with_len 0 (words 1)) j d ≡ j = get_or-range_with_len 0 (words 1) j d (omega (arith, lt, length-range_with_len 0 (words 1))) ∙ zero-add j in
     subst (λ n. length (item_at words (item_place n)).key ≤ 264) (sym at) (key_fits words (item_place j) (page.each j (omega (arith, lt, length-range_with_len 0 (words 1))))))
 
-module _ (level : ℕ) (standing : ℕ → Standing) (words : ℕ → ℕ → ℕ) (items : List Pair) (below : IsBelow (suc level) standing words items) where
+module _ (level : ℕ) (page_state : ℕ → PageState) (words : ℕ → ℕ → ℕ) (items : List Pair) (below : IsBelow (suc level) page_state words items) where
   -- a branch's child is a tree of the level below
-  pub branch_tree : (at : ℕ) (d : Pair) → at < length items → IsTreeAt level 6 standing words (child (get_or items at d))
+  pub branch_tree : (at : ℕ) (d : Pair) → at < length items → IsTreeAt level 6 page_state words (child (get_or items at d))
   branch_tree at d lt =
       let f = λ (b : Pair). pairs_at level words (child b) in
       let g = λ (b : Pair). pages_at level words (child b) in
@@ -143,7 +143,7 @@ module _ (level : ℕ) (standing : ℕ → Standing) (words : ℕ → ℕ → �
         page_in_use = below.in_use (child b) (omega (arith, times_part g (child b) items at d lt, some));
       }
 
-  -- the branches name the least keys of their children
+  -- the branches have the lowest keys of their children
   pub branches_start : All (λ b. StartsAt b.key (pairs_at level words (child b))) items
   branches_start at d lt = (below.shaped at d lt).1.starts
 
@@ -160,34 +160,34 @@ leaf_split items rising k r rank some =
     rank_split (λ x. x ∷ []) k items (subst IsRising (sym (as_branches items)) rising) (λ j d lt. refl) r rank some
 
 -- a step down from an inner node, at the branch that was read
-pub record StepsDown (level below : ℕ) (standing : ℕ → Standing) (words : ℕ → ℕ → ℕ) (page : ℕ) (k : List ℕ) (branch : Pair) : Type 0 where
+pub record StepsDown (level below : ℕ) (page_state : ℕ → PageState) (words : ℕ → ℕ → ℕ) (page : ℕ) (k : List ℕ) (branch : Pair) : Type 0 where
   pub names_page : length branch.payload ≡ 8
-  pub tree : IsTreeAt below 6 standing words (child branch)
+  pub tree : IsTreeAt below 6 page_state words (child branch)
   pub same : payload_at (pairs_at level words page) k ≡ payload_at (pairs_at below words (child branch)) k
 
-pub steps_down : (level below least : ℕ) (standing : ℕ → Standing) (words : ℕ → ℕ → ℕ) (page : ℕ) (k : List ℕ) (items : List Pair) (r at : ℕ) (branch : Pair)
-    → level ≡ suc below → IsTreeAt level least standing words page → 0 < least → items ≡ items_of (words page) → IsRank k items r → at ≡ r - 1 → branch ≡ get_or items at branch
-    → StepsDown level below standing words page k branch
-steps_down level below least standing words page k items r at branch e tree0 least_some read rank place is =
-    let tree = subst (λ n. IsTreeAt n least standing words page) e tree0 in
-    let split = inner_split below standing words (items_of (words page)) tree.below k r (subst (λ xs. IsRank k xs r) read rank) (omega (arith, tree.node.enough)) in
+pub steps_down : (level below least : ℕ) (page_state : ℕ → PageState) (words : ℕ → ℕ → ℕ) (page : ℕ) (k : List ℕ) (items : List Pair) (r at : ℕ) (branch : Pair)
+    → level ≡ suc below → IsTreeAt level least page_state words page → 0 < least → items ≡ items_of (words page) → IsRank k items r → at ≡ r - 1 → branch ≡ get_or items at branch
+    → StepsDown level below page_state words page k branch
+steps_down level below least page_state words page k items r at branch e tree0 minimum_some read rank place is =
+    let tree = subst (λ n. IsTreeAt n least page_state words page) e tree0 in
+    let split = inner_split below page_state words (items_of (words page)) tree.below k r (subst (λ xs. IsRank k xs r) read rank) (omega (arith, tree.node.enough)) in
     let b : get_or (items_of (words page)) (r - 1) branch ≡ branch = sym (is ∙ ap (λ xs. get_or xs at branch) read ∙ ap (λ i. get_or (items_of (words page)) i branch) place) in
     record {
       names_page = subst (λ x. length x.payload ≡ 8) b (tree.below.shaped (r - 1) branch split.in_range).1.names_page;
-      tree = subst (λ x. IsTreeAt below 6 standing words (child x)) b (branch_tree below standing words (items_of (words page)) tree.below (r - 1) branch split.in_range);
+      tree = subst (λ x. IsTreeAt below 6 page_state words (child x)) b (branch_tree below page_state words (items_of (words page)) tree.below (r - 1) branch split.in_range);
       same = ap (λ n. payload_at (pairs_at n words page) k) e
           ∙ payload_split (λ x. pairs_at below words (child x)) k (items_of (words page)) (r - 1) split branch
           ∙ ap (λ x. payload_at (pairs_at below words (child x)) k) b;
     }
 
 -- a look-up in a leaf, at the item that was read
-pub found_in_leaf : (level least : ℕ) (standing : ℕ → Standing) (words : ℕ → ℕ → ℕ) (page : ℕ) (k : List ℕ) (items : List Pair) (r at : ℕ) (item : Pair)
-    → level ≡ 0 → IsTreeAt level least standing words page → 0 < least → items ≡ items_of (words page) → IsRank k items r → at ≡ r - 1 → item ≡ get_or items at item
+pub found_in_leaf : (level least : ℕ) (page_state : ℕ → PageState) (words : ℕ → ℕ → ℕ) (page : ℕ) (k : List ℕ) (items : List Pair) (r at : ℕ) (item : Pair)
+    → level ≡ 0 → IsTreeAt level least page_state words page → 0 < least → items ≡ items_of (words page) → IsRank k items r → at ≡ r - 1 → item ≡ get_or items at item
     → payload_at (pairs_at level words page) k ≡ (if is_eq (key_cmp item.key k) then Some item.payload else None)
-found_in_leaf zero least standing words page k items r at item leaf tree least_some read rank place is =
+found_in_leaf zero least page_state words page k items r at item leaf tree minimum_some read rank place is =
     let split = leaf_split (items_of (words page)) tree.below.rising k r (subst (λ xs. IsRank k xs r) read rank) (omega (arith, tree.node.enough)) in
     let b : get_or (items_of (words page)) (r - 1) item ≡ item = sym (is ∙ ap (λ xs. get_or xs at item) read ∙ ap (λ i. get_or (items_of (words page)) i item) place) in
     ap (λ xs. payload_at xs k) (sym (as_branches (items_of (words page))))
     ∙ payload_split (λ x. x ∷ []) k (items_of (words page)) (r - 1) split item
     ∙ ap (λ x. payload_at (x ∷ []) k) b
-found_in_leaf (suc level) least standing words page k items r at item leaf tree least_some read rank place is = absurd (omega (arith, leaf))
+found_in_leaf (suc level) least page_state words page k items r at item leaf tree minimum_some read rank place is = absurd (omega (arith, leaf))

@@ -1,4 +1,4 @@
--- What a walk passes of the pairs that it has ahead.
+-- Which pairs a walk passes, of those that it has ahead.
 use Rattle.std.proofs.Common.{◌≡◌, ℕ, zero, suc, ◌+◌, ◌-◌, ◌<◌, ◌≤◌, ◌⊎◌, List, [], ◌∷◌, ◌++◌, length, get_or, take, drop, reverse, ap, sym, subst, ◌∙◌, refl, inl, inr, arith, Bool, true, false, not, cond, Some, None, append_assoc}
 use mathlib.Core.List.{reverse-cons}
 use Rattle.std.specs.List.{filter, AllByRecursion}
@@ -10,7 +10,7 @@ use Rattle.std.proofs.Math.Seq.{take-append-add}
 use Rattle.std.proofs.lemmas.Bool.{cases_lt, false≢true}
 use Rattle.std.proofs.lemmas.List.{append-nil, drop-append-le, drop_all, drop_more, get_or-drop, get_or-reverse, get_or-take, get_or_append_left, length-append, length-drop, length-reverse, length-take-le, map-append, nil_from_length, take-append-le, take_all, take_more}
 use Rattle.std.proofs.lemmas.List.Elements.{All-filter, All-from_recursion, filter-append, recursion_from_All}
-use Rattle.be_pages.specs.declared.room.Standing.{Standing}
+use Rattle.be_pages.specs.declared.room.PageState.{PageState}
 use Rattle.be_tree_reading.specs.Pair.{Pair}
 use Rattle.be_tree_reading.specs.Key.{AllAbove, IsRising, key_cmp}
 use Rattle.be_tree_reading.specs.Page.{IsReadableAt, item_at, item_place, items_of}
@@ -33,7 +33,7 @@ kept test xs = filter (λ x. test x.key) xs
 pub reverse_nil : (xs : List Pair) → xs ≡ [] → reverse xs ≡ []
 reverse_nil xs e = nil_from_length (reverse xs) (length-reverse xs ∙ ap length e)
 
--- what is kept of a list from its end on
+-- filtering a reversed list
 filter_reverse : (test : List ℕ → Bool) (xs : List Pair) → kept test (reverse xs) ≡ reverse (kept test xs)
 filter_reverse test [] = ap (kept test) (reverse_nil [] refl) ∙ sym (reverse_nil [] refl)
 filter_reverse test (x ∷ xs) =
@@ -46,7 +46,7 @@ filter_reverse test (x ∷ xs) =
     by true = sym (reverse-cons x (kept test xs))
     by false = append-nil (reverse (kept test xs))
 
--- what holds of each element of a list holds of each from its end on
+-- what holds for each element of a list, and for one more, holds for all
 all_snoc : (P : Pair → Type 0) (ys : List Pair) (x : Pair) → AllByRecursion P ys → P x → AllByRecursion P (ys ++ x ∷ [])
 all_snoc P [] x h p = (p, tt)
 all_snoc P (y ∷ ys) x h p = (h.0, all_snoc P ys x h.1 p)
@@ -55,7 +55,7 @@ all_reverse : (P : Pair → Type 0) (xs : List Pair) → AllByRecursion P xs →
 all_reverse P [] h = subst (AllByRecursion P) (sym (reverse_nil [] refl)) tt
 all_reverse P (x ∷ xs) h = subst (AllByRecursion P) (sym (reverse-cons x xs)) (all_snoc P (reverse xs) x (all_reverse P xs h.1) h.0)
 
--- a filtered list rises as well
+-- a filtered list ascends too
 above_kept : (k : List ℕ) (p : Pair → Bool) (xs : List Pair) → AllAbove k xs → AllAbove k (filter p xs)
 above_kept k p [] h = tt
 above_kept k p (x ∷ xs) h = by (p x) (above_kept k p xs h.1)
@@ -72,7 +72,7 @@ rising_kept p (x ∷ xs) h = by (p x) (rising_kept p xs h.1)
     by true rest = (above_kept x.key p xs h.0, rest)
     by false rest = rest
 
--- once a key is above the bound, all later ones of a rising list are
+-- once a key of an ascending list is above the bound, all later ones are
 not_le : (o : Ordering) → is_le o ≡ false → o ≡ Greater
 not_le Less e = absurd (false≢true (sym e))
 not_le Equal e = absurd (false≢true (sym e))
@@ -104,7 +104,7 @@ falls_stay low (x ∷ xs) rising =
     subst (StaysFalse (is_from low false)) (sym (reverse-cons x xs))
     (stays_snoc (is_from low false) (reverse xs) x (falls_stay low xs rising.1) (all_reverse (λ y. is_from low false y.key ≡ false → is_from low false x.key ≡ false) xs (earlier_below low x xs rising.0)))
 
--- the pairs of a tree from where a way begins
+-- a tree's pairs from where a way begins
 pub begun_stays : (back strict : Bool) (low : List ℕ) (high : Option (List ℕ)) (xs : List Pair) → IsRising xs → StaysFalse (is_before_end back low high) (from_start back strict low high xs)
 begun_stays false strict low high xs rising = rises_stay high (pairs_from xs low strict) (rising_kept (λ x. is_from low strict x.key) xs rising)
 begun_stays true strict low high xs rising = falls_stay low (pairs_until xs high strict) (rising_kept (λ x. is_until high strict x.key) xs rising)
@@ -120,7 +120,7 @@ begun_long true strict low high xs long =
     All-from_recursion (λ (x : Pair). 8 ≤ length x.key) (reverse ys)
     (all_reverse (λ x. 8 ≤ length x.key) ys (recursion_from_All (λ (x : Pair). 8 ≤ length x.key) ys (All-filter (λ (x : Pair). is_until high strict x.key) (λ (x : Pair). 8 ≤ length x.key) xs long)))
 
--- what is told by comparisons of a key with the end of a way
+-- what comparing a key with the end of a way says
 pub not_below : (low key : List ℕ) → not (is_lt (key_cmp key low)) ≡ is_from low false key
 not_below low key = elim (key_cmp key low) as (λ o. not (is_lt o) ≡ is_ge o) [ Less ↦ refl | Equal ↦ refl | Greater ↦ refl ]
 
@@ -151,7 +151,7 @@ front_passes test (x ∷ xs) (suc n) d stays lt e =
       | false ↦ λ is. absurd (omega (arith, ap length (sym (stays.0 is) ∙ rest), length-append (take (suc n) xs) more, length-take-le (suc n) xs (omega (arith, lt))))
     ] refl
 
--- the first items of a leaf, of which the last passes
+-- a leaf's first items, the last of which passes
 module _ (test : List ℕ → Bool) (zs rest : List Pair) (want count most : ℕ) (stays : StaysFalse test (zs ++ rest)) (in_leaf : most ≤ length zs) (in_want : most ≤ want) (at_most : count ≤ most)
     (within : (d : Pair) → 0 < count → test (get_or zs (count - 1) d).key ≡ true) where
   front : kept test (zs ++ rest) ≡ take count zs ++ kept test (drop count zs ++ rest)
@@ -184,7 +184,7 @@ module _ (test : List ℕ → Bool) (zs rest : List Pair) (want count most : ℕ
       ∙ take_all want (take count zs) (omega (arith, taken, at_most, in_want))
       ∙ sym (append-nil (take count zs))
 
-  -- all that were asked pass, and these are the whole leaf or as many as are wanted
+  -- all that were tested pass, and these are the whole leaf or as many as are wanted
   pub run_goes_on : count ≡ most → (most ≡ length zs) ⊎ (most ≡ want) → take want (kept test (zs ++ rest)) ≡ take count zs ++ take (want - count) (kept test rest)
   run_goes_on all whole =
       let more = kept test (drop count zs ++ rest) in
@@ -200,7 +200,7 @@ module _ (test : List ℕ → Bool) (zs rest : List Pair) (want count most : ℕ
           let none : want - count ≡ 0 = omega (arith, all, enough) in
           ap (λ n. take n (kept test (drop count zs ++ rest))) none ∙ sym (ap (λ n. take n (kept test rest)) none)
 
--- an item that a walk has ahead in a leaf
+-- an item in a leaf that a walk has ahead
 pub record IsItemAhead (words : ℕ → ℕ) (back : Bool) (at i : ℕ) : Type 0 where
   pub in_items : number_from back at i < words 1
   pub left : back ≡ true → i < at
@@ -224,17 +224,17 @@ item_ahead words true at i le lt =
           ∙ item_get words (at - 1 - i) d in_items;
     }
 
-pub ahead_is : (standing : ℕ → Standing) (words : ℕ → ℕ → ℕ) (leaf : Leaf) (i : ℕ) → IsLeaf standing words leaf → i < length (items_ahead words leaf) → IsAhead leaf i
-ahead_is standing words leaf i is lt =
+pub ahead_is : (page_state : ℕ → PageState) (words : ℕ → ℕ → ℕ) (leaf : Leaf) (i : ℕ) → IsLeaf page_state words leaf → i < length (items_ahead words leaf) → IsAhead leaf i
+ahead_is page_state words leaf i is lt =
     let item = item_ahead (words leaf.page) leaf.back leaf.at i is.1 lt in
     record { in_page = omega (arith, item.in_items, is.0.node.is_page.few); left = item.left }
 
--- the same at its place, in a room that was read since
-pub record IsPlaceAhead (standing : ℕ → Standing) (words before : ℕ → ℕ → ℕ) (leaf : Leaf) (i at : ℕ) : Type 0 where
-  pub readable : IsReadableAt standing words leaf.page at
+-- the same at its place, after pages were only read
+pub record IsPlaceAhead (page_state : ℕ → PageState) (words before : ℕ → ℕ → ℕ) (leaf : Leaf) (i at : ℕ) : Type 0 where
+  pub readable : IsReadableAt page_state words leaf.page at
   pub same : (d : Pair) → item_at (words leaf.page) at ≡ get_or (items_ahead before leaf) i d
 
-pub place_ahead : (s t : ℕ → Standing) (v w : ℕ → ℕ → ℕ) (leaf : Leaf) (i at : ℕ) → t ≡ s → w ≡ v → at ≡ item_place (number_ahead leaf i) → IsLeaf s v leaf → i < length (items_ahead v leaf)
+pub place_ahead : (s t : ℕ → PageState) (v w : ℕ → ℕ → ℕ) (leaf : Leaf) (i at : ℕ) → t ≡ s → w ≡ v → at ≡ item_place (number_ahead leaf i) → IsLeaf s v leaf → i < length (items_ahead v leaf)
     → IsPlaceAhead t w v leaf i at
 place_ahead s t v w leaf i at es ew e is lt =
     let item = item_ahead (v leaf.page) leaf.back leaf.at i is.1 lt in
@@ -245,29 +245,29 @@ place_ahead s t v w leaf i at es ew e is lt =
     } in
     subst (λ p. IsPlaceAhead t w v leaf i p) (sym e) (subst (λ u. IsPlaceAhead t u v leaf i here) (sym ew) (subst (λ r. IsPlaceAhead r v v leaf i here) (sym es) first))
 
--- a leaf and a walk in a room that was read since
-pub leaf_read : (s t : ℕ → Standing) (v w : ℕ → ℕ → ℕ) (leaf : Leaf) → t ≡ s → w ≡ v → IsLeaf s v leaf → IsLeaf t w leaf
+-- a leaf and a walk after pages were only read
+pub leaf_read : (s t : ℕ → PageState) (v w : ℕ → ℕ → ℕ) (leaf : Leaf) → t ≡ s → w ≡ v → IsLeaf s v leaf → IsLeaf t w leaf
 leaf_read s t v w leaf es ew is = (leaf_same s t v w leaf.page es ew is.0, subst (λ (u : ℕ → ℕ → ℕ). leaf.at ≤ u leaf.page 1) (sym ew) is.1)
 
-pub walk_read : (s t : ℕ → Standing) (v w : ℕ → ℕ → ℕ) (going : Walk) → t ≡ s → w ≡ v → IsWalk s v going → IsWalk t w going
+pub walk_read : (s t : ℕ → PageState) (v w : ℕ → ℕ → ℕ) (going : Walk) → t ≡ s → w ≡ v → IsWalk s v going → IsWalk t w going
 walk_read s t v w going es ew is =
-    subst (λ (u : ℕ → ℕ → ℕ). IsWalk t u going) (sym ew) (subst (λ (r : ℕ → Standing). IsWalk r v going) (sym es) is)
+    subst (λ (u : ℕ → ℕ → ℕ). IsWalk t u going) (sym ew) (subst (λ (r : ℕ → PageState). IsWalk r v going) (sym es) is)
 
--- the direction of a walk
+-- a walk's direction
 pub turned_up : (back : Bool) (rising falling : List Pair) → back ≡ false → turned back rising falling ≡ rising
 turned_up back rising falling e = ap (λ b. turned b rising falling) e
 
 pub turned_down : (back : Bool) (rising falling : List Pair) → back ≡ true → turned back rising falling ≡ reverse falling
 turned_down back rising falling e = ap (λ b. turned b rising falling) e
 
--- how many they are
+-- how many items these are
 pub count_up : (words : ℕ → ℕ) (at : ℕ) → length (drop at (items_of words)) ≡ words 1 - at
 count_up words at = length-drop at (items_of words) ∙ ap (λ n. n - at) (items_count words)
 
 pub count_down : (words : ℕ → ℕ) (at : ℕ) → at ≤ words 1 → length (reverse (take at (items_of words))) ≡ at
 count_down words at le = length-reverse (take at (items_of words)) ∙ length-take-le at (items_of words) (omega (arith, le, items_count words))
 
--- a number more
+-- one more number
 pub got_item : (before numbers mid now : List ℕ) (xs : List Pair) (i n : ℕ) (d : Pair) → HasGot before numbers (numbers_in (drop i xs)) mid → i < length xs → n ≡ number_of (get_or xs i d).key → now ≡ mid ++ n ∷ []
     → HasGot before numbers (numbers_in (drop (i + 1) xs)) now
 got_item before numbers mid now xs i n d has lt e push =
@@ -278,7 +278,7 @@ got_item before numbers mid now xs i n d has lt e push =
       is = push ∙ ap (λ ns. ns ++ n ∷ []) has.is ∙ append_assoc before has.got (n ∷ []);
     }
 
--- the numbers of a run more
+-- the numbers of one more run
 pub got_run : (before numbers mid now : List ℕ) (xs run rest : List Pair) → HasGot before numbers (numbers_in xs) mid → xs ≡ run ++ rest → now ≡ mid ++ numbers_in run → HasGot before numbers (numbers_in rest) now
 got_run before numbers mid now xs run rest has e push = record {
   got = has.got ++ numbers_in run;
@@ -301,10 +301,10 @@ first_of_run before numbers mid now xs run rest has e first =
       };
     }
 
--- the place of a run's last item is that of the last of all that were passed
-pub last_of_run : (standing : ℕ → Standing) (words : ℕ → ℕ → ℕ) (page at count : ℕ) (passed zs : List Pair) → IsReadableAt standing words page at → 0 < count → count ≤ length zs
-    → ((d : Pair) → get_or zs (count - 1) d ≡ item_at (words page) at) → IsLastOf standing words (Some (page, at)) (passed ++ take count zs)
-last_of_run standing words page at count passed zs readable some le is =
+-- the place of a run's last item is that of the last of all items passed
+pub last_of_run : (page_state : ℕ → PageState) (words : ℕ → ℕ → ℕ) (page at count : ℕ) (passed zs : List Pair) → IsReadableAt page_state words page at → 0 < count → count ≤ length zs
+    → ((d : Pair) → get_or zs (count - 1) d ≡ item_at (words page) at) → IsLastOf page_state words (Some (page, at)) (passed ++ take count zs)
+last_of_run page_state words page at count passed zs readable some le is =
     let item = item_at (words page) at in
     let e : count ≡ count - 1 + 1 = omega (arith, some) in (
       readable,

@@ -1,8 +1,8 @@
--- Several trees of one room.
+-- Several trees in the same pages.
 use Rattle.std.specs.Prelude.{◌≡◌, ℕ, ◌≤◌, List, ◌∷◌, ◌++◌, All, IsTrue}
 use Rattle.std.specs.List.{flat_map}
-use Rattle.be_pages.specs.declared.room.Standing.{Standing}
-use Rattle.be_pages.specs.declared.room.Standing.TheVariants.{Old}
+use Rattle.be_pages.specs.declared.room.PageState.{PageState}
+use Rattle.be_pages.specs.declared.room.PageState.TheVariants.{Old}
 use Rattle.be_pages.specs.Pages.{is_kept, is_from_before, after_undo, times, Swaps}
 use Rattle.be_tree_reading.specs.Tree.{pairs, pages, IsTree}
 
@@ -10,34 +10,35 @@ use Rattle.be_tree_reading.specs.Tree.{pairs, pages, IsTree}
 abbrev pub pages_of : (words : ℕ → ℕ → ℕ) (roots : List ℕ) → List ℕ
 pages_of words roots = flat_map (λ root. pages words root) roots
 
--- well-formed trees, no page of which is one of two or twice of one
-pub record AreTrees (standing : ℕ → Standing) (words : ℕ → ℕ → ℕ) (roots : List ℕ) : Type 0 where
-  pub each : All (IsTree standing words) roots
+-- well-formed trees that share no page, and have each of their pages only once
+pub record AreTrees (page_state : ℕ → PageState) (words : ℕ → ℕ → ℕ) (roots : List ℕ) : Type 0 where
+  pub each : All (IsTree page_state words) roots
   pub once : (q : ℕ) → times q (pages_of words roots) ≤ 1
 
--- the tree is there, with the pairs and the pages that it had
-pub record KeepsTree (standing : ℕ → Standing) (before words : ℕ → ℕ → ℕ) (root : ℕ) : Type 0 where
-  pub tree : IsTree standing words root
-  pub same_pairs : pairs words root ≡ pairs before root
-  pub same_pages : pages words root ≡ pages before root
+-- the tree is well formed, and has the pairs and pages that it had
+pub record KeepsTree (page_state : ℕ → PageState) (before words : ℕ → ℕ → ℕ) (root : ℕ) : Type 0
+  where
+    pub tree : IsTree page_state words root
+    pub same_pairs : pairs words root ≡ pairs before root
+    pub same_pages : pages words root ≡ pages before root
 
--- one of several trees has been replaced: the new ones are well formed, the others have their
--- pairs, and the pages of all have become those of all
-pub record Replaces {S K : Type 0} (kept_of : S → K) (standing_of : S → ℕ → Standing)
+-- One of several trees was replaced. The new ones are well formed, the others have their pairs, and
+-- all the old trees' pages have become all the new ones'.
+pub record Replaces {S K : Type 0} (kept_of : S → K) (page_state_of : S → ℕ → PageState)
     (words_of : S → ℕ → ℕ → ℕ)
     (front back : List ℕ) (root new_root : ℕ) (old new : S) : Type 0 where
-  pub trees : AreTrees (standing_of new) (words_of new) (front ++ new_root ∷ back)
+  pub trees : AreTrees (page_state_of new) (words_of new) (front ++ new_root ∷ back)
   pub front_pairs : All (λ r. pairs (words_of new) r ≡ pairs (words_of old) r) front
   pub back_pairs : All (λ r. pairs (words_of new) r ≡ pairs (words_of old) r) back
-  pub swaps : Swaps kept_of standing_of words_of (pages_of (words_of old) (front ++ root ∷ back))
+  pub swaps : Swaps kept_of page_state_of words_of (pages_of (words_of old) (front ++ root ∷ back))
       (pages_of (words_of new) (front ++ new_root ∷ back)) old new
 
--- every page in use was there before the write, as it is when a write begins
-abbrev pub IsWriteStart : (standing : ℕ → Standing) → Type 0
-IsWriteStart standing = (q : ℕ) → IsTrue (is_kept (standing q)) → standing q ≡ Old
+-- every page in use was there before the write, as at the beginning of a write
+abbrev pub IsWriteStart : (page_state : ℕ → PageState) → Type 0
+IsWriteStart page_state = (q : ℕ) → IsTrue (is_kept (page_state q)) → page_state q ≡ Old
 
--- each page has the state that it had at the write's start, once the write was undone, and what was
--- there before it has its words
-pub record IsUndone (start undone : ℕ → Standing) (before words : ℕ → ℕ → ℕ) : Type 0 where
-  pub standing : (q : ℕ) → undone q ≡ after_undo (start q)
+-- After the write was undone, each page has the state that it had at the write's start. The pages
+-- from before the write have their words.
+pub record IsUndone (start undone : ℕ → PageState) (before words : ℕ → ℕ → ℕ) : Type 0 where
+  pub page_state : (q : ℕ) → undone q ≡ after_undo (start q)
   pub same_words : (q : ℕ) → IsTrue (is_from_before (start q)) → words q ≡ before q

@@ -1,17 +1,17 @@
--- How the words of a page are read: the page as a node of items.
+-- How a page's words encode a node of items.
 use Rattle.std.specs.Prelude.{◌≡◌, ℕ, ◌+◌, ◌*◌, ◌/◌, ◌%◌, ◌^◌, ◌<◌, ◌≤◌, List, All, take, drop, map}
 use Rattle.std.specs.Prelude.{IsTrue}
 use Rattle.std.specs.List.{flat_map, range_with_len}
 use Rattle.std.specs.Int.{to_be_bytes, w64}
-use Rattle.be_pages.specs.declared.room.Standing.{Standing}
+use Rattle.be_pages.specs.declared.room.PageState.{PageState}
 use Rattle.be_pages.specs.Pages.{is_readable}
 use Rattle.be_tree_reading.specs.Pair.{Pair}
 
--- how many words hold n bytes
+-- how many words n bytes take
 abbrev pub words_for : ℕ → ℕ
 words_for n = (n + 7) / 8
 
--- the n bytes from word `at` on; the first byte is the most significant of the first word
+-- the n bytes from word `at` on, with the first byte as the most significant of the first word
 abbrev pub bytes_at : (words : ℕ → ℕ) (at n : ℕ) → List ℕ
 bytes_at words at n = take n (flat_map (to_be_bytes w64)
     (map (λ i. words (at + i)) (range_with_len 0 (words_for n))))
@@ -20,12 +20,12 @@ bytes_at words at n = take n (flat_map (to_be_bytes w64)
 abbrev pub bytes_past : (words : ℕ → ℕ) (at skip n : ℕ) → List ℕ
 bytes_past words at skip n = drop skip (bytes_at words at (skip + n))
 
--- the bytes after the first n from word `at` on, up to the end of their last word
+-- the bytes after the n bytes from word `at` on, up to the end of their last word
 abbrev pub bytes_after : (words : ℕ → ℕ) (at n : ℕ) → List ℕ
 bytes_after words at n = drop n (flat_map (to_be_bytes w64)
     (map (λ i. words (at + i)) (range_with_len 0 (words_for n))))
 
--- the last word of n bytes is filled up with zeros
+-- the last word of n bytes ends with zeros
 abbrev pub IsPadded : (words : ℕ → ℕ) (at n : ℕ) → Type 0
 IsPadded words at n = All (λ byte. byte ≡ 0) (bytes_after words at n)
 
@@ -33,7 +33,7 @@ IsPadded words at n = All (λ byte. byte ≡ 0) (bytes_after words at n)
 abbrev pub item_place : ℕ → ℕ
 item_place j = 2 + 42 * j
 
--- how long the key at a place is, and the payload after it
+-- the length of the key at a place, and that of the payload after it
 abbrev pub key_len : (words : ℕ → ℕ) (at : ℕ) → ℕ
 key_len words at = words at / 2 ^ 32
 
@@ -53,7 +53,7 @@ level_of words = words 0
 abbrev pub items_of : (words : ℕ → ℕ) → List Pair
 items_of words = map (λ j. item_at words (item_place j)) (range_with_len 0 (words 1))
 
--- the item fits its place, with zeros after it in its last word: what a reader may rely on
+-- the item fits its place, with zeros after it in its last word: a reader may rely on this
 pub record IsItem (words : ℕ → ℕ) (at : ℕ) : Type 0 where
   pub key_fits : key_len words at ≤ 264
   pub fits : key_len words at + payload_len words at ≤ 328
@@ -63,12 +63,12 @@ pub record IsItem (words : ℕ → ℕ) (at : ℕ) : Type 0 where
 abbrev pub IsPairAt : (words : ℕ → ℕ) (at : ℕ) → Pair → Type 0
 IsPairAt words at pair = (item_at words at ≡ pair) × IsItem words at
 
--- an item is at a place of a page, and can be read
-abbrev pub IsReadableAt : (standing : ℕ → Standing) (words : ℕ → ℕ → ℕ) (page at : ℕ) → Type 0
-IsReadableAt standing words page at = IsTrue (is_readable (standing page))
+-- there is an item at this place of a page, and the page can be read
+abbrev pub IsReadableAt : (page_state : ℕ → PageState) (words : ℕ → ℕ → ℕ) (page at : ℕ) → Type 0
+IsReadableAt page_state words page at = IsTrue (is_readable (page_state page))
     × ((at + 42 ≤ 512) × IsItem (words page) at)
 
--- the words are a page of at most 12 items, each within its place
+-- the words encode a page with up to 12 items, each of which fits its place
 pub record IsPage (words : ℕ → ℕ) : Type 0 where
   pub few : words 1 ≤ 12
   pub each : (j : ℕ) → j < words 1 → IsItem words (item_place j)

@@ -13,7 +13,7 @@ abbrev pub is_from : List ℕ → (after : Bool) → List ℕ → Bool
 is_from k false key = is_ge (key_cmp key k)
 is_from k true key = is_gt (key_cmp key k)
 
--- the pairs at or after k, in their order; with `after`, those strictly after it
+-- the pairs at or after k, in order; with `after`, those strictly after it
 abbrev pub pairs_from : List Pair → List ℕ → (after : Bool) → List Pair
 pairs_from pairs k after = filter (λ x. is_from k after x.key) pairs
 
@@ -21,7 +21,7 @@ pairs_from pairs k after = filter (λ x. is_from k after x.key) pairs
 abbrev pub first_from : List Pair → List ℕ → (after : Bool) → Option Pair
 first_from pairs k after = find (λ x. is_from k after x.key) pairs
 
--- the pair that an item handed out is
+-- a returned item as a pair
 abbrev pub pair_in : TreeItem → Pair
 pair_in item = record { key = item.key.items; payload = item.payload.items }
 
@@ -39,21 +39,21 @@ pairs_to (x ∷ xs) high = if is_past high x.key then [] else x ∷ pairs_to xs 
 unfoldable pub number_of : List ℕ → ℕ
 number_of key = from_be_bytes w64 (drop (length key - 8) key)
 
--- the numbers that the keys of pairs end with, up to a bound
+-- the numbers at the ends of the pairs' keys, up to a bound
 abbrev pub numbers_to : List Pair → (high : Option (List ℕ)) → List ℕ
 numbers_to pairs high = map (λ x. number_of x.key) (pairs_to pairs high)
 
--- each key has eight bytes at least
+-- each key has at least eight bytes
 abbrev pub AreLong : List Pair → Type 0
 AreLong pairs = All (λ x. 8 ≤ length x.key) pairs
 
--- the list has got the first of the numbers, and these are left
+-- the list has gained the first of the numbers, and these are left
 pub record HasGot (before numbers left after : List ℕ) : Type 0 where
   pub got : List ℕ
   pub parts : numbers ≡ got ++ left
   pub is : after ≡ before ++ got
 
--- the list has got the first of the numbers
+-- the list has gained the first of the numbers
 pub record HasFirst (before numbers after : List ℕ) : Type 0 where
   pub left : List ℕ
   pub has : HasGot before numbers left after

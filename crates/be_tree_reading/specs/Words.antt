@@ -1,13 +1,13 @@
--- The word that a key begins with.
+-- A key's first word.
 use Rattle.std.specs.Prelude.{◌≡◌, ℕ, List, Option, None, Some, map, slice_index}
 use Rattle.std.specs.List.{range_with_len}
 use Rattle.std.specs.Int.{to_be_bytes, w64}
 
--- the word has the first eight bytes of a key, with zeros after a short one
+-- the word has a key's first eight bytes, with zeros after a short key
 abbrev pub IsFirst : (key : List ℕ) (word : ℕ) → Type 0
 IsFirst key word = to_be_bytes w64 word ≡ map (λ k. slice_index key k) (range_with_len 0 8)
 
--- the same of a key that may be none
+-- the same for a key that may be missing
 abbrev pub IsFirstOf : Option (List ℕ) → (word : ℕ) → Type 0
 IsFirstOf None word = Unit {0}
 IsFirstOf (Some key) word = IsFirst key word

@@ -1,8 +1,8 @@
-//! About how many keys a range has.
+//! Estimates how many keys a range has.
 //!
-//! Two ways go down side by side, from the root to the two ends of the range. On each level they
-//! tell how many items lie between them: those of the two pages that they are on, and for each page
-//! in between as many as these two have on average.
+//! Two paths go down side by side, from the root to the two ends of the range. On each level the
+//! items between them are counted: those on the two pages that the paths are on, and for each page
+//! in between the average of these two pages' counts.
 ghost use Rattle.std.specs.Prelude.{ℕ, ◌-◌, ◌<◌, IsTrue};
 ghost use Rattle.be_pages.specs.Pages.{IsUnchanged, is_readable};
 ghost use Rattle.be_tree_reading.specs.Page.{IsPage};
@@ -13,7 +13,7 @@ use crate::lookup::{branch_in, item_number};
 use crate::page::{HEADER_WORDS, ITEM_WORDS, child_at, first_word};
 use be_pages::Look;
 
-/// A place on a page: how many of its items are before it, and how many it has.
+/// A place on a page: how many of its items come before the place, and how many it has in all.
 #[derive(Clone, Copy)]
 struct End {
     before: u64,
@@ -21,10 +21,11 @@ struct End {
 }
 
 /// About how many keys of a tree are from `low` to `high`, both included, or to the last key. It
-/// costs two descents, and is exact for a range within one leaf. No contract says how near it is.
+/// costs two descents, and is exact for a range within one leaf. No contract says how close the
+/// estimate is.
 pub fn about_within<L: Look>(look: &mut L, root: u64, low: &[u8], high: Option<&[u8]>) -> u64
-    requires tree { IsTree (L.standing look.old) (L.words look.old) root }
-    ensures unchanged { IsUnchanged L.kept L.standing L.words look.old look.new }
+    requires tree { IsTree (L.page_state look.old) (L.words look.old) root }
+    ensures unchanged { IsUnchanged L.kept L.page_state L.words look.old look.new }
 {
     if root == 0 {
         return 0;
@@ -46,7 +47,7 @@ pub fn about_within<L: Look>(look: &mut L, root: u64, low: &[u8], high: Option<&
     apart_by(apart, low_end, high_end)
 }
 
-/// How far a place is after another one, in items, if their pages are so many pages apart.
+/// How many items are between two places, whose pages are this many pages apart.
 fn apart_by(apart: u64, from: End, to: End) -> u64 {
     if apart == 0 {
         return to.before.saturating_sub(from.before);
@@ -57,15 +58,15 @@ fn apart_by(apart: u64, from: End, to: End) -> u64 {
     between.saturating_add(after).saturating_add(to.before)
 }
 
-/// The page below the branch on the way to a key, or without a key below the last one, and the
-/// branch's place.
+/// The page below the branch on the way to a key, and the branch's place. Without a key, the last
+/// branch.
 fn step_down<L: Look>(look: &mut L, page: u64, key: Option<&[u8]>) -> (u64, End)
     requires inner { (level : ℕ) × ((least : ℕ) × ((0 < level) × ((0 < least)
-        × IsTreeAt level least (L.standing look.old) (L.words look.old) page))) }
+        × IsTreeAt level least (L.page_state look.old) (L.words look.old) page))) }
     ensures below { (level least : ℕ) → 0 < level → 0 < least
-        → IsTreeAt level least (L.standing look.old) (L.words look.old) page
-        → IsTreeAt (level - 1) 1 (L.standing look.old) (L.words look.old) result.0 }
-    ensures unchanged { IsUnchanged L.kept L.standing L.words look.old look.new }
+        → IsTreeAt level least (L.page_state look.old) (L.words look.old) page
+        → IsTreeAt (level - 1) 1 (L.page_state look.old) (L.words look.old) result.0 }
+    ensures unchanged { IsUnchanged L.kept L.page_state L.words look.old look.new }
 {
     let count = look.word(page, 1);
     let number = branch_to(look, page, key);
@@ -77,13 +78,13 @@ fn step_down<L: Look>(look: &mut L, page: u64, key: Option<&[u8]>) -> (u64, End)
     (child, end)
 }
 
-/// The number of the branch on the way to a key, or without a key of the last one.
+/// The number of the branch on the way to a key; without a key, that of the last branch.
 fn branch_to<L: Look>(look: &mut L, page: u64, key: Option<&[u8]>) -> usize
-    requires readable { IsTrue (is_readable (L.standing look.old page)) }
+    requires readable { IsTrue (is_readable (L.page_state look.old page)) }
     requires page { IsPage (L.words look.old page) }
     requires some { 0 < L.words look.old page 1 }
     ensures in_range { result < L.words look.old page 1 }
-    ensures unchanged { IsUnchanged L.kept L.standing L.words look.old look.new }
+    ensures unchanged { IsUnchanged L.kept L.page_state L.words look.old look.new }
 {
     let Some(key) = key else {
         return look.word(page, 1) as usize - 1;
@@ -92,11 +93,11 @@ fn branch_to<L: Look>(look: &mut L, page: u64, key: Option<&[u8]>) -> usize
     item_number(at)
 }
 
-/// The place in a leaf before the keys at or after a key, or with `after` set strictly after it; or
-/// without a key the leaf's end.
+/// The place in a leaf before the keys at or after a key; with `after` set, before those strictly
+/// after it. Without a key, the leaf's end.
 fn end_in<L: Look>(look: &mut L, page: u64, key: Option<&[u8]>, after: bool) -> End
-    requires leaf { IsTreeAt 0 1 (L.standing look.old) (L.words look.old) page }
-    ensures unchanged { IsUnchanged L.kept L.standing L.words look.old look.new }
+    requires leaf { IsTreeAt 0 1 (L.page_state look.old) (L.words look.old) page }
+    ensures unchanged { IsUnchanged L.kept L.page_state L.words look.old look.new }
 {
     let count = look.word(page, 1);
     let Some(key) = key else {

@@ -1,12 +1,12 @@
-//! A cursor that goes back among the pairs of a tree.
+//! A cursor that goes backwards through a tree's pairs.
 //!
-//! It keeps the way from the root down to a leaf, as `Cursor` does. What it still has to give is
-//! the pairs before the deepest place, the last one first, then those before the place above it,
-//! and so on up to the root.
+//! It keeps the path from the root down to a leaf, as `Cursor` does. The pairs before the deepest
+//! place come first, the last of them first. Then come those before the place above it, and so on
+//! up to the root.
 ghost use Rattle.std.specs.Prelude.{◌≡◌, ℕ, [], ◌+◌, ◌<◌, ◌≤◌, ◌++◌, length, take, Some, None};
 ghost use Rattle.std.specs.Prelude.{IfNone, IfSome, IsTrue};
 ghost use Rattle.std.specs.Option.{option_copied};
-ghost use Rattle.be_pages.specs.declared.room.Standing.{Standing as Stands};
+ghost use Rattle.be_pages.specs.declared.room.PageState.{PageState as AnyPageState};
 ghost use Rattle.be_pages.specs.Pages.{IsUnchanged};
 ghost use Rattle.be_tree_reading.specs.Back.{IsBackCursor, coming, pairs_before};
 ghost use Rattle.be_tree_reading.specs.Cursor.{IsPlace};
@@ -20,8 +20,8 @@ use crate::page::{HEADER_WORDS, ITEM_WORDS, child_at, first_word};
 use arrayvec::ArrayVec;
 use be_pages::Look;
 
-/// A place among the pairs of a tree, from which a walk goes down to the least key. It serves as
-/// long as the tree's pages keep their words, and takes no memory besides its own 14 places.
+/// A place among a tree's pairs, from which a walk goes down to the lowest key. It is valid as long
+/// as the tree's pages keep their words. It takes no memory beyond its own 14 places.
 #[derive(Drop)]
 pub struct BackCursor {
     path: ArrayVec<Place, 14>,
@@ -30,8 +30,8 @@ pub struct BackCursor {
 impl BackCursor {
     /// A cursor before all pairs.
     pub fn new() -> BackCursor
-        ensures cursor { (standing : ℕ → Stands) (words : ℕ → ℕ → ℕ)
-            → IsBackCursor standing words result }
+        ensures cursor { (page_state : ℕ → AnyPageState) (words : ℕ → ℕ → ℕ)
+            → IsBackCursor page_state words result }
         ensures coming { (words : ℕ → ℕ → ℕ) → coming words result ≡ [] }
     {
         BackCursor {
@@ -39,15 +39,15 @@ impl BackCursor {
         }
     }
 
-    /// Brings the cursor after the greatest pair of a tree whose key is at or before `to`; with
-    /// `before` set, strictly before it. Without a key it comes after all pairs. It costs one
-    /// descent, or without a key a look at the root's page.
+    /// Moves the cursor to just after the highest pair of a tree whose key is at or before `to`;
+    /// with `before` set, strictly before it. Without a key it moves after all pairs. It costs one
+    /// descent; without a key, only a read of the root's page.
     pub fn seek<L: Look>(&mut self, look: &mut L, root: u64, to: Option<&[u8]>, before: bool)
-        requires tree { IsTree (L.standing look.old) (L.words look.old) root }
-        ensures cursor { IsBackCursor (L.standing look.old) (L.words look.old) self.new }
+        requires tree { IsTree (L.page_state look.old) (L.words look.old) root }
+        ensures cursor { IsBackCursor (L.page_state look.old) (L.words look.old) self.new }
         ensures coming { coming (L.words look.old) self.new
             ≡ pairs_until (pairs (L.words look.old) root) (option_copied to.entry) before }
-        ensures unchanged { IsUnchanged L.kept L.standing L.words look.old look.new }
+        ensures unchanged { IsUnchanged L.kept L.page_state L.words look.old look.new }
     {
         self.path.clear();
         if root == 0 {
@@ -59,30 +59,29 @@ impl BackCursor {
         }
     }
 
-    /// Brings an empty cursor after all pairs of a tree.
+    /// Moves an empty cursor after all pairs of a tree.
     fn begin_at_end<L: Look>(&mut self, look: &mut L, root: u64)
-        requires tree { IsTree (L.standing look.old) (L.words look.old) root }
+        requires tree { IsTree (L.page_state look.old) (L.words look.old) root }
         requires some { 0 < root }
         requires empty { self.old.path.items ≡ [] }
-        ensures cursor { IsBackCursor (L.standing look.old) (L.words look.old) self.new }
+        ensures cursor { IsBackCursor (L.page_state look.old) (L.words look.old) self.new }
         ensures coming { coming (L.words look.old) self.new ≡ pairs (L.words look.old) root }
-        ensures unchanged { IsUnchanged L.kept L.standing L.words look.old look.new }
+        ensures unchanged { IsUnchanged L.kept L.page_state L.words look.old look.new }
     {
         let level = look.word(root - 1, 0);
         let place = after_items(look, root - 1, level);
         self.path.push(place);
     }
 
-    /// Goes down with an empty cursor to the leaf with the last of the pairs that `seek` brings it
-    /// after.
+    /// Goes down with an empty cursor to the leaf with the last pair that `seek` moves past.
     fn descend<L: Look>(&mut self, look: &mut L, root: u64, to: &[u8], before: bool)
-        requires tree { IsTree (L.standing look.old) (L.words look.old) root }
+        requires tree { IsTree (L.page_state look.old) (L.words look.old) root }
         requires some { 0 < root }
         requires empty { self.old.path.items ≡ [] }
-        ensures cursor { IsBackCursor (L.standing look.old) (L.words look.old) self.new }
+        ensures cursor { IsBackCursor (L.page_state look.old) (L.words look.old) self.new }
         ensures coming { coming (L.words look.old) self.new
             ≡ pairs_until (pairs (L.words look.old) root) (Some to.now) before }
-        ensures unchanged { IsUnchanged L.kept L.standing L.words look.old look.new }
+        ensures unchanged { IsUnchanged L.kept L.page_state L.words look.old look.new }
     {
         let first = first_word(to);
         let mut page = root - 1;
@@ -107,21 +106,21 @@ impl BackCursor {
         });
     }
 
-    /// Takes the deepest place off the path that has an item before it, and with it the deeper
-    /// ones, which have none.
+    /// Removes places from the end of the path up to the deepest one with an item before it, and
+    /// returns that one.
     fn pop_spent(&mut self) -> Option<Place>
         ensures none { IfNone result ((words : ℕ → ℕ → ℕ) → coming words self.old ≡ []) }
         ensures empty { IfNone result ((words : ℕ → ℕ → ℕ) → coming words self.new ≡ []) }
         ensures left { IfSome result (λ place. 0 < place.next) }
-        ensures place { IfSome result (λ place. (standing : ℕ → Stands) (words : ℕ → ℕ → ℕ)
-            → IsBackCursor standing words self.old → IsPlace standing words place) }
-        ensures short { IfSome result (λ place. (standing : ℕ → Stands) (words : ℕ → ℕ → ℕ)
-            → IsBackCursor standing words self.old
+        ensures place { IfSome result (λ place. (page_state : ℕ → AnyPageState) (words : ℕ → ℕ → ℕ)
+            → IsBackCursor page_state words self.old → IsPlace page_state words place) }
+        ensures short { IfSome result (λ place. (page_state : ℕ → AnyPageState) (words : ℕ → ℕ → ℕ)
+            → IsBackCursor page_state words self.old
             → place.level + length self.new.path.items ≤ 13) }
         ensures parts { IfSome result (λ place. (words : ℕ → ℕ → ℕ) → coming words self.old
             ≡ coming words self.new ++ pairs_before words place) }
-        ensures cursor { (standing : ℕ → Stands) (words : ℕ → ℕ → ℕ)
-            → IsBackCursor standing words self.old → IsBackCursor standing words self.new }
+        ensures cursor { (page_state : ℕ → AnyPageState) (words : ℕ → ℕ → ℕ)
+            → IsBackCursor page_state words self.old → IsBackCursor page_state words self.new }
     {
         while let Some(place) = self.path.pop() {
             if place.next > 0 {
@@ -131,20 +130,20 @@ impl BackCursor {
         None
     }
 
-    /// The leaf of the pair that comes next, with how many of the leaf's items come, the last of
-    /// them first, and a step past all of these.
+    /// The leaf of the next pair, and how many of the leaf's items are still ahead, the last of
+    /// them first. The cursor moves past all of these.
     pub fn step_leaf<L: Look>(&mut self, look: &mut L) -> Option<(u64, usize)>
-        requires cursor { IsBackCursor (L.standing look.old) (L.words look.old) self.old }
+        requires cursor { IsBackCursor (L.page_state look.old) (L.words look.old) self.old }
         ensures none { IfNone result (coming (L.words look.old) self.old ≡ []) }
-        ensures leaf { IfSome result (λ at. IsTreeAt 0 1 (L.standing look.old) (L.words look.old)
+        ensures leaf { IfSome result (λ at. IsTreeAt 0 1 (L.page_state look.old) (L.words look.old)
             at.0) }
         ensures some { IfSome result (λ at. 0 < at.1) }
         ensures in_range { IfSome result (λ at. at.1 ≤ L.words look.old at.0 1) }
         ensures parts { IfSome result (λ at. coming (L.words look.old) self.old
             ≡ coming (L.words look.old) self.new
             ++ take at.1 (items_of (L.words look.old at.0))) }
-        ensures cursor { IsBackCursor (L.standing look.old) (L.words look.old) self.new }
-        ensures unchanged { IsUnchanged L.kept L.standing L.words look.old look.new }
+        ensures cursor { IsBackCursor (L.page_state look.old) (L.words look.old) self.new }
+        ensures unchanged { IsUnchanged L.kept L.page_state L.words look.old look.new }
     {
         let mut place = self.pop_spent()?;
         while place.level > 0 {
@@ -158,16 +157,16 @@ impl BackCursor {
     }
 }
 
-/// The place after all items of a page.
+/// The place after all of a page's items.
 fn after_items<L: Look>(look: &mut L, page: u64, level: u64) -> Place
     requires tree { (least : ℕ) × (0 < least)
-        × IsTreeAt level least (L.standing look.old) (L.words look.old) page }
+        × IsTreeAt level least (L.page_state look.old) (L.words look.old) page }
     ensures page { result.page ≡ page }
     ensures level { result.level ≡ level }
     ensures next { result.next ≡ L.words look.old page 1 }
-    ensures place { IsPlace (L.standing look.old) (L.words look.old) result }
+    ensures place { IsPlace (L.page_state look.old) (L.words look.old) result }
     ensures all { pairs_before (L.words look.old) result ≡ pairs_at level (L.words look.old) page }
-    ensures unchanged { IsUnchanged L.kept L.standing L.words look.old look.new }
+    ensures unchanged { IsUnchanged L.kept L.page_state L.words look.old look.new }
 {
     let count = look.word(page, 1);
     Place {

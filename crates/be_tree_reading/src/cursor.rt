@@ -1,17 +1,17 @@
-//! A cursor among the pairs of a tree.
+//! A cursor among a tree's pairs.
 //!
-//! A cursor keeps the way from the root down to the pair that comes next: for each page on it the
-//! number of the item that comes after those already passed. What it still has to give is the pairs
-//! past the deepest place, then those past the one above it, and so on up to the root. Once a page
-//! is spent, its place is taken off and the walk goes on from the one above. So a step mostly reads
-//! one leaf, and a walk over a whole tree reads each inner page about once. A look-up for each pair
-//! would go down from the root each time.
+//! A cursor keeps the path from the root down to the next pair: for each page on it, the number of
+//! the item after those already passed. It has ahead of it the pairs after the deepest place, then
+//! those after the place above, and so on up to the root. When it has passed all of a page, it
+//! removes the page's place and continues from the one above. So most steps read one leaf, and a
+//! walk over a whole tree reads each inner page about once. A look-up for each pair would go down
+//! from the root every time.
 //!
-//! No page may have more than 12 items, and each but the root has at least 6. So a tree of fewer
-//! than 2^32 pages has no level above 13, and the way down has at most 14 places.
+//! A page has up to 12 items, and each page except the root has at least 6. So a tree with fewer
+//! than 2^32 pages has no level above 13, and a path has at most 14 places.
 ghost use Rattle.std.specs.Prelude.{◌≡◌, ℕ, [], ◌+◌, ◌<◌, ◌≤◌, ◌++◌, length};
 ghost use Rattle.std.specs.Prelude.{option_map, drop, IfNone, IfSome, Some, slice_get};
-ghost use Rattle.be_pages.specs.declared.room.Standing.{Standing as Stands};
+ghost use Rattle.be_pages.specs.declared.room.PageState.{PageState as AnyPageState};
 ghost use Rattle.be_pages.specs.Pages.{IsUnchanged};
 ghost use Rattle.be_tree_reading.specs.Cursor.{IsCursor, IsNextPlace, IsSplit, remaining};
 ghost use Rattle.be_tree_reading.specs.Page.{IsReadableAt, item_at, items_of};
@@ -26,8 +26,8 @@ use crate::walk::{TreeItem, fill_key, key_at};
 use arrayvec::ArrayVec;
 use be_pages::Look;
 
-/// A place in a page of a level: the number of the item that comes next. It is kept small, since a
-/// cursor has room for 14.
+/// A place on a page of a level: the number of the next item. It is kept small, since a cursor has
+/// room for 14.
 #[derive(Clone, Copy)]
 pub(crate) struct Place {
     pub(crate) page: u32,
@@ -45,8 +45,8 @@ impl Default for Place {
     }
 }
 
-/// A place among the pairs of a tree, with the way to it from the root. It serves as long as the
-/// tree's pages keep their words, and takes no memory besides its own 14 places.
+/// A place among a tree's pairs, with the path to it from the root. It is valid as long as the
+/// tree's pages keep their words. It takes no memory beyond its own 14 places.
 #[derive(Drop)]
 pub struct Cursor {
     path: ArrayVec<Place, 14>,
@@ -55,8 +55,8 @@ pub struct Cursor {
 impl Cursor {
     /// A cursor past all pairs.
     pub fn new() -> Cursor
-        ensures cursor { (standing : ℕ → Stands) (words : ℕ → ℕ → ℕ)
-            → IsCursor standing words result }
+        ensures cursor { (page_state : ℕ → AnyPageState) (words : ℕ → ℕ → ℕ)
+            → IsCursor page_state words result }
         ensures remaining { (words : ℕ → ℕ → ℕ) → remaining words result ≡ [] }
     {
         Cursor {
@@ -64,14 +64,14 @@ impl Cursor {
         }
     }
 
-    /// Brings the cursor before the least pair of a tree whose key is at or after `from`; with
-    /// `after` set, strictly after it. It costs one descent.
+    /// Moves the cursor to just before the lowest pair of a tree whose key is at or after `from`;
+    /// with `after` set, strictly after it. It costs one descent.
     pub fn seek<L: Look>(&mut self, look: &mut L, root: u64, from: &[u8], after: bool)
-        requires tree { IsTree (L.standing look.old) (L.words look.old) root }
-        ensures cursor { IsCursor (L.standing look.old) (L.words look.old) self.new }
+        requires tree { IsTree (L.page_state look.old) (L.words look.old) root }
+        ensures cursor { IsCursor (L.page_state look.old) (L.words look.old) self.new }
         ensures remaining { remaining (L.words look.old) self.new
             ≡ pairs_from (pairs (L.words look.old) root) from.now after }
-        ensures unchanged { IsUnchanged L.kept L.standing L.words look.old look.new }
+        ensures unchanged { IsUnchanged L.kept L.page_state L.words look.old look.new }
     {
         if root == 0 {
             self.path.clear();
@@ -85,9 +85,8 @@ impl Cursor {
         });
     }
 
-    /// Goes down to the leaf with the first of the pairs that `seek` brings the cursor before.
-    /// Returns the leaf, and how many of its items are before them; the cursor is past the leaf
-    /// then.
+    /// Goes down to the leaf with the first pair that `seek` moves before. Returns the leaf, and
+    /// how many of its items come before that pair. The cursor is then past the leaf.
     pub(crate) fn descend<L: Look>(
         &mut self,
         look: &mut L,
@@ -95,16 +94,16 @@ impl Cursor {
         from: &[u8],
         after: bool,
     ) -> (u64, usize)
-        requires tree { IsTree (L.standing look.old) (L.words look.old) root }
+        requires tree { IsTree (L.page_state look.old) (L.words look.old) root }
         requires some { 0 < root }
-        ensures leaf { IsTreeAt 0 1 (L.standing look.old) (L.words look.old) result.0 }
+        ensures leaf { IsTreeAt 0 1 (L.page_state look.old) (L.words look.old) result.0 }
         ensures in_range { result.1 ≤ L.words look.old result.0 1 }
         ensures parts { pairs_from (pairs (L.words look.old) root) from.now after
             ≡ drop result.1 (items_of (L.words look.old result.0))
             ++ remaining (L.words look.old) self.new }
         ensures short { length self.new.path.items ≤ 13 }
-        ensures cursor { IsCursor (L.standing look.old) (L.words look.old) self.new }
-        ensures unchanged { IsUnchanged L.kept L.standing L.words look.old look.new }
+        ensures cursor { IsCursor (L.page_state look.old) (L.words look.old) self.new }
+        ensures unchanged { IsUnchanged L.kept L.page_state L.words look.old look.new }
     {
         self.path.clear();
         let first = first_word(from);
@@ -126,16 +125,16 @@ impl Cursor {
         (page, next)
     }
 
-    /// The pair that comes next, and a step past it; None once all were returned. It is the pair
-    /// that `range` returns for the last one's key and `after`, without the descent.
+    /// The next pair; the cursor steps past it. None after the last. It is the pair that `range`
+    /// returns for the last pair's key and `after`, without the descent.
     pub fn next<L: Look>(&mut self, look: &mut L) -> Option<TreeItem>
-        requires cursor { IsCursor (L.standing look.old) (L.words look.old) self.old }
+        requires cursor { IsCursor (L.page_state look.old) (L.words look.old) self.old }
         ensures item { option_map pair_in result
             ≡ slice_get (remaining (L.words look.old) self.old) 0 }
-        ensures cursor { IsCursor (L.standing look.old) (L.words look.old) self.new }
+        ensures cursor { IsCursor (L.page_state look.old) (L.words look.old) self.new }
         ensures remaining { remaining (L.words look.old) self.new
             ≡ drop 1 (remaining (L.words look.old) self.old) }
-        ensures unchanged { IsUnchanged L.kept L.standing L.words look.old look.new }
+        ensures unchanged { IsUnchanged L.kept L.page_state L.words look.old look.new }
     {
         let (page, at) = self.step(look)?;
         let mut item = TreeItem {
@@ -147,31 +146,31 @@ impl Cursor {
         Some(item)
     }
 
-    /// The key of the pair that comes next, and a step past it. No payload is read.
+    /// The next pair's key; the cursor steps past the pair. Reads no payload.
     pub fn next_key<L: Look>(&mut self, look: &mut L) -> Option<ArrayVec<u8, 264>>
-        requires cursor { IsCursor (L.standing look.old) (L.words look.old) self.old }
+        requires cursor { IsCursor (L.page_state look.old) (L.words look.old) self.old }
         ensures key { option_map (λ key. key.items) result
             ≡ option_map (λ x. x.key) (slice_get (remaining (L.words look.old) self.old) 0) }
-        ensures cursor { IsCursor (L.standing look.old) (L.words look.old) self.new }
+        ensures cursor { IsCursor (L.page_state look.old) (L.words look.old) self.new }
         ensures remaining { remaining (L.words look.old) self.new
             ≡ drop 1 (remaining (L.words look.old) self.old) }
-        ensures unchanged { IsUnchanged L.kept L.standing L.words look.old look.new }
+        ensures unchanged { IsUnchanged L.kept L.page_state L.words look.old look.new }
     {
         let (page, at) = self.step(look)?;
         Some(key_at(look, page, at))
     }
 
-    /// Takes the deepest place off the path that has an item left, and with it the deeper ones,
-    /// which have none.
+    /// Removes places from the end of the path up to the deepest one that has an item left, and
+    /// returns that one.
     fn pop_spent<L: Look>(&mut self, look: &mut L) -> Option<Place>
-        requires cursor { IsCursor (L.standing look.old) (L.words look.old) self.old }
+        requires cursor { IsCursor (L.page_state look.old) (L.words look.old) self.old }
         ensures none { IfNone result (remaining (L.words look.old) self.old ≡ []) }
         ensures empty { IfNone result (remaining (L.words look.old) self.new ≡ []) }
-        ensures place { IfSome result (λ place. IsNextPlace (L.standing look.old) (L.words look.old)
-            place self.new) }
+        ensures place { IfSome result (λ place. IsNextPlace (L.page_state look.old)
+            (L.words look.old) place self.new) }
         ensures parts { IfSome result (λ at. IsSplit (L.words look.old) self.old at self.new) }
-        ensures cursor { IsCursor (L.standing look.old) (L.words look.old) self.new }
-        ensures unchanged { IsUnchanged L.kept L.standing L.words look.old look.new }
+        ensures cursor { IsCursor (L.page_state look.old) (L.words look.old) self.new }
+        ensures unchanged { IsUnchanged L.kept L.page_state L.words look.old look.new }
     {
         while let Some(place) = self.path.pop() {
             if (place.next as u64) < look.word(place.page as u64, 1) {
@@ -181,18 +180,18 @@ impl Cursor {
         None
     }
 
-    /// Takes the place of the pair that comes next off the path: a place in a leaf, which has an
+    /// Removes the next pair's place from the path and returns it: a place in a leaf that has an
     /// item left.
     fn take_place<L: Look>(&mut self, look: &mut L) -> Option<Place>
-        requires cursor { IsCursor (L.standing look.old) (L.words look.old) self.old }
+        requires cursor { IsCursor (L.page_state look.old) (L.words look.old) self.old }
         ensures none { IfNone result (remaining (L.words look.old) self.old ≡ []) }
         ensures empty { IfNone result (remaining (L.words look.old) self.new ≡ []) }
-        ensures place { IfSome result (λ place. IsNextPlace (L.standing look.old) (L.words look.old)
-            place self.new) }
+        ensures place { IfSome result (λ place. IsNextPlace (L.page_state look.old)
+            (L.words look.old) place self.new) }
         ensures leaf { IfSome result (λ place. place.level ≡ 0) }
         ensures parts { IfSome result (λ at. IsSplit (L.words look.old) self.old at self.new) }
-        ensures cursor { IsCursor (L.standing look.old) (L.words look.old) self.new }
-        ensures unchanged { IsUnchanged L.kept L.standing L.words look.old look.new }
+        ensures cursor { IsCursor (L.page_state look.old) (L.words look.old) self.new }
+        ensures unchanged { IsUnchanged L.kept L.page_state L.words look.old look.new }
     {
         let mut place = self.pop_spent(look)?;
         while place.level > 0 {
@@ -214,19 +213,18 @@ impl Cursor {
         Some(place)
     }
 
-    /// The page and the place of the item that comes next, and a step past it. Nothing of the item
-    /// is read.
+    /// The next item's page and place; the cursor steps past it. Reads nothing of the item.
     pub fn step<L: Look>(&mut self, look: &mut L) -> Option<(u64, usize)>
-        requires cursor { IsCursor (L.standing look.old) (L.words look.old) self.old }
+        requires cursor { IsCursor (L.page_state look.old) (L.words look.old) self.old }
         ensures none { IfNone result (remaining (L.words look.old) self.old ≡ []) }
         ensures item { IfSome result (λ at. slice_get (remaining (L.words look.old) self.old) 0
             ≡ Some (item_at (L.words look.old at.0) at.1)) }
-        ensures here { IfSome result (λ at. IsReadableAt (L.standing look.old) (L.words look.old)
+        ensures here { IfSome result (λ at. IsReadableAt (L.page_state look.old) (L.words look.old)
             at.0 at.1) }
-        ensures cursor { IsCursor (L.standing look.old) (L.words look.old) self.new }
+        ensures cursor { IsCursor (L.page_state look.old) (L.words look.old) self.new }
         ensures remaining { remaining (L.words look.old) self.new
             ≡ drop 1 (remaining (L.words look.old) self.old) }
-        ensures unchanged { IsUnchanged L.kept L.standing L.words look.old look.new }
+        ensures unchanged { IsUnchanged L.kept L.page_state L.words look.old look.new }
     {
         let place = self.take_place(look)?;
         self.path.push(Place {
@@ -239,26 +237,27 @@ impl Cursor {
         ))
     }
 
-    /// The leaf of the pair that comes next, with the number of the pair's item in it, and a step
-    /// past all of the leaf's pairs.
+    /// The leaf of the next pair, and the number of the pair's item in it. The cursor steps past
+    /// all of the leaf's pairs.
     pub fn step_leaf<L: Look>(&mut self, look: &mut L) -> Option<(u64, usize)>
-        requires cursor { IsCursor (L.standing look.old) (L.words look.old) self.old }
+        requires cursor { IsCursor (L.page_state look.old) (L.words look.old) self.old }
         ensures none { IfNone result (remaining (L.words look.old) self.old ≡ []) }
-        ensures leaf { IfSome result (λ at. IsTreeAt 0 1 (L.standing look.old) (L.words look.old)
+        ensures leaf { IfSome result (λ at. IsTreeAt 0 1 (L.page_state look.old) (L.words look.old)
             at.0) }
         ensures left { IfSome result (λ at. at.1 < L.words look.old at.0 1) }
         ensures parts { IfSome result (λ at. remaining (L.words look.old) self.old
             ≡ drop at.1 (items_of (L.words look.old at.0))
             ++ remaining (L.words look.old) self.new) }
-        ensures cursor { IsCursor (L.standing look.old) (L.words look.old) self.new }
-        ensures unchanged { IsUnchanged L.kept L.standing L.words look.old look.new }
+        ensures cursor { IsCursor (L.page_state look.old) (L.words look.old) self.new }
+        ensures unchanged { IsUnchanged L.kept L.page_state L.words look.old look.new }
     {
         let place = self.take_place(look)?;
         Some((place.page as u64, place.next as usize))
     }
 }
 
-/// How many of a leaf's items come before the pairs at or after a key.
+/// How many of a leaf's items come before the pairs at or after a key; with `after` set, strictly
+/// after it.
 pub(crate) fn leaf_from<L: Look>(
     look: &mut L,
     page: u64,
@@ -266,12 +265,12 @@ pub(crate) fn leaf_from<L: Look>(
     first: u64,
     after: bool,
 ) -> usize
-    requires tree { IsTreeAt 0 1 (L.standing look.old) (L.words look.old) page }
+    requires tree { IsTreeAt 0 1 (L.page_state look.old) (L.words look.old) page }
     requires first { IsFirst from.now first }
     ensures in_range { result ≤ length (items_of (L.words look.old page)) }
     ensures rest { drop result (items_of (L.words look.old page))
         ≡ pairs_from (items_of (L.words look.old page)) from.now after }
-    ensures unchanged { IsUnchanged L.kept L.standing L.words look.old look.new }
+    ensures unchanged { IsUnchanged L.kept L.page_state L.words look.old look.new }
 {
     match search(look, page, from, first) {
         Ok(at) => {

@@ -1,14 +1,14 @@
-//! Reading of B+trees over pages of words.
+//! Reads B+trees that are stored in pages of words.
 //!
 //! # What a tree is
-//! A sorted list of pairs, each a key of at most 264 bytes and a payload. A tree is named by its
-//! root: 0 for the empty tree, otherwise the number of its root's page + 1. A leaf has pairs; an
-//! inner page has branches, each with the least key below it and the number of a page. A page has
-//! at most 12 items, and each but the root has at least 6.
+//! A tree is a sorted list of pairs. A pair is a key of up to 264 bytes and a payload. A tree is
+//! named by its root: 0 for the empty tree, otherwise the number of its root's page + 1. A leaf has
+//! pairs. An inner page has branches, each with the lowest key below it and a page's number. A page
+//! has up to 12 items, and each page except the root has at least 6.
 //!
 //! # What is proved
 //! Reading decodes the list from the words (`specs/Tree.antt`). `find_into`, `range` and `Cursor`
-//! are look-up, next pair and walk on it (`specs/Key.antt`, `specs/Range.antt`,
+//! are look-up, next pair and walk on that list (`specs/Key.antt`, `specs/Range.antt`,
 //! `specs/Cursor.antt`). `Walk` and `numbers_in_order` go over a range of it in either direction
 //! (`specs/Way.antt`, `specs/Walk.antt`). be_tree changes trees.
 #![tactic(auto)]
@@ -31,7 +31,7 @@ pub use lookup::{branch_in, find, find_into, find_place, has_key, is_key_at, ite
 pub use numbers::{first_of, is_past_at, number_at, numbers_within};
 pub use ordered::{first_of_end, is_within, numbers_in_order};
 pub use page::{
-    HEADER_WORDS, ITEM_WORDS, LEAST_ITEMS, LENGTH_BITS, MOST_ITEMS, child_at, extend, fill_bytes,
+    HEADER_WORDS, ITEM_WORDS, LENGTH_BITS, MINIMUM_ITEMS, MOST_ITEMS, child_at, extend, fill_bytes,
     first_word, number_beyond, straddled, word_from,
 };
 pub use payload::{

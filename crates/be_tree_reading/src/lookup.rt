@@ -1,12 +1,14 @@
-//! Look-ups of a key.
+//! Looks up keys.
 //!
-//! On each level the items of one page are compared in place, one after the other. This ends at the
-//! first item whose key is greater, or in a leaf at the one that has the key. A page has up to 12
-//! items, and a processor reads ahead along them, while the steps of a binary search wait for each
-//! other. Mostly the first word after an item's lengths decides. If it is less than the first word
-//! of the key, the item's key is less, however short it is: the bytes after a short key count for
-//! nothing, and the key has zeros there. If it is greater, the item's key may be short, so its
-//! length is read too.
+//! On each level the items of one page are compared in place, one after another. This ends at the
+//! first item with a higher key, or in a leaf at the item that has the key. A page has up to 12
+//! items, and a processor reads ahead along them, while the steps of a binary search wait for one
+//! another.
+//!
+//! Usually the first word after an item's lengths decides. If it is lower than the key's first
+//! word, the item's key is lower, however short it is: the bytes after a short key don't matter,
+//! since the key has zeros there. If it is higher, the item's key may be short, so its length is
+//! read too.
 ghost use Rattle.std.specs.Prelude.{◌≡◌, [], ◌+◌, ◌-◌, ◌<◌, ◌≤◌, true, false, length, option_map};
 ghost use Rattle.std.specs.Prelude.{is_some, IfNone, IfSome, IfOk, IfErr, None, Some};
 ghost use Rattle.std.specs.Prelude.{◌/◌, IsTrue};
@@ -24,22 +26,22 @@ use arrayvec::ArrayVec;
 use be_pages::Look;
 use std::cmp::Ordering;
 
-/// Writes the payload of a key into an empty vector, and returns whether the tree has the key; if
-/// it hasn't, the vector stays empty. It is filled in place, since a vector that is passed by value
-/// costs its whole capacity at each move. It costs one descent.
+/// Writes a key's payload into an empty vector, and returns whether the tree has the key; if it
+/// doesn't, the vector stays empty. The vector is filled in place, since passing one by value costs
+/// its whole capacity at each move. It costs one descent.
 pub fn find_into<L: Look>(
     look: &mut L,
     root: u64,
     key: &[u8],
     payload: &mut ArrayVec<u8, 328>,
 ) -> bool
-    requires tree { IsTree (L.standing look.old) (L.words look.old) root }
+    requires tree { IsTree (L.page_state look.old) (L.words look.old) root }
     requires empty { payload.old.items ≡ [] }
     ensures found { result ≡ true → payload_at (pairs (L.words look.old) root) key.now
         ≡ Some payload.new.items }
     ensures absent { result ≡ false → payload_at (pairs (L.words look.old) root) key.now ≡ None }
     ensures empty { result ≡ false → payload.new.items ≡ [] }
-    ensures unchanged { IsUnchanged L.kept L.standing L.words look.old look.new }
+    ensures unchanged { IsUnchanged L.kept L.page_state L.words look.old look.new }
 {
     let Some((page, at)) = find_place(look, root, key) else {
         return false;
@@ -48,12 +50,12 @@ pub fn find_into<L: Look>(
     true
 }
 
-/// The same, with the payload in a vector of its own.
+/// The same, but returns the payload.
 pub fn find<L: Look>(look: &mut L, root: u64, key: &[u8]) -> Option<ArrayVec<u8, 328>>
-    requires tree { IsTree (L.standing look.old) (L.words look.old) root }
+    requires tree { IsTree (L.page_state look.old) (L.words look.old) root }
     ensures payload { option_map (λ payload. payload.items) result
         ≡ payload_at (pairs (L.words look.old) root) key.now }
-    ensures unchanged { IsUnchanged L.kept L.standing L.words look.old look.new }
+    ensures unchanged { IsUnchanged L.kept L.page_state L.words look.old look.new }
 {
     let mut payload = ArrayVec::new();
     if !find_into(look, root, key, &mut payload) {
@@ -62,26 +64,26 @@ pub fn find<L: Look>(look: &mut L, root: u64, key: &[u8]) -> Option<ArrayVec<u8,
     Some(payload)
 }
 
-/// Whether a key is in the tree. It costs one descent, and reads no payload.
+/// Whether the tree has a key. It costs one descent, and reads no payload.
 pub fn has_key<L: Look>(look: &mut L, root: u64, key: &[u8]) -> bool
-    requires tree { IsTree (L.standing look.old) (L.words look.old) root }
+    requires tree { IsTree (L.page_state look.old) (L.words look.old) root }
     ensures found { result ≡ is_some (payload_at (pairs (L.words look.old) root) key.now) }
-    ensures unchanged { IsUnchanged L.kept L.standing L.words look.old look.new }
+    ensures unchanged { IsUnchanged L.kept L.page_state L.words look.old look.new }
 {
     find_place(look, root, key).is_some()
 }
 
-/// The page and the place of the item that has this key, for callers that read its payload in place
-/// (`payload_number_at` and its like). It costs one descent.
+/// The page and place of the item with this key, for callers that read its payload in place (with
+/// `payload_number_at` and the like). It costs one descent.
 pub fn find_place<L: Look>(look: &mut L, root: u64, key: &[u8]) -> Option<(u64, usize)>
-    requires tree { IsTree (L.standing look.old) (L.words look.old) root }
+    requires tree { IsTree (L.page_state look.old) (L.words look.old) root }
     ensures none { IfNone result (payload_at (pairs (L.words look.old) root) key.now ≡ None) }
     ensures some { IfSome result (λ at. payload_at (pairs (L.words look.old) root) key.now
         ≡ Some (item_at (L.words look.old at.0) at.1).payload) }
-    ensures readable { IfSome result (λ at. IsTrue (is_readable (L.standing look.old at.0))) }
+    ensures readable { IfSome result (λ at. IsTrue (is_readable (L.page_state look.old at.0))) }
     ensures in_page { IfSome result (λ at. at.1 + 42 ≤ 512) }
     ensures fits { IfSome result (λ at. IsItem (L.words look.old at.0) at.1) }
-    ensures unchanged { IsUnchanged L.kept L.standing L.words look.old look.new }
+    ensures unchanged { IsUnchanged L.kept L.page_state L.words look.old look.new }
 {
     if root == 0 {
         return None;
@@ -100,25 +102,25 @@ pub fn find_place<L: Look>(look: &mut L, root: u64, key: &[u8]) -> Option<(u64, 
     }
 }
 
-/// Whether the item at a place of a page, which `Cursor::step` returned, has this key. They are
-/// compared in place.
+/// Whether the item at this place of a page, which `Cursor::step` returned, has this key. Compares
+/// them in place.
 pub fn is_key_at<L: Look>(look: &mut L, page: u64, at: usize, key: &[u8]) -> bool
-    requires readable { IsTrue (is_readable (L.standing look.old page)) }
+    requires readable { IsTrue (is_readable (L.page_state look.old page)) }
     requires in_page { at + 42 ≤ 512 }
     requires item { IsItem (L.words look.old page) at }
     ensures same { result ≡ is_eq (key_cmp (item_at (L.words look.old page) at).key key.now) }
-    ensures unchanged { IsUnchanged L.kept L.standing L.words look.old look.new }
+    ensures unchanged { IsUnchanged L.kept L.page_state L.words look.old look.new }
 {
     cmp_at(look, page, at, key).is_eq()
 }
 
-/// How many of a page's items have keys that are not greater than a key. Of most items it reads one
+/// How many of a page's items have keys that aren't higher than a key. For most items it reads one
 /// word.
 pub(crate) fn rank<L: Look>(look: &mut L, page: u64, key: &[u8]) -> usize
-    requires readable { IsTrue (is_readable (L.standing look.old page)) }
+    requires readable { IsTrue (is_readable (L.page_state look.old page)) }
     requires page { IsPage (L.words look.old page) }
     ensures rank { IsRank key.now (items_of (L.words look.old page)) result }
-    ensures unchanged { IsUnchanged L.kept L.standing L.words look.old look.new }
+    ensures unchanged { IsUnchanged L.kept L.page_state L.words look.old look.new }
 {
     let first = first_word(key);
     let count = look.word(page, 1) as usize;
@@ -130,18 +132,18 @@ pub(crate) fn rank<L: Look>(look: &mut L, page: u64, key: &[u8]) -> usize
     count
 }
 
-/// The end of a page's items.
+/// The place where a page's items end.
 #[inline(always)]
 pub(crate) fn end_of<L: Look>(look: &mut L, page: u64) -> usize
-    requires readable { IsTrue (is_readable (L.standing look.old page)) }
+    requires readable { IsTrue (is_readable (L.page_state look.old page)) }
     requires page { IsPage (L.words look.old page) }
     ensures end { result ≡ item_place (L.words look.old page 1) }
-    ensures unchanged { IsUnchanged L.kept L.standing L.words look.old look.new }
+    ensures unchanged { IsUnchanged L.kept L.page_state L.words look.old look.new }
 {
     HEADER_WORDS + ITEM_WORDS * look.word(page, 1) as usize
 }
 
-/// The number of the item at a place of a page.
+/// The number of the item at this place of a page.
 pub fn item_number(at: usize) -> usize
     requires { 2 ≤ at }
     ensures { result ≡ (at - 2) / 42 }
@@ -149,22 +151,22 @@ pub fn item_number(at: usize) -> usize
     (at - HEADER_WORDS) / ITEM_WORDS
 }
 
-/// The place of the branch below which a key belongs, as `branch_for` finds it.
+/// The place of the branch that a key belongs below, as `branch_for` finds it.
 #[inline(always)]
 pub fn branch_in<L: Look>(look: &mut L, page: u64, key: &[u8], first: u64) -> usize
-    requires readable { IsTrue (is_readable (L.standing look.old page)) }
+    requires readable { IsTrue (is_readable (L.page_state look.old page)) }
     requires page { IsPage (L.words look.old page) }
     requires some { 0 < L.words look.old page 1 }
     requires first { IsFirst key.now first }
     ensures branch { IsBranchAt key.now (items_of (L.words look.old page)) result }
-    ensures unchanged { IsUnchanged L.kept L.standing L.words look.old look.new }
+    ensures unchanged { IsUnchanged L.kept L.page_state L.words look.old look.new }
 {
     let end = end_of(look, page);
     branch_for(look, page, end, key, first)
 }
 
-/// The place of the branch below which a key belongs, on a page whose items end at `end`: the last
-/// one whose key is not greater, or the first one. So the first one's key isn't read.
+/// The place of the branch that a key belongs below, on a page whose items end at `end`. It is the
+/// last branch whose key isn't higher, or the first branch, whose key is therefore never read.
 #[inline(always)]
 pub(crate) fn branch_for<L: Look>(
     look: &mut L,
@@ -173,13 +175,13 @@ pub(crate) fn branch_for<L: Look>(
     key: &[u8],
     first: u64,
 ) -> usize
-    requires readable { IsTrue (is_readable (L.standing look.old page)) }
+    requires readable { IsTrue (is_readable (L.page_state look.old page)) }
     requires page { IsPage (L.words look.old page) }
     requires some { 0 < L.words look.old page 1 }
     requires end { end ≡ item_place (L.words look.old page 1) }
     requires first { IsFirst key.now first }
     ensures branch { IsBranchAt key.now (items_of (L.words look.old page)) result }
-    ensures unchanged { IsUnchanged L.kept L.standing L.words look.old look.new }
+    ensures unchanged { IsUnchanged L.kept L.page_state L.words look.old look.new }
 {
     let mut at = HEADER_WORDS + ITEM_WORDS;
     while at < end {
@@ -191,16 +193,16 @@ pub(crate) fn branch_for<L: Look>(
     at - ITEM_WORDS
 }
 
-/// The place of a key among a page's items: that of the item that has it, or the one after those
-/// with lesser keys.
+/// The place of a key among a page's items: that of the item that has it, otherwise the one after
+/// those with lower keys.
 #[inline(always)]
 pub fn search<L: Look>(look: &mut L, page: u64, key: &[u8], first: u64) -> Result<usize, usize>
-    requires readable { IsTrue (is_readable (L.standing look.old page)) }
+    requires readable { IsTrue (is_readable (L.page_state look.old page)) }
     requires page { IsPage (L.words look.old page) }
     requires first { IsFirst key.now first }
     ensures found { IfOk result (IsFoundAt key.now (L.words look.old page)) }
     ensures absent { IfErr result (IsGapAt key.now (L.words look.old page)) }
-    ensures unchanged { IsUnchanged L.kept L.standing L.words look.old look.new }
+    ensures unchanged { IsUnchanged L.kept L.page_state L.words look.old look.new }
 {
     let end = end_of(look, page);
     let mut at = HEADER_WORDS;
@@ -217,43 +219,43 @@ pub fn search<L: Look>(look: &mut L, page: u64, key: &[u8], first: u64) -> Resul
     Err(at)
 }
 
-/// Whether the key of the item at a place is greater than a key whose first word is at hand.
+/// Whether the key of the item at this place is higher than a key whose first word is `first`.
 #[inline(always)]
 pub(crate) fn is_above<L: Look>(look: &mut L, page: u64, at: usize, key: &[u8], first: u64) -> bool
-    requires readable { IsTrue (is_readable (L.standing look.old page)) }
+    requires readable { IsTrue (is_readable (L.page_state look.old page)) }
     requires in_page { at + 42 ≤ 512 }
     requires item { IsItem (L.words look.old page) at }
     requires first { IsFirst key.now first }
     ensures above { result ≡ is_gt (key_cmp (item_at (L.words look.old page) at).key key.now) }
-    ensures unchanged { IsUnchanged L.kept L.standing L.words look.old look.new }
+    ensures unchanged { IsUnchanged L.kept L.page_state L.words look.old look.new }
 {
     order_at(look, page, at, key, first).is_gt()
 }
 
-/// Whether the key of the item at a place is less than a key whose first word is at hand.
+/// Whether the key of the item at this place is lower than a key whose first word is `first`.
 #[inline(always)]
 pub(crate) fn is_below<L: Look>(look: &mut L, page: u64, at: usize, key: &[u8], first: u64) -> bool
-    requires readable { IsTrue (is_readable (L.standing look.old page)) }
+    requires readable { IsTrue (is_readable (L.page_state look.old page)) }
     requires in_page { at + 42 ≤ 512 }
     requires item { IsItem (L.words look.old page) at }
     requires first { IsFirst key.now first }
     ensures below { result ≡ is_lt (key_cmp (item_at (L.words look.old page) at).key key.now) }
-    ensures unchanged { IsUnchanged L.kept L.standing L.words look.old look.new }
+    ensures unchanged { IsUnchanged L.kept L.page_state L.words look.old look.new }
 {
     order_at(look, page, at, key, first).is_lt()
 }
 
-/// How the key of the item at a place compares with a key whose first word is at hand: mostly this
-/// decides. If it is the same, the second words are next. Keys of less than a word are compared
-/// elsewhere.
+/// How the key of the item at this place compares with a key whose first word is `first`. Usually
+/// the first words decide. If they are equal, the second words come next. `cmp_at` compares keys
+/// that are shorter than a word.
 #[inline(always)]
 fn order_at<L: Look>(look: &mut L, page: u64, at: usize, key: &[u8], first: u64) -> Ordering
-    requires readable { IsTrue (is_readable (L.standing look.old page)) }
+    requires readable { IsTrue (is_readable (L.page_state look.old page)) }
     requires in_page { at + 42 ≤ 512 }
     requires item { IsItem (L.words look.old page) at }
     requires first { IsFirst key.now first }
     ensures order { result ≡ key_cmp (item_at (L.words look.old page) at).key key.now }
-    ensures unchanged { IsUnchanged L.kept L.standing L.words look.old look.new }
+    ensures unchanged { IsUnchanged L.kept L.page_state L.words look.old look.new }
 {
     let mine = look.word(page, at + 1);
     if mine < first {

@@ -1,9 +1,9 @@
-//! The numbers that keys end with.
+//! The numbers at the ends of keys.
 //!
-//! An index has a key for each of its entries, whose last eight bytes say whose entry it is. A
-//! reader that needs just these numbers of a range of keys gets them here: the words of each key
-//! are compared with the bound in place, and no key is unpacked. Of the leaves after the first, the
-//! last key is compared before the others: if it isn't above the bound, none of its leaf is.
+//! An index has a key for each of its entries, and the key's last eight bytes are the entry's node.
+//! A reader that needs only these numbers for a range of keys gets them here: each key's words are
+//! compared with the bound in place, and no key is unpacked. In leaves after the first, the last
+//! key is compared before the others: if it isn't above the bound, no key of its leaf is.
 ghost use Rattle.std.specs.Prelude.{◌≡◌, ◌+◌, ◌<◌, ◌≤◌, ◌++◌, [], List, true, false, IsTrue, IfOk};
 ghost use Rattle.std.specs.Prelude.{OnOk, length, drop};
 ghost use Rattle.std.specs.List.{list_any};
@@ -25,16 +25,16 @@ use crate::walk::key_at;
 use be_pages::Look;
 use std::alloc::AllocError;
 
-/// A branch by its place in a page: the one after a leaf, which has the least key after the leaf.
-/// At place 0 no key is after it.
+/// A branch by its place on a page: the one after a leaf, which has the lowest key after the leaf.
+/// Place 0 means that no key comes after it.
 #[derive(Clone, Copy)]
 struct NextBranch {
     page: u64,
     place: usize,
 }
 
-/// The leaf in which the keys from one on begin, the place of the first of them, which may be the
-/// end of the leaf's items, and the branch after the leaf.
+/// The leaf in which the keys from some key on begin, the place of the first of them, and the
+/// branch after the leaf. The place may be the end of the leaf's items.
 #[derive(Clone, Copy)]
 struct FirstLeaf {
     page: u64,
@@ -42,9 +42,9 @@ struct FirstLeaf {
     next: NextBranch,
 }
 
-/// Adds the numbers in the last eight bytes of the keys from `low` to `high`, both included, or to
-/// the last key, in the order of the keys. It costs one descent, or two if more than a leaf has
-/// such keys, and reads a few words for each key.
+/// Adds the numbers in the last eight bytes of some keys, in the keys' order: from `low` to `high`,
+/// both included, or to the last key. It costs one descent, or two if more than one leaf has such
+/// keys, and reads a few words for each key.
 pub fn numbers_within<L: Look>(
     look: &mut L,
     root: u64,
@@ -52,7 +52,7 @@ pub fn numbers_within<L: Look>(
     high: Option<&[u8]>,
     found: &mut Vec<u64>,
 ) -> Result<(), AllocError>
-    requires tree { IsTree (L.standing look.old) (L.words look.old) root }
+    requires tree { IsTree (L.page_state look.old) (L.words look.old) root }
     requires long { AreLong (pairs (L.words look.old) root) }
     ensures first { HasFirst found.old.items
         (numbers_to (pairs_from (pairs (L.words look.old) root) low.now false)
@@ -60,7 +60,7 @@ pub fn numbers_within<L: Look>(
     ensures found { OnOk result (found.new.items
         ≡ found.old.items ++ numbers_to (pairs_from (pairs (L.words look.old) root) low.now false)
         (option_copied high.entry)) }
-    ensures unchanged { IsUnchanged L.kept L.standing L.words look.old look.new }
+    ensures unchanged { IsUnchanged L.kept L.page_state L.words look.old look.new }
 {
     if root == 0 {
         return Ok(());
@@ -77,17 +77,18 @@ pub fn numbers_within<L: Look>(
     push_past(look, root, leaf, low, high, found)
 }
 
-/// The leaf in which the keys from one on begin.
+/// The leaf in which the keys from `low` on begin.
 #[inline(always)]
 fn first_leaf<L: Look>(look: &mut L, root: u64, low: &[u8]) -> FirstLeaf
-    requires tree { IsTree (L.standing look.old) (L.words look.old) root }
+    requires tree { IsTree (L.page_state look.old) (L.words look.old) root }
     requires some { 0 < root }
-    ensures leaf { IsTreeAt 0 1 (L.standing look.old) (L.words look.old) result.page }
+    ensures leaf { IsTreeAt 0 1 (L.page_state look.old) (L.words look.old) result.page }
     ensures from { (rest : List Pair) ×
         (AreFrom (L.words look.old) result.page result.at
         (pairs_from (pairs (L.words look.old) root) low.now false) rest
-        × IsNext (L.standing look.old) (L.words look.old) result.next.page result.next.place rest) }
-    ensures unchanged { IsUnchanged L.kept L.standing L.words look.old look.new }
+        × IsNext (L.page_state look.old) (L.words look.old) result.next.page result.next.place
+        rest) }
+    ensures unchanged { IsUnchanged L.kept L.page_state L.words look.old look.new }
 {
     let first = first_word(low);
     let mut page = root - 1;
@@ -104,7 +105,7 @@ fn first_leaf<L: Look>(look: &mut L, root: u64, low: &[u8]) -> FirstLeaf
     FirstLeaf { page, at, next }
 }
 
-/// The branch at a place of a page, unless the items end there: then the one that was found above.
+/// The branch at this place of a page; if the items end there, the branch found on a level above.
 #[inline(always)]
 fn next_of(page: u64, place: usize, end: usize, above: NextBranch) -> NextBranch
     ensures here { place < end → result ≡ record { page = page; place = place } }
@@ -117,14 +118,14 @@ fn next_of(page: u64, place: usize, end: usize, above: NextBranch) -> NextBranch
     }
 }
 
-/// The place of the first of a leaf's keys that isn't less than a key, or the end of its items.
+/// The place of the first of a leaf's keys that isn't lower than a key, or the end of its items.
 #[inline(always)]
 fn first_from<L: Look>(look: &mut L, page: u64, low: &[u8], first: u64) -> usize
-    requires leaf { IsTreeAt 0 1 (L.standing look.old) (L.words look.old) page }
+    requires leaf { IsTreeAt 0 1 (L.page_state look.old) (L.words look.old) page }
     requires first { IsFirst low.now first }
     ensures from { AreFrom (L.words look.old) page result
         (pairs_from (items_of (L.words look.old page)) low.now false) [] }
-    ensures unchanged { IsUnchanged L.kept L.standing L.words look.old look.new }
+    ensures unchanged { IsUnchanged L.kept L.page_state L.words look.old look.new }
 {
     match search(look, page, low, first) {
         Ok(at) => at,
@@ -132,15 +133,15 @@ fn first_from<L: Look>(look: &mut L, page: u64, low: &[u8], first: u64) -> usize
     }
 }
 
-/// Whether none of the keys from a branch on is within the bound.
+/// Whether all keys from a branch on are above the bound.
 #[inline(always)]
 fn ends_before<L: Look>(look: &mut L, next: NextBranch, high: Option<&[u8]>) -> bool
     requires next { (rest : List Pair)
-        × IsNext (L.standing look.old) (L.words look.old) next.page next.place rest }
+        × IsNext (L.page_state look.old) (L.words look.old) next.page next.place rest }
     ensures none { result ≡ true → (rest : List Pair)
-        → IsNext (L.standing look.old) (L.words look.old) next.page next.place rest →
+        → IsNext (L.page_state look.old) (L.words look.old) next.page next.place rest →
         numbers_to rest (option_copied high.entry) ≡ [] }
-    ensures unchanged { IsUnchanged L.kept L.standing L.words look.old look.new }
+    ensures unchanged { IsUnchanged L.kept L.page_state L.words look.old look.new }
 {
     if next.place == 0 {
         return true;
@@ -148,8 +149,7 @@ fn ends_before<L: Look>(look: &mut L, next: NextBranch, high: Option<&[u8]>) -> 
     is_past_at(look, next.page, next.place, high, first_of(high))
 }
 
-/// Adds the numbers of the keys after the leaf in which the keys from one on begin, up to the
-/// bound.
+/// Adds the numbers of the keys after the first leaf, up to the bound.
 #[inline(never)]
 fn push_past<L: Look>(
     look: &mut L,
@@ -159,9 +159,9 @@ fn push_past<L: Look>(
     high: Option<&[u8]>,
     found: &mut Vec<u64>,
 ) -> Result<(), AllocError>
-    requires tree { IsTree (L.standing look.old) (L.words look.old) root }
+    requires tree { IsTree (L.page_state look.old) (L.words look.old) root }
     requires long { AreLong (pairs (L.words look.old) root) }
-    requires leaf { IsTreeAt 0 1 (L.standing look.old) (L.words look.old) leaf.page }
+    requires leaf { IsTreeAt 0 1 (L.page_state look.old) (L.words look.old) leaf.page }
     requires from { (rest : List Pair)
         × AreFrom (L.words look.old) leaf.page leaf.at
         (pairs_from (pairs (L.words look.old) root) low.now false) rest }
@@ -173,27 +173,27 @@ fn push_past<L: Look>(
         → AreFrom (L.words look.old) leaf.page leaf.at
         (pairs_from (pairs (L.words look.old) root) low.now false) rest →
         found.new.items ≡ found.old.items ++ numbers_to rest (option_copied high.entry)) }
-    ensures unchanged { IsUnchanged L.kept L.standing L.words look.old look.new }
+    ensures unchanged { IsUnchanged L.kept L.page_state L.words look.old look.new }
 {
     let mut cursor = Cursor::new();
     seek_past(look, root, leaf, low, &mut cursor);
     push_rest(look, &mut cursor, high, found)
 }
 
-/// Brings a cursor after the leaf in which the keys from one on begin: after its last key, or if
-/// none of them is in it, before the first of them.
+/// Moves a cursor past the first leaf: after its last key, or, if the leaf has none of the keys,
+/// before the first of them.
 fn seek_past<L: Look>(look: &mut L, root: u64, leaf: FirstLeaf, low: &[u8], cursor: &mut Cursor)
-    requires tree { IsTree (L.standing look.old) (L.words look.old) root }
-    requires leaf { IsTreeAt 0 1 (L.standing look.old) (L.words look.old) leaf.page }
+    requires tree { IsTree (L.page_state look.old) (L.words look.old) root }
+    requires leaf { IsTreeAt 0 1 (L.page_state look.old) (L.words look.old) leaf.page }
     requires from { (rest : List Pair)
         × AreFrom (L.words look.old) leaf.page leaf.at
         (pairs_from (pairs (L.words look.old) root) low.now false) rest }
-    ensures cursor { IsCursor (L.standing look.old) (L.words look.old) cursor.new }
+    ensures cursor { IsCursor (L.page_state look.old) (L.words look.old) cursor.new }
     ensures remaining { (rest : List Pair)
         → AreFrom (L.words look.old) leaf.page leaf.at
         (pairs_from (pairs (L.words look.old) root) low.now false) rest →
         remaining (L.words look.old) cursor.new ≡ rest }
-    ensures unchanged { IsUnchanged L.kept L.standing L.words look.old look.new }
+    ensures unchanged { IsUnchanged L.kept L.page_state L.words look.old look.new }
 {
     let end = end_of(look, leaf.page);
     if leaf.at < end {
@@ -204,14 +204,14 @@ fn seek_past<L: Look>(look: &mut L, root: u64, leaf: FirstLeaf, low: &[u8], curs
     }
 }
 
-/// Adds the numbers of the keys after a cursor, up to the bound, leaf by leaf.
+/// Adds the numbers of the keys that a cursor has ahead, up to the bound, leaf by leaf.
 fn push_rest<L: Look>(
     look: &mut L,
     cursor: &mut Cursor,
     high: Option<&[u8]>,
     found: &mut Vec<u64>,
 ) -> Result<(), AllocError>
-    requires cursor { IsCursor (L.standing look.old) (L.words look.old) cursor.old }
+    requires cursor { IsCursor (L.page_state look.old) (L.words look.old) cursor.old }
     requires long { AreLong (remaining (L.words look.old) cursor.old) }
     ensures first { HasFirst found.old.items
         (numbers_to (remaining (L.words look.old) cursor.old) (option_copied high.entry))
@@ -219,7 +219,7 @@ fn push_rest<L: Look>(
     ensures found { OnOk result (found.new.items
         ≡ found.old.items ++ numbers_to (remaining (L.words look.old) cursor.old)
         (option_copied high.entry)) }
-    ensures unchanged { IsUnchanged L.kept L.standing L.words look.old look.new }
+    ensures unchanged { IsUnchanged L.kept L.page_state L.words look.old look.new }
 {
     'leaves: while let Some((page, from)) = cursor.step_leaf(look) {
         let is_last = push_leaf(look, page, from, high, found)?;
@@ -230,8 +230,8 @@ fn push_rest<L: Look>(
     Ok(())
 }
 
-/// Adds the numbers of a leaf's keys, from the item of a number on, up to the bound, and returns
-/// whether a key is above it. If the last key isn't, no other is compared.
+/// Adds the numbers of a leaf's keys, from the item with this number on, up to the bound. Returns
+/// whether a key is above the bound. If the last key isn't, no other is compared.
 fn push_leaf<L: Look>(
     look: &mut L,
     page: u64,
@@ -239,7 +239,7 @@ fn push_leaf<L: Look>(
     high: Option<&[u8]>,
     found: &mut Vec<u64>,
 ) -> Result<bool, AllocError>
-    requires leaf { IsTreeAt 0 1 (L.standing look.old) (L.words look.old) page }
+    requires leaf { IsTreeAt 0 1 (L.page_state look.old) (L.words look.old) page }
     requires left { from < L.words look.old page 1 }
     requires long { AreLong (drop from (items_of (L.words look.old page))) }
     ensures first { HasFirst found.old.items
@@ -251,7 +251,7 @@ fn push_leaf<L: Look>(
     ensures past { IfOk result (λ past. past
         ≡ list_any (λ x. is_past (option_copied high.entry) x.key)
         (drop from (items_of (L.words look.old page)))) }
-    ensures unchanged { IsUnchanged L.kept L.standing L.words look.old look.new }
+    ensures unchanged { IsUnchanged L.kept L.page_state L.words look.old look.new }
 {
     let count = look.word(page, 1) as usize;
     let last = HEADER_WORDS + ITEM_WORDS * (count - 1);
@@ -263,8 +263,8 @@ fn push_leaf<L: Look>(
     }
 }
 
-/// Adds the numbers of a leaf's keys, from the item at a place on, up to the bound, and returns
-/// whether a key is above it.
+/// Adds the numbers of a leaf's keys, from the item at this place on, up to the bound. Returns
+/// whether a key is above the bound.
 #[inline(always)]
 fn push_to<L: Look>(
     look: &mut L,
@@ -273,7 +273,7 @@ fn push_to<L: Look>(
     high: Option<&[u8]>,
     found: &mut Vec<u64>,
 ) -> Result<bool, AllocError>
-    requires leaf { IsTreeAt 0 1 (L.standing look.old) (L.words look.old) page }
+    requires leaf { IsTreeAt 0 1 (L.page_state look.old) (L.words look.old) page }
     requires place { from ≡ item_place (number_at_place from) }
     requires in_range { number_at_place from ≤ L.words look.old page 1 }
     requires long { AreLong (drop (number_at_place from) (items_of (L.words look.old page))) }
@@ -286,7 +286,7 @@ fn push_to<L: Look>(
     ensures past { IfOk result (λ past. past
         ≡ list_any (λ x. is_past (option_copied high.entry) x.key)
         (drop (number_at_place from) (items_of (L.words look.old page)))) }
-    ensures unchanged { IsUnchanged L.kept L.standing L.words look.old look.new }
+    ensures unchanged { IsUnchanged L.kept L.page_state L.words look.old look.new }
 {
     let first = first_of(high);
     let end = end_of(look, page);
@@ -312,7 +312,7 @@ pub fn first_of(high: Option<&[u8]>) -> u64
     }
 }
 
-/// Whether the key of the item at a place is above the bound, whose first word is at hand.
+/// Whether the key of the item at this place is above the bound, whose first word is `first`.
 #[inline(always)]
 pub fn is_past_at<L: Look>(
     look: &mut L,
@@ -321,13 +321,13 @@ pub fn is_past_at<L: Look>(
     high: Option<&[u8]>,
     first: u64,
 ) -> bool
-    requires readable { IsTrue (is_readable (L.standing look.old page)) }
+    requires readable { IsTrue (is_readable (L.page_state look.old page)) }
     requires in_page { at + 42 ≤ 512 }
     requires item { IsItem (L.words look.old page) at }
     requires first { IsFirstOf (option_copied high) first }
     ensures past { result ≡ is_past (option_copied high.entry)
         (item_at (L.words look.old page) at).key }
-    ensures unchanged { IsUnchanged L.kept L.standing L.words look.old look.new }
+    ensures unchanged { IsUnchanged L.kept L.page_state L.words look.old look.new }
 {
     match high {
         Some(high) => is_above(look, page, at, high, first),
@@ -335,15 +335,15 @@ pub fn is_past_at<L: Look>(
     }
 }
 
-/// The number in the last eight bytes of the key of the item at a place.
+/// The number in the last eight bytes of the key of the item at this place.
 #[inline(always)]
 pub fn number_at<L: Look>(look: &mut L, page: u64, at: usize) -> u64
-    requires readable { IsTrue (is_readable (L.standing look.old page)) }
+    requires readable { IsTrue (is_readable (L.page_state look.old page)) }
     requires in_page { at + 42 ≤ 512 }
     requires item { IsItem (L.words look.old page) at }
     requires long { 8 ≤ length (item_at (L.words look.old page) at).key }
     ensures number { result ≡ number_of (item_at (L.words look.old page) at).key }
-    ensures unchanged { IsUnchanged L.kept L.standing L.words look.old look.new }
+    ensures unchanged { IsUnchanged L.kept L.page_state L.words look.old look.new }
 {
     let key_len = (look.word(page, at) >> LENGTH_BITS) as usize;
     number_beyond(look, page, at + key_len / 8, key_len % 8)

@@ -1,8 +1,8 @@
-//! Numbers in the order of the keys that they end, or in the reverse order, up to so many.
+//! The numbers at the ends of keys, in the keys' order or in reverse, up to a limit.
 //!
-//! Of each leaf that a walk comes to, the last key that may still be wanted is compared with the
-//! end of the range: mostly it is within, and the numbers of all are added without a look at the
-//! other keys.
+//! In each leaf that a walk reaches, the last key that may still be wanted is compared with the end
+//! of the range. Usually it is within, and all these numbers are added without reading the other
+//! keys.
 ghost use Rattle.std.specs.Prelude.{◌≡◌, ℕ, List, [], ◌+◌, ◌-◌, ◌<◌, ◌≤◌, ◌++◌, length, take, true};
 ghost use Rattle.std.specs.Prelude.{false, IfOk, IsTrue, OnOk, slice_index_or};
 ghost use Rattle.be_pages.specs.Pages.{IsUnchanged, is_readable};
@@ -17,22 +17,22 @@ ghost use Rattle.be_tree_reading.specs.Words.{IsFirstOf};
 
 use crate::lookup::is_below;
 use crate::numbers::{first_of, is_past_at, number_at};
-use crate::page::{first_word, least_of};
+use crate::page::{first_word, smaller_of};
 use crate::way::{Leaf, Walk, Way};
 use be_pages::Look;
 use std::alloc::AllocError;
 
-/// How many of a leaf's items are taken, and how many are wanted of later leaves.
+/// How many of a leaf's items are taken, and how many are still wanted after that.
 #[derive(Clone, Copy)]
 struct Run {
     count: usize,
     want: usize,
 }
 
-/// Adds the number in the last eight bytes of each key of a range, in the order of a walk over it,
-/// up to `most` of them. Returns the page and the place of the last key whose number was added, or
-/// None if there was none. It costs one descent, a comparison for each leaf, and a few words for
-/// each number.
+/// Walks over a range of keys. In the walk's order it adds the number in the last eight bytes of
+/// each key, up to `most`. Returns the page and place of the last key whose number was added, if
+/// there is one. It costs one descent, one comparison for each leaf, and a few words for each
+/// number.
 pub fn numbers_in_order<L: Look>(
     look: &mut L,
     root: u64,
@@ -40,23 +40,23 @@ pub fn numbers_in_order<L: Look>(
     most: usize,
     found: &mut Vec<u64>,
 ) -> Result<Option<(u64, usize)>, AllocError>
-    requires tree { IsTree (L.standing look.old) (L.words look.old) root }
+    requires tree { IsTree (L.page_state look.old) (L.words look.old) root }
     requires long { AreLong (pairs (L.words look.old) root) }
     ensures first { HasFirst found.old.items
         (numbers_in (take most (walk_of way.entry (pairs (L.words look.old) root))))
         found.new.items }
     ensures found { OnOk result (found.new.items ≡ found.old.items
         ++ numbers_in (take most (walk_of way.entry (pairs (L.words look.old) root)))) }
-    ensures last { IfOk result (λ last. IsLastOf (L.standing look.old) (L.words look.old) last
+    ensures last { IfOk result (λ last. IsLastOf (L.page_state look.old) (L.words look.old) last
         (take most (walk_of way.entry (pairs (L.words look.old) root)))) }
-    ensures unchanged { IsUnchanged L.kept L.standing L.words look.old look.new }
+    ensures unchanged { IsUnchanged L.kept L.page_state L.words look.old look.new }
 {
     let mut walk = Walk::begin(look, root, way);
     push_ahead(look, &mut walk, way, most, found)
 }
 
 /// Adds the numbers of the keys that a walk has ahead, up to the end of its range and up to `most`
-/// of them. Returns the place of the last key.
+/// of them. Returns the last key's place.
 fn push_ahead<L: Look>(
     look: &mut L,
     walk: &mut Walk,
@@ -64,7 +64,7 @@ fn push_ahead<L: Look>(
     most: usize,
     found: &mut Vec<u64>,
 ) -> Result<Option<(u64, usize)>, AllocError>
-    requires walk { IsWalk (L.standing look.old) (L.words look.old) walk.old }
+    requires walk { IsWalk (L.page_state look.old) (L.words look.old) walk.old }
     requires back { walk.old.back ≡ way.back }
     requires long { AreLong (ahead (L.words look.old) walk.old) }
     requires ends { StaysFalse (is_on_way way) (ahead (L.words look.old) walk.old) }
@@ -73,9 +73,9 @@ fn push_ahead<L: Look>(
         found.new.items }
     ensures found { OnOk result (found.new.items ≡ found.old.items
         ++ numbers_in (take most (on_way way.entry (ahead (L.words look.old) walk.old)))) }
-    ensures last { IfOk result (λ last. IsLastOf (L.standing look.old) (L.words look.old) last
+    ensures last { IfOk result (λ last. IsLastOf (L.page_state look.old) (L.words look.old) last
         (take most (on_way way.entry (ahead (L.words look.old) walk.old)))) }
-    ensures unchanged { IsUnchanged L.kept L.standing L.words look.old look.new }
+    ensures unchanged { IsUnchanged L.kept L.page_state L.words look.old look.new }
 {
     let first = first_of_end(way);
     let mut last = None;
@@ -96,10 +96,10 @@ fn push_ahead<L: Look>(
     Ok(last)
 }
 
-/// How many of the items that a walk has ahead in a leaf are within its range, up to `want`; and
-/// how many are wanted after them, which is none if the range ends in this leaf.
+/// How many of the items that a walk has ahead in a leaf are within its range, up to `want`. And
+/// how many are still wanted after them: none if the range ends in this leaf.
 fn run_in<L: Look>(look: &mut L, leaf: Leaf, way: Way<'_>, first: u64, want: usize) -> Run
-    requires leaf { IsLeaf (L.standing look.old) (L.words look.old) leaf }
+    requires leaf { IsLeaf (L.page_state look.old) (L.words look.old) leaf }
     requires back { leaf.back ≡ way.back }
     requires first { IsFirstOf (end_of_way way) first }
     requires some { 0 < length (items_ahead (L.words look.old) leaf) }
@@ -112,10 +112,10 @@ fn run_in<L: Look>(look: &mut L, leaf: Leaf, way: Way<'_>, first: u64, want: usi
         → take want (on_way way.entry (items_ahead (L.words look.old) leaf ++ rest))
         ≡ take result.count (items_ahead (L.words look.old) leaf)
         ++ take result.want (on_way way.entry rest) }
-    ensures unchanged { IsUnchanged L.kept L.standing L.words look.old look.new }
+    ensures unchanged { IsUnchanged L.kept L.page_state L.words look.old look.new }
 {
     let ahead = leaf.count(look);
-    let most = least_of(ahead, want);
+    let most = smaller_of(ahead, want);
     let count = count_within(look, leaf, way, first, most);
     if count < most {
         return Run { count, want: 0 };
@@ -129,7 +129,7 @@ fn run_in<L: Look>(look: &mut L, leaf: Leaf, way: Way<'_>, first: u64, want: usi
 /// How many of the first `most` items that a walk has ahead in a leaf are within its range. If the
 /// last of them is, no other is compared.
 fn count_within<L: Look>(look: &mut L, leaf: Leaf, way: Way<'_>, first: u64, most: usize) -> usize
-    requires leaf { IsLeaf (L.standing look.old) (L.words look.old) leaf }
+    requires leaf { IsLeaf (L.page_state look.old) (L.words look.old) leaf }
     requires back { leaf.back ≡ way.back }
     requires first { IsFirstOf (end_of_way way) first }
     requires in_range { most ≤ length (items_ahead (L.words look.old) leaf) }
@@ -138,7 +138,7 @@ fn count_within<L: Look>(look: &mut L, leaf: Leaf, way: Way<'_>, first: u64, mos
         (slice_index_or (items_ahead (L.words look.old) leaf) (result - 1) d).key ≡ true }
     ensures past { (d : Pair) → result < most → is_on_way way.entry
         (slice_index_or (items_ahead (L.words look.old) leaf) result d).key ≡ false }
-    ensures unchanged { IsUnchanged L.kept L.standing L.words look.old look.new }
+    ensures unchanged { IsUnchanged L.kept L.page_state L.words look.old look.new }
 {
     let mut count = most;
     while count > 0 {
@@ -151,16 +151,16 @@ fn count_within<L: Look>(look: &mut L, leaf: Leaf, way: Way<'_>, first: u64, mos
     0
 }
 
-/// Whether the key of the item at a place isn't past the end of a way, whose first word is at hand
-/// (`first_of_end`).
+/// Whether the key of the item at this place isn't past the end of a way, whose first word is
+/// `first` (`first_of_end`).
 #[inline(always)]
 pub fn is_within<L: Look>(look: &mut L, page: u64, at: usize, way: Way<'_>, first: u64) -> bool
-    requires readable { IsTrue (is_readable (L.standing look.old page)) }
+    requires readable { IsTrue (is_readable (L.page_state look.old page)) }
     requires in_page { at + 42 ≤ 512 }
     requires item { IsItem (L.words look.old page) at }
     requires first { IsFirstOf (end_of_way way) first }
     ensures within { result ≡ is_on_way way.entry (item_at (L.words look.old page) at).key }
-    ensures unchanged { IsUnchanged L.kept L.standing L.words look.old look.new }
+    ensures unchanged { IsUnchanged L.kept L.page_state L.words look.old look.new }
 {
     if way.back {
         !is_below(look, page, at, way.low, first)
@@ -169,7 +169,7 @@ pub fn is_within<L: Look>(look: &mut L, page: u64, at: usize, way: Way<'_>, firs
     }
 }
 
-/// The first word of the key where a way ends, or 0 if there is none.
+/// The first word of the key at which a way ends, or 0 if there is none.
 pub fn first_of_end(way: Way<'_>) -> u64
     ensures { IsFirstOf (end_of_way way.entry) result }
 {
@@ -187,14 +187,14 @@ fn push_run<L: Look>(
     count: usize,
     found: &mut Vec<u64>,
 ) -> Result<(), AllocError>
-    requires leaf { IsLeaf (L.standing look.old) (L.words look.old) leaf }
+    requires leaf { IsLeaf (L.page_state look.old) (L.words look.old) leaf }
     requires in_range { count ≤ length (items_ahead (L.words look.old) leaf) }
     requires long { AreLong (items_ahead (L.words look.old) leaf) }
     ensures first { HasFirst found.old.items
         (numbers_in (take count (items_ahead (L.words look.old) leaf))) found.new.items }
     ensures found { OnOk result (found.new.items ≡ found.old.items
         ++ numbers_in (take count (items_ahead (L.words look.old) leaf))) }
-    ensures unchanged { IsUnchanged L.kept L.standing L.words look.old look.new }
+    ensures unchanged { IsUnchanged L.kept L.page_state L.words look.old look.new }
 {
     for i in 0..count {
         let at = leaf.place(i);

@@ -1,4 +1,4 @@
-//! Items read from a page.
+//! Reads items from a page.
 ghost use Rattle.std.specs.Prelude.{◌≡◌, [], ◌+◌, ◌-◌, ◌*◌, ◌/◌, ◌%◌, ◌<◌, ◌≤◌, ◌++◌};
 ghost use Rattle.std.specs.Prelude.{IsTrue, length, drop, map, slice_index};
 ghost use Rattle.std.specs.List.{range_with_len};
@@ -16,43 +16,43 @@ use arrayvec::ArrayVec;
 use be_pages::Look;
 use std::cmp::Ordering;
 
-/// How many words come before a page's items: its level, and how many items it has.
+/// The number of words before a page's items: its level, and its number of items.
 pub const HEADER_WORDS: usize = 2;
 
-/// How many words an item has: one for its lengths, and 41 for at most 328 bytes.
+/// The number of words of an item: one for its lengths, and 41 for up to 328 bytes.
 pub const ITEM_WORDS: usize = 42;
 
-/// An item's first word has the length of its key in the bits from this one on, and the length of
-/// its payload in those below.
+/// In an item's first word, the bits from this one up are its key's length, and the bits below are
+/// its payload's.
 pub const LENGTH_BITS: usize = 32;
 
-/// How many items a page has at most.
+/// The largest number of items on a page.
 pub const MOST_ITEMS: usize = 12;
 
-/// How many items each page but a root has at least.
-pub const LEAST_ITEMS: usize = 6;
+/// The smallest number of items on a page other than a root.
+pub const MINIMUM_ITEMS: usize = 6;
 
-/// The page that the branch at a place names.
+/// The page of the branch at this place.
 pub fn child_at<L: Look>(look: &mut L, page: u64, at: usize) -> u64
-    requires readable { IsTrue (is_readable (L.standing look.old page)) }
+    requires readable { IsTrue (is_readable (L.page_state look.old page)) }
     requires in_page { at + 42 ≤ 512 }
     requires item { IsItem (L.words look.old page) at }
     requires names_page { length (item_at (L.words look.old page) at).payload ≡ 8 }
     ensures child { result ≡ child (item_at (L.words look.old page) at) }
-    ensures unchanged { IsUnchanged L.kept L.standing L.words look.old look.new }
+    ensures unchanged { IsUnchanged L.kept L.page_state L.words look.old look.new }
 {
     let key_len = (look.word(page, at) >> LENGTH_BITS) as usize;
     number_beyond(look, page, at + 1 + key_len / 8, key_len % 8)
 }
 
-/// The number in the eight bytes that begin `skip` bytes after the start of a word: in that word
-/// alone, or in it and the next.
+/// The number in the eight bytes that begin `skip` bytes after the start of a word. They are in
+/// that word, or in it and the next.
 pub fn number_beyond<L: Look>(look: &mut L, page: u64, at: usize, skip: usize) -> u64
-    requires readable { IsTrue (is_readable (L.standing look.old page)) }
+    requires readable { IsTrue (is_readable (L.page_state look.old page)) }
     requires skips { skip < 8 }
     requires in_page { at + words_for (skip + 8) ≤ 512 }
     ensures number { result ≡ from_be_bytes w64 (bytes_past (L.words look.old page) at skip 8) }
-    ensures unchanged { IsUnchanged L.kept L.standing L.words look.old look.new }
+    ensures unchanged { IsUnchanged L.kept L.page_state L.words look.old look.new }
 {
     let first = look.word(page, at);
     if skip == 0 {
@@ -62,7 +62,7 @@ pub fn number_beyond<L: Look>(look: &mut L, page: u64, at: usize, skip: usize) -
     straddled(first, second, skip)
 }
 
-/// The number whose eight bytes lie in two words, from a byte of the first one on.
+/// The number whose eight bytes begin `skip` bytes into one word and end in the next.
 pub fn straddled(first: u64, second: u64, skip: usize) -> u64
     requires { (0 < skip) × (skip < 8) }
     ensures { result ≡ first * 2 ^ (8 * skip) % 2 ^ 64 + second / 2 ^ (64 - 8 * skip) }
@@ -70,22 +70,22 @@ pub fn straddled(first: u64, second: u64, skip: usize) -> u64
     (first << (8 * skip)) + (second >> (64 - 8 * skip))
 }
 
-/// How the key of the item at a place compares with a key: word by word, where the item is.
-/// Look-ups come here only with short keys, so it isn't put into their loops.
+/// How the key of the item at this place compares with a key, word by word, in place. Look-ups need
+/// it only for short keys, so it isn't inlined into their loops.
 #[inline(never)]
 pub(crate) fn cmp_at<L: Look>(look: &mut L, page: u64, at: usize, key: &[u8]) -> Ordering
-    requires readable { IsTrue (is_readable (L.standing look.old page)) }
+    requires readable { IsTrue (is_readable (L.page_state look.old page)) }
     requires in_page { at + 42 ≤ 512 }
     requires item { IsItem (L.words look.old page) at }
     ensures order { result ≡ key_cmp (item_at (L.words look.old page) at).key key.now }
-    ensures unchanged { IsUnchanged L.kept L.standing L.words look.old look.new }
+    ensures unchanged { IsUnchanged L.kept L.page_state L.words look.old look.new }
 {
     let len = (look.word(page, at) >> LENGTH_BITS) as usize;
     cmp_from(look, page, at, len, key, 0)
 }
 
-/// How the key of the item at a place compares with a key, if they have the same words before one
-/// of a number.
+/// How the key of the item at this place compares with a key, if their words before word `from` are
+/// equal.
 #[inline(always)]
 pub(crate) fn cmp_from<L: Look>(
     look: &mut L,
@@ -95,7 +95,7 @@ pub(crate) fn cmp_from<L: Look>(
     key: &[u8],
     from: usize,
 ) -> Ordering
-    requires readable { IsTrue (is_readable (L.standing look.old page)) }
+    requires readable { IsTrue (is_readable (L.page_state look.old page)) }
     requires in_page { at + 42 ≤ 512 }
     requires item { IsItem (L.words look.old page) at }
     requires len { len ≡ key_len (L.words look.old page) at }
@@ -104,9 +104,9 @@ pub(crate) fn cmp_from<L: Look>(
         (drop (8 * from) key.now)
         ≡ key_cmp (item_at (L.words look.old page) at).key key.now }
     ensures order { result ≡ key_cmp (item_at (L.words look.old page) at).key key.now }
-    ensures unchanged { IsUnchanged L.kept L.standing L.words look.old look.new }
+    ensures unchanged { IsUnchanged L.kept L.page_state L.words look.old look.new }
 {
-    let common = least_of(len, key.len());
+    let common = smaller_of(len, key.len());
     for i in from..common / 8 {
         let mine = look.word(page, at + 1 + i);
         let other = whole_word(key, 8 * i);
@@ -129,16 +129,16 @@ pub(crate) fn cmp_from<L: Look>(
     len.cmp(&key.len())
 }
 
-/// The lesser of two numbers.
-pub(crate) fn least_of(a: usize, b: usize) -> usize
+/// The lower of two numbers.
+pub(crate) fn smaller_of(a: usize, b: usize) -> usize
     ensures at_most { (result ≤ a) × (result ≤ b) }
     ensures one { (result ≡ a) ⊎ (result ≡ b) }
 {
     if a < b { a } else { b }
 }
 
-/// Writes the `n` bytes that begin `skip` bytes after the start of a word into an empty vector. It
-/// is filled in place, since a vector that is passed by value costs its whole capacity.
+/// Writes the `n` bytes that begin `skip` bytes after the start of a word into an empty vector. The
+/// vector is filled in place, since passing one by value costs its whole capacity.
 pub fn fill_bytes<L: Look, const N: usize>(
     look: &mut L,
     page: u64,
@@ -147,13 +147,13 @@ pub fn fill_bytes<L: Look, const N: usize>(
     n: usize,
     rest: &mut ArrayVec<u8, N>,
 )
-    requires readable { IsTrue (is_readable (L.standing look.old page)) }
+    requires readable { IsTrue (is_readable (L.page_state look.old page)) }
     requires skips { skip < 8 }
     requires in_page { at + words_for (skip + n) ≤ 512 }
     requires fits { 8 * words_for (skip + n) ≤ N }
     requires empty { rest.old.items ≡ [] }
     ensures bytes { rest.new.items ≡ drop skip (bytes_at (L.words look.old page) at (skip + n)) }
-    ensures unchanged { IsUnchanged L.kept L.standing L.words look.old look.new }
+    ensures unchanged { IsUnchanged L.kept L.page_state L.words look.old look.new }
 {
     if n == 0 {
         return;
@@ -176,14 +176,14 @@ pub fn extend<const N: usize>(bytes: &mut ArrayVec<u8, N>, more: &[u8])
     let _ = bytes.try_extend_from_slice(more);
 }
 
-/// The byte at a place, or 0 past the end.
+/// The byte at this place, or 0 past the end.
 fn byte_or_zero(bytes: &[u8], i: usize) -> u8
     ensures { result ≡ slice_index bytes.now i }
 {
     if i < bytes.len() { bytes[i] } else { 0 }
 }
 
-/// The eight bytes from a place on, as a word: one load, turned.
+/// The eight bytes from this place on, as a word: one load and a byte swap.
 fn whole_word(bytes: &[u8], from: usize) -> u64
     requires { from + 8 ≤ length bytes.now }
     ensures { to_be_bytes w64 result ≡ map (λ k. slice_index bytes.now k) (range_with_len from 8) }
@@ -200,8 +200,8 @@ fn whole_word(bytes: &[u8], from: usize) -> u64
     ])
 }
 
-/// The bytes from one of the last seven on, as a word, with zeros past the end: the last eight in
-/// one load, moved up.
+/// The bytes from one of the last seven on, as a word, with zeros past the end: the last eight
+/// bytes in one load, shifted up.
 fn last_word(bytes: &[u8], from: usize) -> u64
     requires some { 8 ≤ length bytes.now }
     requires within { from < length bytes.now }
@@ -212,7 +212,8 @@ fn last_word(bytes: &[u8], from: usize) -> u64
     whole_word(bytes, last) << (8 * (from - last))
 }
 
-/// The eight bytes from a place on, the first of them highest, as a word, with zeros past the end.
+/// The eight bytes from this place on, as a word with the first byte highest, and with zeros past
+/// the end.
 #[inline(always)]
 pub fn word_from(bytes: &[u8], from: usize) -> u64
     requires { from ≤ 328 }
@@ -224,7 +225,7 @@ pub fn word_from(bytes: &[u8], from: usize) -> u64
     padded_word(bytes, from)
 }
 
-/// The same from a byte on that there is.
+/// The same, from a place within the bytes.
 #[inline(always)]
 fn word_within(bytes: &[u8], from: usize) -> u64
     requires small { from ≤ 328 }
@@ -257,7 +258,7 @@ fn padded_word(bytes: &[u8], from: usize) -> u64
     ])
 }
 
-/// The first word of a key, with zeros after a short one. A descent makes it once.
+/// A key's first word, with zeros after a short key. Each descent makes it once.
 pub fn first_word(key: &[u8]) -> u64
     ensures { IsFirst key.now result }
 {

@@ -1,7 +1,7 @@
-//! Payloads read in place.
+//! Reads payloads in place.
 //!
-//! A caller that knows the form of a payload needs no copy of it: a number in it is read from the
-//! one or two words that have its bytes.
+//! A caller that knows a payload's form doesn't copy it: a number is read from the one or two words
+//! that hold its bytes.
 ghost use Rattle.std.specs.Prelude.{◌≡◌, [], ◌+◌, ◌<◌, ◌≤◌, IsTrue, length, take, drop};
 ghost use Rattle.std.specs.Prelude.{slice_index};
 ghost use Rattle.std.specs.Int.{from_be_bytes, w32, w64};
@@ -12,26 +12,26 @@ use crate::page::{LENGTH_BITS, fill_bytes, number_beyond, straddled};
 use arrayvec::ArrayVec;
 use be_pages::Look;
 
-/// How many bytes the payload at a place of a page has.
+/// The length in bytes of the payload at this place of a page.
 pub fn payload_len_at<L: Look>(look: &mut L, page: u64, at: usize) -> usize
-    requires readable { IsTrue (is_readable (L.standing look.old page)) }
+    requires readable { IsTrue (is_readable (L.page_state look.old page)) }
     requires in_page { at + 42 ≤ 512 }
     requires item { IsItem (L.words look.old page) at }
     ensures len { result ≡ length (item_at (L.words look.old page) at).payload }
     ensures fits { result ≤ 328 }
-    ensures unchanged { IsUnchanged L.kept L.standing L.words look.old look.new }
+    ensures unchanged { IsUnchanged L.kept L.page_state L.words look.old look.new }
 {
     (look.word(page, at) % (1 << LENGTH_BITS)) as usize
 }
 
-/// The byte of a payload at a place.
+/// The byte at this place of a payload.
 pub fn payload_byte_at<L: Look>(look: &mut L, page: u64, at: usize, from: usize) -> u8
-    requires readable { IsTrue (is_readable (L.standing look.old page)) }
+    requires readable { IsTrue (is_readable (L.page_state look.old page)) }
     requires in_page { at + 42 ≤ 512 }
     requires item { IsItem (L.words look.old page) at }
     requires within { from < length (item_at (L.words look.old page) at).payload }
     ensures byte { result ≡ slice_index (item_at (L.words look.old page) at).payload from }
-    ensures unchanged { IsUnchanged L.kept L.standing L.words look.old look.new }
+    ensures unchanged { IsUnchanged L.kept L.page_state L.words look.old look.new }
 {
     let key_len = (look.word(page, at) >> LENGTH_BITS) as usize;
     let place = key_len + from;
@@ -39,44 +39,44 @@ pub fn payload_byte_at<L: Look>(look: &mut L, page: u64, at: usize, from: usize)
     bytes[place % 8]
 }
 
-/// The number in eight bytes of a payload, the first of them the highest.
+/// The number in eight bytes of a payload, the first byte highest.
 pub fn payload_number_at<L: Look>(look: &mut L, page: u64, at: usize, from: usize) -> u64
-    requires readable { IsTrue (is_readable (L.standing look.old page)) }
+    requires readable { IsTrue (is_readable (L.page_state look.old page)) }
     requires in_page { at + 42 ≤ 512 }
     requires item { IsItem (L.words look.old page) at }
     requires within { from + 8 ≤ length (item_at (L.words look.old page) at).payload }
     ensures number { result ≡ from_be_bytes w64
         (take 8 (drop from (item_at (L.words look.old page) at).payload)) }
-    ensures unchanged { IsUnchanged L.kept L.standing L.words look.old look.new }
+    ensures unchanged { IsUnchanged L.kept L.page_state L.words look.old look.new }
 {
     let key_len = (look.word(page, at) >> LENGTH_BITS) as usize;
     let place = key_len + from;
     number_beyond(look, page, at + 1 + place / 8, place % 8)
 }
 
-/// The number in four bytes of a payload, the first of them the highest.
+/// The number in four bytes of a payload, the first byte highest.
 pub fn payload_number32_at<L: Look>(look: &mut L, page: u64, at: usize, from: usize) -> u32
-    requires readable { IsTrue (is_readable (L.standing look.old page)) }
+    requires readable { IsTrue (is_readable (L.page_state look.old page)) }
     requires in_page { at + 42 ≤ 512 }
     requires item { IsItem (L.words look.old page) at }
     requires within { from + 4 ≤ length (item_at (L.words look.old page) at).payload }
     ensures number { result ≡ from_be_bytes w32
         (take 4 (drop from (item_at (L.words look.old page) at).payload)) }
-    ensures unchanged { IsUnchanged L.kept L.standing L.words look.old look.new }
+    ensures unchanged { IsUnchanged L.kept L.page_state L.words look.old look.new }
 {
     let key_len = (look.word(page, at) >> LENGTH_BITS) as usize;
     let place = key_len + from;
     number32_after(look, page, at + 1 + place / 8, place % 8)
 }
 
-/// The number in the four bytes that begin `skip` bytes after the start of a word: in that word
-/// alone, or in it and the next.
+/// The number in the four bytes that begin `skip` bytes after the start of a word. They are in that
+/// word, or in it and the next.
 fn number32_after<L: Look>(look: &mut L, page: u64, at: usize, skip: usize) -> u32
-    requires readable { IsTrue (is_readable (L.standing look.old page)) }
+    requires readable { IsTrue (is_readable (L.page_state look.old page)) }
     requires skips { skip < 8 }
     requires in_page { at + words_for (skip + 4) ≤ 512 }
     ensures number { result ≡ from_be_bytes w32 (bytes_past (L.words look.old page) at skip 4) }
-    ensures unchanged { IsUnchanged L.kept L.standing L.words look.old look.new }
+    ensures unchanged { IsUnchanged L.kept L.page_state L.words look.old look.new }
 {
     if skip <= 4 {
         let word = look.word(page, at);
@@ -87,14 +87,14 @@ fn number32_after<L: Look>(look: &mut L, page: u64, at: usize, skip: usize) -> u
     (straddled(first, second, skip) >> 32) as u32
 }
 
-/// Writes the payload at a place of a page into an empty vector.
+/// Writes the payload at this place of a page into an empty vector.
 pub fn fill_payload<L: Look>(look: &mut L, page: u64, at: usize, payload: &mut ArrayVec<u8, 328>)
-    requires readable { IsTrue (is_readable (L.standing look.old page)) }
+    requires readable { IsTrue (is_readable (L.page_state look.old page)) }
     requires in_page { at + 42 ≤ 512 }
     requires item { IsItem (L.words look.old page) at }
     requires empty { payload.old.items ≡ [] }
     ensures payload { payload.new.items ≡ (item_at (L.words look.old page) at).payload }
-    ensures unchanged { IsUnchanged L.kept L.standing L.words look.old look.new }
+    ensures unchanged { IsUnchanged L.kept L.page_state L.words look.old look.new }
 {
     let header = look.word(page, at);
     let key_len = (header >> LENGTH_BITS) as usize;

@@ -1,9 +1,8 @@
-//! The least pair of a tree from a key on.
+//! The lowest pair of a tree from a key on.
 //!
 //! A tree is a sorted list of pairs, so the pairs at or after a key are a tail of the list. The
-//! first pair of the tail is the least. One descent finds where that tail begins: at each inner
-//! page it takes the last branch whose key isn't above the key that is sought, and in the leaf the
-//! search ends.
+//! tail's first pair is the lowest. One descent finds where the tail begins: on each inner page it
+//! takes the last branch whose key isn't above the given key. In the leaf the search ends.
 ghost use Rattle.std.specs.Prelude.{◌≡◌, [], ◌+◌, ◌≤◌, IsTrue, option_map};
 ghost use Rattle.be_pages.specs.Pages.{IsUnchanged, is_readable};
 ghost use Rattle.be_tree_reading.specs.Page.{IsItem, item_at};
@@ -18,46 +17,46 @@ use be_pages::Look;
 /// A pair of a tree, read from its page.
 #[derive(Drop)]
 pub struct TreeItem {
-    /// At most 264 bytes.
+    /// Up to 264 bytes.
     pub key: ArrayVec<u8, 264>,
-    /// With the key at most 328 bytes.
+    /// Up to 328 bytes with the key.
     pub payload: ArrayVec<u8, 328>,
 }
 
-/// The least pair whose key is at or after `from`; with `after` set, strictly after it. It costs
-/// one descent, and one more to the next leaf if the leaf that was found has no such pair.
+/// The lowest pair whose key is at or after `from`; with `after` set, strictly after it. It costs
+/// one descent, and another to the next leaf if the first one has no such pair.
 pub fn range<L: Look>(look: &mut L, root: u64, from: &[u8], after: bool) -> Option<TreeItem>
-    requires tree { IsTree (L.standing look.old) (L.words look.old) root }
+    requires tree { IsTree (L.page_state look.old) (L.words look.old) root }
     ensures item { option_map pair_in result
         ≡ first_from (pairs (L.words look.old) root) from.now after }
-    ensures unchanged { IsUnchanged L.kept L.standing L.words look.old look.new }
+    ensures unchanged { IsUnchanged L.kept L.page_state L.words look.old look.new }
 {
     let mut cursor = Cursor::new();
     cursor.seek(look, root, from, after);
     cursor.next(look)
 }
 
-/// The key of the item at a place of a page, which `Cursor::step` returned.
+/// The key of the item at this place of a page, which `Cursor::step` returned.
 pub fn key_at<L: Look>(look: &mut L, page: u64, at: usize) -> ArrayVec<u8, 264>
-    requires readable { IsTrue (is_readable (L.standing look.old page)) }
+    requires readable { IsTrue (is_readable (L.page_state look.old page)) }
     requires in_page { at + 42 ≤ 512 }
     requires item { IsItem (L.words look.old page) at }
     ensures key { result.items ≡ (item_at (L.words look.old page) at).key }
-    ensures unchanged { IsUnchanged L.kept L.standing L.words look.old look.new }
+    ensures unchanged { IsUnchanged L.kept L.page_state L.words look.old look.new }
 {
     let mut key = ArrayVec::new();
     fill_key(look, page, at, &mut key);
     key
 }
 
-/// Writes the key at a place of a page into an empty vector.
+/// Writes the key at this place of a page into an empty vector.
 pub(crate) fn fill_key<L: Look>(look: &mut L, page: u64, at: usize, key: &mut ArrayVec<u8, 264>)
-    requires readable { IsTrue (is_readable (L.standing look.old page)) }
+    requires readable { IsTrue (is_readable (L.page_state look.old page)) }
     requires in_page { at + 42 ≤ 512 }
     requires item { IsItem (L.words look.old page) at }
     requires empty { key.old.items ≡ [] }
     ensures key { key.new.items ≡ (item_at (L.words look.old page) at).key }
-    ensures unchanged { IsUnchanged L.kept L.standing L.words look.old look.new }
+    ensures unchanged { IsUnchanged L.kept L.page_state L.words look.old look.new }
 {
     let key_len = (look.word(page, at) >> LENGTH_BITS) as usize;
     fill_bytes(look, page, at + 1, 0, key_len, key);

@@ -1,7 +1,7 @@
 //! A walk over a range of keys, in either direction.
 //!
-//! It goes leaf by leaf, by a cursor of its direction. What it does with a leaf's items is the same
-//! both ways: a `Leaf` counts them from where the walk came to it.
+//! It goes leaf by leaf, with a cursor for its direction. It treats a leaf's items the same in both
+//! directions: a `Leaf` counts them from where the walk reached it.
 ghost use Rattle.std.specs.Prelude.{◌≡◌, [], ◌<◌, ◌++◌, length, IfNone, IfSome};
 ghost use Rattle.be_pages.specs.Pages.{IsUnchanged};
 ghost use Rattle.be_tree_reading.specs.Page.{item_place};
@@ -16,7 +16,7 @@ use be_pages::Look;
 
 /// A range of keys, and the direction in which a walk goes over it: up from `low`, or with `back`
 /// down from `high`, or from the last key if there is no `high`. Both ends belong to the range;
-/// `strict` leaves out the one where the walk begins.
+/// `strict` leaves out the end where the walk begins.
 #[derive(Clone, Copy)]
 pub struct Way<'a> {
     pub low: &'a [u8],
@@ -25,7 +25,7 @@ pub struct Way<'a> {
     pub back: bool,
 }
 
-/// A place among the pairs of a tree, from which a walk goes on in its direction. It serves as long
+/// A place among a tree's pairs, from which a walk continues in its direction. It is valid as long
 /// as the tree's pages keep their words.
 #[derive(Drop)]
 pub struct Walk {
@@ -34,8 +34,8 @@ pub struct Walk {
     falling: BackCursor,
 }
 
-/// A leaf that a walk has come to: it goes on from the place after `at` of the leaf's items, to the
-/// later items or with `back` to the earlier ones.
+/// A leaf that a walk has reached. The walk continues with the later items from `at` on, or with
+/// `back` with the items before it.
 #[derive(Clone, Copy)]
 pub struct Leaf {
     pub page: u64,
@@ -44,14 +44,14 @@ pub struct Leaf {
 }
 
 impl Walk {
-    /// A walk where a way begins. It costs one descent.
+    /// A walk at the beginning of a way. It costs one descent.
     pub fn begin<L: Look>(look: &mut L, root: u64, way: Way<'_>) -> Walk
-        requires tree { IsTree (L.standing look.old) (L.words look.old) root }
-        ensures walk { IsWalk (L.standing look.old) (L.words look.old) result }
+        requires tree { IsTree (L.page_state look.old) (L.words look.old) root }
+        ensures walk { IsWalk (L.page_state look.old) (L.words look.old) result }
         ensures back { result.back ≡ way.entry.back }
         ensures ahead { ahead (L.words look.old) result
             ≡ begun way.entry (pairs (L.words look.old) root) }
-        ensures unchanged { IsUnchanged L.kept L.standing L.words look.old look.new }
+        ensures unchanged { IsUnchanged L.kept L.page_state L.words look.old look.new }
     {
         let mut walk = Walk {
             back: way.back,
@@ -66,19 +66,19 @@ impl Walk {
         walk
     }
 
-    /// The leaf of the pair that comes next, and a step past all of the leaf's pairs that come.
+    /// The leaf of the next pair; the walk steps past all of the leaf's pairs that it has ahead.
     pub fn step_leaf<L: Look>(&mut self, look: &mut L) -> Option<Leaf>
-        requires walk { IsWalk (L.standing look.old) (L.words look.old) self.old }
+        requires walk { IsWalk (L.page_state look.old) (L.words look.old) self.old }
         ensures none { IfNone result (ahead (L.words look.old) self.old ≡ []) }
-        ensures leaf { IfSome result (λ leaf. IsLeaf (L.standing look.old) (L.words look.old)
+        ensures leaf { IfSome result (λ leaf. IsLeaf (L.page_state look.old) (L.words look.old)
             leaf) }
         ensures turned { IfSome result (λ leaf. leaf.back ≡ self.old.back) }
         ensures some { IfSome result (λ leaf. 0 < length (items_ahead (L.words look.old) leaf)) }
         ensures parts { IfSome result (λ leaf. ahead (L.words look.old) self.old
             ≡ items_ahead (L.words look.old) leaf ++ ahead (L.words look.old) self.new) }
         ensures back { self.new.back ≡ self.old.back }
-        ensures walk { IsWalk (L.standing look.old) (L.words look.old) self.new }
-        ensures unchanged { IsUnchanged L.kept L.standing L.words look.old look.new }
+        ensures walk { IsWalk (L.page_state look.old) (L.words look.old) self.new }
+        ensures unchanged { IsUnchanged L.kept L.page_state L.words look.old look.new }
     {
         if self.back {
             let (page, at) = self.falling.step_leaf(look)?;
@@ -101,9 +101,9 @@ impl Leaf {
     /// How many of the leaf's items the walk has ahead.
     #[inline(always)]
     pub fn count<L: Look>(self, look: &mut L) -> usize
-        requires leaf { IsLeaf (L.standing look.old) (L.words look.old) self }
+        requires leaf { IsLeaf (L.page_state look.old) (L.words look.old) self }
         ensures count { result ≡ length (items_ahead (L.words look.old) self) }
-        ensures unchanged { IsUnchanged L.kept L.standing L.words look.old look.new }
+        ensures unchanged { IsUnchanged L.kept L.page_state L.words look.old look.new }
     {
         if self.back {
             return self.at;
@@ -111,7 +111,7 @@ impl Leaf {
         look.word(self.page, 1) as usize - self.at
     }
 
-    /// The place of one of the items that the walk has ahead, by its number among these.
+    /// The place of one of the items that the walk has ahead, by its number among them.
     #[inline(always)]
     pub fn place(self, i: usize) -> usize
         requires { IsAhead self i }

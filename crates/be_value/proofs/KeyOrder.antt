@@ -38,7 +38,7 @@ last_bytes (suc i) a = ap (λ w. a % w) (pow-succ' 256 (suc i)) ∙ mod-mul a {m
     pow_positive : (k : ℕ) → 0 < 256 ^ k
     pow_positive k = omega (arith, one-le-pow k 256 (omega arith))
 
--- a number of two parts is compared by the high part, and then by the low one
+-- numbers of two parts are compared by the high part, and then by the low one
 two_parts : (w p q r s : ℕ) → r < w → s < w → nat_cmp (p * w + r) (q * w + s) ≡ ordering_then (nat_cmp p q) (nat_cmp r s)
 two_parts w p q r s h g = sym (nat_cmp_is (p * w + r) (q * w + s) _ (by (nat_cmp p q) (nat_cmp r s) (ranked p q _ refl) (ranked r s _ refl)))
   where
@@ -53,7 +53,7 @@ two_parts w p q r s h g = sym (nat_cmp_is (p * w + r) (q * w + s) _ (by (nat_cmp
     by Equal Equal eq same_low = let same : p * w ≡ q * w = ap (λ n. n * w) eq in omega (arith, same, same_low)
     by Equal Greater eq gt = let same : p * w ≡ q * w = ap (λ n. n * w) eq in omega (arith, same, gt)
 
--- k bytes of two numbers, and then two texts
+-- k bytes of two numbers, each followed by a text
 pub bytes_order : (k a b : ℕ) (xs ys : List ℕ) →
     slice_cmp nat_cmp (bytes_high_first k a ++ xs) (bytes_high_first k b ++ ys) ≡ ordering_then (nat_cmp (a % 256 ^ k) (b % 256 ^ k)) (slice_cmp nat_cmp xs ys)
 bytes_order zero a b xs ys =
@@ -75,7 +75,7 @@ neither : (b c : Bool) → (b || c) ≡ false → c ≡ false
 neither true c h = cc
 neither false c h = h
 
--- a text without zero bytes, and a zero byte after it
+-- two texts without zero bytes, each followed by a zero byte
 text_order : (s t xs ys : List ℕ) → has_nul s ≡ false → has_nul t ≡ false →
     slice_cmp nat_cmp (s ++ 0 ∷ xs) (t ++ 0 ∷ ys) ≡ ordering_then (slice_cmp nat_cmp s t) (slice_cmp nat_cmp xs ys)
 text_order [] [] xs ys h g = refl
@@ -89,7 +89,7 @@ text_order (suc n ∷ s) (suc m ∷ t) xs ys h g =
     ap (ordering_then (nat_cmp (suc n) (suc m))) (text_order s t xs ys (neither _ _ h) (neither _ _ g))
     ∙ sym (then_assoc (nat_cmp (suc n) (suc m)) (slice_cmp nat_cmp s t) (slice_cmp nat_cmp xs ys))
 
--- a text of a value has no zero byte
+-- a value's text has no zero byte
 abbrev chosen : Bool → Bool → List ℕ → Result (List ℕ) Refusal
 chosen b c t = if b then Err DataLength else if c then Err HasNul else Ok t
 
@@ -98,7 +98,7 @@ no_nul true c t h = cc
 no_nul false true t h = cc
 no_nul false false t h = refl
 
--- numbers and what they count to are in one order
+-- numbers and their distances from the lowest are in the same order
 counted_order : (half : ℕ) (x y : ℤ) → mag x < half → mag y < half → nat_cmp (counted half x) (counted half y) ≡ int_cmp x y
 counted_order half x y h g = sym (nat_cmp_is (counted half x) (counted half y) (int_cmp x y) (by (int_cmp x y) (int_ranks x y)))
   where
@@ -114,7 +114,7 @@ counted_order half x y h g = sym (nat_cmp_is (counted half x) (counted half y) (
     by Equal eq = ap (counted half) eq
     by Greater gt = rises y x g h gt
 
--- a number that fits counts below twice the half
+-- the distance of a number that fits is below twice the half
 counted_below : (half : ℕ) (x : ℤ) → mag x < half → counted half x < half + half
 counted_below half (pos n) h = omega arith
 counted_below half (negsuc n) h = omega arith
@@ -124,7 +124,7 @@ then_equal Less = refl
 then_equal Equal = refl
 then_equal Greater = refl
 
--- numbers of 64 bits, and of 32, and then two texts
+-- numbers of 64 bits, and of 32, each followed by a text
 number_order64 : (a b : ℕ) (xs ys : List ℕ) → a < 2 ^ 64 → b < 2 ^ 64 →
     slice_cmp nat_cmp (to_be_bytes w64 a ++ xs) (to_be_bytes w64 b ++ ys) ≡ ordering_then (nat_cmp a b) (slice_cmp nat_cmp xs ys)
 number_order64 a b xs ys h g =
@@ -141,11 +141,11 @@ number_order32 a b xs ys h g =
     bytes_order 4 a b xs ys ∙ ap (λ n. ordering_then (nat_cmp n (b % 256 ^ 4)) (slice_cmp nat_cmp xs ys)) low
     ∙ ap (λ n. ordering_then (nat_cmp a n) (slice_cmp nat_cmp xs ys)) high
 
--- the eight bytes of the node at the end
+-- the node's eight bytes at the end
 node_order : (m n : ℕ) → m < 2 ^ 64 → n < 2 ^ 64 → slice_cmp nat_cmp (to_be_bytes w64 m) (to_be_bytes w64 n) ≡ nat_cmp m n
 node_order m n h g = number_order64 m n [] [] h g ∙ then_equal (nat_cmp m n)
 
--- keys that end with two nodes are only equal where the nodes are
+-- keys that end with two nodes are only equal if the nodes are
 pub same_node : (xs ys : List ℕ) (m n : ℕ) → m < 2 ^ 64 → n < 2 ^ 64 → xs ++ to_be_bytes w64 m ≡ ys ++ to_be_bytes w64 n → m ≡ n
 same_node xs ys m n h g e =
     let lengths : length xs ≡ length ys = omega (arith, length-append xs (to_be_bytes w64 m), length-append ys (to_be_bytes w64 n), ap length e) in

@@ -1,4 +1,4 @@
--- Each key is the key of one pair.
+-- Each key belongs to one pair.
 use Rattle.std.proofs.Common.{◌≡◌, ℕ, ◌<◌, ◌^◌, List, refl, sym, ap, ◌∙◌, IsTrue, true≢false}
 use Rattle.std.proofs.lemmas.Cmp.{nat_list_cmp_total}
 use Rattle.std.proofs.lemmas.Map.Lookups.{exact_bytes, exact_signed, exact_unsigned}
@@ -25,7 +25,7 @@ its_reverse Greater e = cc
 tied_with_itself : (xs : List ℕ) → slice_cmp nat_cmp xs xs ≡ Equal
 tied_with_itself xs = its_reverse _ (nat_list_cmp_total.antisymm xs xs)
 
--- values of one kind that are tied are equal
+-- values of one kind that compare as equal are equal
 same_value : (v w : Value) → kind_of v ≡ kind_of w → value_cmp v w ≡ Equal → v ≡ w
 same_value (Cstr a) (Cstr b) k e = ap Cstr (exact_bytes a b e)
 same_value (Long a) (Long b) k e = ap Long (exact_signed a b e)

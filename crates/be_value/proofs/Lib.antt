@@ -1,3 +1,3 @@
 pub mod KeyOrder
 pub mod KeyPairs
-pub mod Spelled
+pub mod Digits

@@ -29,7 +29,7 @@ code_of kinds.Rawt = 0x52415754
 code_of kinds.Ulng = 0x554c4e47
 code_of kinds.Ullg = 0x554c4c47
 
--- the number by which pages call a kind
+-- the kind's number in pages
 abbrev pub kind_number : Kind → ℕ
 kind_number kinds.Cstr = 1
 kind_number kinds.Long = 2
@@ -39,7 +39,7 @@ kind_number kinds.Rawt = 5
 kind_number kinds.Ulng = 6
 kind_number kinds.Ullg = 7
 
--- the name by which texts call a kind
+-- the kind's name in texts
 abbrev pub kind_name : Kind → List ℕ
 kind_name kinds.Cstr = codes "CSTR"
 kind_name kinds.Long = codes "LONG"
@@ -58,8 +58,8 @@ is_indexable kinds.Rawt = false
 is_indexable kinds.Ulng = true
 is_indexable kinds.Ullg = true
 
--- The order of two values of one kind: numbers by number, texts and raw bytes by bytes. Values of
--- two kinds have none.
+-- The order of two values of one kind: numbers by their size, texts and raw bytes by their bytes.
+-- It means nothing for values of different kinds.
 abbrev pub value_cmp : Value → Value → Ordering
 value_cmp (Cstr a) (Cstr b) = slice_cmp nat_cmp a b
 value_cmp (Long a) (Long b) = int_cmp a b

@@ -1,10 +1,12 @@
 //! Keys of an index.
 //!
-//! An index maps a value to the nodes that have it, and keeps its pairs in a tree of byte keys, as
-//! the Be File System does. A key is the value in bytes and then the node in eight, written so that
-//! the bytes of keys of one kind are in the order of their pairs: an integer is counted from the
-//! least of its kind and written high byte first, and a text ends with a zero byte, which no text
-//! has. So a range of values is a range of keys.
+//! An index maps a value to the nodes that have it. It keeps its pairs in a tree of byte keys, as
+//! the Be File System does. A key is the value's bytes followed by the node in eight bytes. Within
+//! one kind, keys sorted by their bytes are sorted by their pairs. So a range of values is a range
+//! of keys.
+//!
+//! A signed integer is written as its distance from the lowest of its kind, and every integer has
+//! its high byte first. A text ends with a zero byte, which no text contains.
 ghost use Rattle.std.specs.Prelude.{◌≡◌, ◌<◌, ◌≤◌, ◌^◌, ◌↔◌, ℕ, IsTrue, IfSome, IfNone, length};
 ghost use Rattle.std.specs.Prelude.{Some, None, Ok, List, [], ◌∷◌, ◌++◌, IsUtf8};
 ghost use Rattle.std.specs.Int.{to_be_bytes, w32, w64};
@@ -19,14 +21,16 @@ use crate::{Kind, Text, Value};
 use arrayvec::ArrayVec;
 use std::str;
 
-/// A 32-bit number counted from the least one. Its bytes, the high one first, are those of its key.
+/// A 32-bit number's distance from the lowest one. Its four bytes, high byte first, are those in
+/// its key.
 pub fn counted32(n: i32) -> u32
     ensures { result ≡ counted (2 ^ 31) n }
 {
     (i64::from(n) + (1 << 31)) as u32
 }
 
-/// A 64-bit number counted from the least one. Its bytes, the high one first, are those of its key.
+/// A 64-bit number's distance from the lowest one. Its eight bytes, high byte first, are those in
+/// its key.
 pub fn counted64(n: i64) -> u64
     ensures { result ≡ counted (2 ^ 63) n }
 {
@@ -37,8 +41,8 @@ pub fn counted64(n: i64) -> u64
     }
 }
 
-/// The key of a value and a node: the value's bytes, and then eight of the node. At most 264 bytes:
-/// a text of 255, a zero byte, and the node.
+/// The key of a value and a node: the value's bytes, and then the node's eight. It has at most 264
+/// bytes: a text of 255, a zero byte, and the node.
 pub fn key_of(value: &Value, node: u64) -> ArrayVec<u8, 264>
     requires { IsTrue (is_indexable (kind_of value.now)) }
     ensures { result.items ≡ key value.now node }
@@ -63,14 +67,14 @@ pub fn key_of(value: &Value, node: u64) -> ArrayVec<u8, 264>
     key
 }
 
-/// The number that counts to n.
+/// The number at this distance from the lowest.
 fn number32(n: u32) -> i32
     ensures { counted (2 ^ 31) result ≡ n }
 {
     (i64::from(n) - (1 << 31)) as i32
 }
 
-/// The number that counts to n.
+/// The number at this distance from the lowest.
 fn number64(n: u64) -> i64
     ensures { counted (2 ^ 63) result ≡ n }
 {
@@ -81,7 +85,7 @@ fn number64(n: u64) -> i64
     }
 }
 
-/// The number of eight bytes.
+/// The number that eight bytes encode.
 fn read64(bytes: &[u8]) -> u64
     requires { length bytes.now ≡ 8 }
     ensures { bytes.now ≡ to_be_bytes w64 result }
@@ -91,7 +95,7 @@ fn read64(bytes: &[u8]) -> u64
     ])
 }
 
-/// The number of four bytes.
+/// The number that four bytes encode.
 fn read32(bytes: &[u8]) -> u32
     requires { length bytes.now ≡ 4 }
     ensures { bytes.now ≡ to_be_bytes w32 result }
@@ -99,7 +103,7 @@ fn read32(bytes: &[u8]) -> u32
     u32::from_be_bytes([bytes[0], bytes[1], bytes[2], bytes[3]])
 }
 
-/// The text before a zero byte.
+/// The text before a final zero byte.
 fn read_text(bytes: &[u8]) -> Option<Value>
     ensures valid { IfSome result IsValue }
     ensures found { IfSome result (λ v. (kind_of v ≡ Kind.Cstr) × (bytes.now ≡ value_key v)) }
@@ -114,7 +118,7 @@ fn read_text(bytes: &[u8]) -> Option<Value>
     Some(Value::Cstr(Text::new(text).ok()?))
 }
 
-/// The value whose bytes these are.
+/// The value of this kind that these bytes encode in a key.
 fn read_value(kind: Kind, bytes: &[u8]) -> Option<Value>
     ensures valid { IfSome result IsValue }
     ensures found { IfSome result (λ v. (kind_of v ≡ kind) × (bytes.now ≡ value_key v)) }
@@ -152,8 +156,8 @@ fn read_value(kind: Kind, bytes: &[u8]) -> Option<Value>
     }
 }
 
-/// The pair whose key these bytes are, if they are the key of a pair with a value of this kind:
-/// the exact inverse of `key_of`. It copies the value once and takes no memory.
+/// The pair that has this key, if its value is of this kind: the exact inverse of `key_of`. It
+/// copies the value once and allocates nothing.
 pub fn read_key(kind: Kind, bytes: &[u8]) -> Option<(Value, u64)>
     ensures found { IfSome result (λ pair. (kind_of pair.0 ≡ kind)
         × (bytes.now ≡ key pair.0 pair.1)) }
@@ -166,7 +170,7 @@ pub fn read_key(kind: Kind, bytes: &[u8]) -> Option<(Value, u64)>
         → IsTrue (is_indexable kind) →
         kind_of v ≡ kind → bytes.now ≡ key v n → (pair.0 ≡ v) × (pair.1 ≡ n)) }
 
-    // A kind that no index has gives no key.
+    // For a kind that no index has, there is no such pair.
     ensures indexable { IfSome result (λ _. IsTrue (is_indexable kind)) }
 {
     let at = bytes.len().checked_sub(8)?;
@@ -175,7 +179,7 @@ pub fn read_key(kind: Kind, bytes: &[u8]) -> Option<(Value, u64)>
     Some((value, read64(last)))
 }
 
-/// The node that a key ends with. It reads eight bytes, whatever the value is.
+/// The node that a key ends with. It reads only the last eight bytes.
 pub fn node_of(bytes: &[u8]) -> u64
     requires { 8 ≤ length bytes.now }
     ensures { (front : List ℕ) (n : ℕ) → n < 2 ^ 64 → bytes.now ≡ front ++ to_be_bytes w64 n
@@ -185,14 +189,14 @@ pub fn node_of(bytes: &[u8]) -> u64
     read64(last)
 }
 
-/// A law: the bytes of keys of one kind are in the order of their pairs of a value and a node.
+/// A law: within one kind, the bytes of keys are in the order of their pairs (value, node).
 pub fn key_order()
     ensures { (v w : AnyValue) (m n : ℕ) → IsValue v → IsValue w → m < 2 ^ 64 → n < 2 ^ 64 →
         IsTrue (is_indexable (kind_of v)) → kind_of v ≡ kind_of w →
         slice_cmp nat_cmp (key v m) (key w n) ≡ pair_cmp v m w n }
 {}
 
-/// A law: each key is the key of one pair.
+/// A law: each key belongs to one pair.
 pub fn keys_differ()
     ensures { (v w : AnyValue) (m n : ℕ) → IsValue v → IsValue w → m < 2 ^ 64 → n < 2 ^ 64 →
         IsTrue (is_indexable (kind_of v)) → kind_of v ≡ kind_of w → key v m ≡ key w n → (v ≡ w)

@@ -1,26 +1,26 @@
-//! Names, values, their numbers and keys, and the refusals of every crate.
+//! Names, values, their numbers and keys, and every crate's error type.
 //!
 //! # What an attribute has
-//! A name of 1 to 63 bytes and a value of one of seven kinds: a text, a MIME type, raw bytes, or an
-//! integer of 32 or 64 bits, signed or unsigned. A text, a MIME type and raw bytes have at most 255
-//! bytes. Names and values hold their bytes in themselves, so no call takes memory.
+//! It has a name of 1 to 63 bytes and a value of one of seven kinds. These are texts, MIME types,
+//! raw bytes, and integers of 32 or 64 bits, signed or unsigned. A text, a MIME type and raw bytes
+//! have at most 255 bytes. Names and values contain their bytes, so no call allocates memory.
 //!
 //! # How an index finds a value
-//! By a key: the value in bytes and then its node in eight. Keys of one kind are in the order of
-//! the values, and of the nodes where the values are equal. So a tree of byte keys is an index of
-//! any kind, and a range of values is a range of keys. MIME types and raw bytes have no key: no
-//! index has their kinds.
+//! It uses a key: the value's bytes, and then the node in eight bytes. Keys of one kind are in the
+//! order of their values and, if the values are equal, of their nodes. So a tree of byte keys is an
+//! index of any kind, and a range of values is a range of keys. MIME types and raw bytes have no
+//! key, so no index has these kinds.
 //!
-//! # Why there is one type of refusals
-//! A write passes through most crates, and each may refuse it. A refusal keeps its number and its
-//! words on the way up. So a script's reply and a program's error are those of the crate that
+//! # Why there is one error type
+//! A write passes through most crates, and each may refuse it. An error keeps its number and its
+//! name on the way up. So a script's reply and a program's error are those of the crate that
 //! refused.
 //!
 //! # What is proved
-//! A name or a value is made of exactly the bytes within the limits (`specs/Name.antt`).
-//! `key_order` is the law of keys, `keys_differ` that a key is the key of one pair, and `read_key`
-//! reads that pair back (`specs/Key.antt`). `number_of` is the number that a text encodes
-//! (`specs/Number.antt`).
+//! A name or value is made from exactly the bytes within the limits (`specs/Name.antt`).
+//! `key_order` is the law of keys' order, `keys_differ` says that a key belongs to one pair, and
+//! `read_key` reads that pair back (`specs/Key.antt`). `number_of` is the number that a text
+//! encodes (`specs/Number.antt`).
 #![tactic(auto)]
 
 mod keys;

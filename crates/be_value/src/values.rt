@@ -20,7 +20,7 @@ use std::fmt;
 use std::hash::{Hash, Hasher};
 use std::marker::Model;
 
-/// The kinds of value, with the names of their type codes.
+/// The kinds of value, named by their type codes.
 #[derive(Clone, Copy, Debug, PartialEq, Eq, Hash)]
 pub enum Kind {
     Cstr,
@@ -33,7 +33,7 @@ pub enum Kind {
 }
 
 impl Kind {
-    /// The type code.
+    /// The type code: four ASCII letters as a number.
     pub fn code(&self) -> u32
         ensures { result ≡ code_of self.now }
     {
@@ -58,7 +58,7 @@ impl Kind {
         )
     }
 
-    /// The number by which pages call the kind, from 1.
+    /// The kind's number in pages, from 1.
     pub fn number(&self) -> u8
         ensures { result ≡ kind_number self.now }
     {
@@ -73,7 +73,7 @@ impl Kind {
         }
     }
 
-    /// The kind that pages call by this number.
+    /// The kind with this number in pages.
     pub fn numbered(number: u8) -> Option<Kind>
         ensures found { IfSome result (λ kind. kind_number kind ≡ number) }
         ensures none { IfNone result ((kind : AnyKind) → kind_number kind ≡ number → ⊥) }
@@ -90,7 +90,7 @@ impl Kind {
         }
     }
 
-    /// The name by which texts call the kind.
+    /// The kind's name in texts.
     pub fn name(&self) -> &'static str
         ensures { result.now ≡ kind_name self.now }
     {
@@ -106,7 +106,7 @@ impl Kind {
     }
 }
 
-/// The text of a value: up to 255 bytes without NUL. A contract sees its bytes.
+/// The text of a value: at most 255 bytes of UTF-8 without NUL. A contract sees its bytes.
 #[derive(Drop)]
 pub struct Text {
     text: ArrayString<255>,
@@ -124,7 +124,7 @@ impl Model for Text {
 }
 
 impl Text {
-    /// The text of a value. A wrong length is named before a NUL.
+    /// Makes a value's text. A wrong length is reported before a NUL.
     pub fn new(text: &str) -> Result<Text, Refusal>
         ensures { result ≡ text_from text.now }
     {
@@ -140,7 +140,7 @@ impl Text {
         }
     }
 
-    /// The text as a string, of up to 255 bytes without a zero byte.
+    /// The text as a string, of at most 255 bytes without a zero byte.
     pub fn as_str(&self) -> &str
         ensures text { result.now ≡ self.now }
         ensures valid { text_from self.now ≡ Ok self.now }
@@ -148,7 +148,7 @@ impl Text {
         self.text.as_str()
     }
 
-    /// An equal text.
+    /// An equal text. It allocates nothing.
     pub fn copy(&self) -> Text
         ensures { result ≡ self.now }
     {
@@ -156,7 +156,7 @@ impl Text {
     }
 }
 
-/// Equal bytes.
+/// Texts are equal if their bytes are.
 impl PartialEq for Text {
     ghost eq = { pointwise nat_eq };
 
@@ -188,7 +188,7 @@ impl fmt::Debug for Text {
     }
 }
 
-/// The bytes of a raw value, up to 255.
+/// The bytes of a raw value, at most 255. A contract sees them as a list.
 #[derive(Drop)]
 pub struct Bytes {
     bytes: ArrayVec<u8, 255>,
@@ -203,7 +203,7 @@ impl Model for Bytes {
 }
 
 impl Bytes {
-    /// The raw value of these bytes, refused where they are more than 255.
+    /// Makes a raw value from these bytes. The error is `DataLength` if there are more than 255.
     pub fn new(bytes: &[u8]) -> Result<Bytes, Refusal>
         ensures { result ≡ bytes_from bytes.now }
     {
@@ -213,7 +213,7 @@ impl Bytes {
         }
     }
 
-    /// The bytes as a slice, of up to 255 bytes.
+    /// The bytes as a slice of at most 255.
     pub fn as_slice(&self) -> &[u8]
         ensures bytes { result.now ≡ self.now }
         ensures fits { length self.now ≤ 255 }
@@ -221,7 +221,7 @@ impl Bytes {
         self.bytes.as_slice()
     }
 
-    /// Equal bytes.
+    /// Equal bytes. It allocates nothing.
     pub fn copy(&self) -> Bytes
         ensures { result ≡ self.now }
     {
@@ -231,7 +231,7 @@ impl Bytes {
     }
 }
 
-/// Equal bytes.
+/// Raw values are equal if their bytes are.
 impl PartialEq for Bytes {
     ghost eq = { pointwise nat_eq };
 
@@ -263,7 +263,7 @@ impl fmt::Debug for Bytes {
     }
 }
 
-/// A value of an attribute. Values of two kinds are never equal.
+/// An attribute's value. Values of different kinds are never equal.
 #[derive(Debug, Drop, PartialEq, Eq, Hash)]
 pub enum Value {
     Cstr(Text),
@@ -304,21 +304,23 @@ impl Value {
         Self::Ullg(n)
     }
 
-    /// The `Cstr` value of a text. Errors: DataLength above 255 bytes, HasNul for a zero byte.
+    /// The `Cstr` value of a text. Errors: `DataLength` if it has more than 255 bytes, `HasNul` if
+    /// it has a zero byte.
     pub fn text(text: &str) -> Result<Value, Refusal>
         ensures { result ≡ results.result_map_both Value.Cstr (λ e. e) (text_from text.now) }
     {
         Ok(Value::Cstr(Text::new(text)?))
     }
 
-    /// The `Mims` value of a MIME type. Errors: DataLength above 255 bytes, HasNul for a zero byte.
+    /// The `Mims` value of a MIME type. Errors: `DataLength` if it has more than 255 bytes,
+    /// `HasNul` if it has a zero byte.
     pub fn mime(text: &str) -> Result<Value, Refusal>
         ensures { result ≡ results.result_map_both Value.Mims (λ e. e) (text_from text.now) }
     {
         Ok(Value::Mims(Text::new(text)?))
     }
 
-    /// The `Rawt` value of these bytes. Error: DataLength above 255 bytes.
+    /// The `Rawt` value of these bytes. Error: `DataLength` if there are more than 255.
     pub fn raw(bytes: &[u8]) -> Result<Value, Refusal>
         ensures { result ≡ results.result_map_both Value.Rawt (λ e. e) (bytes_from bytes.now) }
     {
@@ -340,7 +342,7 @@ impl Value {
         }
     }
 
-    /// An equal value, without memory.
+    /// An equal value. It allocates nothing.
     pub fn copy(&self) -> Value
         ensures { result ≡ self.now }
     {
@@ -373,8 +375,8 @@ impl Value {
     }
 }
 
-/// A law of one value: it is one, as a contract can't tell of a value that it is lent. It does
-/// nothing.
+/// A law of one value: it satisfies `IsValue`. A contract can't assume this of a borrowed value.
+/// The function does nothing.
 pub fn valid(value: &Value)
     ensures { IsValue value.now }
 {
@@ -400,7 +402,7 @@ pub fn valid(value: &Value)
     }
 }
 
-/// An equal value. It takes no memory.
+/// An equal value. It allocates nothing.
 impl Clone for Value {
     ghost is_clone = { λ a b. b ≡ a };
 

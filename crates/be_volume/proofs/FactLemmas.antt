@@ -1,4 +1,4 @@
--- What an accepted operation does to the facts on which refusals rest.
+-- How an accepted operation changes the facts that decide about refusals.
 use Rattle.std.proofs.Common.{◌≡◌, ◌<◌, ◌≤◌, ◌^◌, ℕ, ◌+◌, ◌-◌, Bool, true, false, cond, not, ◌&&◌, ◌||◌, if◌then◌else◌, nat_le, nat_eq, List, [], ◌∷◌, length, refl, sym, ap, subst, ◌∙◌, Some, None, is_some, IsOk, is_ok, arith, unwrap_or, get_or, take, map as each, fold, ◌++◌}
 use Rattle.std.specs.Prelude.{Ok, Err, Result}
 use Rattle.std.specs.Result.{result_map_both}
@@ -54,7 +54,7 @@ module _ {K X : Type 0} {R : K → K → Ordering} (o : IsTotalOrder R) where
   has_removed : (m : FinMap R X) (k q : K) → fin.contains_key (fin.remove m k) q ≡ (not (eq_by_cmp R q k) && fin.contains_key m q)
   has_removed m k q = ap is_some (get-remove o m k q) ∙ is_taken (eq_by_cmp R q k) (fin.get m q)
 
-  -- a value at a key that is there
+  -- a new value at an existing key
   has_again : (m : FinMap R X) (k : K) (v : X) (q : K) → fin.contains_key m k ≡ true → fin.contains_key (fin.insert m k v) q ≡ fin.contains_key m q
   has_again m k v q h = has_put m k v q ∙ by (eq_by_cmp R q k) refl
     where
@@ -65,7 +65,7 @@ module _ {K X : Type 0} {R : K → K → Ordering} (o : IsTotalOrder R) where
   len_again : (m : FinMap R X) (k : K) (v : X) → fin.contains_key m k ≡ true → fin.len (fin.insert m k v) ≡ fin.len m
   len_again m k v h = len-insert o m k v ∙ ap (λ b. cond b (fin.len m) (fin.len m + 1)) h
 
-  -- entries whose values are changed
+  -- entries after a change of their values
   find_changed : (f : X → X) (es : List (K × X)) (q : K) → find R q (each (λ e. (e.0, f e.1)) es) ≡ option_map f (find R q es)
   find_changed f [] q = refl
   find_changed f (e ∷ es) q = by (eq_by_cmp R q e.0) (find_changed f es q)
@@ -93,7 +93,7 @@ module _ {K X : Type 0} {R : K → K → Ordering} (o : IsTotalOrder R) where
     own_entries : (m : FinMap R X) → from_entries (fin.entries m) ≡ m
     own_entries m = same_map o exact _ _ (λ q. get-from_entries o (fin.entries m) q ∙ sym (get-entries m q))
 
-    -- what is got from a map whose values are changed
+    -- a look-up in a map after a change of its values
     pub get_changed : (f : X → X) (m : FinMap R X) (q : K) → fin.get (from_entries {R = R} (each (λ e. (e.0, f e.1)) (fin.entries m))) q ≡ option_map f (fin.get m q)
     get_changed f m q = get-from_entries o (each (λ e. (e.0, f e.1)) (fin.entries m)) q ∙ find_changed f (fin.entries m) q ∙ ap (option_map f) (sym (get-entries m q))
 
@@ -132,7 +132,7 @@ unpair_len m name node = by (fin.get m name) refl
     by None e = refl
     by (Some index) e = len_again names_total m name (unpaired index node) (ap is_some e)
 
--- the attributes of a node after another got some
+-- a node's attributes after another node got some
 own : (m : Nodes) (node : ℕ) (a : Attributes) (q : ℕ) → attributes_of (fin.insert m node a) q ≡ cond (nat_eq q node) a (attributes_of m q)
 own m node a q = ap (λ found. unwrap_or found fin.empty) (get-insert nat_cmp_total m node a q ∙ ap (λ b. cond b (Some a) (fin.get m q)) (unsigned_tied q node)) ∙ got (nat_eq q node) a fin.empty (fin.get m q)
 
@@ -142,7 +142,7 @@ gone m node q = ap (λ found. unwrap_or found fin.empty) (get-remove nat_cmp_tot
 same_number : (q n : ℕ) → nat_eq q n ≡ true → q ≡ n
 same_number q n h = grind (arith, nat_tests)
 
--- facts that one operation changes, in the state that it makes
+-- the facts that one operation changes, in the state after it
 made_next : (s : State) (op : Op) → (made s op).next ≡ next_after op s.next
 made_next s New = refl
 made_next s (Drop node) = refl
@@ -318,7 +318,7 @@ few_indexed s (RmIndex name) h k = omega arith
 pub few_indices_stay : (s : State) (op : Op) → Found s op → fin.len s.indices ≤ 32 → fin.len (made s op).indices ≤ 32
 few_indices_stay s op h few = subst (λ n. n ≤ 32) (sym (made_indices s op h)) (few_indexed s op h few)
 
--- a set adds one attribute at most, and nothing else adds any
+-- a set adds at most one attribute, and nothing else adds any
 most_if : (b : Bool) (n m top : ℕ) → m ≤ top → n ≤ top → (if b then m else n) ≤ top
 most_if true n m top h k = h
 most_if false n m top h k = k
@@ -386,7 +386,7 @@ next_bound s t op done e =
     let g : next_after op s.next ≤ s.next + 1 = next_grows op s.next in
     omega arith
 
--- each accepted operation takes one number at most
+-- each accepted operation takes at most one number
 steps_grow : (s t : State) (old dones : List Done) (ops : List Op) → fold advance (Ok (s, old)) ops ≡ Ok (t, dones) → t.next ≤ s.next + length ops
 steps_grow s t old dones [] e = let same : s.next ≡ t.next = ap (λ r. (reached s r).next) e in omega arith
 steps_grow s t old dones (op ∷ ops) e = by (step s op) refl e (λ x. steps_grow x.0 t (old ++ x.1 ∷ []) dones ops)

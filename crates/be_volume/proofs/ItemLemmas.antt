@@ -1,4 +1,4 @@
--- How much an operation adds to what a volume has in it.
+-- How many items an operation adds to a volume.
 use Rattle.std.proofs.Common.{◌≡◌, ◌≤◌, ℕ, suc, ◌+◌, ◌-◌, ◌*◌, ◌++◌, Bool, true, false, cond, ◌&&◌, if◌then◌else◌, T, List, [], ◌∷◌, length, take, refl, sym, ap, subst, ◌∙◌, Some, None, is_some, is_ok, arith, unwrap_or, map as each, fold}
 use Rattle.std.specs.Prelude.{Ok, Err, Result}
 use Rattle.std.specs.List.{sum_by}
@@ -45,7 +45,7 @@ tied Less h = cc
 tied Equal h = refl
 tied Greater h = cc
 
--- what a value that may be there weighs
+-- the weight of a value that may be missing
 abbrev weight : {X : Type 0} → (X → ℕ) → Option X → ℕ
 weight f None = 0
 weight f (Some x) = f x
@@ -69,7 +69,7 @@ module _ {K X : Type 0} {R : K → K → Ordering} (o : IsTotalOrder R) where
   len_again : (m : FinMap R X) (k : K) (v : X) → fin.contains_key m k ≡ true → fin.len (fin.insert m k v) ≡ fin.len m
   len_again m k v h = len-insert o m k v ∙ ap (λ b. cond b (fin.len m) (fin.len m + 1)) h
 
--- what the values of a map weigh together
+-- the total weight of a map's values
 module _ {K X : Type 0} {R : K → K → Ordering} (o : IsTotalOrder R) (f : X → ℕ) where
   abbrev over : List (K × X) → ℕ
   over es = sum_by (λ e. f e.1) es
@@ -77,7 +77,7 @@ module _ {K X : Type 0} {R : K → K → Ordering} (o : IsTotalOrder R) (f : X �
   over-cons : (e : K × X) (es : List (K × X)) → over (e ∷ es) ≡ f e.1 + over es
   over-cons e es = sum_by-cons (λ (e : K × X). f e.1) e es
 
-  -- a key that is before the first one is not there
+  -- a key that is before the first one is missing
   before_none : (k : K) (v : X) (e : K × X) (es : List (K × X)) → T (is_sorted R (e ∷ es)) → R k e.0 ≡ Less → find R k es ≡ None
   before_none k v e es h p =
       missing (find R k es) (length (e ∷ es)) (subst (λ r. length (by_order r ((k, v) ∷ e ∷ es) ((e.0, v) ∷ es) (e ∷ put R k v es)) ≡ cond (is_some (cond (is_eq r) (Some e.1) (find R k es))) (length (e ∷ es)) (length (e ∷ es) + 1)) p (length-put R o k v (e ∷ es) h))
@@ -110,7 +110,7 @@ module _ {K X : Type 0} {R : K → K → Ordering} (o : IsTotalOrder R) (f : X �
   weigh-empty : weigh fin.empty ≡ 0
   weigh-empty = none_weigh _ (sym (len-entries (fin.empty {R = R})) ∙ len-empty R X)
 
-  -- values that are changed and weigh no more
+  -- values that are changed and don't weigh more
   weigh-changed : (g : X → X) → ((x : X) → f (g x) ≤ f x) → (es : List (K × X)) → weigh (from_entries {R = R} (each (λ e. (e.0, g e.1)) es)) ≤ over es
   weigh-changed g less [] = omega (arith, weigh-empty)
   weigh-changed g less (e ∷ es) =
@@ -143,7 +143,7 @@ module _ {K X : Type 0} {R : K → K → Ordering} (o : IsTotalOrder R) (f : X �
             at q true e = sym h ∙ get_tied o m q k (tied _ e)
             at q false e = refl
 
--- the attributes of a node that has new ones
+-- the attributes of a node that got new ones
 attributes_weigh : (found : Option Attributes) → weight fin.len found ≡ fin.len (unwrap_or found fin.empty)
 attributes_weigh None = sym (len-empty name_cmp Value)
 attributes_weigh (Some a) = refl
@@ -152,7 +152,7 @@ put_attributes : (nodes : Nodes) (node : ℕ) (a : Attributes) →
     weigh nat_cmp_total fin.len (fin.insert nodes node a) + fin.len (attributes_of nodes node) ≡ weigh nat_cmp_total fin.len nodes + fin.len a
 put_attributes nodes node a = omega (arith, weigh-insert nat_cmp_total fin.len nodes node a, attributes_weigh (fin.get nodes node))
 
--- the pairs of an index
+-- an index's pairs
 abbrev pairs_len : Index → ℕ
 pairs_len index = fin.len index.pairs
 
@@ -184,7 +184,7 @@ module _ (s : State) where
   abbrev marks : Nodes → ℕ
   marks nodes = fin.len nodes + weigh nat_cmp_total fin.len nodes
 
-  -- the nodes with other attributes of one that is there
+  -- the nodes after an existing one got other attributes
   set_marks : (node : ℕ) (a : Attributes) → fin.contains_key s.nodes node ≡ true → marks (fin.insert s.nodes node a) + fin.len (attributes_of s.nodes node) ≡ marks s.nodes + fin.len a
   set_marks node a h = omega (arith, len_again nat_cmp_total s.nodes node a h, put_attributes s.nodes node a)
 
@@ -237,7 +237,7 @@ few_indices (Unset node name) = omega arith
 few_indices (MkIndex name kind) = omega arith
 few_indices (RmIndex name) = omega arith
 
--- what operations add together
+-- what operations add in all
 record Grows (s t : State) (ops : List Op) : Type 0 where
   few : items t ≤ items s + sum_by most_items ops
   indices : fin.len t.indices ≤ fin.len s.indices + sum_by most_indices ops
@@ -260,7 +260,7 @@ grows s t old dones (op ∷ ops) e =
           indices = omega (arith, more.indices, step_indices s x.0 op x.1 g, sum_by-cons most_indices op ops);
         }
 
--- operations that are refused leave the state
+-- refused operations don't change the state
 grown : (s : State) (ops : List Op) → Grows s (state_after s ops) ops
 grown s ops = by (steps s ops) refl
   where

@@ -1,4 +1,4 @@
--- Keys beside their pairs, and the least of them from some bytes on.
+-- Keys that are kept with pairs, and the lowest of them from some bytes on.
 use Rattle.std.proofs.Common.{◌≡◌, ◌<◌, ◌≤◌, ◌^◌, ℕ, zero, suc, Bool, true, false, not, cond, List, [], ◌∷◌, length, take, IsTrue, refl, sym, ap, subst, ◌∙◌, arith, Some, None, if◌then◌else◌}
 use Rattle.std.proofs.lemmas.Option.{same_Some}
 use Rattle.std.specs.Prelude.{IfSome, OnOk, OnErr, Ok, Err, Result}
@@ -47,7 +47,7 @@ not_below a b = turned (name_cmp a b) ∙ ap not (sym (flipped b a))
     turned Equal = refl
     turned Greater = refl
 
--- at most n bytes are compared with more than n as with the first n of them, and are never equal
+-- up to n bytes compare with more than n bytes as with their first n, and are never equal to them
 record Cut (n : ℕ) (from k : List ℕ) : Type 0 where
   after : is_gt (name_cmp k from) ≡ is_gt (name_cmp k (take n from))
   at : not (is_lt (name_cmp k from)) ≡ is_gt (name_cmp k (take n from))
@@ -108,7 +108,7 @@ is_inside (Included a) k h = by (name_cmp a k) h
 is_inside (Excluded a) k h = ap is_lt h
 is_inside Unbounded k h = refl
 
--- the first key of a range is the next
+-- a range's first key is the next key
 module _ (pairs : FinMap nat_cmp Value) (set : BTreeSet (List ℕ)) (kept : AreKeysOf pairs (contains name_cmp set)) (from : List ℕ) (after : Bool) (start : Bound (List ℕ))
     (starts : (k : List ℕ) → length k ≤ 264 → is_from_start name_cmp start k ≡ is_at_or_after from after k) where
   in_range : (k : List ℕ) → IsKeyOf pairs k → is_at_or_after from after k ≡ true → IsInRange name_cmp start Unbounded k
@@ -127,7 +127,7 @@ module _ (pairs : FinMap nat_cmp Value) (set : BTreeSet (List ℕ)) (kept : AreK
         λ q h f. flipped q k ∙ range.2 q (in_range q h f) (kept.each q h),
       )
 
--- a sound volume's keys are those of the pairs of its index
+-- in a sound volume, an index's keys are those of its pairs
 is_some_key : (v : Value) (n : ℕ) → IsTrue (is_indexable (kind_of v)) → own_key v n ≡ Some (key v n)
 is_some_key v n h = ap (λ b. if b then Some (key v n) else None) h
 
@@ -157,7 +157,7 @@ module _ (s : State) (sound : IsSound s) (name : List ℕ) (index : Index) (ther
 pub no_key : (s : State) (name : List ℕ) → fin.get s.indices name ≡ None → (k : List ℕ) → IsKey s name k → ⊥
 no_key s name none k h = let no : None ≡ Some h.index = sym none ∙ h.there in cc
 
--- keys after a pair left or entered
+-- keys after a pair was removed or added
 abbrev pub Loses : Option (List ℕ) → (List ℕ → Bool) → (List ℕ → Bool) → Type 0
 Loses None old new = (q : List ℕ) → new q ≡ old q
 Loses (Some k) old new = (q : List ℕ) → new q ≡ cond (eq_by_cmp name_cmp k q) false (old q)
@@ -174,7 +174,7 @@ tied Greater h = cc
 own_tie : (k : List ℕ) → eq_by_cmp name_cmp k k ≡ true
 own_tie k = ap is_eq (tied_itself names_total k)
 
--- a key is the key of one node
+-- a key is that of one node
 one_node : (v w : Value) (m n : ℕ) (k : List ℕ) → m < 2 ^ 64 → n < 2 ^ 64 → own_key v m ≡ Some k → own_key w n ≡ Some k → m ≡ n
 one_node v w m n k h g e f = same_node (value_key v) (value_key w) m n h g (sym (key_is v m k e) ∙ key_is w n k f)
 
@@ -319,7 +319,7 @@ module _ (pairs : FinMap nat_cmp Value) (node : ℕ) (v : Value) where
   pub gone : fin.get (fin.remove pairs node) node ≡ None
   gone = fin.get-remove nat_cmp_total pairs node node ∙ ap (λ b. cond b None (fin.get pairs node)) (ap is_eq (tied_itself nat_cmp_total node))
 
-  -- to put a pair in, the old one may be taken out first
+  -- before a pair is put in, the old one may be removed
   pub put_again : fin.insert (fin.remove pairs node) node v ≡ fin.insert pairs node v
   put_again = same_map nat_cmp_total nat_cmp-IsAntisymmetric _ _ (λ q.
       fin.get-insert nat_cmp_total (fin.remove pairs node) node v q ∙ by q (eq_by_cmp nat_cmp q node) refl ∙ sym (fin.get-insert nat_cmp_total pairs node v q))
@@ -328,7 +328,7 @@ module _ (pairs : FinMap nat_cmp Value) (node : ℕ) (v : Value) where
       by q true e = refl
       by q false e = fin.get-remove nat_cmp_total pairs node q ∙ ap (λ b. cond b None (fin.get pairs q)) e
 
-  -- a pair that was put in where none was, and is taken back
+  -- a pair that was put in for a node without one, and taken out again
   pub taken_back : fin.get pairs node ≡ None → fin.remove (fin.insert pairs node v) node ≡ pairs
   taken_back none = same_map nat_cmp_total nat_cmp-IsAntisymmetric _ _ (λ q. fin.get-remove nat_cmp_total (fin.insert pairs node v) node q ∙ by q (eq_by_cmp nat_cmp q node) refl)
     where
@@ -351,7 +351,7 @@ kept_empty es set none no_keys = record {
     lacks : (k : List ℕ) → contains name_cmp set k ≡ false
     lacks k = ap (λ ks. list_any (is_at (name_cmp k)) ks) no_keys
 
--- what a fact on an answer says
+-- what a fact about an answer says
 none_some : {A : Type 0} (x : A) → None ≡ Some x → ⊥
 none_some x e = cc
 

@@ -1,4 +1,4 @@
--- What an attribute that is there says of an operation's refusal.
+-- What an existing attribute says about an operation's refusal.
 use Rattle.std.proofs.Common.{◌≡◌, ◌<◌, ◌≤◌, ◌+◌, ℕ, Bool, true, false, not, ◌&&◌, if◌then◌else◌, nat_le, List, refl, sym, ap, ◌∙◌, Some, None, is_some, unwrap_or, arith}
 use Rattle.std.proofs.lemmas.Bool.Decides.{nat_tests}
 use Rattle.std.specs.FinMap as map
@@ -13,7 +13,7 @@ use Rattle.be_volume.specs.Maps.{name_cmp, Nodes, Attributes, attributes_of}
 use Rattle.be_volume.specs.declared.ops.Op.TheVariants.{Set, Unset}
 use Rattle.be_volume.specs.Volume.{State, step}
 
--- a node with an attribute is there
+-- a node with an attribute exists
 pub attribute_node : (nodes : Nodes) (node : ℕ) (name : List ℕ) → map.contains_key (attributes_of nodes node) name ≡ true → map.contains_key nodes node ≡ true
 attribute_node nodes node name h = by (map.get nodes node) h
   where
@@ -33,7 +33,7 @@ unset_passes true true r h k = refl
 unset_passes true false r h k = cc
 unset_passes false has r h k = cc
 
--- so nothing refuses to set it again, or to unset it
+-- so setting or unsetting it again isn't refused
 pub set_again : (s : State) (node : ℕ) (name : List ℕ) (value : Value) → map.contains_key (attributes_of s.nodes node) name ≡ true → None ≡ result_err (step s (Set node name value))
 set_again s node name value h =
     set_passes (map.contains_key s.nodes node) (map.contains_key (attributes_of s.nodes node) name) (nat_le 64 (map.len (attributes_of s.nodes node))) _ (attribute_node s.nodes node name h) h
@@ -44,7 +44,7 @@ unset_found s node name h = unset_passes (map.contains_key s.nodes node) (map.co
 pub not_full : (n : ℕ) → n < 64 → false ≡ nat_le 64 n
 not_full n h = grind (arith, nat_tests)
 
--- a count that two bound which don't reach the limit
+-- a count bounded by two counts that don't reach the limit together
 pub not_reached : (n both : ℕ) → n ≤ both → nat_le 64 both ≡ false → n < 64
 not_reached n both most h = grind (arith, nat_tests)
 

@@ -50,7 +50,7 @@ module _ {K X : Type 0} {R : K → K → Ordering} (o : IsTotalOrder R) (m : Fin
   gone_other : eq_by_cmp R q k ≡ false → fin.get (fin.remove m k) q ≡ fin.get m q
   gone_other e = fin.get-remove o m k q ∙ ap (λ b. cond b None (fin.get m q)) e
 
-  -- what is left after a removal was there, at another key
+  -- what is left after a removal was there before, at another key
   left : (v : X) → fin.get (fin.remove m k) q ≡ Some v → (eq_by_cmp R q k ≡ false) × (fin.get m q ≡ Some v)
   left v h = by (eq_by_cmp R q k) refl
     where
@@ -68,7 +68,7 @@ same_code kinds.Ulng kinds.Ulng h = refl
 same_code kinds.Ullg kinds.Ullg h = refl
 same_code a b h = cc
 
--- the attributes of nodes
+-- the nodes' attributes
 abbrev held : Nodes → ℕ → List ℕ → Option Value
 held nodes n name = option_and_then (λ (a : Attributes). fin.get a name) (fin.get nodes n)
 
@@ -99,7 +99,7 @@ module _ (nodes : Nodes) (node : ℕ) where
   drop_here : (n : ℕ) (name : List ℕ) → eq_by_cmp nat_cmp n node ≡ true → held (fin.remove nodes node) n name ≡ None
   drop_here n name e = ap (option_and_then (λ (b : Attributes). fin.get b name)) (gone_there nat_cmp_total nodes node n e)
 
-  -- attributes of the node that differ at most at one name leave the attributes of other names
+  -- if the node's attributes differ only at one name, other names keep theirs
   other_name : (a : Attributes) (other : List ℕ) → fin.get a other ≡ fin.get (attributes_of nodes node) other → (n : ℕ) →
       held (fin.insert nodes node a) n other ≡ held nodes n other
   other_name a other same n = by (eq_by_cmp nat_cmp n node) refl
@@ -108,7 +108,7 @@ module _ (nodes : Nodes) (node : ℕ) where
       by true e = put_here a n other e ∙ same ∙ held_of nodes node other ∙ ap (λ m. held nodes m other) (sym (nat_cmp-IsAntisymmetric n node (tied _ e)))
       by false e = put_apart a n other e
 
-  -- a node that is there again
+  -- an existing node that is set again
   again : (a : Attributes) → fin.contains_key nodes node ≡ true → (n : ℕ) → fin.contains_key (fin.insert nodes node a) n ≡ true → fin.contains_key nodes n ≡ true
   again a exists n h = by (eq_by_cmp nat_cmp n node) refl
     where
@@ -116,7 +116,8 @@ module _ (nodes : Nodes) (node : ℕ) where
       by true e = ap (fin.contains_key nodes) (nat_cmp-IsAntisymmetric n node (tied _ e)) ∙ exists
       by false e = sym (ap is_some (get_other nat_cmp_total nodes node n a e)) ∙ h
 
--- An index after an operation comes from the one before: each of its pairs is an old pair whose attribute stayed, or is the new attribute.
+-- An index after an operation comes from the one before it. Each of its pairs is an old one whose attribute stayed, or is the new
+-- attribute.
 record Descends (s t : State) (name : List ℕ) (index : Index) : Type 0 where
   old : Index
   there : fin.get s.indices name ≡ Some old
@@ -173,7 +174,7 @@ module _ (s t : State) (sound : IsSound s) (limits : Few t) (fits : t.next < 2 ^
     few_indices = limits.indices;
   }
 
--- an index that stays, where the attributes of its pairs do
+-- an index stays if the attributes of its pairs do
 stays : (s t : State) (name : List ℕ) (index : Index) → fin.get s.indices name ≡ Some index →
     ((n : ℕ) (v : Value) → fin.get index.pairs n ≡ Some v → attribute t n name ≡ attribute s n name) → Comes s t name index
 stays s t name index there same = inl (record { old = index; there = there; kind = refl; each = λ n v got. inl (got, same n v got) })
@@ -223,7 +224,7 @@ module _ (s : State) (sound : IsSound s) (fits : s.next + 1 < 2 ^ 64) where
           })
 
   module _ (node : ℕ) (name : List ℕ) (exists : fin.contains_key s.nodes node ≡ true) where
-    -- the index of the name after the pair of the node left it
+    -- the name's index after the node's pair has left it
     lost : (t : State) (old : Index) → fin.get s.indices name ≡ Some old → ((n : ℕ) → eq_by_cmp nat_cmp n node ≡ false → attribute t n name ≡ attribute s n name) →
         (index : Index) → unpaired old node ≡ index → Descends s t name index
     lost t old g same index is = record {
@@ -260,7 +261,7 @@ module _ (s : State) (sound : IsSound s) (fits : s.next + 1 < 2 ^ 64) where
           let V : Value → Type 0 = IsValue in
           (subst N (sym same) named, subst V is is_value)
 
-      -- the index of the name
+      -- the name's index
       own : (old : Index) → fin.get s.indices name ≡ Some old → (index : Index) (t : Bool) → same_kind old.kind (kind_of value) ≡ t →
           cond t (record { kind = old.kind; pairs = fin.insert old.pairs node value }) (unpaired old node) ≡ index → Descends s (made s (Set node name value)) name index
       own old g index false k is = lost (made s (Set node name value)) old g (λ n e. apart n name e) index is
@@ -358,7 +359,7 @@ step_sound s t op done sound fits is e =
     let a = accepted s op (ap is_ok e) in
     subst IsSound (sym a.is ∙ ap (reached s) e) (made_sound s sound fits op is a.found)
 
--- and so does a list of them
+-- and so do several
 steps_after : (s t : State) (old dones : List Done) (ops : List Op) → IsSound s → s.next + length ops < 2 ^ 64 → All IsOperation ops →
     fold advance (Ok (s, old)) ops ≡ Ok (t, dones) → IsSound t
 steps_after s t old dones [] sound fits are e = subst IsSound (ap (λ r. reached s r) e) sound

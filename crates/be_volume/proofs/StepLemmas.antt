@@ -1,4 +1,4 @@
--- What an accepted operation leaves, and lists of operations read from the front.
+-- What accepted operations found and left, and lists of operations read from the front.
 use Rattle.std.proofs.Common.{◌≡◌, ◌<◌, ℕ, ◌+◌, Bool, true, false, not, ◌&&◌, if◌then◌else◌, nat_le, List, [], ◌∷◌, ◌++◌, length, take, drop, get_or, take-append-drop, refl, sym, ap, ◌∙◌, Some, None, IsOk, is_ok, fold}
 use Rattle.std.proofs.lemmas.List.{take_more}
 use Rattle.std.proofs.lemmas.Grind.{fold-append}
@@ -18,7 +18,7 @@ use Rattle.be_volume.specs.declared.ops.Op.TheVariants.{New, Drop, Set, Unset, M
 use Rattle.be_volume.specs.Volume.{State, step, steps, advance}
 use Rattle.be_volume.specs.Ahead.{reached, state_after}
 
--- a refusal stays
+-- after an error, the error stays
 pub refused_stays : (e : Refusal) (ops : List Op) → fold advance (Err e) ops ≡ Err e
 refused_stays e [] = refl
 refused_stays e (op ∷ ops) = refused_stays e ops
@@ -33,7 +33,7 @@ ok_before (Err e) ops h = absurd (no_err (sym (ap is_ok (refused_stays e ops)) �
     no_err : false ≡ true → ⊥
     no_err h = cc
 
--- a front of accepted operations is accepted
+-- a prefix of accepted operations is accepted
 pub front_ok : (s : State) (ops more : List Op) → IsOk (steps s (ops ++ more)) → IsOk (steps s ops)
 front_ok s ops more h = ok_before (steps s ops) more (sym (ap is_ok (fold-append advance (Ok (s, [])) ops more)) ∙ h)
 
@@ -77,7 +77,7 @@ turn s ops i op h e ok =
     let t = taken s (steps s (take i ops)) op (sym (ap is_ok is) ∙ take_ok s ops (i + 1) ok) in
     record { accepted = t.accepted; is = ap (reached s) is ∙ t.is }
 
--- where a test did not refuse
+-- the other branch of a test that didn't refuse
 passed : {A : Type 0} (b : Bool) (e : Refusal) (r : Result A Refusal) → IsOk (if b then Err e else r) → (b ≡ false) × ((if b then Err e else r) ≡ r)
 passed true e r h = cc
 passed false e r h = (refl, refl)
@@ -130,7 +130,7 @@ accepted s (RmIndex name) h =
     let p = passed (not (map.contains_key s.indices name)) NoSuchIndex _ h in
     record { is = ap (reached s) p.1; found = sure _ p.0 }
 
--- the first operation that is refused refuses the list
+-- the first refused operation refuses the list
 refused_on : (dones : List Done) (q : Result (State × Done) Refusal) (ops : List Op) (e : Refusal) → result_err q ≡ Some e → result_err (fold advance (result_map_both (joined dones) (λ (f : Refusal). f) q) ops) ≡ Some e
 refused_on dones (Ok x) ops e h = cc
 refused_on dones (Err f) ops e h = ap result_err (refused_stays f ops) ∙ h
@@ -161,17 +161,17 @@ pub accepted_at : (s : State) (ops : List Op) (i : ℕ) (op : Op) → i < length
     result_err (step (state_after s (take i ops)) op) ≡ None → IsOk (steps s (take (i + 1) ops))
 accepted_at s ops i op short at ok h = ap is_ok (more_is s ops i op short at) ∙ accepted_after s (steps s (take i ops)) op ok h
 
--- what is accepted has no refusal
+-- what is accepted has no error
 pub no_refusal : {A : Type 0} (r : Result A Refusal) → IsOk r → result_err r ≡ None
 no_refusal (Ok x) h = refl
 no_refusal (Err e) h = cc
 
--- and what has none is accepted
+-- and what has no error is accepted
 pub is_accepted : {A : Type 0} (r : Result A Refusal) → result_err r ≡ None → IsOk r
 is_accepted (Ok x) h = refl
 is_accepted (Err e) h = cc
 
--- one operation more that was performed
+-- one more operation was performed
 pub performed : (s t u : State) (dones : List Done) (ops : List Op) (i : ℕ) (op : Op) (done : Done) → i < length ops → op ≡ get_or ops i op →
     steps s (take i ops) ≡ Ok (t, dones) → step t op ≡ Ok (u, done) → steps s (take (i + 1) ops) ≡ Ok (u, dones ++ done ∷ [])
 performed s t u dones ops i op done short at e h =

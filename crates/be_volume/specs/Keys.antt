@@ -1,4 +1,4 @@
--- The keys of the indices of a volume, and which of them is next.
+-- The keys of a volume's indices, and which of them is next.
 use Rattle.std.specs.Prelude.{◌≡◌, ℕ, Bool, List, Some}
 use Rattle.std.specs.FinMap as map
 use Rattle.std.specs.declared.option.Option.{Option}
@@ -8,7 +8,7 @@ use Rattle.be_volume.specs.PairKeys.{IsNext}
 use Rattle.be_volume.specs.Volume.{State}
 use Rattle.be_volume.specs.declared.maps.Index.{Index}
 
--- k is the key of a pair in the index of that name
+-- k is the key of a pair in the index with this name
 pub record IsKey (s : State) (name : List ℕ) (k : List ℕ) : Type 0 where
   pub index : Index
   pub node : ℕ
@@ -17,6 +17,6 @@ pub record IsKey (s : State) (name : List ℕ) (k : List ℕ) : Type 0 where
   pub paired : map.get index.pairs node ≡ Some value
   pub is : k ≡ key value node
 
--- the result is the least key of the index from there on, or none if there is none
+-- the result is the index's lowest key from there on, or None if there is none
 abbrev pub IsNextKey : State → List ℕ → List ℕ → Bool → Option (List ℕ) → Type 0
 IsNextKey s name = IsNext (IsKey s name)

@@ -1,4 +1,4 @@
--- What a query answers on a volume.
+-- Which nodes a query finds in a volume.
 use Rattle.std.specs.Prelude.{ℕ, Bool, false, not, ◌&&◌, ◌||◌, List, Some, None, pos, filter}
 use Rattle.std.specs.Prelude.{if◌then◌else◌}
 use Rattle.std.specs.Option.{option_map_or}
@@ -26,7 +26,7 @@ use Rattle.be_volume.specs.Reading.{attribute}
 use Rattle.be_volume.specs.Volume.{State}
 use Rattle.be_volume.specs.declared.maps.Index.{Index}
 
--- whether an operator is true of two things in this order
+-- whether an operator is true of two things that compare in this order
 abbrev pub is_true_of : Cmp → Ordering → Bool
 is_true_of Eq o = is_eq o
 is_true_of Ne o = not (is_eq o)
@@ -35,7 +35,7 @@ is_true_of Le o = not (is_gt o)
 is_true_of Gt o = is_gt o
 is_true_of Ge o = not (is_lt o)
 
--- `==` is a match, and every other operator none
+-- `==` is true of a match, and every other operator if there is no match
 abbrev pub is_true_of_match : Cmp → Bool → Bool
 is_true_of_match Eq matched = matched
 is_true_of_match Ne matched = not matched
@@ -56,12 +56,12 @@ literal_number (Wild parts) = if is_plain parts
     then number_in (encode_utf8_all (literal_prefix parts)) else None
 literal_number (Exact words) = number_in words
 
--- whether a comparison is true of a number: of none it is false, whatever the operator
+-- whether a comparison is true of a number; false for every operator if the literal encodes none
 abbrev pub holds_of_number : Cmp → ℤ → Option ℤ → Bool
 holds_of_number op n None = false
 holds_of_number op n (Some m) = is_true_of op (int_cmp n m)
 
--- whether a comparison is true of a value; of raw bytes none is
+-- whether a comparison is true of a value; none is true of raw bytes
 abbrev pub holds : Cmp → Value → Literal → Bool
 holds op (Cstr text) literal = holds_of_text op text literal
 holds op (Long n) literal = holds_of_number op n (literal_number literal)
@@ -75,19 +75,19 @@ abbrev pub seen_in : Option Index → Option Value → ℕ → Option Value
 seen_in None value node = value
 seen_in (Some index) value node = map.get index.pairs node
 
--- What a comparison on this name sees of the node: the value that the index of the name holds for
--- it, and without an index its attribute.
+-- What a comparison on this name sees of the node: the value that the name's index has for it, or,
+-- without an index, the node's attribute.
 abbrev pub sees : State → ℕ → List ℕ → Option Value
 sees s node name = seen_in (map.get s.indices name) (attribute s node name) node
 
--- whether a formula is true of a node
+-- whether a node satisfies a formula
 abbrev pub sat : State → Formula → ℕ → Bool
 sat s (Leaf name op literal) node = option_map_or (λ value. holds op value literal)
     (sees s node name) false
 sat s (And a b) node = sat s a node && sat s b node
 sat s (Or a b) node = sat s a node || sat s b node
 
--- whether a formula rests on indices; the test says which names have one
+-- whether indices cover a formula; `indexed` says which names have an index
 abbrev pub rests : (List ℕ → Bool) → Formula → Bool
 rests indexed (Leaf name op literal) = indexed name
 rests indexed (And a b) = rests indexed a || rests indexed b
@@ -96,10 +96,10 @@ rests indexed (Or a b) = rests indexed a && rests indexed b
 abbrev pub has_index : State → List ℕ → Bool
 has_index s name = map.contains_key s.indices name
 
--- whether a formula rests on the volume's indices
+-- whether the volume's indices cover a formula
 abbrev pub covered : State → Formula → Bool
 covered s = rests (has_index s)
 
--- the nodes of which the formula is true, ascending, if it is covered
+-- the nodes that satisfy the formula, in ascending order, if indices cover it
 abbrev pub scan : State → Formula → Result (List ℕ) Refusal
 scan s f = if covered s f then Ok (filter (sat s f) (map.keys s.nodes)) else Err NotCovered

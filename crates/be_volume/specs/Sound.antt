@@ -1,4 +1,4 @@
--- What is true of every volume that operations made.
+-- What holds for every volume that operations have made.
 use Rattle.std.specs.Prelude.{◌≡◌, ◌<◌, ◌≤◌, ◌^◌, ⊤, ℕ, true, List, Some, Ok, IsTrue, IsUtf8}
 use Rattle.std.specs.FinMap as map
 use Rattle.be_value.specs.Key.{IsValue}
@@ -13,11 +13,11 @@ use Rattle.be_volume.specs.declared.maps.Index.{Index}
 use Rattle.be_volume.specs.declared.ops.Op.{Op}
 use Rattle.be_volume.specs.declared.ops.Op.TheVariants.{New, Drop, Set, Unset, MkIndex, RmIndex}
 
--- what every name of the program is
+-- the name is valid
 abbrev pub IsName : List ℕ → Type 0
 IsName name = (name_from name ≡ Ok name) × IsUtf8 name
 
--- what every operation of the program is: its names and values are such
+-- the operation's names and values are valid
 abbrev pub IsOperation : Op → Type 0
 IsOperation New = ⊤
 IsOperation (Drop node) = ⊤
@@ -26,7 +26,7 @@ IsOperation (Unset node name) = IsName name
 IsOperation (MkIndex name kind) = IsName name
 IsOperation (RmIndex name) = IsName name
 
--- what a pair (value, node) in an index of that name and kind implies: it is the node's attribute,
+-- what a pair (value, node) in an index of this name and kind implies: it is the node's attribute,
 -- and has the index's kind
 pub record IsPaired (s : State) (name : List ℕ) (kind : Kind) (node : ℕ) (value : Value) : Type 0
   where
@@ -36,9 +36,9 @@ pub record IsPaired (s : State) (name : List ℕ) (kind : Kind) (node : ℕ) (va
     pub node_fits : node < 2 ^ 64
     pub node_below : node < s.next
 
--- Each pair of an index is its node's attribute of that name and has the index's kind, which is
--- indexable. Attributes have names and values of the program, and each node is below the next. A
--- node has at most 64 attributes, and there are at most 32 indices.
+-- Each pair of an index is its node's attribute with that name, and has the index's kind, which is
+-- indexable. Attributes have valid names and values, and each node's number is lower than the next
+-- one. A node has at most 64 attributes, and there are at most 32 indices.
 pub record IsSound (s : State) : Type 0 where
   pub pairs : (name : List ℕ) (index : Index) (node : ℕ) (value : Value) → map.get s.indices name
       ≡ Some index → map.get index.pairs node ≡ Some value →

@@ -1,4 +1,4 @@
--- A volume, and what each operation makes of it.
+-- A volume, and how each operation changes it.
 use Rattle.std.specs.Prelude.{◌≡◌, ◌⊎◌, ℕ, ◌+◌, not, ◌&&◌, nat_le, if◌then◌else◌, refl, List, []}
 use Rattle.std.specs.Prelude.{◌∷◌, ◌++◌, fold, IsOk}
 use Rattle.std.specs.Result.{result_map_both}
@@ -19,7 +19,7 @@ use Rattle.be_volume.specs.declared.ops.Op.TheVariants.{New, Set, MkIndex, Drop,
 use Rattle.be_volume.specs.declared.ops.Done.{Done}
 use Rattle.be_volume.specs.declared.ops.Done.TheVariants.{Node, Unit as Nothing}
 
--- The number that the next node gets, the attributes of each node, and the indices.
+-- The number of the next new node, the attributes of each node, and the indices.
 pub record State : Type 0 where
   pub next : ℕ
   pub nodes : Nodes
@@ -30,11 +30,11 @@ coded_state = code_by _ (coded× coded_ℕ (coded× coded_nodes coded_indices))
     (λ s. (s.next, (s.nodes, s.indices)))
     (λ p. record { next = p.0; nodes = p.1.0; indices = p.1.1 }) (λ _. refl)
 
--- before any operation
+-- a volume before any operation
 abbrev pub empty : State
 empty = record { next = 1; nodes = map.empty; indices = map.empty }
 
--- What an operation answers and leaves, or the first refusal.
+-- An operation's outcome and the state after it, or its first error.
 abbrev pub step : State → Op → Result (State × Done) Refusal
 step s New = Ok (
   record {
@@ -104,22 +104,21 @@ advance (Err e) op = Err e
 advance (Ok reached) op = result_map_both (λ answer. (answer.0, reached.1 ++ answer.1 ∷ []))
     (λ e. e) (step reached.0 op)
 
--- What operations one after the other answer and leave, or the refusal of the first that is
--- refused.
+-- The outcomes of operations and the state after them, or the error of the first that is refused.
 abbrev pub steps : State → List Op → Result (State × List Done) Refusal
 steps s ops = fold advance (Ok (s, [])) ops
 
 -- A list of operations is accepted if the steps accept it, with the state after them. Otherwise
--- nothing changes, and the refusal is that of the steps, or out of memory if they accept.
+-- nothing changes, and the error is that of the steps, or OutOfMemory if they accept.
 abbrev pub Writes : {X : Type 0} → (X → List Done) → State → List Op → Result X Refusal → State
     → Type 0
-Writes dones_of old ops (Ok answer) new = steps old ops ≡ Ok (new, dones_of answer)
-Writes dones_of old ops (Err e) new = (new ≡ old)
+Writes outcomes_of old ops (Ok answer) new = steps old ops ≡ Ok (new, outcomes_of answer)
+Writes outcomes_of old ops (Err e) new = (new ≡ old)
     × (((e ≡ OutOfMemory) × IsOk (steps old ops)) ⊎ (steps old ops ≡ Err e))
 
--- The same if memory doesn't count: the list is accepted if the steps accept it, with the state
--- after them; otherwise it is refused as they refuse, and nothing changes.
+-- The same without memory limits: the list is accepted if the steps accept it, with the state after
+-- them; otherwise its error is theirs, and nothing changes.
 abbrev pub Replays : {X : Type 0} → (X → List Done) → State → List Op → Result X Refusal → State
     → Type 0
-Replays dones_of old ops (Ok answer) new = steps old ops ≡ Ok (new, dones_of answer)
-Replays dones_of old ops (Err e) new = (new ≡ old) × (steps old ops ≡ Err e)
+Replays outcomes_of old ops (Ok answer) new = steps old ops ≡ Ok (new, outcomes_of answer)
+Replays outcomes_of old ops (Err e) new = (new ≡ old) × (steps old ops ≡ Err e)

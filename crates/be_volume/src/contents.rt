@@ -1,8 +1,8 @@
-//! What a volume holds, and what an accepted operation does to it.
+//! A volume's contents, and how an accepted operation changes them.
 //!
-//! Refusals are found ahead, so here each operation only does its work. If memory is refused
-//! midway, nothing is said of what is left: the caller keeps equal contents beside these, or drops
-//! the volume.
+//! Refusals are found ahead, so an operation only does its work here. If memory runs out midway,
+//! nothing is known about the contents that are left: the caller keeps an equal copy, or drops the
+//! volume.
 ghost use Rattle.std.specs.FinMap as map;
 ghost use Rattle.std.specs.Prelude.{◌≡◌, ℕ, ◌<◌, ◌^◌, ◌+◌, IsOk, IfOk, Ok};
 ghost use Rattle.be_volume.specs.Maps.{attributes_of};
@@ -57,21 +57,21 @@ impl Contents {
         self.next
     }
 
-    /// The nodes with their attributes.
+    /// The nodes, with their attributes.
     pub fn nodes(&self) -> &Nodes
         ensures { result.now ≡ self.now.nodes }
     {
         &self.nodes
     }
 
-    /// The indices by their names.
+    /// The indices, by name.
     pub fn indices(&self) -> &Indices
         ensures { result.now ≡ self.now.indices }
     {
         &self.indices
     }
 
-    /// Equal contents.
+    /// A copy of the contents.
     pub fn copy(&self) -> Result<Contents, AllocError>
         ensures { IfOk result (λ copy. copy ≡ self.now) }
     {
@@ -85,8 +85,8 @@ impl Contents {
         })
     }
 
-    /// Performs an operation that is accepted. If there is no memory, nothing is said of what is
-    /// left.
+    /// Performs an operation that is accepted. If memory runs out, nothing is known about the
+    /// contents that are left.
     pub fn perform(&mut self, op: Op) -> Result<Done, AllocError>
         requires accepted { IsOk (step self.old op) }
         requires fits { self.old.next + 1 < 2 ^ 64 }
@@ -159,13 +159,13 @@ impl Contents {
     }
 }
 
-/// The facts of contents that stay as they are.
+/// The facts of contents that don't change.
 #[derive(Drop)]
-pub struct Standing<'a> {
+pub struct Unchanged<'a> {
     pub contents: &'a Contents,
 }
 
-impl Facts for Standing<'_> {
+impl Facts for Unchanged<'_> {
     ghost use Rattle.std.specs.Prelude.{◌≡◌};
     ghost use Rattle.be_volume.specs.Volume.{State};
 

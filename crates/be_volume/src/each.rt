@@ -1,4 +1,4 @@
-//! What is done to each index.
+//! A change of every index.
 ghost use Rattle.std.specs.BTreeMap as tree;
 ghost use Rattle.std.specs.Prelude.{map, ◌≡◌};
 ghost use Rattle.be_volume.specs.Indices.{unpaired};
@@ -8,7 +8,7 @@ use crate::maps::Index;
 use be_value::Name;
 use std::collections::BTreeMap;
 
-/// The node left: its pair leaves each index. It visits each index once.
+/// Removes a node's pair from each index, when the node is dropped. It visits each index once.
 pub fn unpair_each(indices: &mut BTreeMap<Name, Index>, node: u64)
     ensures entries { indices.new.entries
         ≡ map (λ e. (e.0, unpaired e.1 node)) indices.old.entries }

@@ -1,9 +1,8 @@
-//! What the refusals of operations rest on.
+//! The facts that decide whether operations are refused.
 //!
-//! Whether an operation is refused depends on a few facts about the volume: whether a node is
-//! there, how many attributes it has, which indices there are. A reader of these facts is all that
-//! is needed to refuse a list of operations before anything is changed, wherever the volume is
-//! kept.
+//! That depends on a few facts about the volume: whether a node exists, how many attributes it has,
+//! which indices there are. With a reader of these facts, a list of operations can be refused
+//! before anything is changed, wherever the volume is kept.
 ghost use Rattle.std.specs.FinMap as map;
 ghost use Rattle.std.specs.Prelude.{◌≡◌};
 ghost use Rattle.be_volume.specs.Maps.{attributes_of};
@@ -11,18 +10,18 @@ ghost use Rattle.be_volume.specs.Volume.{State};
 
 use be_value::Name;
 
-/// A reader of the facts of one volume on which refusals rest. Its calls may change the reader
-/// itself, but neither the volume nor what the reader keeps.
+/// A reader of the facts about one volume that decide whether operations are refused. Its calls may
+/// change the reader itself, but neither the volume nor what the reader keeps.
 pub trait Facts {
-    /// The facts of the reader that no call changes.
+    /// The facts about the reader that no call changes.
     ghost Kept: { Type 0 };
 
     ghost kept: { Self → Kept };
 
-    /// Whether the reader answers for this volume.
+    /// The reader's answers are true of this volume.
     ghost answers_for: { Self → State → Type 0 };
 
-    /// The number that the next node gets.
+    /// The number of the next new node.
     fn next(&mut self) -> u64
         requires { (volume : State) × answers_for self.old volume }
         ensures answer { (volume : State) → answers_for self.old volume → result ≡ volume.next }
@@ -30,7 +29,7 @@ pub trait Facts {
         ensures answers { (volume : State) → answers_for self.old volume
             → answers_for self.new volume };
 
-    /// Whether the node is there.
+    /// Whether the node exists.
     fn has_node(&mut self, node: u64) -> bool
         requires { (volume : State) × answers_for self.old volume }
         ensures answer { (volume : State) → answers_for self.old volume → result
@@ -39,7 +38,7 @@ pub trait Facts {
         ensures answers { (volume : State) → answers_for self.old volume
             → answers_for self.new volume };
 
-    /// Whether the node has the attribute.
+    /// Whether the node has an attribute with this name.
     fn has_attribute(&mut self, node: u64, name: &Name) -> bool
         requires { (volume : State) × answers_for self.old volume }
         ensures answer { (volume : State) → answers_for self.old volume → result
@@ -57,7 +56,7 @@ pub trait Facts {
         ensures answers { (volume : State) → answers_for self.old volume
             → answers_for self.new volume };
 
-    /// Whether there is an index of the name.
+    /// Whether there is an index with this name.
     fn has_index(&mut self, name: &Name) -> bool
         requires { (volume : State) × answers_for self.old volume }
         ensures answer { (volume : State) → answers_for self.old volume → result

@@ -1,7 +1,7 @@
-//! Keys of an index, ordered by their bytes.
+//! An index's keys, ordered by their bytes.
 //!
-//! A walk through an index asks for the least key from some bytes on. The bytes may be of any
-//! length, while no key has more than 264: a text of 255, a zero byte and a node.
+//! A walk through an index asks for the lowest key from some bytes on. These may be of any length,
+//! but no key has more than 264 bytes: a text of 255, a zero byte and a node.
 ghost use Rattle.std.specs.BTreeMap.Range.{is_from_start};
 ghost use Rattle.std.specs.Cmp.{partial_equiv_from_equiv};
 ghost use Rattle.std.specs.Cmp.Lexicographic.{pointwise, slice_cmp, nat_list_eq_equiv};
@@ -18,10 +18,10 @@ use std::cmp::Ordering;
 use std::marker::Model;
 use std::ops::Bound;
 
-/// The most bytes that a key has.
+/// The largest number of bytes of a key.
 const MAX_KEY: usize = 264;
 
-/// A key, which lies in the value itself. A contract sees its bytes.
+/// A key, kept in the value itself. Contracts see its bytes.
 #[derive(Drop)]
 pub struct IndexKey {
     bytes: ArrayVec<u8, 264>,
@@ -36,7 +36,7 @@ impl Model for IndexKey {
 }
 
 impl IndexKey {
-    /// The key of a pair, if its value can be in an index.
+    /// The key of a pair, if the value can be in an index.
     pub fn of(value: &Value, node: u64) -> Option<IndexKey>
         ensures key { result ≡ own_key value.now node }
         ensures short { IfSome result (λ k. length k ≤ 264) }
@@ -59,7 +59,7 @@ impl IndexKey {
         IndexKey { bytes: key }
     }
 
-    /// The bytes, copied.
+    /// A copy of the bytes.
     pub fn to_bytes(&self) -> ArrayVec<u8, 264>
         ensures { result.items ≡ self.now }
     {
@@ -69,13 +69,13 @@ impl IndexKey {
     }
 }
 
-/// The bound from which the keys at `from` or after it begin, or those strictly after it.
+/// The start of a range: the keys at `from` or after it; with `after`, those strictly after it.
 pub fn start_of(from: &[u8], after: bool) -> Bound<IndexKey>
     ensures { (k : List ℕ) → length k ≤ 264 → is_from_start name_cmp result k
         ≡ is_at_or_after from.now after k }
 {
     if from.len() > MAX_KEY {
-        // No key has so many bytes, so none is at `from`.
+        // No key has this many bytes, so none is equal to `from`.
         return Bound::Excluded(IndexKey::new(&from[..MAX_KEY]));
     }
     let key = IndexKey::new(from);
@@ -110,7 +110,7 @@ impl PartialOrd for IndexKey {
     }
 }
 
-/// By bytes.
+/// Keys are ordered by their bytes.
 impl Ord for IndexKey {
     ghost cmp = { slice_cmp nat_cmp };
 
@@ -125,7 +125,7 @@ impl Ord for IndexKey {
     }
 }
 
-/// An equal key. It takes no memory.
+/// A copy of the key. It takes no memory.
 impl Clone for IndexKey {
     ghost is_clone = { λ a b. b ≡ a };
 

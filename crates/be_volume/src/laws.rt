@@ -1,6 +1,6 @@
-//! Laws over the definitions of a volume, for the crates above.
+//! Laws about the definitions of a volume, for the crates above.
 //!
-//! Each is a function that does nothing; its contract is the law.
+//! Each function's body is empty; its contract is the law.
 ghost use Rattle.std.specs.FinMap as map;
 ghost use Rattle.std.specs.List.{sum_by};
 ghost use Rattle.std.specs.Prelude.{◌≡◌, ◌<◌, ◌≤◌, ◌+◌, ◌*◌, ◌^◌, ℕ, List, All, Ok, length};
@@ -10,15 +10,15 @@ ghost use Rattle.be_volume.specs.Volume.{State, step, steps};
 ghost use Rattle.be_volume.specs.declared.ops.Done.{Done as AnyDone};
 ghost use Rattle.be_volume.specs.declared.ops.Op.{Op as AnyOp};
 
-/// A law: accepted operations keep a volume sound.
+/// Accepted operations keep a volume sound.
 pub fn sound_steps()
     ensures { (s t : State) (dones : List AnyDone) (ops : List AnyOp) → IsSound s → s.next
         + length ops < 2 ^ 64 → All IsOperation ops →
         steps s ops ≡ Ok (t, dones) → IsSound t }
 {}
 
-/// A law: an accepted operation adds no more items and indices than it may, which are two items and
-/// one index at most.
+/// An accepted operation adds at most as many items and indices as its kind may, which is never
+/// more than two items and one index.
 pub fn step_items()
     ensures items { (s t : State) (op : AnyOp) (done : AnyDone) → step s op ≡ Ok (t, done)
         → items t ≤ items s + most_items op }
@@ -27,8 +27,8 @@ pub fn step_items()
     ensures few { (op : AnyOp) → (most_items op ≤ 2) × (most_indices op ≤ 1) }
 {}
 
-/// A law: while operations are done one after another, the volume has no more items and indices
-/// than it had before and these may add. Operations that are refused add none.
+/// While operations are carried out one after another, the volume never has more items and indices
+/// than it had before plus what these may add. Refused operations add none.
 pub fn stays_within()
     ensures sums { (s : State) (ops : List AnyOp) (most indices : ℕ)
         → items s + sum_by most_items ops ≤ most

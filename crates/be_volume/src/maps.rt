@@ -1,7 +1,7 @@
-//! The maps that a volume keeps, each seen as a finite map.
+//! A volume's maps, each seen as a finite map.
 //!
-//! Each wrapper has one exact clause a call, so that above this file nothing speaks of the trees
-//! that the maps are kept in.
+//! Each call of a wrapper has one exact clause, so that nothing above this file mentions the trees
+//! that hold the maps.
 ghost use Rattle.std.specs.BTreeMap as tree;
 ghost use Rattle.std.specs.FinMap as map;
 ghost use Rattle.std.specs.Option.{option_copied};
@@ -52,14 +52,14 @@ impl<V: Drop> Named<V> {
         self.named.len()
     }
 
-    /// The value of a name, if the map has it.
+    /// The value at a name, if the map has the name.
     pub fn get(&self, name: &Name) -> Option<&V>
         ensures { option_copied result ≡ map.get self.now name.now }
     {
         self.named.get(name)
     }
 
-    /// Sets the value of a name. `AllocError` if there is no memory.
+    /// Sets the value at a name. It returns `AllocError` if memory runs out.
     pub fn insert(&mut self, name: Name, value: V) -> Result<(), AllocError>
         ensures { OnOk result (self.new ≡ map.insert self.old name value) }
     {
@@ -75,11 +75,11 @@ impl<V: Drop> Named<V> {
     }
 }
 
-/// The attributes of a node.
+/// A node's attributes.
 pub type Attributes = Named<Value>;
 
 impl Named<Value> {
-    /// The attributes, by ascending names.
+    /// Lists the attributes, in ascending order of their names.
     pub fn list(&self, alloc: Global) -> Result<Vec<(Name, Value)>, AllocError>
         ensures { IfOk result (λ list. list.items ≡ map.entries self.now) }
     {
@@ -100,7 +100,7 @@ fn attributes_in(
         .collect(alloc)
 }
 
-/// The nodes.
+/// A volume's nodes, by number.
 #[derive(Drop)]
 pub struct Nodes {
     nodes: BTreeMap<u64, Attributes>,
@@ -134,21 +134,21 @@ impl Nodes {
         }
     }
 
-    /// The attributes of a node, if the node is there.
+    /// A node's attributes, if the node exists.
     pub fn get(&self, node: u64) -> Option<&Attributes>
         ensures { option_copied result ≡ map.get self.now node }
     {
         self.nodes.get(&node)
     }
 
-    /// The numbers of the nodes, ascending.
+    /// The nodes' numbers, in ascending order.
     pub fn numbers(&self, alloc: Global) -> Result<Vec<u64>, AllocError>
         ensures { IfOk result (λ numbers. numbers.items ≡ map.keys self.now) }
     {
         numbers_of(alloc, &self.nodes)
     }
 
-    /// Sets all attributes of a node. `AllocError` if there is no memory.
+    /// Sets all of a node's attributes. It returns `AllocError` if memory runs out.
     pub fn insert(&mut self, node: u64, attributes: Attributes) -> Result<(), AllocError>
         ensures { OnOk result (self.new ≡ map.insert self.old node attributes) }
     {
@@ -156,14 +156,14 @@ impl Nodes {
         Ok(())
     }
 
-    /// Removes a node with its attributes, if the node is there.
+    /// Removes a node with its attributes, if the node exists.
     pub fn remove(&mut self, node: u64)
         ensures { self.new ≡ map.remove self.old node }
     {
         self.nodes.remove(&node);
     }
 
-    /// Sets an attribute of a node that is there.
+    /// Sets an attribute of an existing node.
     pub fn put(&mut self, node: u64, name: Name, value: Value) -> Result<(), AllocError>
         requires { IsSome (map.get self.old node) }
         ensures { OnOk result (self.new ≡ with_attribute self.old node name value) }
@@ -174,7 +174,7 @@ impl Nodes {
         }
     }
 
-    /// Takes an attribute away from a node that is there.
+    /// Removes an attribute of an existing node.
     pub fn take(&mut self, node: u64, name: &Name)
         requires { IsSome (map.get self.old node) }
         ensures { self.new ≡ map.insert self.old node
@@ -189,7 +189,7 @@ impl Nodes {
     }
 }
 
-/// An index.
+/// An index: its kind and its pairs.
 #[derive(Drop)]
 pub struct Index {
     pub kind: Kind,
@@ -207,7 +207,7 @@ fn kinds_in(alloc: Global, indices: &BTreeMap<Name, Index>) -> Result<Vec<(Name,
         .collect(alloc)
 }
 
-/// The indices.
+/// A volume's indices, by name.
 pub type Indices = Named<Index>;
 
 impl Named<Index> {
@@ -216,7 +216,7 @@ impl Named<Index> {
     ghost use Rattle.std.specs.Prelude.{◌≡◌, IfOk, OnOk};
     ghost use Rattle.be_volume.specs.Indices.{with_pair, without_pair, without_node};
 
-    /// The kinds of the indices, by ascending names.
+    /// The indices' names and kinds, in ascending order of the names.
     pub fn kinds(&self, alloc: Global) -> Result<Vec<(Name, Kind)>, AllocError>
         ensures { IfOk result (λ list. list.items
             ≡ each (λ e. (e.0, e.1.kind)) (map.entries self.now)) }
@@ -224,7 +224,7 @@ impl Named<Index> {
         kinds_in(alloc, &self.named)
     }
 
-    /// The node lost its value at the name.
+    /// Removes a node's pair from the index with this name, after the node lost its value there.
     pub fn unpair(&mut self, name: &Name, node: u64)
         ensures { self.new ≡ without_pair self.old name.now node }
     {
@@ -234,15 +234,15 @@ impl Named<Index> {
         index.pairs.remove(node);
     }
 
-    /// The node left.
+    /// Removes a node's pair from each index, when the node is dropped.
     pub fn unpair_all(&mut self, node: u64)
         ensures { self.new ≡ without_node self.old node }
     {
         unpair_each(&mut self.named, node);
     }
 
-    /// The node has this value at the name: its old pair leaves the index of the name, and the new
-    /// one enters if the kinds agree.
+    /// Updates the index with this name after the node got this value there: removes the node's old
+    /// pair, and adds the new one if the kinds agree.
     pub fn pair(&mut self, name: &Name, node: u64, value: Value) -> Result<(), AllocError>
         ensures { OnOk result (self.new ≡ with_pair self.old name.now node value) }
     {

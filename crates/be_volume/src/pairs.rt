@@ -1,8 +1,8 @@
-//! The pairs (value, node) of an index.
+//! An index's pairs (value, node).
 //!
-//! A node has one pair at most, so the pairs are kept by their nodes, and that is what a contract
-//! sees. Beside them the keys are kept in the order of their bytes, so a walk through the index
-//! finds each next key in one search of a tree and looks at no other pair.
+//! A node has at most one pair, so the pairs are kept by node, and contracts see them so. In
+//! addition, the keys are kept in the order of their bytes. So a walk through the index finds each
+//! next key in one search of a tree, and reads no other pair.
 ghost use Rattle.std.specs.FinMap as map;
 ghost use Rattle.std.specs.Option.{option_copied, option_map};
 ghost use Rattle.std.specs.Prelude.{◌≡◌, OnOk, true};
@@ -16,7 +16,7 @@ use std::collections::{BTreeMap, BTreeSet};
 use std::marker::Model;
 use std::ops::Bound;
 
-/// The pairs of an index: the value of each node.
+/// An index's pairs: the value of each node.
 #[derive(Drop)]
 pub struct Pairs {
     values: BTreeMap<u64, Value>,
@@ -52,14 +52,14 @@ impl Pairs {
         }
     }
 
-    /// The value that a node's pair has, if the node has a pair.
+    /// The value in a node's pair, if the node has one.
     pub fn get(&self, node: u64) -> Option<&Value>
         ensures { option_copied result ≡ map.get self.now node }
     {
         self.values.get(&node)
     }
 
-    /// Whether the bytes are the key of a pair.
+    /// Whether these bytes are the key of a pair.
     pub fn has_key(&self, bytes: &[u8]) -> bool
         ensures found { result ≡ true → IsKeyOf self.now bytes.now }
         ensures finds { IsKeyOf self.now bytes.now → result ≡ true }
@@ -67,7 +67,7 @@ impl Pairs {
         bytes.len() <= 264 && self.keys.contains(&IndexKey::new(bytes))
     }
 
-    /// The least key of the pairs at `from` or after it, or strictly after it.
+    /// The lowest key at `from` or after it; with `after`, strictly after it.
     pub fn next_key(&self, from: &[u8], after: bool) -> Option<ArrayVec<u8, 264>>
         ensures { IsNext (IsKeyOf self.now) from.now after (option_map (λ k. k.items) result) }
     {
@@ -76,8 +76,8 @@ impl Pairs {
         Some(next.to_bytes())
     }
 
-    /// Sets the pair of a node, in place of the one that it had. `AllocError` if there is no
-    /// memory.
+    /// Sets a node's pair, replacing the one that it had. It returns `AllocError` if memory runs
+    /// out.
     pub fn insert(&mut self, node: u64, value: Value) -> Result<(), AllocError>
         ensures { OnOk result (self.new ≡ map.insert self.old node value) }
     {
@@ -94,7 +94,7 @@ impl Pairs {
         Ok(())
     }
 
-    /// Removes the pair of a node, if it has one.
+    /// Removes a node's pair, if it has one.
     pub fn remove(&mut self, node: u64)
         ensures { self.new ≡ map.remove self.old node }
     {

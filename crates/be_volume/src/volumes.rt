@@ -1,9 +1,9 @@
 //! The volume.
 //!
-//! A volume holds nodes, each with a number and typed attributes, and indices that are made and
-//! removed by name, as the attributes and indices of the Be File System (Giampaolo, "Practical File
-//! System Design"; the Be Book, `fs_attr.h` and `fs_index.h`). That a new index is empty and takes
-//! only attributes set after its making is this project's own choice.
+//! A volume holds numbered nodes with typed attributes, and indices that are made and removed by
+//! name. Both are like those of the Be File System (Giampaolo, "Practical File System Design"; the
+//! Be Book, `fs_attr.h` and `fs_index.h`). That a new index is empty, and takes only attributes set
+//! after it was made, is this project's own choice.
 ghost use Rattle.std.specs.Option.{option_map};
 ghost use Rattle.std.specs.Prelude.{◌≡◌, ◌<◌, ◌≤◌, ◌^◌, ◌+◌, IsOk, IfOk, IfErr, IfSome, Ok, length};
 ghost use Rattle.std.specs.Prelude.{true};
@@ -16,7 +16,7 @@ ghost use Rattle.be_volume.specs.Reading.{attribute, attributes_at, index_kinds,
 ghost use Rattle.be_volume.specs.Sound.{IsSound};
 ghost use Rattle.be_volume.specs.Volume as model;
 
-use crate::contents::{Contents, Standing};
+use crate::contents::{Contents, Unchanged};
 use crate::queries::{covers, satisfies};
 use crate::{Done, Op, first_refusal};
 use arrayvec::ArrayVec;
@@ -26,19 +26,19 @@ use std::alloc::{AllocError, Global};
 use std::marker::Model;
 use std::mem;
 
-/// A volume. A contract sees its `State`: the next number, the attributes of each node, and the
-/// indices. Every volume is sound: each pair of an index is its node's attribute of that name and
-/// has the index's kind.
+/// A volume. Contracts see its `State`: the next number, the attributes of each node, and the
+/// indices. Every volume is sound: each pair of an index is its node's attribute with that name,
+/// and has the index's kind.
 ///
-/// The contents are kept twice, so a volume takes twice the room of what it holds: `apply` works on
-/// one copy while the other stays, since what was removed from an ordered map can't be put back
-/// without memory.
+/// The contents are kept twice, so a volume takes twice the memory of what it holds. `apply` works
+/// on one copy while the other stays, since what was removed from an ordered map can't be put back
+/// without taking memory.
 #[derive(Drop)]
 pub struct Volume {
     alloc: Global,
     contents: Contents,
-    /// Equal contents, or none if they are yet to be copied.
-    twin: Option<Contents>,
+    /// A copy of the contents, or None if it has yet to be made.
+    shadow: Option<Contents>,
 }
 
 impl Model for Volume {
@@ -52,38 +52,38 @@ impl Model for Volume {
 
     ghost view = { λ v. v.contents };
 
-    ghost invariant = { λ v. IsSound v.contents × IfSome v.twin (λ twin. twin ≡ v.contents) };
+    ghost invariant = { λ v. IsSound v.contents × IfSome v.shadow (λ shadow. shadow ≡ v.contents) };
 }
 
 impl Volume {
-    /// A volume before any operation: no nodes, no indices, and the first node will be 1.
+    /// A volume before any operation: it has no nodes and no indices, and its first node will be 1.
     pub fn new(alloc: Global) -> Volume
         ensures { result ≡ model.empty }
     {
         Volume {
             alloc,
             contents: Contents::new(alloc),
-            twin: Some(Contents::new(alloc)),
+            shadow: Some(Contents::new(alloc)),
         }
     }
 
-    /// A law of one volume: it is sound, as a contract can't tell of a volume that it is lent. It
-    /// does nothing.
+    /// States a law about the volume: it is sound, which a contract doesn't know about a borrowed
+    /// volume. It does nothing else.
     pub fn sound(&self)
         ensures { IsSound self.now }
     {
         let _next = self.contents.next();
     }
 
-    /// The number that the next node gets.
+    /// The number of the next new node.
     pub fn next(&self) -> u64
         ensures { result ≡ self.now.next }
     {
         self.contents.next()
     }
 
-    /// An equal volume, at the cost of all that this one holds; refused with OutOfMemory alone. The
-    /// first `apply` on it costs as much again.
+    /// A copy of the volume, at the cost of everything that this one holds. The only error is
+    /// OutOfMemory. The first `apply` on the copy costs as much again.
     pub fn copy(&self) -> Result<Volume, Refusal>
         ensures { Answers (λ copy. copy) result (Ok self.now) }
     {
@@ -91,36 +91,35 @@ impl Volume {
         Ok(Volume {
             alloc: self.alloc,
             contents,
-            twin: None,
+            shadow: None,
         })
     }
 
-    /// The refusal, from NoNode to NotIndexable, that `apply` answers for these operations, if
-    /// there is one. It takes no memory.
+    /// The error, from NoNode to NotIndexable, that `apply` returns for these operations, if there
+    /// is one. It takes no memory.
     pub fn refusal(&self, ops: &[Op]) -> Option<Refusal>
         requires few { length ops.now ≤ 64 }
         requires fits { self.now.next + 64 < 2 ^ 64 }
         ensures { result ≡ result_err (model.steps self.now ops.now) }
     {
-        let mut facts = Standing {
+        let mut facts = Unchanged {
             contents: &self.contents,
         };
         first_refusal(&mut facts, ops)
     }
 
-    /// Applies 1 to 64 operations one after the other, all or none, and returns the outcome of
-    /// each. The list is refused as its first operation that is refused: with NoNode if the node
-    /// isn't there, NoAttr if it lacks the attribute, TooManyAttrs if a new name would be its 65th,
-    /// IndexExists if the index is there, NoSuchIndex if it isn't, TooManyIndices if it would be
-    /// the 33rd, and NotIndexable if the kind can't be indexed; this is found before memory is
-    /// taken. It is refused with OutOfMemory if there is no memory. A refused list leaves the
-    /// volume as it was.
+    /// Applies 1 to 64 operations one after another, all or none, and returns their outcomes. The
+    /// error is that of the first operation that is refused. It is NoNode if the node doesn't
+    /// exist, and NoAttr if it lacks the attribute. It is TooManyAttrs if a new name would be the
+    /// node's 65th. It is IndexExists if the index exists, and NoSuchIndex if it doesn't. It is
+    /// TooManyIndices if the index would be the 33rd, and NotIndexable if the kind can't be
+    /// indexed. All this is found before memory is taken. If memory runs out, the error is
+    /// OutOfMemory. A refused list leaves the volume as it was.
     ///
-    /// The operations are done on the shadow copy of the contents, which takes their place, and
-    /// then they are done on the old contents, the new shadow copy. So a call costs what it
-    /// changes, twice, which no clause says. Only if there is no shadow copy is the whole volume
-    /// copied: at the first call after a refusal with OutOfMemory, after a `replay`, and on a new
-    /// copy.
+    /// The operations are performed on the shadow copy, which then replaces the contents. They are
+    /// performed again on the old contents, which become the new shadow copy. So a call costs twice
+    /// what it changes, though no clause says so. The whole volume is copied only if there is no
+    /// shadow copy: at the first call after OutOfMemory, after a `replay`, and on a new copy.
     pub fn apply(&mut self, ops: &[Op]) -> Result<ArrayVec<Done, 64>, Refusal>
         requires some { 1 ≤ length ops.now }
         requires few { length ops.now ≤ 64 }
@@ -131,18 +130,18 @@ impl Volume {
         if let Some(refusal) = self.refusal(ops) {
             return Err(refusal);
         }
-        let mut ahead = twin_of(&self.contents, self.twin.take())?;
+        let mut ahead = shadow_of(&self.contents, self.shadow.take())?;
         let dones = perform_all(&mut ahead, ops)?;
         let mut earlier = mem::replace(&mut self.contents, ahead);
         if perform_all(&mut earlier, ops).is_ok() {
-            self.twin = Some(earlier);
+            self.shadow = Some(earlier);
         }
         Ok(dones)
     }
 
-    /// Applies operations as `apply` does, and returns the volume beside the result, which is never
-    /// 10. Nothing is kept twice: if there is no memory, the volume is gone. So a journal is
-    /// replayed at the cost of what its entries change, and in the room of what the volume holds.
+    /// Applies operations as `apply` does, and returns the volume with the result, which is never
+    /// OutOfMemory. Nothing is kept twice: if memory runs out, the volume is gone. So replaying a
+    /// journal costs what its entries change, in the memory that the volume itself takes.
     pub fn replay(
         self,
         ops: &[Op],
@@ -160,26 +159,26 @@ impl Volume {
         let Volume {
             alloc,
             contents: mut own,
-            twin: _,
+            shadow: _,
         } = self;
         let dones = perform_all(&mut own, ops)?;
         let volume = Volume {
             alloc,
             contents: own,
-            twin: None,
+            shadow: None,
         };
         Ok((volume, Ok(dones)))
     }
 
-    /// The value of an attribute, if the node is there and has it.
+    /// An attribute's value, if the node exists and has it.
     pub fn get(&self, node: u64, name: &Name) -> Option<Value>
         ensures { result ≡ attribute self.now node name.now }
     {
         Some(self.contents.nodes().get(node)?.get(name)?.copy())
     }
 
-    /// The attributes of a node, by ascending bytes of their names. It is refused with NoNode if
-    /// the node isn't there, and with OutOfMemory only if it is.
+    /// A node's attributes, in ascending order of their names' bytes. It returns NoNode if the node
+    /// doesn't exist, and OutOfMemory only if it does.
     pub fn attrs(&self, node: u64) -> Result<Vec<(Name, Value)>, Refusal>
         ensures list { Answers (λ list. list.items) result (attributes_at self.now node) }
         ensures wanted { IfErr result (λ e. e ≡ OutOfMemory → IsOk (attributes_at self.now node)) }
@@ -190,23 +189,23 @@ impl Volume {
         Ok(attributes.list(self.alloc)?)
     }
 
-    /// The names and kinds of the indices, by ascending bytes of the names; refused with
-    /// OutOfMemory alone.
+    /// The indices' names and kinds, in ascending order of the names' bytes. The only error is
+    /// OutOfMemory.
     pub fn indices(&self) -> Result<Vec<(Name, Kind)>, Refusal>
         ensures { Answers (λ list. list.items) result (Ok (index_kinds self.now)) }
     {
         Ok(self.contents.indices().kinds(self.alloc)?)
     }
 
-    /// The kind of the index of that name.
+    /// The kind of the index with this name, if there is one.
     pub fn kind_of(&self, name: &Name) -> Option<Kind>
         ensures { result ≡ index_kind self.now name.now }
     {
         Some(self.contents.indices().get(name)?.kind)
     }
 
-    /// The least key of the index of that name at `from` or after it, or strictly after it: one
-    /// search of a tree.
+    /// The lowest key at `from` or after it in the index with this name; with `after`, strictly
+    /// after it. It costs one search of a tree.
     pub fn next_key(&self, name: &Name, from: &[u8], after: bool) -> Option<ArrayVec<u8, 264>>
         ensures { IsNextKey self.now name.now from.now after (option_map (λ k. k.items) result) }
     {
@@ -214,7 +213,7 @@ impl Volume {
         index.pairs.next_key(from, after)
     }
 
-    /// Whether the index of that name has the key.
+    /// Whether the index with this name has the key.
     pub fn has_key(&self, name: &Name, key: &[u8]) -> bool
         ensures found { result ≡ true → IsKey self.now name.now key.now }
         ensures finds { IsKey self.now name.now key.now → result ≡ true }
@@ -225,9 +224,8 @@ impl Volume {
         index.pairs.has_key(key)
     }
 
-    /// The nodes of which the query is true, ascending. It is refused with NotCovered if it rests
-    /// on no index, and with OutOfMemory if there is no memory for the result. It looks at every
-    /// node.
+    /// The nodes that satisfy the query, in ascending order. It returns NotCovered if indices don't
+    /// cover the query, and OutOfMemory if memory runs out for the result. It reads every node.
     pub fn query(&self, query: &Query) -> Result<Vec<u64>, Refusal>
         ensures { Answers (λ nodes. nodes.items) result (scan self.now query.now) }
     {
@@ -245,18 +243,18 @@ impl Volume {
 }
 
 /// The shadow copy of these contents, or a new copy if there is none.
-fn twin_of(contents: &Contents, twin: Option<Contents>) -> Result<Contents, AllocError>
-    requires { IfSome twin (λ twin. twin ≡ contents.now) }
-    ensures { IfOk result (λ twin. twin ≡ contents.now) }
+fn shadow_of(contents: &Contents, shadow: Option<Contents>) -> Result<Contents, AllocError>
+    requires { IfSome shadow (λ shadow. shadow ≡ contents.now) }
+    ensures { IfOk result (λ shadow. shadow ≡ contents.now) }
 {
-    match twin {
-        Some(twin) => Ok(twin),
+    match shadow {
+        Some(shadow) => Ok(shadow),
         None => contents.copy(),
     }
 }
 
-/// Performs operations that are accepted. If there is no memory, nothing is said of what is left of
-/// the contents.
+/// Performs operations that are accepted. If memory runs out, nothing is known about the contents
+/// that are left.
 fn perform_all(contents: &mut Contents, ops: &[Op]) -> Result<ArrayVec<Done, 64>, AllocError>
     requires few { length ops.now ≤ 64 }
     requires sound { IsSound contents.old }

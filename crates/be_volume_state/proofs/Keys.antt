@@ -42,7 +42,7 @@ module _ (s : State) (sound : IsSound s) (node : ℕ) (name : List ℕ) where
       by true e = absurd (h e)
       by false e = refl
 
-  -- without an attribute the index has no pair
+  -- if the node has no such attribute, the index has no pair of it
   pub without : attribute s node name ≡ None → false ≡ is_held s node name
   without none = not_held (λ h.
       let p = pair_of h in
@@ -56,7 +56,7 @@ module _ (s : State) (sound : IsSound s) (node : ℕ) (name : List ℕ) where
         let is : IsPaired s name p.index.kind node p.value = sound.pairs name p.index node p.value p.there p.paired in
         same_Some p.value value (sym is.attribute_is ∙ has)
 
-    -- no index has a value that can't stand in one
+    -- no index has a value that isn't indexable
     pub unfit : is_indexable (kind_of value) ≡ false → false ≡ is_held s node name
     unfit not = not_held (λ h.
         let p = pair_of h in
@@ -80,7 +80,7 @@ module _ (s : State) (sound : IsSound s) (node : ℕ) (name : List ℕ) where
           let p = pair_of h in
           record { index = p.index; node = node; value = p.value; there = p.there; paired = p.paired; is = ap (λ v. key v node) (sym (value_is p)) }
 
-      -- else the key tells
-      pub told : (r : Bool) → (r ≡ true → IsKey s name (key value node)) → (IsKey s name (key value node) → r ≡ true) → r ≡ is_held s node name
-      told true found finds = sym (by_key (found refl))
-      told false found finds = not_held (λ h. let never : false ≡ true = finds (key_of_pair h) in cc)
+      -- otherwise the key decides
+      pub reported : (r : Bool) → (r ≡ true → IsKey s name (key value node)) → (IsKey s name (key value node) → r ≡ true) → r ≡ is_held s node name
+      reported true found finds = sym (by_key (found refl))
+      reported false found finds = not_held (λ h. let never : false ≡ true = finds (key_of_pair h) in cc)

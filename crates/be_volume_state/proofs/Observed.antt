@@ -1,4 +1,4 @@
--- What an accepted operation does to what is seen of a volume.
+-- How an accepted operation changes what can be observed of a volume.
 use Rattle.std.proofs.Common.{◌≡◌, ◌<◌, ◌≤◌, ◌+◌, ℕ, Bool, true, false, cond, not, ◌&&◌, if◌then◌else◌, nat_lt, nat_le, List, refl, sym, ap, ◌∙◌, subst, arith, Some, None, is_some, unwrap_or}
 use Rattle.std.proofs.lemmas.Bool.Decides.{nat_tests}
 use Rattle.std.specs.Prelude.{Ok, Err}
@@ -31,7 +31,7 @@ is_below m n h = grind (arith, nat_tests)
 pub not_below : (m n : ℕ) → n ≤ m → nat_lt m n ≡ false
 not_below m n h = grind (arith, nat_tests)
 
--- a number is n, or stands elsewhere, and then it is below n where it is below n + 1
+-- a number is n, or it is another, and then it is below n + 1 exactly if it is below n
 pub by_number : (n m : ℕ) (P : ℕ → Type 0) → P n → (eq_by_cmp nat_cmp m n ≡ false → nat_lt m (n + 1) ≡ nat_lt m n → P m) → P m
 by_number n m P here away = by (nat_cmp m n) refl
   where
@@ -61,7 +61,7 @@ by_name name q P here away = by (eq_by_cmp name_cmp q name) refl
     by true e = subst P (sym (same_name q name e)) here
     by false e = away e
 
--- the attribute, by the attributes of the node
+-- the attribute, found among the node's attributes
 pub of_node : (t : State) (n : ℕ) (q : List ℕ) → fin.get (attributes_of t.nodes n) q ≡ attribute t n q
 of_node t n q = by (fin.get t.nodes n)
   where
@@ -118,7 +118,7 @@ module _ (nodes : Nodes) (n : ℕ) where
       option_and_then (λ (b : Attributes). fin.get b q) (fin.get (fin.remove nodes n) m) ≡ option_and_then (λ (b : Attributes). fin.get b q) (fin.get nodes m)
   lost_away m q e = ap (option_and_then (λ (b : Attributes). fin.get b q)) (left m e)
 
--- the pair of a node in an index of this kind, after the node got the value
+-- the node's pair in an index of this kind, once the node gets the value
 abbrev pub pair_set : Option Kind → Value → Option Value → Option Value
 pair_set None value old = old
 pair_set (Some kind) value old = if same_kind kind (kind_of value) then Some value else None
@@ -142,7 +142,7 @@ pair_in indices q m = option_and_then (λ (i : Index). fin.get i.pairs m) (fin.g
 abbrev kind_in : Indices → List ℕ → Option Kind
 kind_in indices q = option_map (λ (i : Index). i.kind) (fin.get indices q)
 
--- an index after a node got a value that fits it, or one that doesn't
+-- an index once a node gets a value, which may or may not fit it
 abbrev paired_if : Bool → Index → ℕ → Value → Index
 paired_if fits index n value = if fits then record { kind = index.kind; pairs = fin.insert index.pairs n value } else record { kind = index.kind; pairs = fin.remove index.pairs n }
 
@@ -201,7 +201,7 @@ module _ (indices : Indices) (name : List ℕ) (n : ℕ) (value : Value) where
           by_name name q P (kind_here indices name (paired index n value) ∙ ap Some (own_kind index n value) ∙ sym (ap (option_map (λ (i : Index). i.kind)) there))
           (λ e. ap (option_map (λ (i : Index). i.kind)) (got_away indices name (paired index n value) q e))
 
--- what setting an attribute of a node that is there does
+-- how setting an attribute of an existing node changes a volume
 module _ (t : State) (n : ℕ) (name : List ℕ) (value : Value) where
   pub set_there : (m : ℕ) → fin.contains_key t.nodes n ≡ true → fin.contains_key (made t (Set n name value)).nodes m ≡ fin.contains_key t.nodes m
   set_there m h =
@@ -240,7 +240,7 @@ module _ (t : State) (n : ℕ) (name : List ℕ) (value : Value) where
       by true = omega arith
       by false = omega arith
 
--- when they are accepted
+-- the same when the operation is accepted
 chosen : {A : Type 0} (b c : Bool) (e f : Refusal) (x : A) → b ≡ true → c ≡ false → (if not b then Err e else if c then Err f else Ok x) ≡ Ok x
 chosen true false e f x h g = refl
 chosen true true e f x h g = cc

@@ -1,4 +1,4 @@
--- The entries of maps with names, parted by a test, and what is found among them.
+-- The entries of maps from names, divided by a test, and what is found in each part.
 use Rattle.std.proofs.Common.{◌≡◌, ◌+◌, ℕ, Bool, true, false, cond, not, ◌&&◌, List, [], ◌∷◌, length, T, IsTrue, refl, sym, ap, ◌∙◌, arith, Some, None, map as each}
 use Rattle.std.specs.Prelude.{filter}
 use Rattle.std.specs.Option.{option_map}
@@ -48,7 +48,7 @@ module _ {X : Type 0} where
     pub find_where : (q : List ℕ) → find name_cmp q (filter (λ e. p e.0) (fin.entries m)) ≡ cond (p q) (fin.get m q) None
     find_where q = find-where_key name_cmp p q (λ x e. ap p (sym (exact_names q x e))) (fin.entries m) ∙ ap (λ o. cond (p q) o None) (sym (fin.get-entries m q))
 
-    -- a map that has what passes the test
+    -- a map of the entries that pass the test
     pub len_where : (n : FinMap name_cmp X) → ((q : List ℕ) → fin.get n q ≡ cond (p q) (fin.get m q) None) → fin.len n ≡ length (filter (λ e. p e.0) (fin.entries m))
     len_where n h =
         let es : List (List ℕ × X) = filter (λ e. p e.0) (fin.entries m) in

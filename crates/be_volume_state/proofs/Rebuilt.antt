@@ -1,4 +1,4 @@
--- The operations of a volume make it again.
+-- A volume's operations rebuild it.
 use Rattle.std.proofs.Common.{◌≡◌, ◌<◌, ◌≤◌, ◌+◌, ◌-◌, ℕ, suc, zero, Bool, true, false, cond, not, ◌&&◌, ◌||◌, if◌then◌else◌, nat_lt, nat_eq, List, [], ◌∷◌, ◌++◌, length, refl, sym, ap, ◌∙◌, subst, arith, Some, None, is_some, is_ok, IsOk, unwrap_or}
 use Rattle.std.proofs.lemmas.Bool.{and_from, and_right}
 use Rattle.std.proofs.lemmas.Bool.Decides.{nat_tests}
@@ -36,7 +36,7 @@ below_next n = is_below n (n + 1) (omega arith)
 not_own : (n : ℕ) → nat_lt n n ≡ false
 not_own n = not_below n n (omega arith)
 
--- a node that isn't there has no attributes
+-- a node that doesn't exist has no attributes
 no_attribute : (s : State) (n : ℕ) (q : List ℕ) → fin.contains_key s.nodes n ≡ false → attribute s n q ≡ None
 no_attribute s n q h = by (fin.get s.nodes n) h
   where
@@ -52,7 +52,7 @@ or_none : {A : Type 0} (o : Option A) → option_or o None ≡ o
 or_none None = refl
 or_none (Some x) = refl
 
--- no index has a pair where there is no index
+-- there is no pair if there is no index
 no_pair : (t : State) (q : List ℕ) (m : ℕ) → index_kind t q ≡ None → pair_at t q m ≡ None
 no_pair t q m h = by (fin.get t.indices q) h
   where
@@ -68,9 +68,9 @@ no_index t q h = by (fin.get t.indices q) h
     by (Some i) e = cc
 
 module _ (s : State) (sound : IsSound s) where
-  -- a pair is the node's attribute, and has the index's kind
-  pub pair_tells : (q : List ℕ) (n : ℕ) (v : Value) → pair_at s q n ≡ Some v → (attribute s n q ≡ Some v) × (index_kind s q ≡ Some (kind_of v))
-  pair_tells q n v h = by (fin.get s.indices q) refl h
+  -- a pair is an attribute of its node, and has the index's kind
+  pub pair_reports : (q : List ℕ) (n : ℕ) (v : Value) → pair_at s q n ≡ Some v → (attribute s n q ≡ Some v) × (index_kind s q ≡ Some (kind_of v))
+  pair_reports q n v h = by (fin.get s.indices q) refl h
     where
       by : (found : Option Index) → fin.get s.indices q ≡ found → option_and_then (λ (i : Index). fin.get i.pairs n) found ≡ Some v →
           (attribute s n q ≡ Some v) × (index_kind s q ≡ Some (kind_of v))
@@ -84,9 +84,9 @@ module _ (s : State) (sound : IsSound s) where
     where
       by : (found : Option Value) → pair_at s q n ≡ found → found ≡ None
       by None e = refl
-      by (Some v) e = let no : None ≡ Some v = sym (no_attribute s n q h) ∙ (pair_tells q n v e).0 in cc
+      by (Some v) e = let no : None ≡ Some v = sym (no_attribute s n q h) ∙ (pair_reports q n v e).0 in cc
 
--- the attributes of a node in two parts
+-- a node's attributes in two parts
 found_outside : (s : State) (n : ℕ) (q : List ℕ) → find name_cmp q (outside s n) ≡ cond (not (is_held s n q)) (attribute s n q) None
 found_outside s n q = find_where (attributes_of s.nodes n) (λ name. not (is_held s n name)) q ∙ ap (λ o. cond (not (is_held s n q)) o None) (of_node s n q)
 
@@ -100,7 +100,7 @@ both_parts s sound n =
     let sum : length (outside s n) + length (held s n) ≡ length (fin.entries (attributes_of s.nodes n)) = parted (is_held s n) (fin.entries (attributes_of s.nodes n)) in
     omega arith
 
--- What the numbers below the next one make: their nodes, with the attributes that no index has, and no index.
+-- What the numbers below the next one have made: their nodes, the attributes that no index has, and no index.
 record AtNumber (s t : State) : Type 0 where
   there : (m : ℕ) → fin.contains_key t.nodes m ≡ (nat_lt m t.next && fin.contains_key s.nodes m)
   attribute_is : (m : ℕ) (q : List ℕ) → attribute t m q ≡ cond (nat_lt m t.next && not (is_held s m q)) (attribute s m q) None
@@ -189,7 +189,7 @@ numbers s sound t at (suc k) =
       is = record { next = omega arith; at = r.is.at };
     }
 
--- What is there once the numbers below n got what an index has.
+-- The volume once the numbers below n have got the attributes that an index has.
 record AtHeld (s : State) (n : ℕ) (t : State) : Type 0 where
   next : t.next ≡ s.next
   there : (m : ℕ) → fin.contains_key t.nodes m ≡ fin.contains_key s.nodes m
@@ -275,7 +275,7 @@ module _ (s : State) (sound : IsSound s) (n : ℕ) (t : State) (at : AtHeld s n 
       by : (found : Option Value) → pair_at s q n ≡ found → pair_after (cond (is_some found) (attribute s n q) None) (index_kind t q) (pair_at t q n) ≡ found
       by None h = none_before q
       by (Some v) h =
-          let p = pair_tells s sound q n v h in
+          let p = pair_reports s sound q n v h in
           ap (λ o. pair_after o (index_kind t q) (pair_at t q n)) p.0 ∙ ap (λ k. pair_set k v (pair_at t q n)) (at.kind_is q ∙ p.1)
           ∙ ap (λ b. if b then Some v else None) (own_kind (kind_of v))
 

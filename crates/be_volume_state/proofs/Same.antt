@@ -1,4 +1,4 @@
--- Volumes of which the same is seen are equal.
+-- Volumes with the same observations are equal.
 use Rattle.std.proofs.Common.{◌≡◌, ℕ, List, refl, ap, Some, None, is_some}
 use Rattle.std.proofs.lemmas.Option.{same_Some}
 use Rattle.std.specs.Option.{option_and_then, option_map}

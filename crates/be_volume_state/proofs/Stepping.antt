@@ -1,4 +1,4 @@
--- The operations that are left, one step further.
+-- The operations that are left after one more step.
 use Rattle.std.proofs.Common.{◌≡◌, ◌<◌, ◌+◌, ◌-◌, ◌++◌, ℕ, suc, List, [], ◌∷◌, length, min, take, drop, take-append-drop, append_assoc, refl, sym, ap, ◌∙◌, arith}
 use Rattle.std.proofs.lemmas.List.{length-drop, length-take}
 use Rattle.std.specs.List.{flat_map, range_with_len}
@@ -24,7 +24,7 @@ module _ (s : State) (node : ℕ) where
   pub held_step : (piece : List Op) → node < s.next → piece ≡ held_ops s node → left_from s (Held node) ≡ piece ++ left_from s (Held (node + 1))
   held_step piece h e = ap (flat_map (held_ops s)) (numbers_step h) ∙ ap (λ p. p ++ left_from s (Held (node + 1))) (sym e)
 
--- what is cut off in front
+-- the first k are cut off
 pub cut : (ready given rest beyond : List Op) (k : ℕ) → given ≡ take k ready → rest ≡ drop k ready → ready ++ beyond ≡ given ++ (rest ++ beyond)
 cut ready given rest beyond k e f =
     ap (λ l. l ++ beyond) (sym (take-append-drop k ready)) ∙ append_assoc (take k ready) (drop k ready) beyond

@@ -1,4 +1,4 @@
--- No list of fewer operations makes the volume.
+-- No shorter list of operations makes the volume.
 use Rattle.std.proofs.Common.{◌≡◌, ◌<◌, ◌≤◌, ◌+◌, ◌-◌, ◌++◌, ℕ, zero, suc, Bool, true, false, cond, if◌then◌else◌, List, [], ◌∷◌, length, refl, sym, ap, ◌∙◌, subst, arith, is_ok, IsOk, fold}
 use Rattle.std.proofs.lemmas.List.{length-append, length-map}
 use Rattle.std.specs.Prelude.{Ok, Err, Result, is_some, unwrap_or, None, Some}
@@ -27,7 +27,7 @@ use Rattle.be_volume_state.proofs.Parts.{parted}
 use Rattle.be_volume_state.proofs.Numbering.{empty_numbered, reached_numbered}
 use Rattle.be_volume_state.proofs.Observed.{attributes_away, attributes_here, attributes_left, by_number, dropped_away, dropped_here, has_away, has_here}
 
--- the sum over so many numbers from a on
+-- the sum of f over k numbers from a on
 total : (ℕ → ℕ) → ℕ → ℕ → ℕ
 total f a zero = 0
 total f a (suc k) = f a + total f (a + 1) k
@@ -43,7 +43,7 @@ total_push f a (suc k) = let e = total_push f (a + 1) k in let s = ap f (shift a
     shift : (n m : ℕ) → (n + 1) + m ≡ n + suc m
     shift n m = omega arith
 
--- sums of what nowhere grows
+-- sums of functions, if no value grows
 total_stays : (f g : ℕ → ℕ) (a k : ℕ) → ((m : ℕ) → a ≤ m → m < a + k → g m ≤ f m) → total g a k ≤ total f a k
 unfolding total
 total_stays f g a zero h = omega arith
@@ -52,7 +52,7 @@ total_stays f g a (suc k) h =
     let rest = total_stays f g (a + 1) k (λ m p q. h m (omega (arith, p)) (omega (arith, q))) in
     omega arith
 
--- sums of what grows at one place by one
+-- sums of functions, if one value grows by at most one
 total_grows : (f g : ℕ → ℕ) (n : ℕ) → g n ≤ f n + 1 → ((m : ℕ) → eq_by_cmp nat_cmp m n ≡ false → g m ≤ f m) → (a k : ℕ) → total g a k ≤ total f a k + 1
 unfolding total
 total_grows f g n here away a zero = omega arith
@@ -75,14 +75,14 @@ unfolding total
 total_same f g h a zero = refl
 total_same f g h a (suc k) = let one = h a in let rest = total_same f g h (a + 1) k in omega arith
 
--- how many operations a number has
+-- the number of operations for a number
 weigh_in : Bool → ℕ → ℕ
 weigh_in there count = 1 + (if there then count else 1)
 
 abbrev weigh : Nodes → ℕ → ℕ
 weigh nodes m = weigh_in (fin.contains_key nodes m) (fin.len (attributes_of nodes m))
 
--- how many operations a volume has
+-- the number of operations for a volume
 abbrev weight : State → ℕ
 weight t = total (weigh t.nodes) 1 (t.next - 1) + fin.len t.indices
 
@@ -134,7 +134,7 @@ weigh_gone n false m = omega arith
 weigh_same : (b c : Bool) (n m : ℕ) → b ≡ c → n ≡ m → weigh_in b n ≤ weigh_in c m
 weigh_same b c n m h e = subst (λ x. weigh_in b n ≤ weigh_in x m) h (subst (λ x. weigh_in b n ≤ weigh_in b x) e (omega arith))
 
--- a node that gets other attributes, at most one more
+-- a node gets other attributes, at most one more
 changed : (t : State) (n : ℕ) (a : Attributes) → fin.contains_key t.nodes n ≡ true → fin.len a ≤ fin.len (attributes_of t.nodes n) + 1 → (k : ℕ) →
     total (weigh (fin.insert t.nodes n a)) 1 k ≤ total (weigh t.nodes) 1 k + 1
 changed t n a there few k = total_grows (weigh t.nodes) (weigh (fin.insert t.nodes n a)) n
@@ -178,7 +178,7 @@ drop_weight t n k = total_grows (weigh t.nodes) (weigh (fin.remove t.nodes n)) n
     (weigh_gone _ (fin.contains_key t.nodes n) (fin.len (attributes_of t.nodes n))))
     (λ m e. weigh_same _ _ _ _ (dropped_away t.nodes n m e) (ap fin.len (attributes_left t.nodes n m e))) 1 k
 
--- an operation adds one at most
+-- an operation adds at most one
 made_weight : (t : State) (op : Op) → IsNumbered t → Found t op → fin.len (made t op).indices ≡ indices_after op (fin.len t.indices) → weight (made t op) ≤ weight t + 1
 made_weight t New numbered found few = new_weight t numbered
 made_weight t (Drop n) numbered found few = let w = drop_weight t n (t.next - 1) in omega (arith, few)

@@ -1,4 +1,4 @@
--- The operations that make a volume again from the empty one.
+-- The operations that rebuild a volume from the empty one.
 use Rattle.std.specs.Prelude.{◌≡◌, ◌≤◌, ℕ, ◌-◌, Bool, false, not, is_some, List, [], ◌∷◌, ◌++◌}
 use Rattle.std.specs.Prelude.{if◌then◌else◌, filter, map as each}
 use Rattle.std.specs.List.{flat_map, range_with_len}
@@ -28,35 +28,35 @@ outside s node = filter (λ e. not (is_held s node e.0)) (map.entries (attribute
 abbrev pub held : State → ℕ → List (List ℕ × Value)
 held s node = filter (λ e. is_held s node e.0) (map.entries (attributes_of s.nodes node))
 
--- the node gets these attributes
+-- the operations that set these attributes of the node
 abbrev pub set_all : ℕ → List (List ℕ × Value) → List Op
 set_all node attributes = each (λ e. Set node e.0 e.1) attributes
 
--- A number is given. Its node gets the attributes that no index has; if there is no node any more,
--- it is dropped.
+-- The operations of a number make its node and set the attributes that no index has. If the volume
+-- has no such node, they drop it again.
 abbrev pub number_ops : State → ℕ → List Op
 number_ops s node = New ∷ (if map.contains_key s.nodes node then set_all node (outside s node)
     else Drop node ∷ [])
 
--- the indices are made
+-- the operations that make the indices
 abbrev pub index_ops : State → List Op
 index_ops s = each (λ e. MkIndex e.0 e.1) (index_kinds s)
 
--- the node gets the attributes that an index has
+-- the operations that set the node's attributes that an index has
 abbrev pub held_ops : State → ℕ → List Op
 held_ops s node = set_all node (held s node)
 
--- from this number on to the last one that was given
+-- the numbers from this one to the last that was given to a node
 abbrev pub numbers_from : State → ℕ → List ℕ
 numbers_from s node = range_with_len node (s.next - node)
 
--- Each number in turn with what no index has, then the indices, and then in turn again what an
--- index has.
+-- For each number its node and the attributes that no index has, then the indices, then for each
+-- number the attributes that an index has.
 abbrev pub state_ops : State → List Op
 state_ops s = flat_map (number_ops s) (numbers_from s 1)
     ++ (index_ops s ++ flat_map (held_ops s) (numbers_from s 1))
 
--- Numbers begin at 1, as they do in every volume that operations made.
+-- Numbers begin at 1, as in every volume that operations have made.
 pub record IsNumbered (s : State) : Type 0 where
   pub begins : 1 ≤ s.next
   pub no_zero : map.contains_key s.nodes 0 ≡ false

@@ -1,7 +1,7 @@
-//! The operations that make a volume again from the empty one.
+//! The operations that rebuild a volume from the empty one.
 //!
-//! A process that runs for long may leave its history after: it reads the operations that make the
-//! present volume, applies them to a new store, and goes on with a short journal.
+//! A long-running process can drop its history. It reads the operations that make the present
+//! volume, applies them to a new store, and continues with a short journal.
 #![tactic(auto)]
 
 mod laws;

@@ -1,7 +1,7 @@
-//! The operations of a volume, read list by list.
+//! A volume's operations, read list by list.
 //!
-//! What is read is never whole in memory: beside the list that is given there are the operations of
-//! one number, or those of the indices.
+//! The operations are never all in memory. Apart from the list that is returned, only those of one
+//! number, or those of the indices, are.
 ghost use Rattle.std.specs.Prelude.{◌≡◌, ◌<◌, ◌≤◌, ◌++◌, ◌⊎◌, [], IfOk, IfSome, IfNone, OnOk};
 ghost use Rattle.std.specs.Prelude.{length, true, false};
 ghost use Rattle.be_volume.specs.Volume.{State};
@@ -18,16 +18,16 @@ use std::mem;
 /// What is read next.
 #[derive(Clone, Copy)]
 pub(crate) enum Step {
-    /// This number, with what no index has.
+    /// This number, and its node's attributes that no index has.
     Number(u64),
     /// The indices.
     Indices,
-    /// What an index has of the node of this number.
+    /// The attributes that an index has of the node with this number.
     Held(u64),
 }
 
-/// How far the operations of a volume were read: what is read next, and what was read and not given
-/// yet.
+/// How far a volume's operations have been read: what is read next, and what was read but not yet
+/// returned.
 #[derive(Drop)]
 pub struct Place {
     alloc: Global,
@@ -36,7 +36,7 @@ pub struct Place {
 }
 
 impl Place {
-    /// Before the first operation. No memory is taken.
+    /// The place before the first operation. It takes no memory.
     pub fn new(alloc: Global) -> Place
         ensures { (volume : State) → left volume result ≡ state_ops volume }
     {
@@ -48,15 +48,15 @@ impl Place {
     }
 }
 
-/// The most operations of a list.
+/// The maximum number of operations in a list.
 const FULL: usize = 64;
 
-/// The next list of the operations of a volume, 1 to 64, and none after the last. The lists put end
-/// to end are `state_ops`, and each but the last has 64. If memory is refused nothing is lost: the
-/// next call goes on.
+/// The next list of a volume's operations, which has 1 to 64, or `None` after the last. The lists
+/// end to end are `state_ops`, and each but the last has 64. If memory runs out, nothing is lost:
+/// the next call continues.
 ///
-/// It reads each number twice over all calls, once for what no index has and once for the rest, and
-/// asks for each attribute twice whether an index has it.
+/// All calls together read each number twice, once for the attributes that no index has and once
+/// for the rest. For each attribute they ask twice whether an index has it.
 pub fn next_list<W: Whole>(whole: &mut W, place: &mut Place) -> Result<Option<Vec<Op>>, AllocError>
     ghost volume: { State }
     requires answers { W.answers_for whole.old volume }
@@ -74,7 +74,7 @@ pub fn next_list<W: Whole>(whole: &mut W, place: &mut Place) -> Result<Option<Ve
     take(place)
 }
 
-/// Reads on until a list is full, or nothing is left to be read.
+/// Reads on until a list is full, or nothing is left to read.
 fn fill<W: Whole>(whole: &mut W, place: &mut Place) -> Result<(), AllocError>
     ghost volume: { State }
     requires answers { W.answers_for whole.old volume }
@@ -93,7 +93,7 @@ fn fill<W: Whole>(whole: &mut W, place: &mut Place) -> Result<(), AllocError>
     Ok(())
 }
 
-/// Whether a list is full, or nothing is left to be read.
+/// Whether a list is full, or nothing is left to read.
 fn is_ready(place: &Place, next: u64) -> bool
     ensures ready { (volume : State) → next ≡ volume.next → result ≡ true →
         (64 ≤ length place.now.ready.items) ⊎ (places.left_from volume place.now.step ≡ []) }
@@ -102,7 +102,7 @@ fn is_ready(place: &Place, next: u64) -> bool
     place.ready.len() >= FULL || is_last(place.step, next)
 }
 
-/// Whether nothing is left to be read.
+/// Whether nothing is left to read.
 fn is_last(step: Step, next: u64) -> bool
     ensures last { (volume : State) → next ≡ volume.next → result ≡ true
         → places.left_from volume step ≡ [] }
@@ -141,7 +141,7 @@ fn read<W: Whole>(
     }
 }
 
-/// Returns what is ready, up to 64 operations.
+/// Removes up to 64 of the operations that are ready, and returns them.
 fn take(place: &mut Place) -> Result<Option<Vec<Op>>, AllocError>
     ensures list { (volume : State) → left volume place.old ≡ given (λ ops. ops.items) result
         ++ left volume place.new }

@@ -1,4 +1,4 @@
-//! A plain volume, read whole.
+//! A plain volume as a `Whole`.
 ghost use Rattle.std.specs.FinMap as map;
 ghost use Rattle.std.specs.Option.{option_map};
 ghost use Rattle.std.specs.Prelude.{◌≡◌, IfOk};
@@ -11,7 +11,7 @@ use be_volume::Volume;
 use std::alloc::AllocError;
 use std::marker::Model;
 
-/// A lent volume, seen as its `State`.
+/// A borrowed volume. Contracts see its `State`.
 #[derive(Drop)]
 pub struct WholeVolume<'a> {
     volume: &'a Volume,
@@ -27,7 +27,7 @@ impl<'a> Model for WholeVolume<'a> {
     ghost view = { λ w. w.volume.now };
 }
 
-/// The volume, to be read whole. It is only lent.
+/// The volume as a `Whole`, which borrows it.
 pub fn whole_volume(volume: &Volume) -> WholeVolume<'_>
     ensures { result ≡ volume.now }
 {
@@ -81,8 +81,8 @@ fn indices_of(volume: &Volume) -> Result<Vec<(Name, Kind)>, AllocError>
     }
 }
 
-/// Whether the index of that name has the node. A pair of an index is always its node's attribute,
-/// so the function looks for the attribute's key.
+/// Whether the index of that name has the node. A pair in an index is always an attribute of its
+/// node, so the function looks for the key of that attribute.
 fn index_has(volume: &Volume, node: u64, name: &Name) -> bool
     ensures { result ≡ is_held volume.now node name.now }
 {

@@ -1,8 +1,8 @@
-//! What a volume is read through.
+//! The trait through which a whole volume is read.
 //!
-//! A whole is read by four calls, and each may change the reader itself, as a cursor moves. `kept`
-//! names what no call changes, and `answers_for` is the relation between the reader and the volume
-//! that it reads: a reader of pages encodes a volume but can't compute it.
+//! A volume is read by four calls, and each may change the reader itself, as a cursor moves. `kept`
+//! is what no call changes. `answers_for` relates the reader to the volume that it reads. It is
+//! needed because a reader of pages can't compute the volume that its pages encode.
 ghost use Rattle.std.specs.FinMap as map;
 ghost use Rattle.std.specs.Option.{option_map};
 ghost use Rattle.std.specs.Prelude.{◌≡◌, IfOk};
@@ -14,10 +14,10 @@ use be_value::{Kind, Name, Value};
 use std::alloc::AllocError;
 
 /// A reader of one whole volume. Its calls may change the reader itself, but neither the volume nor
-/// what the reader keeps. Each call asks that the reader answers for some volume, and its clauses
-/// hold of every volume for which it does.
+/// what the reader keeps. Each call requires that the reader answers for some volume, and its
+/// clauses hold for every volume for which it does.
 pub trait Whole {
-    /// The facts of the reader that no call changes.
+    /// The facts about the reader that no call changes.
     ghost Kept: { Type 0 };
 
     ghost kept: { Self → Kept };
@@ -25,7 +25,7 @@ pub trait Whole {
     /// Whether the reader answers for this volume.
     ghost answers_for: { Self → State → Type 0 };
 
-    /// The number that the next node gets.
+    /// The number that the next node will get.
     fn next(&mut self) -> u64
         requires { (volume : State) × answers_for self.old volume }
         ensures answer { (volume : State) → answers_for self.old volume → result ≡ volume.next }
@@ -33,8 +33,8 @@ pub trait Whole {
         ensures answers { (volume : State) → answers_for self.old volume
             → answers_for self.new volume };
 
-    /// The attributes of a node, by ascending bytes of their names, and none if the node isn't
-    /// there.
+    /// A node's attributes, in ascending order of their names' bytes, or `None` if there is no such
+    /// node.
     fn attrs(&mut self, node: u64) -> Result<Option<Vec<(Name, Value)>>, AllocError>
         requires { (volume : State) × answers_for self.old volume }
         ensures answer { (volume : State) → answers_for self.old volume →
@@ -44,7 +44,7 @@ pub trait Whole {
         ensures answers { (volume : State) → answers_for self.old volume
             → answers_for self.new volume };
 
-    /// The names and kinds of the indices, by ascending bytes of the names.
+    /// The names and kinds of the indices, in ascending order of the names' bytes.
     fn indices(&mut self) -> Result<Vec<(Name, Kind)>, AllocError>
         requires { (volume : State) × answers_for self.old volume }
         ensures answer { (volume : State) → answers_for self.old volume

@@ -1,6 +1,6 @@
-//! The tests of be_volume: its public calls on worked examples.
+//! Tests of be_volume: its public calls on worked examples.
 //!
-//! They are a crate of their own, so that be_volume is proved once.
+//! They have a crate of their own, so that be_volume is proved only once.
 #![tactic(auto)]
 
 #[cfg(test)]

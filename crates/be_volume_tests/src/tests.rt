@@ -1,5 +1,5 @@
-//! Worked examples, by calls. Most are written as lines `REQUEST => REPLY`, in the words of a
-//! script; a list of several operations has `;` between them.
+//! Worked examples, by calls. Most are lines `REQUEST => REPLY` in the script language; the
+//! operations of a list are separated by `;`.
 
 use be_query::parse;
 use be_script_language::{Reply, Request, read_line};
@@ -12,7 +12,7 @@ use be_volume_state::{Place, WholeVolume, next_list, whole_volume};
 use std::alloc::Global;
 use std::test::Fail;
 
-/// The answers of a list. The volume is asked first whether it may be applied.
+/// The outcomes of a list. The function first checks whether the list may be applied.
 fn write(alloc: Global, volume: &mut Volume, ops: &[Op]) -> Result<String, Refusal> {
     if ops.is_empty() || ops.len() > 64 || volume.next() > u64::MAX - 64 {
         return Err(Refusal::BadLimits);
@@ -21,7 +21,7 @@ fn write(alloc: Global, volume: &mut Volume, ops: &[Op]) -> Result<String, Refus
     Ok(done_lines(alloc, dones.as_slice())?)
 }
 
-/// The reply to what a line asks for without writing.
+/// The reply to a line that only reads.
 fn read(alloc: Global, volume: &Volume, request: Request) -> Result<Reply, Refusal> {
     match request {
         Request::Query(text) => Ok(Reply::Nodes(volume.query(&parse(alloc, text.as_str())?)?)),
@@ -44,14 +44,13 @@ fn answer(alloc: Global, volume: &mut Volume, request: &str) -> Result<String, R
     }
 }
 
-/// A volume that answers requests.
+/// A volume that replies to requests.
 #[derive(Drop)]
 struct Plain {
     volume: Volume,
 }
 
-/// The lines of the reply to a request, or of its refusal if it is refused. OutOfMemory alone is an
-/// error.
+/// The lines of the reply to a request, or of its error. Only OutOfMemory is returned as an error.
 fn lines_of(alloc: Global, volume: &mut Volume, request: &str) -> Result<String, Refusal> {
     match answer(alloc, volume, request) {
         Err(Refusal::OutOfMemory) => Err(Refusal::OutOfMemory),
@@ -66,7 +65,7 @@ impl Answers for Plain {
     }
 }
 
-/// Writes the next list of what makes a volume again; false if none is left.
+/// Writes the next list of operations that rebuild a volume. False if none is left.
 fn write_next(
     alloc: Global,
     whole: &mut WholeVolume<'_>,
@@ -76,11 +75,11 @@ fn write_next(
     let Some(ops) = next_list(whole, place)? else {
         return Ok(false);
     };
-    let _dones = write(alloc, again, ops.as_slice())?;
+    let _outcomes = write(alloc, again, ops.as_slice())?;
     Ok(true)
 }
 
-/// The volume that the lists of this one make of an empty one.
+/// The volume that the lists of this one make from an empty one.
 fn made_of(alloc: Global, volume: &Volume) -> Result<Volume, Refusal> {
     let mut again = Volume::new(alloc);
     let mut whole = whole_volume(volume);
@@ -93,7 +92,7 @@ fn made_of(alloc: Global, volume: &Volume) -> Result<Volume, Refusal> {
     Ok(again)
 }
 
-/// A volume that is made again before each reply.
+/// A volume that is rebuilt before each reply.
 #[derive(Drop)]
 struct MadeAgain {
     volume: Volume,
@@ -106,14 +105,14 @@ impl Answers for MadeAgain {
     }
 }
 
-/// The volume after these requests, each of which has its reply.
+/// The volume after these requests, which must have the given replies.
 fn runs(alloc: Global, volume: Volume, lines: &str) -> Result<Volume, Fail> {
     let mut plain = Plain { volume };
     check_lines(alloc, &mut plain, lines)?;
     Ok(plain.volume)
 }
 
-/// The same from an empty volume on.
+/// The same, starting with an empty volume.
 fn after(alloc: Global, lines: &str) -> Result<Volume, Fail> {
     runs(alloc, Volume::new(alloc), lines)
 }
@@ -127,7 +126,7 @@ fn examples(rt: HostRuntime) -> Result<(), Fail> {
     Ok(())
 }
 
-/// Runs these requests, and makes the volume again before each.
+/// Runs these requests, and rebuilds the volume before each.
 fn runs_made_again(alloc: Global, lines: &str) -> Result<(), Fail> {
     let mut made = MadeAgain {
         volume: Volume::new(alloc),
@@ -135,8 +134,8 @@ fn runs_made_again(alloc: Global, lines: &str) -> Result<(), Fail> {
     check_lines(alloc, &mut made, lines)
 }
 
-/// A volume that is made again gives the same replies, with attributes that are in no index and
-/// dropped nodes among them.
+/// A rebuilt volume gives the same replies, also with attributes that are in no index, and with
+/// dropped nodes.
 #[test]
 fn made_again(rt: HostRuntime) -> Result<(), Fail> {
     for lines in EXAMPLES {
@@ -145,7 +144,7 @@ fn made_again(rt: HostRuntime) -> Result<(), Fail> {
     runs_made_again(rt.alloc(), LISTS)
 }
 
-/// An equal volume, copied again if memory is refused.
+/// An equal volume. If memory runs out, it is copied again.
 fn copy_of(volume: &Volume) -> Result<Volume, Refusal> {
     match volume.copy() {
         Err(Refusal::OutOfMemory) => volume.copy(),
@@ -153,7 +152,7 @@ fn copy_of(volume: &Volume) -> Result<Volume, Refusal> {
     }
 }
 
-/// A change of a copy leaves the original as it is.
+/// Changing a copy leaves the original as it was.
 #[test]
 fn volume_copy(rt: HostRuntime) -> Result<(), Fail> {
     let volume = after(rt.alloc(), EQUAL_VALUES)?;
@@ -163,7 +162,8 @@ fn volume_copy(rt: HostRuntime) -> Result<(), Fail> {
     Ok(())
 }
 
-/// Whether the key at these bytes or after them is this one, or none if this has no bytes.
+/// Whether the next key, at these bytes or after them, is this one; if `key` is empty, whether
+/// there is none.
 fn is_next(volume: &Volume, index: &str, from: &[u8], after: bool, key: &[u8]) -> bool {
     let Ok(name) = Name::new(index) else {
         return false;
@@ -191,7 +191,7 @@ const FIRST: [u8; 10] = [0x78, 0, 0, 0, 0, 0, 0, 0, 0, 1];
 /// The key of the text x and node 3.
 const LAST: [u8; 10] = [0x78, 0, 0, 0, 0, 0, 0, 0, 0, 3];
 
-/// Which key is next, and after which there is none.
+/// Whether the next keys are right, and there is none after the last.
 fn goes_on(volume: &Volume) -> bool {
     is_next(volume, "k", &FIRST, true, &LAST)
         && is_next(volume, "k", &LAST, true, &[])
@@ -199,7 +199,7 @@ fn goes_on(volume: &Volume) -> bool {
         && is_next(volume, "q", &LAST, false, &[])
 }
 
-/// Which keys and which indices are there.
+/// Whether the volume has the right keys and indices.
 fn knows(volume: &Volume) -> bool {
     has_key(volume, "k", &LAST)
         && !has_key(volume, "k", &[0x78])
@@ -215,7 +215,7 @@ fn plan_source(rt: HostRuntime) -> Result<(), Fail> {
     Ok(())
 }
 
-/// The text 300 times. A call that is refused memory is made again.
+/// The text repeated 300 times. If memory runs out, it is made again.
 fn longer_than_keys(alloc: Global, text: &str) -> Result<String, Refusal> {
     match text.repeat(alloc, 300) {
         Err(_) => Ok(text.repeat(alloc, 300)?),
@@ -223,15 +223,15 @@ fn longer_than_keys(alloc: Global, text: &str) -> Result<String, Refusal> {
     }
 }
 
-/// Whether bytes below all keys lie before the first one, those above them before none, and neither
-/// are a key.
+/// Whether bytes below all keys come before the first one, bytes above all keys come after the
+/// last, and neither are a key.
 fn lie_between(volume: &Volume, below: &[u8], above: &[u8]) -> bool {
     is_next(volume, "k", below, false, &FIRST)
         && is_next(volume, "k", above, false, &[])
         && !has_key(volume, "k", below)
 }
 
-/// Bytes that are longer than any key lie between keys.
+/// Bytes that are longer than any key come between keys.
 #[test]
 fn long_bytes_are_no_key(rt: HostRuntime) -> Result<(), Fail> {
     let below = longer_than_keys(rt.alloc(), "\0")?;
@@ -249,7 +249,7 @@ fn numbered(alloc: Global, before: &str, i: u64, after: &str) -> Result<String, 
     }
 }
 
-/// Runs that many requests with a number from 0 on.
+/// Runs a number of requests, each with its number, which begins at 0.
 fn runs_numbered(
     alloc: Global,
     volume: Volume,
@@ -264,7 +264,7 @@ fn runs_numbered(
     Ok(volume)
 }
 
-/// The most indices, and the most attributes of a node.
+/// The maximum number of indices, and of a node's attributes.
 #[test]
 fn refusals(rt: HostRuntime) -> Result<(), Fail> {
     let volume = after(rt.alloc(), "new / mkindex r CSTR => node 1 / ok")?;

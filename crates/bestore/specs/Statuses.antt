@@ -1,4 +1,4 @@
--- The exit status of each outcome, as bestore(1) has it.
+-- The exit status of each outcome, as in bestore(1).
 use Rattle.std.specs.Prelude.{ℕ}
 use Rattle.bestore.specs.declared.outcomes.Outcome.{Outcome}
 use Rattle.bestore.specs.declared.outcomes.Outcome.TheVariants.{Done, Refused, Wrong, Failed}

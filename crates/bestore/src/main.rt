@@ -1,14 +1,14 @@
-//! `bestore`: runs a script and writes the reply to each of its lines to standard output, races
-//! scripts against one another and writes the replies of each and their journal, or answers the
-//! lines of standard input as they come. It also checks a journal that was written, and writes the
-//! script that makes it again, or its last state alone.
+//! `bestore`: runs a script and writes the reply to each of its lines to standard output. It can
+//! also race scripts against each other, and write their replies and their journal, or run the
+//! lines of standard input as they come. It also checks a printed journal, and writes the script
+//! that makes it again, or only its last state.
 //!
-//! The status is 0 for a run, a race or a shell to its end, for a journal that is right and for a
-//! request for help or for the version. It is 2 for a command line that asks for nothing that can
-//! be done. It is 1, with one line on standard error, if the program stopped before its end, as a
-//! strict run does at the first line that is refused. It is 1 too if a journal is wrong; the first
-//! wrong line is written to standard output. Replies go through a buffer, which is written before
-//! the program ends; a shell writes each reply when it has it.
+//! The exit status is 0 if a run, a race or a shell reaches its end, for a right journal, and for
+//! help or the version. It is 2 for an invalid command line. It is 1, with one line on standard
+//! error, if the program stops early, as a strict run does at the first refused line. It is also 1
+//! if a journal is wrong; the first wrong line is then written to standard output. Replies go
+//! through a buffer, which is written before the program ends; a shell writes each reply
+//! immediately.
 #![tactic(auto)]
 
 ghost use Rattle.std.specs.Prelude.{◌≡◌, IfOk, IfSome};
@@ -20,8 +20,8 @@ mod outcomes;
 use crate::outcomes::{Outcome, status_of};
 use be_script::{
     Breaking, Ends, Finding, Journal, Limits, OpenGate, Peer, RefusedLine, RunFault, Screen, Task,
-    Terminal, check, dump, dump_state, journal_told, put_result, race, read_files, run,
-    run_and_tell, run_strictly, shell_and_close, task,
+    Terminal, check, dump, dump_state, put_result, race, read_files, reported_journal, run,
+    run_strictly, run_with_journal, shell_and_close, task,
 };
 use clap::Error;
 use clap::error::ErrorKind;
@@ -34,7 +34,7 @@ use std::sync::Wait;
 use std::thread::Threads;
 use std::{env, fs, io};
 
-/// One line on standard error says why.
+/// Writes one line to standard error, which says why.
 fn fail(rt: &impl Eprint, why: &str) -> io::Result<Outcome>
     ensures { IfOk result (λ outcome. outcome ≡ Failed) }
 {
@@ -67,11 +67,11 @@ fn reason(fault: RunFault) -> &'static str {
     }
 }
 
-/// The name that stands for standard input.
+/// The file name that means standard input.
 const STANDARD_INPUT: &str = "-";
 
-/// Writes what the buffer still has, however the work ended. A failure is one only of work that
-/// went well.
+/// Flushes the buffer, however the work ended. If that fails, it is an error only if the work went
+/// well.
 fn finish<W: Write + Drop>(
     mut writer: BufWriter<W>,
     worked: Result<(), RunFault>,
@@ -86,30 +86,30 @@ fn finish<W: Write + Drop>(
 #[derive(Clone, Copy)]
 enum Running {
     Plainly,
-    /// Its journal is written after the replies.
-    Telling,
-    /// It ends at the first line that is refused.
+    /// The journal is written after the replies.
+    Reporting,
+    /// The run ends at the first line that is refused.
     Strictly,
-    /// Both.
-    StrictlyTelling,
+    /// Both: the run ends there, and the journal is written.
+    StrictlyReporting,
 }
 
-/// Runs a script up to the first line that is refused, and writes its journal if that is asked for.
+/// Runs a script up to the first line that is refused, and writes its journal if `reports` is set.
 fn run_strictly_into<I: Read, W: Write>(
     alloc: Global,
     script: &mut I,
     writer: &mut W,
     limits: Limits,
-    tells: bool,
+    reports: bool,
 ) -> Result<Option<RefusedLine>, RunFault> {
     let (refused, journal) = run_strictly(alloc, script, writer, limits)?;
-    if tells {
+    if reports {
         put_result(alloc, writer, &journal)?;
     }
     Ok(refused)
 }
 
-/// How a strict run ended, and which line was refused, if one was.
+/// The outcome of a strict run. If a line was refused, standard error says which.
 fn end_strictly(
     rt: &impl Eprint,
     file: &str,
@@ -123,18 +123,18 @@ fn end_strictly(
     Ok(Outcome::Refused)
 }
 
-/// Runs a script that comes from a reader up to the first line that is refused.
+/// Runs a script from a reader up to the first line that is refused.
 fn run_strictly_from<R: Runtime + AllocGlobal, I: Read>(
     rt: &R,
     file: &str,
     script: &mut I,
     limits: Limits,
-    tells: bool,
+    reports: bool,
 ) -> io::Result<Outcome> {
     let Ok(mut writer) = BufWriter::new(rt.alloc(), io::writer(rt)) else {
         return fail(rt, reason(RunFault::Memory));
     };
-    let (refused, ran) = match run_strictly_into(rt.alloc(), script, &mut writer, limits, tells) {
+    let (refused, ran) = match run_strictly_into(rt.alloc(), script, &mut writer, limits, reports) {
         Ok(refused) => (refused, Ok(())),
         Err(fault) => (None, Err(fault)),
     };
@@ -145,19 +145,19 @@ fn run_strictly_from<R: Runtime + AllocGlobal, I: Read>(
     }
 }
 
-/// Runs a script that comes from a reader to its end, and writes its journal if that is asked for.
+/// Runs a script from a reader to its end, and writes its journal if the task says so.
 fn run_whole_from<R: Runtime + AllocGlobal, I: Read>(
     rt: &R,
     file: &str,
     script: &mut I,
     limits: Limits,
-    tells: bool,
+    reports: bool,
 ) -> io::Result<Outcome> {
     let Ok(mut writer) = BufWriter::new(rt.alloc(), io::writer(rt)) else {
         return fail(rt, reason(RunFault::Memory));
     };
-    let (legal, ran) = if tells {
-        match run_and_tell(rt.alloc(), script, &mut writer, limits) {
+    let (legal, ran) = if reports {
+        match run_with_journal(rt.alloc(), script, &mut writer, limits) {
             Ok(legal) => (legal, Ok(())),
             Err(fault) => (false, Err(fault)),
         }
@@ -181,9 +181,9 @@ fn run_from<R: Runtime + AllocGlobal, I: Read>(
 ) -> io::Result<Outcome> {
     match running {
         Running::Plainly => run_whole_from(rt, file, script, limits, false),
-        Running::Telling => run_whole_from(rt, file, script, limits, true),
+        Running::Reporting => run_whole_from(rt, file, script, limits, true),
         Running::Strictly => run_strictly_from(rt, file, script, limits, false),
-        Running::StrictlyTelling => run_strictly_from(rt, file, script, limits, true),
+        Running::StrictlyReporting => run_strictly_from(rt, file, script, limits, true),
     }
 }
 
@@ -202,7 +202,7 @@ fn run_file<R: Runtime + AllocGlobal>(
     }
 }
 
-/// Races the scripts of these files.
+/// Races the scripts in these files.
 fn race_files<R: Runtime + AllocGlobal + Threads + Wait + Sync>(
     rt: &R,
     files: &[String],
@@ -244,7 +244,8 @@ fn race_files<R: Runtime + AllocGlobal + Threads + Wait + Sync>(
     }
 }
 
-/// Writes a journal and its check into a file. A file that can't be written keeps a front of them.
+/// Writes a journal and its check into a file. If writing fails, the file has only the first part
+/// of them.
 fn write_journal<R: Runtime + AllocGlobal>(
     rt: &R,
     file: &str,
@@ -267,14 +268,14 @@ fn write_journal<R: Runtime + AllocGlobal>(
     }
 }
 
-/// Why a file isn't opened for a journal.
+/// Why a file wasn't opened for a journal.
 enum Unopened {
     Unwritable,
-    /// It has bytes already.
+    /// The file isn't empty.
     Filled,
 }
 
-/// Opens the file for a journal: a new one, or one without bytes.
+/// Opens a new or empty file for a journal.
 fn open_for_journal<R: Files>(rt: &R, file: &str) -> Result<R::File, Unopened> {
     let mut options = OpenOptions::new();
     options.write(true).create(true);
@@ -288,18 +289,18 @@ fn open_for_journal<R: Files>(rt: &R, file: &str) -> Result<R::File, Unopened> {
     }
 }
 
-/// How a talk ended, and the journal of its store, if there is one.
+/// How a conversation ended, and the journal of its store, if there is one.
 type Talk = (Result<(), RunFault>, Option<Journal>);
 
-/// Which sides of a shell are a terminal.
+/// Whether input comes from a terminal, and whether output goes to one.
 #[derive(Clone, Copy)]
 struct Sides {
     is_typed: bool,
     is_shown: bool,
 }
 
-/// Greets and talks with a terminal, after a first peer. Control characters are shown by their
-/// codes if replies go to a terminal too.
+/// Greets and talks to a terminal, once the first peer has no more lines. If replies go to a
+/// terminal too, control characters are shown as codes.
 fn talk_at_terminal<R: Runtime + AllocGlobal, F: Peer, I: Read + Drop>(
     rt: &R,
     first: &mut F,
@@ -323,7 +324,8 @@ fn talk_at_terminal<R: Runtime + AllocGlobal, F: Peer, I: Read + Drop>(
     }
 }
 
-/// Talks with standard input, after a first peer. At a terminal it greets and prompts.
+/// Talks to standard input, once the first peer has no more lines. At a terminal it greets and
+/// prompts.
 fn talk<R: Runtime + AllocGlobal, F: Peer>(
     rt: &R,
     first: &mut F,
@@ -342,7 +344,7 @@ fn talk<R: Runtime + AllocGlobal, F: Peer>(
     Ok(shell_and_close(rt.alloc(), first, &mut ends, limits))
 }
 
-/// How the program ends after a talk that ended so.
+/// The program's outcome after a conversation that ended like this.
 fn end_talk(rt: &impl Eprint, talked: Result<(), RunFault>) -> io::Result<Outcome> {
     match talked {
         Ok(()) => Ok(Outcome::Done),
@@ -351,8 +353,8 @@ fn end_talk(rt: &impl Eprint, talked: Result<(), RunFault>) -> io::Result<Outcom
     }
 }
 
-/// Talks after a first peer, and writes the journal into a file at the end, however the talk ended.
-/// If both fail, the fault of the talk is the one that is reported.
+/// Holds the conversation, and at its end writes the journal into a file, however it ended. If both
+/// fail, it reports the conversation's error.
 fn talk_for_journal<R: Runtime + AllocGlobal, F: Peer>(
     rt: &R,
     first: &mut F,
@@ -379,7 +381,7 @@ fn talk_for_journal<R: Runtime + AllocGlobal, F: Peer>(
     }
 }
 
-/// Talks with standard input, after a first peer, and writes the journal if a file for it is named.
+/// Holds the conversation, and writes the journal if a file for it is named.
 fn talk_after<R: Runtime + AllocGlobal, F: Peer>(
     rt: &R,
     first: &mut F,
@@ -393,7 +395,7 @@ fn talk_after<R: Runtime + AllocGlobal, F: Peer>(
     }
 }
 
-/// Talks with standard input, after the lines of a file if one is named.
+/// Runs the lines of a file, if one is named, and then talks to standard input.
 fn open_shell<R: Runtime + AllocGlobal>(
     rt: &R,
     file: &Option<String>,
@@ -418,7 +420,7 @@ fn open_shell<R: Runtime + AllocGlobal>(
     talk_after(rt, &mut lines, journal, limits, sides)
 }
 
-/// Reads all of a file.
+/// Reads a whole file.
 fn read_whole<R: Runtime + AllocGlobal>(rt: &R, file: &str) -> io::Result<Vec<u8>> {
     let mut text = Vec::new(rt.alloc());
     if file == STANDARD_INPUT {
@@ -431,7 +433,7 @@ fn read_whole<R: Runtime + AllocGlobal>(rt: &R, file: &str) -> io::Result<Vec<u8
     Ok(text)
 }
 
-/// Why a file wasn't read whole.
+/// Reports why a file couldn't be read whole.
 fn fail_whole(rt: &impl Eprint, file: &str, error: &io::Error) -> io::Result<Outcome> {
     if matches!(error.kind(), io::ErrorKind::OutOfMemory) {
         return fail(rt, reason(RunFault::Memory));
@@ -446,7 +448,7 @@ fn fail_without_journal(rt: &impl Eprint, file: &str) -> io::Result<Outcome>
     Ok(Outcome::Failed)
 }
 
-/// Prints a text, and ends so.
+/// Prints a text, and returns the outcome.
 fn print_text<R: Runtime>(rt: &R, text: &str, outcome: Outcome) -> io::Result<Outcome> {
     let mut writer = io::writer(rt);
     match writer.write_all(text.as_bytes()) {
@@ -455,7 +457,7 @@ fn print_text<R: Runtime>(rt: &R, text: &str, outcome: Outcome) -> io::Result<Ou
     }
 }
 
-/// Prints what a check found, and reports on standard error how many entries it read.
+/// Prints a check's finding, and reports the number of entries on standard error.
 fn print_finding<R: Runtime>(
     rt: &R,
     text: &str,
@@ -470,7 +472,7 @@ fn print_finding<R: Runtime>(
     Ok(outcome)
 }
 
-/// Checks the journal of a text, and prints that it is right, or the first line that isn't.
+/// Checks the journal in a text, and prints that it is right, or the first line that isn't.
 fn check_text<R: Runtime + AllocGlobal>(rt: &R, file: &str, text: &[u8]) -> io::Result<Outcome> {
     match check(rt.alloc(), text) {
         Ok(Finding::Right(count)) => print_finding(rt, "replay ok\n", count, Outcome::Done),
@@ -482,9 +484,9 @@ fn check_text<R: Runtime + AllocGlobal>(rt: &R, file: &str, text: &[u8]) -> io::
     }
 }
 
-/// Prints the script that makes the writes of a text's journal again.
+/// Prints the script that makes the writes of the journal in a text again.
 fn dump_text<R: Runtime + AllocGlobal>(rt: &R, file: &str, text: &[u8]) -> io::Result<Outcome> {
-    let entries = match journal_told(rt.alloc(), text) {
+    let entries = match reported_journal(rt.alloc(), text) {
         Ok(Some(entries)) => entries,
         Ok(None) => return fail_without_journal(rt, file),
         Err(_) => return fail(rt, reason(RunFault::Memory)),
@@ -495,7 +497,7 @@ fn dump_text<R: Runtime + AllocGlobal>(rt: &R, file: &str, text: &[u8]) -> io::R
     }
 }
 
-/// Prints the script that makes the last state of a text's journal again.
+/// Prints the script that makes the last state of the journal in a text.
 fn dump_state_of_text<R: Runtime + AllocGlobal>(
     rt: &R,
     file: &str,
@@ -508,32 +510,32 @@ fn dump_state_of_text<R: Runtime + AllocGlobal>(
     }
 }
 
-/// What is to be printed about a journal.
+/// What to print about a journal.
 #[derive(Clone, Copy)]
-enum Telling {
+enum Reporting {
     Check,
     Dump,
     DumpState,
 }
 
-/// Prints it of the journal in a file.
-fn tell_of_file<R: Runtime + AllocGlobal>(
+/// Prints this about the journal in a file.
+fn report_on_file<R: Runtime + AllocGlobal>(
     rt: &R,
     file: &str,
-    telling: Telling,
+    reporting: Reporting,
 ) -> io::Result<Outcome> {
     let text = match read_whole(rt, file) {
         Ok(text) => text,
         Err(error) => return fail_whole(rt, file, &error),
     };
-    match telling {
-        Telling::Check => check_text(rt, file, &text),
-        Telling::Dump => dump_text(rt, file, &text),
-        Telling::DumpState => dump_state_of_text(rt, file, &text),
+    match reporting {
+        Reporting::Check => check_text(rt, file, &text),
+        Reporting::Dump => dump_text(rt, file, &text),
+        Reporting::DumpState => dump_state_of_text(rt, file, &text),
     }
 }
 
-/// Does what the command line asks for.
+/// Performs the task of the command line.
 fn run_task<R: Runtime + AllocGlobal + Threads + Wait + Sync>(
     rt: &R,
     task: &Task,
@@ -541,24 +543,30 @@ fn run_task<R: Runtime + AllocGlobal + Threads + Wait + Sync>(
 ) -> io::Result<Outcome> {
     match task {
         Task::Run(file, limits) => run_file(rt, file.as_str(), *limits, Running::Plainly),
-        Task::RunAndTell(file, limits) => run_file(rt, file.as_str(), *limits, Running::Telling),
+        Task::RunWithJournal(file, limits) => run_file(
+            rt,
+            file.as_str(),
+            *limits,
+            Running::Reporting,
+        ),
         Task::RunStrictly(file, limits) => run_file(rt, file.as_str(), *limits, Running::Strictly),
-        Task::RunStrictlyAndTell(file, limits) => {
-            run_file(rt, file.as_str(), *limits, Running::StrictlyTelling)
+        Task::RunStrictlyWithJournal(file, limits) => {
+            run_file(rt, file.as_str(), *limits, Running::StrictlyReporting)
         }
         Task::Race(files, limits) => race_files(rt, files.as_slice(), *limits),
         Task::Shell(file, limits) => open_shell(rt, file, None, *limits, sides),
-        Task::ShellAndTell(file, journal, limits) => {
+        Task::ShellWithJournal(file, journal, limits) => {
             open_shell(rt, file, Some(journal.as_str()), *limits, sides)
         }
-        Task::Check(file) => tell_of_file(rt, file.as_str(), Telling::Check),
-        Task::Dump(file) => tell_of_file(rt, file.as_str(), Telling::Dump),
-        Task::DumpState(file) => tell_of_file(rt, file.as_str(), Telling::DumpState),
+        Task::Check(file) => report_on_file(rt, file.as_str(), Reporting::Check),
+        Task::Dump(file) => report_on_file(rt, file.as_str(), Reporting::Dump),
+        Task::DumpState(file) => report_on_file(rt, file.as_str(), Reporting::DumpState),
     }
 }
 
-/// Help and the version go to standard output, what is wrong with a command line to standard error.
-fn tell<R: Print + Eprint>(rt: &R, error: &Error) -> io::Result<Outcome> {
+/// Prints help and the version to standard output, and errors of the command line to standard
+/// error.
+fn report<R: Print + Eprint>(rt: &R, error: &Error) -> io::Result<Outcome> {
     match error.print(rt) {
         Err(_) if error.exit_code() == 0 => fail(rt, "write failed"),
         _ if error.exit_code() == 0 => Ok(Outcome::Done),
@@ -566,8 +574,7 @@ fn tell<R: Print + Eprint>(rt: &R, error: &Error) -> io::Result<Outcome> {
     }
 }
 
-/// Reads the words of the command line and does what they ask for. If memory runs out, a line on
-/// standard error says so.
+/// Parses the command line and performs its task. If memory runs out, it says so on standard error.
 fn obey<R: Runtime + AllocGlobal + Threads + Wait + Sync>(
     rt: &R,
     given: &[String],
@@ -583,7 +590,7 @@ fn obey<R: Runtime + AllocGlobal + Threads + Wait + Sync>(
     match task(alloc, words.as_slice()) {
         Ok(task) => run_task(rt, &task, sides),
         Err(error) if matches!(error.kind(), ErrorKind::OutOfMemory) => fail(rt, "out of memory"),
-        Err(error) => tell(rt, &error),
+        Err(error) => report(rt, &error),
     }
 }
 

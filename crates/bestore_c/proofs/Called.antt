@@ -1,22 +1,22 @@
--- What a call makes of a handle that is open.
+-- What calls do to an open handle.
 use Rattle.std.proofs.Common.{◌≡◌, Bool, Option, Some, None, false, true, refl, sym, subst}
 use Rattle.std.proofs.lemmas.Bool.{false≢true}
 use Rattle.be_session.specs.Sitting.{Sitting}
 use Rattle.bestore_c.specs.Calls.{Calls}
 use Rattle.std.specs.Prelude.{is_some}
 
--- the session stays as it was
+-- the call leaves the session as it was
 pub stays : (p : Option Sitting) (closed : Type 0) (does : Sitting → Sitting → Type 0) → is_some p ≡ true → ((s : Sitting) → does s s) → Calls p p closed does
 stays None closed does full all = absurd (false≢true full)
 stays (Some s) closed does full all = (refl, refl, all s)
 
--- what a call needs was read before its handle was asked: the handle is closed, or the session stays as it was
+-- if reading the arguments fails before the session is called: the handle is closed, or the session stays as it was
 pub unasked : (p : Option Sitting) (live : Bool) (closed : Type 0) (does : Sitting → Sitting → Type 0) → live ≡ is_some p
     → (live ≡ false → closed) → (live ≡ true → (s : Sitting) → does s s) → Calls p p closed does
 unasked None live closed does full shut all = shut full
 unasked (Some s) live closed does full shut all = (refl, refl, all full s)
 
--- the session is another one of the same store
+-- the call leaves another session of the same store
 pub called : (p q : Option Sitting) (s t : Sitting) (closed : Type 0) (does : Sitting → Sitting → Type 0) → p ≡ Some s → q ≡ Some t → t.store ≡ s.store
     → t.spare ≡ s.spare
     → does s t → Calls p q closed does

@@ -1,4 +1,4 @@
--- The journal of a store that was closed, and what one of its passes had seen.
+-- The journal of a closed store, and what one of its passes had seen.
 use Rattle.std.proofs.Common.{◌≡◌, ◌≤◌, ℕ, List, [], ◌∷◌, ◌++◌, length, arith, ap, inl, refl, sym, ◌∙◌, length-append}
 use Rattle.std.proofs.lemmas.List.{append-nil, length-map}
 use Rattle.be_journal.specs.Journal.{Log}
@@ -26,18 +26,18 @@ none_of (x ∷ xs) h =
     let no : ⊥ = omega (arith, h) in
     absurd no
 
--- a list that is no longer than its beginning is that
+-- a list that begins with another of the same length is equal to it
 pub is_all : {A : Type 0} (xs ys : List A) → StartsWith ys xs → length ys ≡ length xs → ys ≡ xs
 is_all xs ys more long =
     let none : length more.0 ≡ 0 = omega (arith, ap length more.1, length-append xs more.0, long) in
     more.1 ∙ (ap (λ l. xs ++ l) (none_of more.0 none) ∙ append-nil xs)
 
--- the journal has no more entries than the session that closed the store has seen: they are those
+-- if the journal has as many entries as the closing session has seen, it has exactly these
 pub all_was_seen : (limits : Limits) (a : Knowledge) (log : Log) → IsFinishedBy limits a log → length log.entries ≡ length a.seen → log.entries ≡ entries a.seen
 all_was_seen limits a log f long =
     is_all (entries a.seen) log.entries (starts_seen log.entries f.0 a f.1 f.2.seen) (long ∙ sym (length-map a.seen (λ (c : Commit). c.entry)))
 
--- so the text of what it has seen is that of the journal
+-- so the text of what that session has seen is the journal's
 pub ended : (limits : Limits) (a : Knowledge) (log : Log) (text places filled : List ℕ) (count : ℕ) → IsFinishedBy limits a log → length log.entries ≡ length a.seen
     → text ≡ text_seen a → length text ≤ length places → count ≡ length text → filled ≡ over text places → IsEnd limits a places filled count 0
 ended limits a log text places filled count f long is fits counted put =

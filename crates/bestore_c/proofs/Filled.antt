@@ -1,10 +1,10 @@
--- Places that were filled one after the other.
+-- Places that a loop fills one after another.
 use Rattle.std.proofs.Common.{◌≡◌, ℕ, List, ◌++◌, ap, arith, drop, length, map, min, sym, take, ◌∙◌}
 use Rattle.std.proofs.lemmas.List.{drop_min, length-map, take_min, take-append-drop, take-map}
 use Rattle.bestore_c.specs.Places.{over}
 
 module _ {X : Type 0} (number : X → ℕ) (xs : List X) where
-  -- all that have a number have it
+  -- every place that has a number holds it
   pub filled_all : (was is : List ℕ) (n : ℕ) → n ≡ min (length xs) (length was) → take n is ≡ map number (take n xs) → drop n is ≡ drop n was
       → is ≡ over (map number xs) was
   filled_all was is n count first rest =

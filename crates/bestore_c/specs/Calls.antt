@@ -1,10 +1,10 @@
--- What calls do to handles.
+-- What calls do to handles, and what they return.
 use Rattle.std.specs.Prelude.{◌≡◌, ◌⊎◌, ◌<◌, ℕ, ◌*◌, ◌^◌, IsUtf8, List, [], drop, length, map}
 use Rattle.std.specs.Prelude.{slice_get, Option, None, Some, Ok, Err}
 use Rattle.std.specs.declared.result.Result.{Result}
 use Rattle.be_journal.specs.declared.entries.Entry.{Entry}
 use Rattle.be_journal.specs.Journal.{IsLegal}
-use Rattle.be_paged_reading.specs.Cells.{TellsColumns, name_in}
+use Rattle.be_paged_reading.specs.Cells.{ReportsColumns, name_in}
 use Rattle.be_paged_reading.specs.declared.cells.Cell.{Cell}
 use Rattle.be_paged_reading.specs.declared.cells.HeldName.{HeldName}
 use Rattle.be_query.specs.Grammar.{Formula, IsTextOf}
@@ -12,7 +12,7 @@ use Rattle.be_query.specs.Printing.{or_text}
 use Rattle.be_session.specs.Fault.{fault_carried, fault_code}
 use Rattle.be_session.specs.Items.{IsBuilt, IsUnbuilt}
 use Rattle.be_session.specs.Meaning.{HasNoMore, IsNoName, IsValueMeant}
-use Rattle.be_session.specs.Operations.{AreMeant, AreSpelled, IsMisspelt, IsWriteCount, TellNodes}
+use Rattle.be_session.specs.Operations.{AreMeant, AreEncoded, IsInvalid, IsWriteCount, ReportNodes}
 use Rattle.be_session.specs.Explained.{explanation_in}
 use Rattle.be_session.specs.Prepared.{IsUnasked, PreparedQuery, with_found}
 use Rattle.be_session.specs.Sitting.{IsHandedOut, IsNoQuery, IsOpened, IsUnrefreshed, IsUnwritten}
@@ -22,7 +22,7 @@ use Rattle.be_session.specs.declared.faults.Fault.TheVariants.{BadCount, NotPinn
 use Rattle.be_session.specs.declared.items.PredicateItem.{PredicateItem}
 use Rattle.be_session.specs.declared.lists.Operation.{Operation}
 use Rattle.be_store.specs.Conditional.{AcceptsAt}
-use Rattle.be_store.specs.History.{Accepts, IsUntold, Learns, LocksAndUnlocks, text_seen}
+use Rattle.be_store.specs.History.{Accepts, IsUnreported, Learns, LocksAndUnlocks, text_seen}
 use Rattle.be_store.specs.Live.{Refreshes}
 use Rattle.be_store.specs.Passes.{HasRead, IsPinnedTo, volume_pinned}
 use Rattle.be_table.specs.Rule.{IsWithin, entries}
@@ -53,11 +53,11 @@ Calls None (Some t) closed does = ⊥
 Calls (Some s) None closed does = ⊥
 Calls (Some s) (Some t) closed does = (t.store ≡ s.store) × (t.spare ≡ s.spare) × does s t
 
--- what a call that returns a number returns on a closed handle: the code 64 and the number 0
+-- on a closed handle a call returns the code 64 and the number 0
 abbrev pub IsClosed : ℕ → ℕ → Type 0
 IsClosed number code = (code ≡ 64) × (number ≡ 0)
 
--- the call returns the code of an error, and the number that the error carries
+-- the call returns an error's code, and the number that the error carries
 abbrev pub Refuses : Fault → ℕ → ℕ → Type 0
 Refuses e number code = (code ≡ fault_code e) × (number ≡ fault_carried e)
 
@@ -67,8 +67,8 @@ AnswersWhetherOpen None code = code ≡ 64
 AnswersWhetherOpen (Some s) code = code ≡ 0
 
 -- Opening: an open handle stays as it was, and the call returns 65. A closed one gets a session
--- that has just opened a store with these limits. It stays closed if the store refuses, with the
--- refusal's number, or if the call runs out of memory.
+-- that has just opened a store with these limits. It stays closed if the store refuses the limits
+-- or if memory runs out; then the call returns the error's number.
 abbrev pub Opens : Limits → Option Sitting → Option Sitting → ℕ → Type 0
 Opens limits (Some s) (Some t) code = (code ≡ 65) × (t ≡ s)
 Opens limits (Some s) None code = ⊥
@@ -76,10 +76,9 @@ Opens limits None (Some t) code = (code ≡ 0) × IsOpened limits t
 Opens limits None None code = ((code ≡ 10) × IsWithin limits)
     ⊎ ((why : Refusal) × (code ≡ refusal_number why) × IsOpenRefused limits why)
 
--- A second handle: an open one stays as it was, and the call returns 65. A closed one gets a
--- session of the same store, with no waiting pass, and with a pass that is handed out and has met
--- the pass of the first handle. The call returns 68 if no pass waits, and 10 if it runs out of
--- memory.
+-- Making a second handle: an open one stays as it was, and the call returns 65. A closed one gets a
+-- session of the same store, with no waiting pass, whose pass was handed out and has met the first
+-- handle's. The call returns 68 if no pass waits, and 10 if memory runs out.
 abbrev pub OpensSecond : Sitting → Sitting → Option Sitting → Option Sitting → ℕ → Type 0
 OpensSecond s t (Some o) (Some p) code = (code ≡ 65) × (p ≡ o) × (t ≡ s)
 OpensSecond s t (Some o) None code = ⊥
@@ -87,7 +86,7 @@ OpensSecond s t None (Some p) code = (code ≡ 0) × (p.store ≡ s.store) × (p
     × IsHandedOut s t p.knows
 OpensSecond s t None None code = (t ≡ s) × ((code ≡ 10) ⊎ ((code ≡ 68) × (s.spare ≡ 0)))
 
--- A second handle, from one that may be closed: then both stay as they were, and the call returns
+-- The same, if the first handle may be closed: then both stay as they were, and the call returns
 -- 64.
 abbrev pub GivesAnother : Option Sitting → Option Sitting → Option Sitting → Option Sitting → ℕ
     → Type 0
@@ -96,58 +95,58 @@ GivesAnother None (Some t) o p code = ⊥
 GivesAnother (Some s) None o p code = ⊥
 GivesAnother (Some s) (Some t) o p code = (t.store ≡ s.store) × OpensSecond s t o p code
 
--- Moving a handle: its content goes to a closed handle, and it is closed then. The call returns 65
--- if the other handle is open, and 64 if this one is closed.
+-- Moving a handle: its content goes to a closed handle, and it is closed itself. The call returns
+-- 65 if the other handle is open, and 64 if this one is closed.
 abbrev pub MovesHandle : {A : Type 0} → Option A → Option A → Option A → Option A → ℕ → Type 0
 MovesHandle None o from to code = (code ≡ 64) × (from ≡ None) × (to ≡ o)
 MovesHandle (Some s) (Some o) from to code = (code ≡ 65) × (from ≡ Some s) × (to ≡ Some o)
 MovesHandle (Some s) None from to code = (code ≡ 0) × (from ≡ None) × (to ≡ Some s)
 
 -- A write of encoded operations. If one of them is invalid, nothing happens, and the number is its
--- index in the list. Otherwise they encode operations. If the session accepts these, the call
--- returns the nodes of the new ones, and the number is the journal's length. If it does not write
--- them, the number is what the refusal carries.
-abbrev pub WritesSpelled : Sitting → Sitting → List Operation → List ℕ → List ℕ → List ℕ → ℕ → ℕ
+-- index in the list. Otherwise they encode operations. If the store accepts these, the call returns
+-- the numbers of new nodes, and the number is the journal's length. If it doesn't, the number is
+-- what the error carries.
+abbrev pub WritesEncoded : Sitting → Sitting → List Operation → List ℕ → List ℕ → List ℕ → ℕ → ℕ
     → Type 0
-WritesSpelled s t spelled bytes places filled number code =
-    ((e : Fault) × (code ≡ fault_code e) × IsMisspelt spelled bytes e number × (t ≡ s))
-    ⊎ (IsWriteCount (length spelled) × (ops : List Op) × AreMeant spelled bytes ops ×
+WritesEncoded s t encoded bytes places filled number code =
+    ((e : Fault) × (code ≡ fault_code e) × IsInvalid encoded bytes e number × (t ≡ s))
+    ⊎ (IsWriteCount (length encoded) × (ops : List Op) × AreMeant encoded bytes ops ×
     (((code ≡ 0) × (dones : List Done) × Accepts s.knows t.knows ops number dones
     × (filled ≡ over (map node_of dones) places))
     ⊎ ((e : Fault) × Refuses e number code × IsUnwritten s.knows t.knows ops e)))
 
 -- A conditional write of encoded operations. If one of them is invalid, nothing happens. Otherwise
--- the session accepts them on a journal of as many entries as expected, or does not write them. The
--- number is then the length that it found, or what the refusal carries.
-abbrev pub WritesSpelledIf : Sitting → Sitting → ℕ → List Operation → List ℕ → List ℕ → List ℕ → ℕ
+-- the store accepts them on a journal of `expected` entries, and the number is the journal's
+-- length; or it writes nothing, and the number is what the error carries.
+abbrev pub WritesEncodedIf : Sitting → Sitting → ℕ → List Operation → List ℕ → List ℕ → List ℕ → ℕ
     → ℕ → Type 0
-WritesSpelledIf s t expected spelled bytes places filled number code =
-    ((e : Fault) × (code ≡ fault_code e) × IsMisspelt spelled bytes e number × (t ≡ s))
-    ⊎ (IsWriteCount (length spelled) × (ops : List Op) × AreMeant spelled bytes ops ×
+WritesEncodedIf s t expected encoded bytes places filled number code =
+    ((e : Fault) × (code ≡ fault_code e) × IsInvalid encoded bytes e number × (t ≡ s))
+    ⊎ (IsWriteCount (length encoded) × (ops : List Op) × AreMeant encoded bytes ops ×
     (((code ≡ 0) × (dones : List Done) × AcceptsAt s.knows t.knows expected ops number dones
     × (filled ≡ over (map node_of dones) places))
     ⊎ ((e : Fault) × Refuses e number code × IsUnwrittenIf s.knows t.knows expected ops e)))
 
--- a number of the pinned version, if there is a pin
-abbrev pub TellsNumber : Option ℕ → ℕ → ℕ → ℕ → Type 0
-TellsNumber None meant number code = Refuses NotPinned number code
-TellsNumber (Some n) meant number code = (code ≡ 0) × (number ≡ meant)
+-- a number that is read from the pinned version; without a pin, NotPinned
+abbrev pub ReportsNumber : Option ℕ → ℕ → ℕ → ℕ → Type 0
+ReportsNumber None meant number code = Refuses NotPinned number code
+ReportsNumber (Some n) meant number code = (code ≡ 0) × (number ≡ meant)
 
--- The answer of a version, which is a list of nodes or of a text's bytes: its length, and up to as
--- many items as there are places. Or an error, with what it carries.
+-- A version's answer, a list of nodes or of a text's bytes: its length, and as many items as there
+-- are places. Or an error, with what it carries.
 abbrev pub PutsOutAnswer : Result (List ℕ) Refusal → List ℕ → List ℕ → ℕ → ℕ → Type 0
 PutsOutAnswer (Ok nodes) places filled count code = (code ≡ 0) × (count ≡ length nodes)
     × (filled ≡ over nodes places)
 PutsOutAnswer (Err why) places filled count code = Refuses (Refused why) count code
 
--- the answer of the pinned version, if there is a pin; 10 if the call runs out of memory
+-- the pinned version's answer; without a pin, NotPinned; 10 if memory runs out
 abbrev pub PutsOutAtPin : Option ℕ → Result (List ℕ) Refusal → List ℕ → List ℕ → ℕ → ℕ → Type 0
 PutsOutAtPin None answer places filled count code = Refuses NotPinned count code
 PutsOutAtPin (Some n) answer places filled count code = Refuses (Refused OutOfMemory) count code
     ⊎ PutsOutAnswer answer places filled count code
 
--- A query by its text. If the bytes aren't a query, nothing happens; otherwise the call returns
--- the query's answer.
+-- A query by its text. If the bytes aren't a query, nothing happens; otherwise the call returns the
+-- query's answer.
 abbrev pub Finds : Sitting → Sitting → List ℕ → List ℕ → List ℕ → ℕ → ℕ → Type 0
 Finds s t text places filled count code =
     ((e : Fault) × Refuses e count code × IsNoQuery text e × (t ≡ s))
@@ -155,8 +154,8 @@ Finds s t text places filled count code =
     × PutsOutAtPin (pinned_number s.knows.phase) (scan (volume_pinned s.knows) query) places filled
     count code)
 
--- The index cover of a query, by its text. If the bytes aren't a query, nothing happens;
--- otherwise the call returns the text that describes the cover.
+-- The indices that would answer a query, by its text. If the bytes aren't a query, nothing happens;
+-- otherwise the call returns the text that describes these indices.
 abbrev pub Explains : Sitting → Sitting → List ℕ → List ℕ → List ℕ → ℕ → ℕ → Type 0
 Explains s t text places filled count code =
     ((e : Fault) × Refuses e count code × IsNoQuery text e × (t ≡ s))
@@ -165,73 +164,72 @@ Explains s t text places filled count code =
     places filled count code)
 
 -- A query by its items. If they build no query, nothing happens; otherwise the call returns the
--- answer of the query.
+-- query's answer.
 abbrev pub FindsBuilt : Sitting → Sitting → List PredicateItem → List ℕ → List ℕ → List ℕ → ℕ → ℕ
     → Type 0
-FindsBuilt s t spelled bytes places filled count code =
-    ((e : Fault) × (code ≡ fault_code e) × IsUnbuilt spelled bytes e count × (t ≡ s))
-    ⊎ ((query : Formula) × IsBuilt spelled bytes query × HasRead s.knows t.knows
+FindsBuilt s t encoded bytes places filled count code =
+    ((e : Fault) × (code ≡ fault_code e) × IsUnbuilt encoded bytes e count × (t ≡ s))
+    ⊎ ((query : Formula) × IsBuilt encoded bytes query × HasRead s.knows t.knows
     × PutsOutAtPin (pinned_number s.knows.phase) (scan (volume_pinned s.knows) query) places filled
     count code)
 
--- a value's type code, number and length, and up to as many of its bytes as there are places
+-- a value's type code, number and length, and as many of its bytes as there are places
 abbrev pub ShowsValue : Value → Attribute → List ℕ → List ℕ → Type 0
-ShowsValue value told places filled =
-    (bytes : List ℕ) × IsValueMeant told.code told.number bytes value
-    × HasNoMore told.number bytes value
-    × (told.length ≡ length bytes) × (filled ≡ over bytes places)
+ShowsValue value reported places filled =
+    (bytes : List ℕ) × IsValueMeant reported.code reported.number bytes value
+    × HasNoMore reported.number bytes value
+    × (reported.length ≡ length bytes) × (filled ≡ over bytes places)
 
--- the attribute in the pinned version, if there is a pin: 66 without a pin, and 3 without an
--- attribute
+-- the attribute in the pinned version; 66 without a pin, and 3 if there is no such attribute
 abbrev pub Shown : Option ℕ → Option Value → Attribute → List ℕ → List ℕ → ℕ → Type 0
-Shown None found told places filled code = code ≡ 66
-Shown (Some n) None told places filled code = code ≡ 3
-Shown (Some n) (Some value) told places filled code = (code ≡ 0)
-    × ShowsValue value told places filled
+Shown None found reported places filled code = code ≡ 66
+Shown (Some n) None reported places filled code = code ≡ 3
+Shown (Some n) (Some value) reported places filled code = (code ≡ 0)
+    × ShowsValue value reported places filled
 
--- A read of an attribute. If the bytes aren't a valid name, nothing happens. Otherwise the call
+-- A read of an attribute. If the bytes aren't a valid name, nothing happens; otherwise the call
 -- returns the attribute.
 abbrev pub Reads : Sitting → Sitting → ℕ → List ℕ → Attribute → List ℕ → List ℕ → ℕ → Type 0
-Reads s t node name told places filled code =
+Reads s t node name reported places filled code =
     ((e : Fault) × (code ≡ fault_code e) × IsNoName name e × (t ≡ s))
     ⊎ (IsUtf8 name × (name_from name ≡ Ok name) × HasRead s.knows t.knows
-    × Shown (pinned_number s.knows.phase) (attribute (volume_pinned s.knows) node name) told places
-    filled code)
+    × Shown (pinned_number s.knows.phase) (attribute (volume_pinned s.knows) node name) reported
+    places filled code)
 
--- the same of a name that is checked already
+-- the same for a name that was checked before
 abbrev pub ReadsHeld : Sitting → Sitting → ℕ → List ℕ → Attribute → List ℕ → List ℕ → ℕ → Type 0
-ReadsHeld s t node name told places filled code =
+ReadsHeld s t node name reported places filled code =
     HasRead s.knows t.knows × Shown (pinned_number s.knows.phase)
-    (attribute (volume_pinned s.knows) node name) told places filled code
+    (attribute (volume_pinned s.knows) node name) reported places filled code
 
--- A name is checked and kept. If the bytes aren't a valid name, the handle keeps the one it had.
+-- A call checks a name and keeps it. If the bytes aren't a valid name, `held` stays as it was.
 abbrev pub HoldsName : List ℕ → HeldName → HeldName → ℕ → Type 0
 HoldsName bytes was held code =
     ((code ≡ 0) × (name_in held ≡ bytes) × (name_from bytes ≡ Ok bytes) × IsUtf8 bytes)
     ⊎ ((e : Fault) × (code ≡ fault_code e) × IsNoName bytes e × (held ≡ was))
 
--- The cells of nodes at names in the pinned version, if there is a pin and there are at most 2^32
--- cells.
-abbrev pub TellsAtPin : Option ℕ → State → List ℕ → List (List ℕ) → List Cell → List Cell → List ℕ
+-- The cells of these nodes at these names in the pinned version. Without a pin, NotPinned; with
+-- more than 2^32 cells, BadCount.
+abbrev pub ReportsAtPin : Option ℕ → State → List ℕ → List (List ℕ) → List Cell → List Cell → List ℕ
     → List ℕ → ℕ → ℕ → Type 0
-TellsAtPin None volume nodes names cell_places cells places filled needed code = Refuses NotPinned
+ReportsAtPin None volume nodes names cell_places cells places filled needed code = Refuses NotPinned
     needed code
-TellsAtPin (Some n) volume nodes names cell_places cells places filled needed code =
-    ((code ≡ 0) × TellsColumns volume nodes names cell_places cells places filled needed)
+ReportsAtPin (Some n) volume nodes names cell_places cells places filled needed code =
+    ((code ≡ 0) × ReportsColumns volume nodes names cell_places cells places filled needed)
     ⊎ (Refuses BadCount needed code × (2 ^ 32 < length nodes * length names))
 
--- A list is returned as these operations: how many operations their encoding has, and how many
--- bytes, and up to as many of both as there are places. Or the call runs out of memory.
+-- A list is returned as these operations: how many operations and bytes their encoding has, and as
+-- many of both as there are places. Or memory runs out.
 abbrev pub IsPutOut : List Op → Counts → List Operation → List Operation → List ℕ → List ℕ → ℕ
     → Type 0
 IsPutOut ops counts places filled byte_places bytes code =
     (code ≡ 10)
-    ⊎ ((code ≡ 0) × (os : List Operation) × (bs : List ℕ) × AreSpelled os bs ops
+    ⊎ ((code ≡ 0) × (os : List Operation) × (bs : List ℕ) × AreEncoded os bs ops
     × (counts.operations ≡ length os) × (filled ≡ over os places) × (counts.bytes ≡ length bs)
     × (bytes ≡ over bs byte_places))
 
--- A list in the pinned version, if there is a pin, returned as the operations that would make it.
--- Or the reason why there is no list.
+-- A list of the pinned version, returned as the operations that would make it; 66 without a pin. Or
+-- the reason why there is no list.
 abbrev pub Listed : {A : Type 0} → (A → Op) → Option ℕ → Result (List A) Refusal → Counts
     → List Operation → List Operation → List ℕ → List ℕ → ℕ → Type 0
 Listed makes None meant counts places filled byte_places bytes code = code ≡ 66
@@ -240,13 +238,13 @@ Listed makes (Some n) (Err why) counts places filled byte_places bytes code = (c
 Listed makes (Some n) (Ok list) counts places filled byte_places bytes code = IsPutOut
     (map makes list) counts places filled byte_places bytes code
 
--- why a text isn't a query, and what that error carries
+-- why a text isn't a query, and what its error carries
 abbrev pub IsTextFault : List ℕ → Fault → ℕ → Type 0
 IsTextFault text e place = IsNoQuery text e × (place ≡ fault_carried e)
 
 -- Preparing a query: an open handle stays as it was, and the call returns 65. A closed one gets a
--- query that these bytes or items mean, which was never refreshed. It stays closed after an error.
--- The number belongs to the error, and is 0 otherwise.
+-- query that these bytes or items mean, and that was never refreshed. After an error it stays
+-- closed. The number belongs to the error, and is 0 otherwise.
 abbrev pub Prepares : (Formula → Type 0) → (Fault → ℕ → Type 0) → Option PreparedQuery
     → Option PreparedQuery → ℕ → ℕ → Type 0
 Prepares is_meant is_fault (Some p) (Some q) place code = (code ≡ 65) × (q ≡ p) × (place ≡ 0)
@@ -256,9 +254,9 @@ Prepares is_meant is_fault None (Some q) place code = (code ≡ 0) × (place ≡
 Prepares is_meant is_fault None None place code = (e : Fault) × (code ≡ fault_code e)
     × is_fault e place
 
--- A query was asked in the pinned version, and keeps what it found: how many nodes these are is
--- returned, and up to as many of them as there are places. Or an error, with what it carries: then
--- it keeps none. What its last refresh found stays.
+-- A query ran in the pinned version and keeps what it found. The call returns how many nodes these
+-- are, and as many of them as there are places. Or it returns an error with what that carries, and
+-- the query keeps no nodes. What its last refresh found stays.
 abbrev pub Asked : Sitting → PreparedQuery → PreparedQuery → List ℕ → List ℕ → ℕ → ℕ → Type 0
 Asked s p q places filled count code =
     (q ≡ with_found p q.found)
@@ -269,8 +267,8 @@ Asked s p q places filled count code =
     × IsUnrefreshed (pinned_number s.knows.phase) (scan (volume_pinned s.knows) p.live.query)
     e))
 
--- Asking a prepared query. If its handle is closed, it stays closed, and nothing happens; otherwise
--- it stays open, and the query is asked.
+-- Running a prepared query. If its handle is closed, it stays closed, and nothing happens;
+-- otherwise it stays open, and the query runs.
 abbrev pub AsksPrepared : Sitting → Sitting → Option PreparedQuery → Option PreparedQuery → List ℕ
     → List ℕ → ℕ → ℕ → Type 0
 AsksPrepared s t None None places filled count code = IsClosed count code × (t ≡ s)
@@ -279,15 +277,15 @@ AsksPrepared s t (Some p) None places filled count code = ⊥
 AsksPrepared s t (Some p) (Some q) places filled count code = HasRead s.knows t.knows
     × Asked s p q places filled count code
 
--- What a prepared query found when it was asked last: how many nodes these are, and from an index
--- on up to as many of them as there are places. Or its handle is closed.
+-- What a prepared query found when it last ran: how many nodes these are, and as many of them from
+-- an index on as there are places. Or its handle is closed.
 abbrev pub ShowsFound : Option PreparedQuery → ℕ → List ℕ → List ℕ → ℕ → ℕ → Type 0
 ShowsFound None from places filled count code = IsClosed count code
 ShowsFound (Some p) from places filled count code = (code ≡ 0) × (count ≡ length p.found)
     × (filled ≡ over (drop from p.found) places)
 
--- A query was asked in the pinned version, and keeps which nodes came and which went: the call
--- returns how many they are. Or an error, and the query stays as it was.
+-- A query was refreshed in the pinned version, and keeps which nodes joined its answer and which
+-- left it; the call returns how many. Or it returns an error, and the query stays as it was.
 abbrev pub Refreshed : Sitting → PreparedQuery → PreparedQuery → UpdateCounts → ℕ → Type 0
 Refreshed s p q counts code =
     ((code ≡ 0) × (n : ℕ) × IsPinnedTo s.knows n
@@ -306,15 +304,15 @@ RefreshesPrepared s t (Some p) None counts code = ⊥
 RefreshesPrepared s t (Some p) (Some q) counts code = HasRead s.knows t.knows
     × Refreshed s p q counts code
 
--- The nodes that came and the nodes that went at the last refresh, up to as many of each as there
--- are places.
+-- The nodes that joined the answer at the last refresh, and those that left it, as many of each as
+-- there are places.
 abbrev pub ShowsChanges : Option PreparedQuery → List ℕ → List ℕ → List ℕ → List ℕ → ℕ → Type 0
 ShowsChanges None created_places created removed_places removed code = code ≡ 64
 ShowsChanges (Some p) created_places created removed_places removed code =
     (code ≡ 0) × (created ≡ over p.came created_places) × (removed ≡ over p.went removed_places)
 
--- The canonical text of a prepared query: how many bytes it has, and up to as many of them as there
--- are places. Or its handle is closed, or memory was refused.
+-- A prepared query's canonical text: its length in bytes, and as many of them as there are places.
+-- Or its handle is closed, or memory runs out.
 abbrev pub PrintsPrepared : Option PreparedQuery → List ℕ → List ℕ → ℕ → ℕ → Type 0
 PrintsPrepared None places filled count code = IsClosed count code
 PrintsPrepared (Some p) places filled count code =
@@ -322,37 +320,38 @@ PrintsPrepared (Some p) places filled count code =
     ⊎ ((code ≡ 0) × (count ≡ length (or_text p.live.query))
     × (filled ≡ over (or_text p.live.query) places))
 
--- An entry of the journal, if there is one: its pass, and an encoding of its operations, in which
--- each that made a node has that node. The lengths of the operations and of their bytes are
--- returned, and up to as many of each as there are places. If there is no entry, the lists stay as
--- they were, and all three numbers are 0.
+-- A journal entry, if there is one: its pass, and an encoding of its operations, in which each that
+-- made a node has its number. The call returns how many operations and bytes there are, and as many
+-- of both as there are places. If there is no entry, the lists stay as they were, and all three
+-- numbers are 0.
 abbrev pub IsEntryPutOut : Option Entry → ℕ → Counts → List Operation → List Operation → List ℕ
     → List ℕ → Type 0
 IsEntryPutOut None by counts places filled byte_places bytes = (by ≡ 0) × (counts.operations ≡ 0)
     × (counts.bytes ≡ 0) × (filled ≡ places) × (bytes ≡ byte_places)
 IsEntryPutOut (Some entry) by counts places filled byte_places bytes =
-    (by ≡ entry.by) × (os : List Operation) × (bs : List ℕ) × AreSpelled os bs entry.ops
-    × TellNodes os entry.ops entry.dones
+    (by ≡ entry.by) × (os : List Operation) × (bs : List ℕ) × AreEncoded os bs entry.ops
+    × ReportNodes os entry.ops entry.dones
     × (counts.operations ≡ length os) × (filled ≡ over os places) × (counts.bytes ≡ length bs)
     × (bytes ≡ over bs byte_places)
 
--- The entry with this index of the journal, as far as the pass has then seen it, and the journal's
--- length: the call's moves are a lock and an unlock. Or an error, with what it carries.
-abbrev pub TellsEntry : Sitting → Sitting → ℕ → ℕ → Counts → List Operation → List Operation
+-- The journal's entry with this index, as far as the pass has seen the journal after the call, and
+-- the journal's length. The call's moves are a lock and an unlock. Or an error, with what it
+-- carries.
+abbrev pub ReportsEntry : Sitting → Sitting → ℕ → ℕ → Counts → List Operation → List Operation
     → List ℕ → List ℕ → ℕ → ℕ → Type 0
-TellsEntry s t from by counts places filled byte_places bytes number code =
+ReportsEntry s t from by counts places filled byte_places bytes number code =
     Learns s.knows t.knows
     × (((code ≡ 0) × LocksAndUnlocks s.knows t.knows × (number ≡ length t.knows.seen)
     × IsEntryPutOut (slice_get (entries t.knows.seen) from) by counts places filled byte_places
     bytes)
-    ⊎ ((why : Refusal) × Refuses (Refused why) number code × IsUntold s.knows t.knows why))
+    ⊎ ((why : Refusal) × Refuses (Refused why) number code × IsUnreported s.knows t.knows why))
 
--- The journal, as far as the pass has then seen it, is legal. The call returns the length of its
--- text, and up to as many of its bytes as there are places: its moves are a lock and an unlock. Or
--- an error, with what it carries.
-abbrev pub TellsJournal : Sitting → Sitting → List ℕ → List ℕ → ℕ → ℕ → Type 0
-TellsJournal s t places filled count code =
+-- The journal, as far as the pass has seen it after the call, is legal. The call returns the length
+-- of its text, and as many of its bytes as there are places. Its moves are a lock and an unlock. Or
+-- it returns an error, with what that carries.
+abbrev pub ReportsJournal : Sitting → Sitting → List ℕ → List ℕ → ℕ → ℕ → Type 0
+ReportsJournal s t places filled count code =
     Learns s.knows t.knows × IsLegal (entries t.knows.seen)
     × (((code ≡ 0) × LocksAndUnlocks s.knows t.knows × (count ≡ length (text_seen t.knows))
     × (filled ≡ over (text_seen t.knows) places))
-    ⊎ ((why : Refusal) × Refuses (Refused why) count code × IsUntold s.knows t.knows why))
+    ⊎ ((why : Refusal) × Refuses (Refused why) count code × IsUnreported s.knows t.knows why))

@@ -1,4 +1,4 @@
--- What calls do to the handle of a change.
+-- What calls do to a change's handle.
 use Rattle.std.specs.Prelude.{◌≡◌, ◌⊎◌, ℕ, IsUtf8, List, Option, None, Some, true, false, length}
 use Rattle.std.specs.declared.result.Result.{Result}
 use Rattle.std.specs.declared.result.Result.TheVariants.{Ok, Err}
@@ -8,7 +8,7 @@ use Rattle.be_session.specs.Changes.{Abandons, CollectsMeant, EndsChange, IsNotC
 use Rattle.be_session.specs.Changes.{IsUnwrittenChange, WritesChange}
 use Rattle.be_session.specs.Fault.{fault_code}
 use Rattle.be_session.specs.Meaning.{IsNoName}
-use Rattle.be_session.specs.Operations.{AreMeant, IsMisspelt, IsWriteCount}
+use Rattle.be_session.specs.Operations.{AreMeant, IsInvalid, IsWriteCount}
 use Rattle.be_session.specs.Sitting.{Sitting}
 use Rattle.be_session.specs.declared.faults.Fault.{Fault}
 use Rattle.be_session.specs.declared.faults.Fault.TheVariants.{Refused}
@@ -26,7 +26,7 @@ use Rattle.bestore_c.specs.declared.handle.Counts.{Counts}
 
 -- Beginning a change: an open handle stays as it was, and the call returns 65. A closed one gets a
 -- change that has just begun and checks kinds; the call returns the numbers of its snapshot and of
--- its first new node. It stays closed if the call runs out of memory.
+-- its first new node. The handle stays closed if memory runs out.
 abbrev pub BeginsDraft : Sitting → Sitting → Option Changing → Option Changing → ℕ → ℕ → ℕ → Type 0
 BeginsDraft s t (Some c) (Some d) number next code = (code ≡ 65) × (number ≡ 0) × (d ≡ c) × (t ≡ s)
 BeginsDraft s t (Some c) None number next code = ⊥
@@ -35,42 +35,42 @@ BeginsDraft s t None (Some d) number next code = (code ≡ 0) × Begins d true s
 BeginsDraft s t None None number next code = Refuses (Refused OutOfMemory) number code
     × IsNotBegun s.knows t.knows
 
--- a change takes any kind from here on, or its handle is closed
+-- the change takes any kind from now on, or its handle is closed
 abbrev pub TakesAnyKind : Option Changing → Option Changing → ℕ → Type 0
 TakesAnyKind None None code = code ≡ 64
 TakesAnyKind None (Some d) code = ⊥
 TakesAnyKind (Some c) None code = ⊥
 TakesAnyKind (Some c) (Some d) code = (code ≡ 0) × (d ≡ record c { checks = false })
 
--- An operation is collected, and the call returns the number of the node that it will make, or 0.
--- After an error the change is as it was. Or its handle is closed.
-abbrev pub AddsSpelled : Option Changing → Option Changing → Operation → List ℕ → ℕ → ℕ → Type 0
-AddsSpelled None None o bytes node code = IsClosed node code
-AddsSpelled None (Some d) o bytes node code = ⊥
-AddsSpelled (Some c) None o bytes node code = ⊥
-AddsSpelled (Some c) (Some d) o bytes node code =
+-- The change collects an operation, and the call returns the number of the node that it will make,
+-- or 0. After an error the change is as it was. Or its handle is closed.
+abbrev pub AddsEncoded : Option Changing → Option Changing → Operation → List ℕ → ℕ → ℕ → Type 0
+AddsEncoded None None o bytes node code = IsClosed node code
+AddsEncoded None (Some d) o bytes node code = ⊥
+AddsEncoded (Some c) None o bytes node code = ⊥
+AddsEncoded (Some c) (Some d) o bytes node code =
     ((code ≡ 0) × CollectsMeant c d o bytes node)
     ⊎ ((e : Fault) × Refuses e node code × (d ≡ c) × IsNotCollected c o bytes e)
 
--- An attribute as the change's operations leave it, if the session is pinned to the snapshot of the
--- change: 3 if there is none. Otherwise 66.
+-- An attribute as the change's operations leave it, or 3 if there is none, if the session is pinned
+-- to the change's snapshot. Otherwise 66.
 abbrev pub ShowsChanged : Changing → Knowledge → ℕ → List ℕ → Attribute → List ℕ → List ℕ → ℕ
     → Type 0
-ShowsChanged c a node name told places filled code =
+ShowsChanged c a node name reported places filled code =
     ((¬ (IsPinnedTo a c.number)) × (code ≡ 66))
     ⊎ (IsPinnedTo a c.number × (found : Option Value)
-    × Shown (Some c.number) found told places filled code
+    × Shown (Some c.number) found reported places filled code
     × (Reads c (volume_pinned a)
     → After c (volume_pinned a) (λ s. found ≡ attribute s node name)))
 
 -- A read in a change. If its handle is closed, or the bytes aren't a valid name, nothing happens.
 abbrev pub ReadsDraft : Sitting → Sitting → Option Changing → ℕ → List ℕ → Attribute → List ℕ
     → List ℕ → ℕ → Type 0
-ReadsDraft s t None node name told places filled code = (code ≡ 64) × (t ≡ s)
-ReadsDraft s t (Some c) node name told places filled code =
+ReadsDraft s t None node name reported places filled code = (code ≡ 64) × (t ≡ s)
+ReadsDraft s t (Some c) node name reported places filled code =
     ((e : Fault) × (code ≡ fault_code e) × IsNoName name e × (t ≡ s))
     ⊎ (IsUtf8 name × (name_from name ≡ Ok name) × HasRead s.knows t.knows
-    × ShowsChanged c s.knows node name told places filled code)
+    × ShowsChanged c s.knows node name reported places filled code)
 
 -- the operations that a change has collected, or its handle is closed
 abbrev pub ListsDraft : Option Changing → Counts → List Operation → List Operation → List ℕ
@@ -79,7 +79,7 @@ ListsDraft None counts places filled byte_places bytes code = code ≡ 64
 ListsDraft (Some c) counts places filled byte_places bytes code = IsPutOut c.ops counts places
     filled byte_places bytes code
 
--- a call returns this number with the code 0, or an error with what it carries
+-- a call returns this number with the code 0, or an error's code and what the error carries
 abbrev pub Returns : Result ℕ Fault → ℕ → ℕ → Type 0
 Returns (Ok n) number code = (code ≡ 0) × (number ≡ n)
 Returns (Err e) number code = Refuses e number code
@@ -95,13 +95,13 @@ abbrev pub AbandonsDraft : Sitting → Sitting → Option Changing → ℕ → T
 AbandonsDraft s t None code = (code ≡ 64) × (t ≡ s)
 AbandonsDraft s t (Some c) code = (code ≡ 0) × Abandons c s.knows t.knows
 
--- A change that is written at once, by encoded operations. If one of them is invalid, nothing
--- happens, and the number is its index in the list. Otherwise they encode operations. If the
--- session writes these, the number is the commit number; if it doesn't, the number is the index of
--- the set of a wrong kind, or what the error carries.
-abbrev pub WritesSpelledChange : Sitting → Sitting → List Operation → List ℕ → ℕ → ℕ → Type 0
-WritesSpelledChange s t spelled bytes number code =
-    ((e : Fault) × (code ≡ fault_code e) × IsMisspelt spelled bytes e number × (t ≡ s))
-    ⊎ (IsWriteCount (length spelled) × (ops : List Op) × AreMeant spelled bytes ops
+-- A change that is written in one call, with encoded operations. If one of them is invalid, nothing
+-- happens, and the number is its index in the list. Otherwise they encode operations. If the store
+-- accepts these, the number is the commit number. If it doesn't, the number is the index of the
+-- first set of a wrong kind, or what the error carries.
+abbrev pub WritesEncodedChange : Sitting → Sitting → List Operation → List ℕ → ℕ → ℕ → Type 0
+WritesEncodedChange s t encoded bytes number code =
+    ((e : Fault) × (code ≡ fault_code e) × IsInvalid encoded bytes e number × (t ≡ s))
+    ⊎ (IsWriteCount (length encoded) × (ops : List Op) × AreMeant encoded bytes ops
     × (((code ≡ 0) × WritesChange s.knows t.knows ops number)
     ⊎ ((e : Fault) × (code ≡ fault_code e) × IsUnwrittenChange s.knows t.knows ops e number)))

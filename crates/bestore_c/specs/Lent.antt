@@ -1,4 +1,4 @@
--- What a handle owns, while it is borrowed.
+-- What a handle owns before and after it lends this.
 use Rattle.std.specs.Prelude.{Some}
 use Rattle.std.specs.Borrow.{Lends, MutBor, Fml}
 use Rattle.be_change.specs.Changing.{Changing}
@@ -22,7 +22,7 @@ use Rattle.bestore_c.specs.declared.owned_place.OwnedPlace.{OwnedPlace}
 use Rattle.bestore_c.specs.declared.owned_query.OwnedQuery.{OwnedQuery}
 use Rattle.bestore_c.specs.declared.owned_witness.OwnedWitness.{OwnedWitness}
 
--- the owner with another value in place of the one that it lends
+-- the owner with this session as what it owns
 abbrev pub with_session : Owned → Sitting → Owned
 with_session o s = record o { value = Some s }
 

@@ -3,7 +3,7 @@ use Rattle.std.specs.Prelude.{ℕ, List, ◌++◌, length, take, drop}
 use Rattle.be_volume.specs.declared.ops.Done.{Done}
 use Rattle.be_volume.specs.declared.ops.Done.TheVariants.{Node, Unit as Nothing}
 
--- The list is in the first places, as much of it as there are places; the others are as they were.
+-- The first places hold the list, or as much of it as fits; the others are as they were.
 abbrev pub over : {X : Type 0} → List X → List X → List X
 over xs places = take (length places) xs ++ drop (length xs) places
 

@@ -1,7 +1,7 @@
 -- What C gets of the operations that rebuild a version.
 use Rattle.std.specs.Prelude.{◌≡◌, ◌⊎◌, ◌≤◌, ◌<◌, ◌++◌, ℕ, List, [], length, None, Some}
 use Rattle.std.specs.declared.option.Option.{Option}
-use Rattle.be_session.specs.States.{untold}
+use Rattle.be_session.specs.States.{unreported}
 use Rattle.be_session.specs.declared.lists.Operation.{Operation}
 use Rattle.be_session.specs.declared.states.StatePlace.{StatePlace}
 use Rattle.be_volume_state.specs.Rebuilding.{state_ops}
@@ -10,38 +10,38 @@ use Rattle.be_volume.specs.declared.ops.Op.{Op}
 use Rattle.bestore_c.specs.Calls.{IsPutOut}
 use Rattle.bestore_c.specs.declared.handle.Counts.{Counts}
 
--- the operations of a volume that are still to be returned: all of them if the place's handle is
+-- the volume's operations that are still to be returned; all of them if the place's handle is
 -- closed
-abbrev pub untold_at : State → Option StatePlace → List Op
-untold_at volume None = state_ops volume
-untold_at volume (Some p) = untold volume p
+abbrev pub unreported_at : State → Option StatePlace → List Op
+unreported_at volume None = state_ops volume
+unreported_at volume (Some p) = unreported volume p
 
--- a list that comes before the rest: up to 64 operations, and empty only if the rest is empty, too
+-- a list before the rest: it has up to 64 operations, and is empty only if the rest is empty too
 abbrev pub IsNextList : List Op → List Op → Type 0
 IsNextList ops rest = (length ops ≤ 64) × (ops ≡ [] → rest ≡ [])
 
--- What is still to be returned then: the rest, if there was room for all of the list; otherwise the
--- list once more, and the rest.
-abbrev pub StaysToTell : List Op → List Op → Counts → List Operation → List ℕ → List Op → Type 0
-StaysToTell ops rest counts places byte_places still =
+-- What is still to be returned after the call: the rest, if the whole list fitted; otherwise the
+-- list again, and the rest.
+abbrev pub RemainsToReport : List Op → List Op → Counts → List Operation → List ℕ → List Op → Type 0
+RemainsToReport ops rest counts places byte_places still =
     ((counts.operations ≤ length places) × (counts.bytes ≤ length byte_places) × (still ≡ rest))
     ⊎ (((length places < counts.operations) ⊎ (length byte_places < counts.bytes))
     × (still ≡ ops ++ rest))
 
--- Returns the next list of the operations that are still to be returned. After running out of
--- memory all of them are still to be returned.
-abbrev pub TellsNext : List Op → List Op → Counts → List Operation → List Operation → List ℕ
+-- Returns the next list of the operations that are still to be returned. If memory runs out, all of
+-- them are still to be returned.
+abbrev pub ReportsNext : List Op → List Op → Counts → List Operation → List Operation → List ℕ
     → List ℕ → ℕ → Type 0
-TellsNext left still counts places filled byte_places bytes code =
+ReportsNext left still counts places filled byte_places bytes code =
     ((code ≡ 10) × (still ≡ left))
     ⊎ ((ops : List Op) × (rest : List Op) × (left ≡ ops ++ rest) × IsNextList ops rest × (code ≡ 0)
     × IsPutOut ops counts places filled byte_places bytes code
-    × StaysToTell ops rest counts places byte_places still)
+    × RemainsToReport ops rest counts places byte_places still)
 
--- The same in the pinned version, if there is a pin.
-abbrev pub TellsState : Option ℕ → List Op → List Op → Counts → List Operation → List Operation
+-- The same in the pinned version; 66 or 10 without a pin.
+abbrev pub ReportsState : Option ℕ → List Op → List Op → Counts → List Operation → List Operation
     → List ℕ → List ℕ → ℕ → Type 0
-TellsState None left still counts places filled byte_places bytes code = ((code ≡ 66) ⊎ (code ≡ 10))
-    × (still ≡ left)
-TellsState (Some n) left still counts places filled byte_places bytes code = TellsNext left still
-    counts places filled byte_places bytes code
+ReportsState None left still counts places filled byte_places bytes code =
+    ((code ≡ 66) ⊎ (code ≡ 10)) × (still ≡ left)
+ReportsState (Some n) left still counts places filled byte_places bytes code = ReportsNext left
+    still counts places filled byte_places bytes code

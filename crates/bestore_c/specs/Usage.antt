@@ -1,10 +1,10 @@
--- What C gets of how full a store is.
+-- What C learns about how full a store is.
 use Rattle.std.specs.Prelude.{◌≡◌, ◌⊎◌, ℕ, false, true, Some, None}
 use Rattle.std.specs.declared.option.Option.{Option}
 use Rattle.be_session.specs.Sitting.{Sitting}
 use Rattle.be_session.specs.declared.faults.Fault.TheVariants.{Refused}
 use Rattle.be_store.specs.History.{Learns}
-use Rattle.be_store.specs.Statuses.{TellsStatus}
+use Rattle.be_store.specs.Statuses.{ReportsStatus}
 use Rattle.be_table.specs.Works.{FoundHeld}
 use Rattle.be_table.specs.declared.status.Announcement.{Announcement}
 use Rattle.be_table.specs.declared.status.Status.{Status}
@@ -12,7 +12,7 @@ use Rattle.be_value.specs.declared.refusals.Refusal.{Refusal}
 use Rattle.bestore_c.specs.Calls.{Refuses}
 use Rattle.bestore_c.specs.declared.handle.Usage.{Usage}
 
--- the oldest announcement, if there is one, with the pass that has made it
+-- the oldest published version, if there is one, with the pass that published it
 abbrev pub ShowsOldest : Option Announcement → Usage → Type 0
 ShowsOldest None u = (u.is_held ≡ false) × (u.oldest ≡ 0) × (u.holder ≡ 0)
 ShowsOldest (Some a) u = (u.is_held ≡ true) × (u.oldest ≡ a.number) × (u.holder ≡ a.pass)
@@ -28,9 +28,9 @@ pub record Shows (s : Status) (u : Usage) : Type 0 where
 
 -- How full the store is: the call returns what the store reports. Or another pass holds the lock,
 -- and the error names it.
-abbrev pub TellsUsage : Sitting → Sitting → Usage → ℕ → ℕ → Type 0
-TellsUsage s t usage number code =
+abbrev pub ReportsUsage : Sitting → Sitting → Usage → ℕ → ℕ → Type 0
+ReportsUsage s t usage number code =
     Learns s.knows t.knows
-    × (((code ≡ 0) × (number ≡ 0) × (told : Status) × TellsStatus s.knows t.knows told
-    × Shows told usage)
+    × (((code ≡ 0) × (number ≡ 0) × (reported : Status) × ReportsStatus s.knows t.knows reported
+    × Shows reported usage)
     ⊎ ((why : Refusal) × Refuses (Refused why) number code × FoundHeld why s.knows t.knows))

@@ -1,4 +1,4 @@
--- What calls do to the handle of a witness.
+-- What calls do to a witness's handle.
 use Rattle.std.specs.Prelude.{◌≡◌, ℕ, Option, None, Some}
 use Rattle.be_session.specs.Sitting.{Joins, Sitting}
 use Rattle.be_table.specs.Place.{WitnessFacts}
@@ -6,9 +6,9 @@ use Rattle.be_table.specs.Rule.{one_step_on}
 use Rattle.be_table.specs.Works.{IsWitnessOf}
 use Rattle.bestore_c.specs.Calls.{IsClosed}
 
--- An open handle stays as it was, and the call returns 65. A closed one gets a witness of the
--- session's store, which has seen what the session has. It stays closed if the call runs out of
--- memory. The pass makes no move.
+-- Making a witness: an open handle stays as it was, and the call returns 65. A closed one gets a
+-- witness of the session's store, which has seen what the session has. It stays closed if memory
+-- runs out. The pass makes no move.
 abbrev pub Vouches : Sitting → Sitting → Option WitnessFacts → Option WitnessFacts → ℕ → Type 0
 Vouches s t (Some w) (Some v) code = (code ≡ 65) × (v ≡ w) × (t ≡ s)
 Vouches s t (Some w) None code = ⊥
@@ -16,15 +16,15 @@ Vouches s t None (Some v) code = (code ≡ 0) × IsWitnessOf s.store v × (v.see
     × (t.knows ≡ one_step_on s.knows)
 Vouches s t None None code = (code ≡ 10) × (t.knows ≡ one_step_on s.knows)
 
--- if both handles are open, the witness is one of the session's store
+-- if both handles are open, the witness is of the session's store
 abbrev pub AreOfOneStore : Option Sitting → Option WitnessFacts → Type 0
 AreOfOneStore None o = Unit {0}
 AreOfOneStore (Some s) None = Unit {0}
 AreOfOneStore (Some s) (Some w) = IsWitnessOf s.store w
 
--- If the handle of the witness is closed, it stays closed, and nothing happens. Otherwise it stays
--- open, with a witness of the same store, and the session and the witness have seen what either
--- had: the number is the length of that.
+-- Joining a witness. If its handle is closed, it stays closed, and nothing happens. Otherwise it
+-- stays open, with a witness of the same store. Afterwards the session and the witness have seen
+-- what either had, and the number is the length of that.
 abbrev pub JoinsWitness : Sitting → Sitting → Option WitnessFacts → Option WitnessFacts → ℕ → ℕ
     → Type 0
 JoinsWitness s t None None number code = IsClosed number code × (t ≡ s)

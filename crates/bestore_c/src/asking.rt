@@ -1,4 +1,4 @@
-//! Results of queries and their explanations, written to C's places; and prepared queries.
+//! Writes the answers of queries and their explanations for C, and runs prepared queries.
 ghost use Rattle.std.specs.Prelude.{◌≡◌, ◌⊎◌, ℕ, List, IfErr, IfOk, false, length, string_bytes};
 ghost use Rattle.std.specs.Prelude.{true};
 ghost use Rattle.std.specs.declared.option.Option.{Option as AnyOption};
@@ -19,8 +19,8 @@ use be_query::Query;
 use be_session::{Fault, Prepared, Session, query_of};
 use std::alloc::Global;
 
-/// The query of this text, if the handle is open. Otherwise returns the code of a call that did
-/// nothing, and writes the number that goes with it.
+/// Parses this text as a query, if the handle is open. Otherwise returns the code of a call that
+/// did nothing, and writes the number that goes with it.
 pub(crate) fn query_for(
     alloc: Global,
     live: bool,
@@ -44,8 +44,8 @@ pub(crate) fn query_for(
 }
 
 /// Writes how many nodes a session found, and as many of them as there is room for; or the number
-/// that its error carries. What this says of the version follows from the session's own contract.
-pub(crate) fn tell(answer: Result<Vec<u64>, Fault>, nodes: &mut [u64], count: &mut u64) -> u32
+/// that its error carries. What this means for the version follows from the session's own contract.
+pub(crate) fn report(answer: Result<Vec<u64>, Fault>, nodes: &mut [u64], count: &mut u64) -> u32
     ensures found { (pin : AnyOption ℕ) (meant : AnyResult (List ℕ) AnyRefusal)
         → AtPin pin answer (ReadAnswers (λ found. found.items) answer meant)
         → PutsOutAtPin pin meant nodes.old nodes.new count.new result }
@@ -70,9 +70,9 @@ pub(crate) fn put_text(text: &str, bytes: &mut [u8], count: &mut u64)
     put(bytes, text.as_bytes());
 }
 
-/// Writes how many bytes a session's text has, and as many of them as there is room for. Otherwise
-/// as `tell`.
-pub(crate) fn tell_text(answer: Result<String, Fault>, bytes: &mut [u8], count: &mut u64) -> u32
+/// Writes the length of a session's text in bytes, and as many of them as there is room for.
+/// Otherwise as `report`.
+pub(crate) fn report_text(answer: Result<String, Fault>, bytes: &mut [u8], count: &mut u64) -> u32
     ensures found { (pin : AnyOption ℕ) (meant : AnyResult (List ℕ) AnyRefusal)
         → AtPin pin answer (ReadAnswers string_bytes answer meant)
         → PutsOutAtPin pin meant bytes.old bytes.new count.new result }
@@ -87,8 +87,8 @@ pub(crate) fn tell_text(answer: Result<String, Fault>, bytes: &mut [u8], count: 
     }
 }
 
-/// Asks a prepared query in the session's pinned version, and returns what `tell` returns of what
-/// it found.
+/// Runs a prepared query in the session's pinned version, and returns what `report` returns for its
+/// answer.
 pub(crate) fn find_prepared(
     session: &mut Session,
     prepared: &mut Prepared,
@@ -113,8 +113,8 @@ pub(crate) fn find_prepared(
     }
 }
 
-/// Refreshes a prepared query in the session's pinned version, and writes how many nodes came and
-/// how many went.
+/// Refreshes a prepared query in the session's pinned version. Writes how many nodes joined its
+/// answer and how many left it.
 pub(crate) fn refresh_prepared(
     session: &mut Session,
     prepared: &mut Prepared,

@@ -1,4 +1,4 @@
-//! Changes that C holds: what they read, and how they leave their handle.
+//! Changes that C holds: reads in them, and taking one out of its handle.
 ghost use Rattle.std.specs.Prelude.{◌≡◌, ◌⊎◌, ℕ, None, Some};
 ghost use Rattle.be_store.specs.Passes.{HasRead};
 ghost use Rattle.bestore_c.specs.Calls.{Shown};
@@ -9,21 +9,21 @@ use crate::owned_draft::OwnedDraft;
 use crate::places::put;
 use crate::reading::NO_ATTRIBUTE;
 use be_change::Change;
-use be_session::{Session, spelled};
+use be_session::{Session, encoded};
 use be_store::{Name, Value};
 use std::alloc::Global;
 use std::mem;
 
-/// Writes a value, with as many of its bytes as fit, or returns that there is no attribute.
-fn show(found: Option<Value>, told: &mut Attribute, bytes: &mut [u8]) -> u32
-    ensures shown { (n : ℕ) → Shown (Some n) found told.new bytes.old bytes.new result }
-    ensures kept { (result ≡ 0) ⊎ ((told.new ≡ told.old) × (bytes.new ≡ bytes.old)) }
+/// Writes a value, with as many of its bytes as fit, or returns the code for a missing attribute.
+fn show(found: Option<Value>, reported: &mut Attribute, bytes: &mut [u8]) -> u32
+    ensures shown { (n : ℕ) → Shown (Some n) found reported.new bytes.old bytes.new result }
+    ensures kept { (result ≡ 0) ⊎ ((reported.new ≡ reported.old) × (bytes.new ≡ bytes.old)) }
 {
     let Some(value) = found else {
         return NO_ATTRIBUTE;
     };
-    let (code, number, data) = spelled(&value);
-    *told = Attribute {
+    let (code, number, data) = encoded(&value);
+    *reported = Attribute {
         code,
         length: data.len() as u64,
         number,
@@ -32,29 +32,29 @@ fn show(found: Option<Value>, told: &mut Attribute, bytes: &mut [u8]) -> u32
     0
 }
 
-/// Reads an attribute as a change's operations leave it, and writes its value.
+/// Reads an attribute as the change's operations leave it, and writes its value.
 pub(crate) fn read_changed(
     session: &mut Session,
     change: &Change,
     node: u64,
     name: &Name,
-    told: &mut Attribute,
+    reported: &mut Attribute,
     bytes: &mut [u8],
 ) -> u32
     ensures store { (session.new.store ≡ session.old.store)
         × (session.new.spare ≡ session.old.spare) }
     ensures read { HasRead session.old.knows session.new.knows }
-    ensures shown { ShowsChanged change.now session.old.knows node name.now told.new bytes.old
+    ensures shown { ShowsChanged change.now session.old.knows node name.now reported.new bytes.old
         bytes.new result }
-    ensures kept { (result ≡ 0) ⊎ ((told.new ≡ told.old) × (bytes.new ≡ bytes.old)) }
+    ensures kept { (result ≡ 0) ⊎ ((reported.new ≡ reported.old) × (bytes.new ≡ bytes.old)) }
 {
     match session.changed(change, node, name) {
-        Ok(found) => show(found, told, bytes),
+        Ok(found) => show(found, reported, bytes),
         Err(fault) => fault.code(),
     }
 }
 
-/// Takes the change out of its handle, which is closed then.
+/// Takes the change out of its handle, and closes that.
 pub(crate) fn take_change(alloc: Global, draft: &mut DraftHandle) -> Option<Change>
     ensures closed { draft.new.owned.value ≡ None }
     ensures change { result ≡ draft.old.owned.value }

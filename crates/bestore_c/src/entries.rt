@@ -1,7 +1,7 @@
-//! One entry of the journal, as C reads it.
+//! One journal entry, as C reads it.
 ghost use Rattle.std.specs.Option.{option_copied};
 ghost use Rattle.std.specs.Prelude.{◌≡◌, IfErr, IfOk, OnErr, OnOk, length, slice_get};
-ghost use Rattle.be_store.specs.History.{IsUntold, Learns, LocksAndUnlocks};
+ghost use Rattle.be_store.specs.History.{IsUnreported, Learns, LocksAndUnlocks};
 ghost use Rattle.be_session.specs.declared.faults.Fault.TheVariants.{Refused};
 ghost use Rattle.be_table.specs.Rule.{entries};
 ghost use Rattle.be_value.specs.declared.refusals.Refusal.{Refusal as AnyRefusal};
@@ -9,13 +9,13 @@ ghost use Rattle.be_value.specs.declared.refusals.Refusal.TheVariants.{OutOfMemo
 ghost use Rattle.bestore_c.specs.Calls.{IsEntryPutOut};
 
 use crate::handle::Counts;
-use crate::listing::put_spelling;
-use be_session::{Fault, Operation, Session, entry_spelled};
+use crate::listing::put_encoding;
+use be_session::{Fault, Operation, Session, encoded_entry};
 use be_store::Entry;
 use std::alloc::Global;
 
-/// Writes an entry for the caller, as far as there is room: its pass, and its operations, each that
-/// made a node with that node; or that there is none.
+/// Writes an entry's pass and operations for the caller, as far as there is room. An operation that
+/// made a node has its number. Without an entry it writes zeros.
 fn put_entry(
     alloc: Global,
     entry: Option<&Entry>,
@@ -24,7 +24,7 @@ fn put_entry(
     operations: &mut [Operation],
     bytes: &mut [u8],
 ) -> Result<(), Fault>
-    ensures told { OnOk result (IsEntryPutOut (option_copied entry.entry) by.new counts.new
+    ensures reported { OnOk result (IsEntryPutOut (option_copied entry.entry) by.new counts.new
         operations.old operations.new bytes.old bytes.new) }
     ensures err { IfErr result (λ e. e ≡ Refused OutOfMemory) }
     ensures kept { OnErr result ((by.new ≡ by.old) × (counts.new ≡ counts.old)
@@ -38,15 +38,15 @@ fn put_entry(
         };
         return Ok(());
     };
-    let spelling = entry_spelled(alloc, entry.ops.as_slice(), entry.dones.as_slice())?;
+    let encoding = encoded_entry(alloc, entry.ops.as_slice(), entry.dones.as_slice())?;
     *by = entry.by;
-    put_spelling(&spelling, counts, operations, bytes);
+    put_encoding(&encoding, counts, operations, bytes);
     Ok(())
 }
 
-/// Writes the journal's entry of an index for the caller, if there is one, as far as there is room.
-/// Returns the journal's length.
-pub(crate) fn tell_entry(
+/// Writes the journal's entry with this index for the caller, if there is one, as far as there is
+/// room. Returns the journal's length.
+pub(crate) fn report_entry(
     alloc: Global,
     session: &mut Session,
     from: u64,
@@ -59,11 +59,11 @@ pub(crate) fn tell_entry(
         × (session.new.spare ≡ session.old.spare) }
     ensures learns { Learns session.old.knows session.new.knows }
     ensures length { IfOk result (λ n. n ≡ length session.new.knows.seen) }
-    ensures told { OnOk result (IsEntryPutOut (slice_get (entries session.new.knows.seen) from)
+    ensures reported { OnOk result (IsEntryPutOut (slice_get (entries session.new.knows.seen) from)
         by.new counts.new operations.old operations.new bytes.old bytes.new) }
     ensures moves { OnOk result (LocksAndUnlocks session.old.knows session.new.knows) }
     ensures err { IfErr result (λ e. (why : AnyRefusal) × (e ≡ Refused why)
-        × IsUntold session.old.knows session.new.knows why) }
+        × IsUnreported session.old.knows session.new.knows why) }
     ensures kept { OnErr result ((by.new ≡ by.old) × (counts.new ≡ counts.old)
         × (operations.new ≡ operations.old) × (bytes.new ≡ bytes.old)) }
 {

@@ -1,4 +1,4 @@
-//! What C holds.
+//! The structs that C holds.
 ghost use Rattle.std.specs.Prelude.{◌≡◌, is_some};
 
 use crate::owned::Owned;
@@ -8,7 +8,7 @@ use crate::owned_query::OwnedQuery;
 use crate::owned_witness::OwnedWitness;
 use be_session::sent;
 
-/// What C holds for one pass: closed, or open with a session. Zero bytes are a closed one.
+/// C's handle of a pass: closed, or open with a session. Zero bytes are a closed handle.
 #[repr(C)]
 #[derive(Drop)]
 pub struct Handle {
@@ -17,8 +17,7 @@ pub struct Handle {
     ghost full: { live ≡ is_some owned.value },
 }
 
-/// What C holds of a query that is parsed once and kept: closed, or open with the query. Zero bytes
-/// are a closed one.
+/// C's handle of a prepared query: closed, or open with the query. Zero bytes are a closed handle.
 #[repr(C)]
 #[derive(Drop)]
 pub struct PreparedHandle {
@@ -27,8 +26,8 @@ pub struct PreparedHandle {
     ghost full: { live ≡ is_some owned.value },
 }
 
-/// What C holds of how far a version's operations were returned: closed, before the first of them,
-/// or open with the place. Zero bytes are a closed one.
+/// C's handle of a place in a version's operations: closed, which is before the first operation, or
+/// open with the place. Zero bytes are a closed handle.
 #[repr(C)]
 #[derive(Drop)]
 pub struct PlaceHandle {
@@ -37,7 +36,7 @@ pub struct PlaceHandle {
     ghost full: { live ≡ is_some owned.value },
 }
 
-/// What C holds of a witness: closed, or open with the witness. Zero bytes are a closed one.
+/// C's handle of a witness: closed, or open with the witness. Zero bytes are a closed handle.
 #[repr(C)]
 #[derive(Drop)]
 pub struct WitnessHandle {
@@ -46,7 +45,7 @@ pub struct WitnessHandle {
     ghost full: { live ≡ is_some owned.value },
 }
 
-/// What C holds of a change: closed, or open with the change. Zero bytes are a closed one.
+/// C's handle of a change: closed, or open with the change. Zero bytes are a closed handle.
 #[repr(C)]
 #[derive(Drop)]
 pub struct DraftHandle {
@@ -55,28 +54,29 @@ pub struct DraftHandle {
     ghost full: { live ≡ is_some owned.value },
 }
 
-/// A law of the handle: it may go to another thread, with what it holds. It does nothing.
+/// A law: a handle may go to another thread, with its session. The function returns the handle as
+/// it is.
 pub fn may_move(pass: Handle) -> Handle
     ensures { result ≡ pass }
 {
     sent(pass)
 }
 
-/// The same of the handle of a witness.
+/// The same for a witness's handle.
 pub fn witness_may_move(witness: WitnessHandle) -> WitnessHandle
     ensures { result ≡ witness }
 {
     sent(witness)
 }
 
-/// The same of the handle of a change.
+/// The same for a change's handle.
 pub fn draft_may_move(draft: DraftHandle) -> DraftHandle
     ensures { result ≡ draft }
 {
     sent(draft)
 }
 
-/// What C gets of a value: its type code, its length in bytes, and the number that it is, or 0. A
+/// A value as C gets it: its type code, its length in bytes, and the number that it is, or 0. A
 /// signed number is in two's complement.
 #[repr(C)]
 #[derive(Clone, Copy)]
@@ -94,7 +94,7 @@ pub struct Counts {
     pub bytes: u64,
 }
 
-/// How full the store is, and the oldest version that a pass has announced, if one has.
+/// How full the store is, and the oldest version that a pass has published, if there is one.
 #[repr(C)]
 #[derive(Clone, Copy)]
 pub struct Usage {
@@ -108,7 +108,7 @@ pub struct Usage {
     pub holder: u64,
 }
 
-/// How many nodes came at a refresh, and how many went.
+/// How many nodes joined the answer at a refresh, and how many left it.
 #[repr(C)]
 #[derive(Clone, Copy)]
 pub struct UpdateCounts {

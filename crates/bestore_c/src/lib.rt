@@ -1,9 +1,9 @@
-//! The store for programs in C: `include/bestore.h` declares what is exported here.
+//! The exports of the library for C. `include/bestore.h` declares them.
 //!
-//! Each export takes a handle that its caller owns, calls the session in it, and returns a number:
-//! 0, the number of a refusal or of another error, or 64 and 65, which are the handle's own. Two
-//! have a `requires`: the witness of `bes_join` is one of the pass's store, and the last refresh of
-//! the query of `bes_refresh_changed` was in it.
+//! Each export takes a handle that its caller owns, calls the handle's session, and returns a
+//! number: 0, an error's number, or 64 or 65, which are about the handle itself. Two exports have a
+//! `requires`: `bes_join` takes a witness of the pass's own store, and `bes_refresh_changed` takes
+//! a query that was last refreshed in that store.
 #![tactic(auto)]
 
 ghost use Rattle.std.specs.Prelude.{◌≡◌, ◌⊎◌, ◌+◌, ◌==◌, None, Ok, length, map, not};
@@ -23,16 +23,18 @@ ghost use Rattle.bestore_c.specs.Calls.{FindsBuilt, GivesAnother, IsClosed};
 ghost use Rattle.bestore_c.specs.Calls.{IsTextFault, Listed, MovesHandle, Opens, Prepares};
 ghost use Rattle.bestore_c.specs.Calls.{PrintsPrepared, PutsOutAtPin, Reads, RefreshesPrepared};
 ghost use Rattle.bestore_c.specs.Calls.{Refuses, ShowsFound};
-ghost use Rattle.bestore_c.specs.Calls.{HoldsName, ReadsHeld, ShowsChanges, TellsAtPin, TellsEntry};
-ghost use Rattle.bestore_c.specs.Calls.{TellsJournal, TellsNumber, WritesSpelled, WritesSpelledIf};
-ghost use Rattle.bestore_c.specs.Drafts.{AbandonsDraft, AddsSpelled, BeginsDraft, EndsDraft};
+ghost use Rattle.bestore_c.specs.Calls.{HoldsName, ReadsHeld, ShowsChanges, ReportsAtPin};
+ghost use Rattle.bestore_c.specs.Calls.{ReportsEntry};
+ghost use Rattle.bestore_c.specs.Calls.{ReportsJournal, ReportsNumber, WritesEncoded};
+ghost use Rattle.bestore_c.specs.Calls.{WritesEncodedIf};
+ghost use Rattle.bestore_c.specs.Drafts.{AbandonsDraft, AddsEncoded, BeginsDraft, EndsDraft};
 ghost use Rattle.bestore_c.specs.Drafts.{ListsDraft, ReadsDraft, TakesAnyKind};
-ghost use Rattle.bestore_c.specs.Drafts.{WritesSpelledChange};
+ghost use Rattle.bestore_c.specs.Drafts.{WritesEncodedChange};
 ghost use Rattle.bestore_c.specs.Finishing.{Finishes};
 ghost use Rattle.bestore_c.specs.Ordering.{AnyFew, First, IsRefreshedHere, Ordered};
 ghost use Rattle.bestore_c.specs.Ordering.{ReadsPrepared, RefreshesByWrites};
-ghost use Rattle.bestore_c.specs.States.{TellsState, untold_at};
-ghost use Rattle.bestore_c.specs.Usage.{TellsUsage};
+ghost use Rattle.bestore_c.specs.States.{ReportsState, unreported_at};
+ghost use Rattle.bestore_c.specs.Usage.{ReportsUsage};
 ghost use Rattle.bestore_c.specs.Witnesses.{AreOfOneStore, JoinsWitness, Vouches};
 
 mod asking;
@@ -51,24 +53,24 @@ mod owned_witness;
 mod places;
 mod reading;
 mod refusing;
+mod reporting;
 mod states;
-mod telling;
 pub mod texts;
 
-use asking::{find_prepared, put_text, query_for, refresh_prepared, tell, tell_text};
+use asking::{find_prepared, put_text, query_for, refresh_prepared, report, report_text};
 use be_session::{
-    Cursor, HeldOrder, Operation, PredicateItem, Session, collect_operation, held_name, name,
-    operations, operations_spelled, prepare, prepare_items, query_of_items,
+    Cursor, HeldOrder, Operation, PredicateItem, Session, collect_operation, encoded_operations,
+    held_name, name, operations, prepare, prepare_items, query_of_items,
 };
 use be_store::{ArrayVec, Cell, HeldName, Limits};
 use drafts::{read_changed, take_change};
-use entries::tell_entry;
+use entries::report_entry;
 use finishing::{end, last_text};
 use handle::{
     Attribute, Counts, DraftHandle, Handle, PlaceHandle, PreparedHandle, UpdateCounts, Usage,
     WitnessHandle,
 };
-use listing::{put_spelled, tell_attributes, tell_indices};
+use listing::{put_encoded, report_attributes, report_indices};
 use ordering::{find_any, find_first, find_ordered, refresh_changed};
 use owned::Owned;
 use owned_draft::OwnedDraft;
@@ -78,12 +80,12 @@ use owned_witness::OwnedWitness;
 use places::{from_on, put, put_nodes};
 use reading::read;
 use refusing::{refuse, refuse_list};
-use states::{begin, tell_state};
+use reporting::usage_of;
+use states::{begin, report_state};
 use std::alloc::Global;
 use std::mem;
-use telling::usage_of;
 
-/// The number of a call without an error.
+/// What a call without an error returns.
 const DONE: u32 = 0;
 
 const NO_MEMORY: u32 = 10;
@@ -91,11 +93,11 @@ const NO_MEMORY: u32 = 10;
 /// The handle is closed.
 pub(crate) const CLOSED: u32 = 64;
 
-/// The handle that is to be opened is open.
+/// The handle that the call should open is open already.
 const OPEN: u32 = 65;
 
-/// The version of the library: 4,000 for 0.4.0, a million for each first number and a thousand for
-/// each second.
+/// The library's version: 4,000 for 0.4.0, with a million for each major number and a thousand for
+/// each minor one.
 #[unsafe(no_mangle)]
 pub extern "C" fn bes_version() -> u32
     ensures { result ≡ 4000 }
@@ -103,7 +105,7 @@ pub extern "C" fn bes_version() -> u32
     4000
 }
 
-/// Opens a store, and the handle as its first pass.
+/// Opens a store, and opens the handle as its first pass.
 #[unsafe(no_mangle)]
 pub extern "C" fn bes_open(
     alloc: Global,
@@ -162,7 +164,7 @@ pub extern "C" fn bes_another(alloc: Global, pass: &mut Handle, other: &mut Hand
     }
 }
 
-/// Moves what the handle holds into a handle that is closed, and closes it.
+/// Moves the handle's session to a closed handle, and closes this one.
 #[unsafe(no_mangle)]
 pub extern "C" fn bes_move(alloc: Global, pass: &mut Handle, other: &mut Handle) -> u32
     ensures { MovesHandle pass.old.owned.value other.old.owned.value pass.new.owned.value
@@ -182,8 +184,8 @@ pub extern "C" fn bes_move(alloc: Global, pass: &mut Handle, other: &mut Handle)
     DONE
 }
 
-/// Closes the handle. It releases the pin and gives the pass back to the store. The store goes with
-/// its last handle.
+/// Closes the handle: releases its pin and gives its pass back to the store. The last handle's
+/// close also frees the store.
 #[unsafe(no_mangle)]
 pub extern "C" fn bes_close(alloc: Global, pass: &mut Handle) -> u32
     ensures closed { pass.new.owned.value ≡ None }
@@ -198,9 +200,8 @@ pub extern "C" fn bes_close(alloc: Global, pass: &mut Handle) -> u32
     DONE
 }
 
-/// Closes the store by its last handle, which is then closed. Returns the journal's text: how many
-/// bytes it has, and all of them. If there is too little room, it returns the length alone, and the
-/// handle stays open.
+/// Closes the store and its last handle. Returns the journal's text and its length in bytes. If
+/// there is too little room, it returns only the length, and the handle stays open.
 #[unsafe(no_mangle)]
 pub extern "C" fn bes_finish(
     alloc: Global,
@@ -226,8 +227,8 @@ pub extern "C" fn bes_finish(
     }
 }
 
-/// Meets a pass that was given back: both have then seen what either had. Returns the length of
-/// that.
+/// Meets a pass that was given back: afterwards both have seen what either had. Returns the length
+/// of what they have seen.
 #[unsafe(no_mangle)]
 pub extern "C" fn bes_meet(pass: &mut Handle, seen: &mut u64) -> u32
     ensures pass { Calls pass.old.owned.value pass.new.owned.value (IsClosed seen.new result)
@@ -247,7 +248,7 @@ pub extern "C" fn bes_meet(pass: &mut Handle, seen: &mut u64) -> u32
     }
 }
 
-/// Opens the handle with a witness of what the pass has seen.
+/// Opens the witness's handle with a witness of what the pass has seen.
 #[unsafe(no_mangle)]
 pub extern "C" fn bes_witness_of(
     alloc: Global,
@@ -276,7 +277,8 @@ pub extern "C" fn bes_witness_of(
     }
 }
 
-/// The pass and the witness have then both seen what either had. Returns the length of that.
+/// Joins the pass and the witness: afterwards both have seen what either had. Returns the length of
+/// what they have seen.
 #[unsafe(no_mangle)]
 pub extern "C" fn bes_join(pass: &mut Handle, witness: &mut WitnessHandle, seen: &mut u64) -> u32
     requires { AreOfOneStore pass.old.owned.value witness.old.owned.value }
@@ -295,7 +297,7 @@ pub extern "C" fn bes_join(pass: &mut Handle, witness: &mut WitnessHandle, seen:
     DONE
 }
 
-/// Moves what the handle of a witness holds into one that is closed, and closes it.
+/// Moves the handle's witness to a closed handle, and closes this one.
 #[unsafe(no_mangle)]
 pub extern "C" fn bes_move_witness(
     alloc: Global,
@@ -319,7 +321,7 @@ pub extern "C" fn bes_move_witness(
     DONE
 }
 
-/// Closes the handle of a witness.
+/// Closes a witness's handle.
 #[unsafe(no_mangle)]
 pub extern "C" fn bes_dismiss(alloc: Global, witness: &mut WitnessHandle) -> u32
     ensures closed { witness.new.owned.value ≡ None }
@@ -370,28 +372,28 @@ pub extern "C" fn bes_unpin(pass: &mut Handle) -> u32
     }
 }
 
-/// Writes 1 to 64 operations, all or none. Returns the journal's length with them, and for each
-/// operation the number of the node that it made, or 0, as far as there is room.
+/// Writes 1 to 64 operations, all or none. Returns the journal's length with them. For each
+/// operation it also returns the number of the node that it made, or 0, as far as there is room.
 #[unsafe(no_mangle)]
 pub extern "C" fn bes_apply(
     alloc: Global,
     pass: &mut Handle,
-    spelled: &[Operation],
+    encoded: &[Operation],
     bytes: &[u8],
     made: &mut [u64],
     entries: &mut u64,
 ) -> u32
     ensures pass { Calls pass.old.owned.value pass.new.owned.value (IsClosed entries.new result)
-        (λ s t. WritesSpelled s t spelled.now bytes.now made.old made.new entries.new result) }
+        (λ s t. WritesEncoded s t encoded.now bytes.now made.old made.new entries.new result) }
     ensures kept { (result ≡ 0) ⊎ (made.new ≡ made.old) }
 {
     if !pass.live {
         *entries = 0;
         return CLOSED;
     }
-    let ops = match operations(alloc, spelled, bytes) {
+    let ops = match operations(alloc, encoded, bytes) {
         Ok(ops) => ops,
-        Err(misspelt) => return refuse_list(misspelt, entries),
+        Err(invalid) => return refuse_list(invalid, entries),
     };
     let mut dones = ArrayVec::new();
     let answer = pass.owned.lent().apply(ops.as_slice(), &mut dones);
@@ -405,20 +407,20 @@ pub extern "C" fn bes_apply(
     }
 }
 
-/// Writes as `bes_apply` does if the journal has `expected` entries. Otherwise it writes nothing
-/// and returns the length that it found.
+/// Writes as `bes_apply` does if the journal has exactly `expected` entries. Otherwise it writes
+/// nothing and returns the length that it found.
 #[unsafe(no_mangle)]
 pub extern "C" fn bes_apply_if(
     alloc: Global,
     pass: &mut Handle,
     expected: u64,
-    spelled: &[Operation],
+    encoded: &[Operation],
     bytes: &[u8],
     made: &mut [u64],
     entries: &mut u64,
 ) -> u32
     ensures pass { Calls pass.old.owned.value pass.new.owned.value (IsClosed entries.new result)
-        (λ s t. WritesSpelledIf s t expected spelled.now bytes.now made.old made.new entries.new
+        (λ s t. WritesEncodedIf s t expected encoded.now bytes.now made.old made.new entries.new
         result) }
     ensures kept { (result ≡ 0) ⊎ (made.new ≡ made.old) }
 {
@@ -426,9 +428,9 @@ pub extern "C" fn bes_apply_if(
         *entries = 0;
         return CLOSED;
     }
-    let ops = match operations(alloc, spelled, bytes) {
+    let ops = match operations(alloc, encoded, bytes) {
         Ok(ops) => ops,
-        Err(misspelt) => return refuse_list(misspelt, entries),
+        Err(invalid) => return refuse_list(invalid, entries),
     };
     let mut dones = ArrayVec::new();
     let session = pass.owned.lent();
@@ -443,26 +445,26 @@ pub extern "C" fn bes_apply_if(
 }
 
 /// Writes encoded operations as a change on the pinned snapshot, all or none, if no other write
-/// came since. A set of another kind than the index of its name takes is refused, and its place is
-/// returned. Otherwise as `bes_apply_if` with the snapshot's number.
+/// came in between. Refuses a set whose kind differs from that of the name's index, and returns its
+/// place in the list. Otherwise it does what `bes_apply_if` does with the snapshot's number.
 #[unsafe(no_mangle)]
 pub extern "C" fn bes_apply_change(
     alloc: Global,
     pass: &mut Handle,
-    spelled: &[Operation],
+    encoded: &[Operation],
     bytes: &[u8],
     number: &mut u64,
 ) -> u32
     ensures pass { Calls pass.old.owned.value pass.new.owned.value (IsClosed number.new result)
-        (λ s t. WritesSpelledChange s t spelled.now bytes.now number.new result) }
+        (λ s t. WritesEncodedChange s t encoded.now bytes.now number.new result) }
 {
     if !pass.live {
         *number = 0;
         return CLOSED;
     }
-    let ops = match operations(alloc, spelled, bytes) {
+    let ops = match operations(alloc, encoded, bytes) {
         Ok(ops) => ops,
-        Err(misspelt) => return refuse_list(misspelt, number),
+        Err(invalid) => return refuse_list(invalid, number),
     };
     let session = pass.owned.lent();
     match session.apply_change(ops.as_slice()) {
@@ -474,9 +476,9 @@ pub extern "C" fn bes_apply_change(
     }
 }
 
-/// Begins a change on the pinned snapshot, and opens the handle with it. A pass that isn't pinned
-/// is pinned now, until the change ends. Returns the snapshot's number, and that of the first new
-/// node.
+/// Begins a change on the pinned snapshot, and opens the handle with it. If the pass isn't pinned,
+/// it is pinned until the change ends. Returns the snapshot's number and the number of the first
+/// new node.
 #[unsafe(no_mangle)]
 pub extern "C" fn bes_begin_change(
     alloc: Global,
@@ -512,7 +514,7 @@ pub extern "C" fn bes_begin_change(
     }
 }
 
-/// The change takes values of any kind from here on.
+/// Lets the change take values of any kind from now on.
 #[unsafe(no_mangle)]
 pub extern "C" fn bes_change_any_kind(draft: &mut DraftHandle) -> u32
     ensures { TakesAnyKind draft.old.owned.value draft.new.owned.value result }
@@ -524,23 +526,23 @@ pub extern "C" fn bes_change_any_kind(draft: &mut DraftHandle) -> u32
     DONE
 }
 
-/// Collects an operation, which is written once the change ends. Returns the number of the node
+/// Collects an operation, which is written when the change ends. Returns the number of the node
 /// that it will make, or 0.
 #[unsafe(no_mangle)]
 pub extern "C" fn bes_change_add(
     draft: &mut DraftHandle,
-    spelled: &Operation,
+    encoded: &Operation,
     bytes: &[u8],
     node: &mut u64,
 ) -> u32
-    ensures { AddsSpelled draft.old.owned.value draft.new.owned.value spelled.now bytes.now node.new
+    ensures { AddsEncoded draft.old.owned.value draft.new.owned.value encoded.now bytes.now node.new
         result }
 {
     *node = 0;
     if !draft.live {
         return CLOSED;
     }
-    match collect_operation(draft.owned.lent(), spelled, bytes) {
+    match collect_operation(draft.owned.lent(), encoded, bytes) {
         Ok(made) => {
             *node = made;
             DONE
@@ -549,7 +551,7 @@ pub extern "C" fn bes_change_add(
     }
 }
 
-/// Reads a node's attribute as the change's operations leave it, as `bes_get` does.
+/// Reads a node's attribute as the change's operations leave it. Otherwise as `bes_get`.
 #[unsafe(no_mangle)]
 pub extern "C" fn bes_change_get(
     pass: &mut Handle,
@@ -580,8 +582,8 @@ pub extern "C" fn bes_change_get(
     }
 }
 
-/// Lists the operations that the change has collected. Returns how many they are and how many bytes
-/// their parts take, and of both as much as there is room for.
+/// Lists the operations that the change has collected. Returns how many there are and how many
+/// bytes their parts take, and as much of both as there is room for.
 #[unsafe(no_mangle)]
 pub extern "C" fn bes_change_batch(
     alloc: Global,
@@ -599,12 +601,12 @@ pub extern "C" fn bes_change_batch(
     if !draft.live {
         return CLOSED;
     }
-    let spelled = operations_spelled(alloc, draft.owned.lent().operations());
-    put_spelled(spelled, counts, listed, bytes)
+    let encoded = encoded_operations(alloc, draft.owned.lent().operations());
+    put_encoded(encoded, counts, listed, bytes)
 }
 
 /// Ends the change: writes what it has collected if no other write came since its snapshot, and
-/// unpins the pass if `bes_begin_change` pinned it. The handle is closed then, also after an error.
+/// unpins the pass if `bes_begin_change` pinned it. This closes the handle, also after an error.
 /// Returns the commit number, or the snapshot's if nothing was collected.
 #[unsafe(no_mangle)]
 pub extern "C" fn bes_end_change(
@@ -634,8 +636,8 @@ pub extern "C" fn bes_end_change(
     }
 }
 
-/// Ends the change without writing, and unpins the pass if `bes_begin_change` pinned it. The handle
-/// is closed then, also if the pass is closed.
+/// Ends the change without writing, and unpins the pass if `bes_begin_change` pinned it. This
+/// closes the handle, even if the pass is closed.
 #[unsafe(no_mangle)]
 pub extern "C" fn bes_abandon_change(
     alloc: Global,
@@ -657,7 +659,7 @@ pub extern "C" fn bes_abandon_change(
     DONE
 }
 
-/// Moves what the handle of a change holds into one that is closed, and closes it.
+/// Moves the handle's change to a closed handle, and closes this one.
 #[unsafe(no_mangle)]
 pub extern "C" fn bes_move_draft(
     alloc: Global,
@@ -695,11 +697,11 @@ pub extern "C" fn bes_number(pass: &mut Handle, number: &mut u64) -> u32
     DONE
 }
 
-/// Returns the number that the next new node gets, in the pinned version.
+/// Returns the number that the next new node would get, in the pinned version.
 #[unsafe(no_mangle)]
 pub extern "C" fn bes_next(pass: &mut Handle, node: &mut u64) -> u32
     ensures pass { Calls pass.old.owned.value pass.new.owned.value (IsClosed node.new result)
-        (λ s t. HasRead s.knows t.knows × TellsNumber (pinned_number s.knows.phase)
+        (λ s t. HasRead s.knows t.knows × ReportsNumber (pinned_number s.knows.phase)
         (volume_pinned s.knows).next node.new result) }
 {
     if !pass.live {
@@ -715,9 +717,9 @@ pub extern "C" fn bes_next(pass: &mut Handle, node: &mut u64) -> u32
     }
 }
 
-/// Returns one entry of the journal, by its index from 0: its pass and its operations, each that
-/// made a node with that node, as much as there is room for. At the journal's end there are none.
-/// Returns the journal's length in `number`.
+/// Returns the journal's entry with this index, counted from 0: its pass and its operations, as
+/// many as there is room for. An operation that made a node has its number. At the journal's end
+/// there is no entry. `number` is the journal's length.
 #[unsafe(no_mangle)]
 pub extern "C" fn bes_journal_from(
     alloc: Global,
@@ -730,7 +732,7 @@ pub extern "C" fn bes_journal_from(
     number: &mut u64,
 ) -> u32
     ensures pass { Calls pass.old.owned.value pass.new.owned.value (IsClosed number.new result)
-        (λ s t. TellsEntry s t from by.new counts.new listed.old listed.new bytes.old bytes.new
+        (λ s t. ReportsEntry s t from by.new counts.new listed.old listed.new bytes.old bytes.new
         number.new result) }
     ensures kept { (result ≡ 0) ⊎ ((by.new ≡ by.old) × (counts.new ≡ counts.old)
         × (listed.new ≡ listed.old) × (bytes.new ≡ bytes.old)) }
@@ -740,7 +742,7 @@ pub extern "C" fn bes_journal_from(
         return CLOSED;
     }
     let session = pass.owned.lent();
-    match tell_entry(alloc, session, from, by, counts, listed, bytes) {
+    match report_entry(alloc, session, from, by, counts, listed, bytes) {
         Ok(length) => {
             *number = length;
             DONE
@@ -749,8 +751,8 @@ pub extern "C" fn bes_journal_from(
     }
 }
 
-/// Asks the query of this text in the pinned version. Returns how many nodes meet it, and as many
-/// of them as there is room for.
+/// Runs the query with this text in the pinned version. Returns how many nodes it found, and as
+/// many of them as there is room for.
 #[unsafe(no_mangle)]
 pub extern "C" fn bes_query(
     alloc: Global,
@@ -768,37 +770,37 @@ pub extern "C" fn bes_query(
         Err(code) => return code,
     };
     let answer = pass.owned.lent().query(alloc, &query);
-    tell(answer, nodes, count)
+    report(answer, nodes, count)
 }
 
-/// Asks the query that items in reverse Polish order build, as `bes_query` does.
+/// Runs the query that these items build in reverse Polish order. Otherwise as `bes_query`.
 #[unsafe(no_mangle)]
 pub extern "C" fn bes_query_items(
     alloc: Global,
     pass: &mut Handle,
-    spelled: &[PredicateItem],
+    encoded: &[PredicateItem],
     bytes: &[u8],
     nodes: &mut [u64],
     count: &mut u64,
 ) -> u32
     ensures pass { Calls pass.old.owned.value pass.new.owned.value (IsClosed count.new result)
-        (λ s t. FindsBuilt s t spelled.now bytes.now nodes.old nodes.new count.new result) }
+        (λ s t. FindsBuilt s t encoded.now bytes.now nodes.old nodes.new count.new result) }
     ensures kept { (result ≡ 0) ⊎ (nodes.new ≡ nodes.old) }
 {
     if !pass.live {
         *count = 0;
         return CLOSED;
     }
-    let built = match query_of_items(alloc, spelled, bytes) {
+    let built = match query_of_items(alloc, encoded, bytes) {
         Ok(query) => query,
-        Err(misspelt) => return refuse_list(misspelt, count),
+        Err(invalid) => return refuse_list(invalid, count),
     };
     let answer = pass.owned.lent().query(alloc, &built);
-    tell(answer, nodes, count)
+    report(answer, nodes, count)
 }
 
-/// Returns the index cover from which the query of this text would be answered in the pinned
-/// version, as a text: how many bytes it has, and as many of them as there is room for.
+/// Returns a text that names the indices which would answer this query in the pinned version.
+/// Returns its length in bytes, and as many of them as there is room for.
 #[unsafe(no_mangle)]
 pub extern "C" fn bes_explain(
     alloc: Global,
@@ -816,11 +818,11 @@ pub extern "C" fn bes_explain(
         Err(code) => return code,
     };
     let answer = pass.owned.lent().explain(alloc, &query);
-    tell_text(answer, bytes, count)
+    report_text(answer, bytes, count)
 }
 
-/// Lists the nodes of the pinned version from a number on, ascending, as many as there is room for.
-/// Returns how many these are.
+/// Lists the pinned version's nodes from a number on, in ascending order, as many as there is room
+/// for. Returns how many it listed.
 #[unsafe(no_mangle)]
 pub extern "C" fn bes_nodes(
     alloc: Global,
@@ -841,14 +843,14 @@ pub extern "C" fn bes_nodes(
     }
     let room = nodes.len();
     let answer = pass.owned.lent().nodes(alloc, from, room);
-    tell(answer, nodes, count)
+    report(answer, nodes, count)
 }
 
-/// Returns how full the store is, and the oldest version that a pass has announced.
+/// Returns how full the store is, and the oldest version that a pass has published.
 #[unsafe(no_mangle)]
 pub extern "C" fn bes_status(pass: &mut Handle, usage: &mut Usage, number: &mut u64) -> u32
     ensures pass { Calls pass.old.owned.value pass.new.owned.value (IsClosed number.new result)
-        (λ s t. TellsUsage s t usage.new number.new result) }
+        (λ s t. ReportsUsage s t usage.new number.new result) }
     ensures kept { (result ≡ 0) ⊎ (usage.new ≡ usage.old) }
 {
     *number = 0;
@@ -864,8 +866,8 @@ pub extern "C" fn bes_status(pass: &mut Handle, usage: &mut Usage, number: &mut 
     }
 }
 
-/// Reads a node's attribute in the pinned version. Returns its type code, its number and its length
-/// in bytes, and as many of its bytes as there is room for.
+/// Reads a node's attribute in the pinned version. Returns its type code, its number, its length in
+/// bytes, and as many of its bytes as there is room for.
 #[unsafe(no_mangle)]
 pub extern "C" fn bes_get(
     pass: &mut Handle,
@@ -887,7 +889,7 @@ pub extern "C" fn bes_get(
     }
 }
 
-/// Checks a name, and keeps it for the calls that take it.
+/// Checks a name, and keeps it for the calls that take a checked name.
 #[unsafe(no_mangle)]
 pub extern "C" fn bes_check_name(name_bytes: &[u8], held: &mut HeldName) -> u32
     ensures { HoldsName name_bytes.now held.old held.new result }
@@ -901,8 +903,7 @@ pub extern "C" fn bes_check_name(name_bytes: &[u8], held: &mut HeldName) -> u32
     }
 }
 
-/// Reads a node's attribute in the pinned version by a name that is checked already, as `bes_get`
-/// does.
+/// Reads a node's attribute in the pinned version by a checked name. Otherwise as `bes_get`.
 #[unsafe(no_mangle)]
 pub extern "C" fn bes_get_named(
     pass: &mut Handle,
@@ -921,8 +922,9 @@ pub extern "C" fn bes_get_named(
     read(pass.owned.lent(), node, held, attribute, bytes)
 }
 
-/// Returns what each node has at each name in the pinned version: a cell for each, and the bytes of
-/// all texts end to end, of both as many as there are places. Returns how many bytes there are.
+/// Reads the attributes with these names of these nodes in the pinned version. Returns a cell for
+/// each, and the bytes of all texts one after another, as many of both as there is room for.
+/// `count` is the number of bytes that all texts take.
 #[unsafe(no_mangle)]
 pub extern "C" fn bes_columns(
     pass: &mut Handle,
@@ -933,7 +935,7 @@ pub extern "C" fn bes_columns(
     count: &mut u64,
 ) -> u32
     ensures pass { Calls pass.old.owned.value pass.new.owned.value (IsClosed count.new result)
-        (λ s t. HasRead s.knows t.knows × TellsAtPin (pinned_number s.knows.phase)
+        (λ s t. HasRead s.knows t.knows × ReportsAtPin (pinned_number s.knows.phase)
         (volume_pinned s.knows) nodes.now (map name_in names.now)
         cells.old cells.new bytes.old bytes.new count.new result) }
     ensures kept { (result ≡ 0) ⊎ ((cells.new ≡ cells.old) × (bytes.new ≡ bytes.old)) }
@@ -952,7 +954,7 @@ pub extern "C" fn bes_columns(
 }
 
 /// Lists a node's attributes in the pinned version, as the operations that set them. Returns how
-/// many they are and how many bytes their parts take, and of both as much as there is room for.
+/// many there are and how many bytes their parts take, and as much of both as there is room for.
 #[unsafe(no_mangle)]
 pub extern "C" fn bes_attributes(
     alloc: Global,
@@ -973,10 +975,10 @@ pub extern "C" fn bes_attributes(
         return CLOSED;
     }
     let answer = pass.owned.lent().attrs(alloc, node);
-    tell_attributes(alloc, node, answer, counts, listed, bytes)
+    report_attributes(alloc, node, answer, counts, listed, bytes)
 }
 
-/// Lists the indices of the pinned version, as the operations that make them. Otherwise as
+/// Lists the pinned version's indices, as the operations that make them. Otherwise as
 /// `bes_attributes`.
 #[unsafe(no_mangle)]
 pub extern "C" fn bes_indices(
@@ -997,12 +999,12 @@ pub extern "C" fn bes_indices(
         return CLOSED;
     }
     let answer = pass.owned.lent().indices(alloc);
-    tell_indices(alloc, answer, counts, listed, bytes)
+    report_indices(alloc, answer, counts, listed, bytes)
 }
 
 /// Returns the next operations that rebuild the pinned version, up to 64, and none after the last.
-/// It returns how many they are and how many bytes their parts take, and of both as much as there
-/// is room for. If there is room for all of it, the place moves after them.
+/// Returns how many there are and how many bytes their parts take, and as much of both as there is
+/// room for. If there is room for all of them, the place moves past them.
 #[unsafe(no_mangle)]
 pub extern "C" fn bes_state(
     alloc: Global,
@@ -1014,9 +1016,9 @@ pub extern "C" fn bes_state(
 ) -> u32
     ensures pass { Calls pass.old.owned.value pass.new.owned.value
         ((result ≡ 64) × (place.new.owned.value ≡ place.old.owned.value))
-        (λ s t. HasRead s.knows t.knows × TellsState (pinned_number s.knows.phase)
-        (untold_at (volume_pinned s.knows) place.old.owned.value)
-        (untold_at (volume_pinned s.knows) place.new.owned.value)
+        (λ s t. HasRead s.knows t.knows × ReportsState (pinned_number s.knows.phase)
+        (unreported_at (volume_pinned s.knows) place.old.owned.value)
+        (unreported_at (volume_pinned s.knows) place.new.owned.value)
         counts.new listed.old listed.new bytes.old bytes.new result) }
     ensures kept { (result ≡ 0) ⊎ ((counts.new ≡ counts.old) × (listed.new ≡ listed.old)
         × (bytes.new ≡ bytes.old)) }
@@ -1027,7 +1029,7 @@ pub extern "C" fn bes_state(
     let Ok(()) = begin(alloc, place) else {
         return NO_MEMORY;
     };
-    tell_state(
+    report_state(
         alloc,
         pass.owned.lent(),
         place.owned.lent(),
@@ -1037,7 +1039,7 @@ pub extern "C" fn bes_state(
     )
 }
 
-/// Closes the handle of a place: it is before the first operation again.
+/// Closes a place's handle. It is then before the first operation again.
 #[unsafe(no_mangle)]
 pub extern "C" fn bes_leave(alloc: Global, place: &mut PlaceHandle) -> u32
     ensures closed { place.new.owned.value ≡ None }
@@ -1052,7 +1054,7 @@ pub extern "C" fn bes_leave(alloc: Global, place: &mut PlaceHandle) -> u32
     DONE
 }
 
-/// Parses the query of this text, and opens the handle with it.
+/// Parses a query's text, and opens the handle with the query.
 #[unsafe(no_mangle)]
 pub extern "C" fn bes_prepare(
     alloc: Global,
@@ -1079,23 +1081,23 @@ pub extern "C" fn bes_prepare(
     }
 }
 
-/// Opens the handle with the query that items in reverse Polish order build.
+/// Opens the handle with the query that these items build in reverse Polish order.
 #[unsafe(no_mangle)]
 pub extern "C" fn bes_prepare_items(
     alloc: Global,
-    spelled: &[PredicateItem],
+    encoded: &[PredicateItem],
     bytes: &[u8],
     prepared: &mut PreparedHandle,
     place: &mut u64,
 ) -> u32
-    ensures { Prepares (IsBuilt spelled.now bytes.now) (IsUnbuilt spelled.now bytes.now)
+    ensures { Prepares (IsBuilt encoded.now bytes.now) (IsUnbuilt encoded.now bytes.now)
         prepared.old.owned.value prepared.new.owned.value place.new result }
 {
     *place = 0;
     if prepared.live {
         return OPEN;
     }
-    match prepare_items(alloc, spelled, bytes) {
+    match prepare_items(alloc, encoded, bytes) {
         Ok(query) => {
             *prepared = PreparedHandle {
                 live: true,
@@ -1103,12 +1105,12 @@ pub extern "C" fn bes_prepare_items(
             };
             DONE
         }
-        Err(misspelt) => refuse_list(misspelt, place),
+        Err(invalid) => refuse_list(invalid, place),
     }
 }
 
-/// Returns the canonical text of a prepared query: how many bytes it has, and as many of them as
-/// there is room for.
+/// Returns a prepared query's canonical text: its length in bytes, and as many of them as there is
+/// room for.
 #[unsafe(no_mangle)]
 pub extern "C" fn bes_prepared_text(
     alloc: Global,
@@ -1133,7 +1135,7 @@ pub extern "C" fn bes_prepared_text(
     }
 }
 
-/// Moves what the handle of a prepared query holds into one that is closed, and closes it.
+/// Moves the handle's prepared query to a closed handle, and closes this one.
 #[unsafe(no_mangle)]
 pub extern "C" fn bes_move_prepared(
     alloc: Global,
@@ -1157,7 +1159,7 @@ pub extern "C" fn bes_move_prepared(
     DONE
 }
 
-/// Moves what the handle of a place holds into one that is closed, and closes it.
+/// Moves the handle's place to a closed handle, and closes this one.
 #[unsafe(no_mangle)]
 pub extern "C" fn bes_move_place(
     alloc: Global,
@@ -1181,7 +1183,7 @@ pub extern "C" fn bes_move_place(
     DONE
 }
 
-/// Closes the handle of a prepared query.
+/// Closes a prepared query's handle.
 #[unsafe(no_mangle)]
 pub extern "C" fn bes_release(alloc: Global, prepared: &mut PreparedHandle) -> u32
     ensures closed { prepared.new.owned.value ≡ None }
@@ -1196,8 +1198,8 @@ pub extern "C" fn bes_release(alloc: Global, prepared: &mut PreparedHandle) -> u
     DONE
 }
 
-/// Asks a prepared query in the pinned version, as `bes_query` does, and keeps what it found for
-/// `bes_found`. What its last refresh found stays.
+/// Runs a prepared query in the pinned version, and keeps what it finds for `bes_found`. What the
+/// last refresh found stays. Otherwise as `bes_query`.
 #[unsafe(no_mangle)]
 pub extern "C" fn bes_query_prepared(
     pass: &mut Handle,
@@ -1223,9 +1225,9 @@ pub extern "C" fn bes_query_prepared(
     find_prepared(pass.owned.lent(), query, nodes, count)
 }
 
-/// Asks a prepared query in the pinned version for a page of its answer in the order of an index:
-/// the first nodes after the cursor, as many as there is room for. Returns them and how many they
-/// are, and whether there are more, and moves the cursor to the last of them.
+/// Reads a page of a prepared query's answer in the pinned version, in the order of an index: the
+/// first nodes after the cursor, as many as there is room for. Returns them, their number, and
+/// whether there are more, and moves the cursor to the last of them.
 #[unsafe(no_mangle)]
 pub extern "C" fn bes_ordered(
     pass: &mut Handle,
@@ -1261,8 +1263,8 @@ pub extern "C" fn bes_ordered(
     find_ordered(pass.owned.lent(), query, order, cursor, nodes, count, more)
 }
 
-/// Asks a prepared query in the pinned version for its nodes from a number on, ascending, as many
-/// as there is room for. Returns them and how many they are.
+/// Returns a prepared query's nodes in the pinned version from a number on, in ascending order, as
+/// many as there is room for. Also returns how many these are.
 #[unsafe(no_mangle)]
 pub extern "C" fn bes_first(
     pass: &mut Handle,
@@ -1288,8 +1290,8 @@ pub extern "C" fn bes_first(
     find_first(pass.owned.lent(), query, from, nodes, count)
 }
 
-/// Asks a prepared query in the pinned version for any of its nodes, none twice, as many as there
-/// is room for. Returns them and how many they are.
+/// Returns any of a prepared query's nodes in the pinned version, each only once, as many as there
+/// is room for. Also returns how many these are.
 #[unsafe(no_mangle)]
 pub extern "C" fn bes_any(
     pass: &mut Handle,
@@ -1314,8 +1316,8 @@ pub extern "C" fn bes_any(
     find_any(pass.owned.lent(), query, nodes, count)
 }
 
-/// Returns the nodes that a prepared query found when it was asked last, from an index on, as many
-/// as there is room for, and how many it found in all.
+/// Returns the nodes that a prepared query found when it last ran, from an index on, as many as
+/// there is room for. `count` is how many it found in all.
 #[unsafe(no_mangle)]
 pub extern "C" fn bes_found(
     prepared: &mut PreparedHandle,
@@ -1337,8 +1339,8 @@ pub extern "C" fn bes_found(
     DONE
 }
 
-/// Refreshes a prepared query in the pinned version. Returns how many nodes came since its last
-/// refresh, and how many went; `bes_changes` returns which.
+/// Refreshes a prepared query in the pinned version. Returns how many nodes have joined the answer
+/// since its last refresh, and how many have left it. `bes_changes` returns which.
 #[unsafe(no_mangle)]
 pub extern "C" fn bes_refresh(
     pass: &mut Handle,
@@ -1360,8 +1362,8 @@ pub extern "C" fn bes_refresh(
     refresh_prepared(pass.owned.lent(), prepared.owned.lent(), counts)
 }
 
-/// Refreshes a prepared query in the pinned version by what was written since its last refresh,
-/// which was one of this store. Otherwise as `bes_refresh`.
+/// Refreshes a prepared query in the pinned version by what was written since its last refresh.
+/// That has to be one in this store. Otherwise as `bes_refresh`.
 #[unsafe(no_mangle)]
 pub extern "C" fn bes_refresh_changed(
     pass: &mut Handle,
@@ -1385,8 +1387,8 @@ pub extern "C" fn bes_refresh_changed(
     refresh_changed(pass.owned.lent(), prepared.owned.lent(), counts)
 }
 
-/// Returns the nodes that came at the last refresh of a prepared query, and those that went, of
-/// both as many as there is room for.
+/// Returns which nodes joined a prepared query's answer at its last refresh, and which left it.
+/// Writes as many of each as there is room for.
 #[unsafe(no_mangle)]
 pub extern "C" fn bes_changes(
     prepared: &mut PreparedHandle,
@@ -1407,12 +1409,12 @@ pub extern "C" fn bes_changes(
     DONE
 }
 
-/// Returns the journal's text up to now: how many bytes it has, and as many of them as there is
-/// room for.
+/// Returns the journal's text up to now: its length in bytes, and as many of them as there is room
+/// for.
 #[unsafe(no_mangle)]
 pub extern "C" fn bes_journal(pass: &mut Handle, bytes: &mut [u8], count: &mut u64) -> u32
     ensures pass { Calls pass.old.owned.value pass.new.owned.value (IsClosed count.new result)
-        (λ s t. TellsJournal s t bytes.old bytes.new count.new result) }
+        (λ s t. ReportsJournal s t bytes.old bytes.new count.new result) }
     ensures kept { (result ≡ 0) ⊎ (bytes.new ≡ bytes.old) }
 {
     if !pass.live {

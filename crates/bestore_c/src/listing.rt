@@ -1,8 +1,8 @@
-//! Lists, returned as the operations that would make them.
+//! Returns lists as the operations that would make them.
 ghost use Rattle.std.specs.Prelude.{◌≡◌, ◌⊎◌, ℕ, List, IfOk, IfErr, length};
 ghost use Rattle.std.specs.declared.option.Option.{Option as AnyOption};
 ghost use Rattle.std.specs.declared.result.Result.{Result as AnyResult};
-ghost use Rattle.be_session.specs.Operations.{AreSpelled, makes, sets};
+ghost use Rattle.be_session.specs.Operations.{AreEncoded, makes, sets};
 ghost use Rattle.be_session.specs.Sitting.{AtPin, ReadAnswers};
 ghost use Rattle.be_session.specs.declared.faults.Fault.TheVariants.{Refused};
 ghost use Rattle.be_value.specs.declared.refusals.Refusal.{Refusal as AnyRefusal};
@@ -15,57 +15,56 @@ ghost use Rattle.bestore_c.specs.Places.{over};
 
 use crate::handle::Counts;
 use crate::places::put;
-use be_session::{Fault, Operation, Spelling, attributes_spelled, indices_spelled};
+use be_session::{Encoding, Fault, Operation, encoded_attributes, encoded_indices};
 use be_store::{Kind, Name, Value};
 use std::alloc::Global;
 
-/// Writes how many operations an encoding has and how many bytes, and as many of both as there is
-/// room for.
-pub(crate) fn put_spelling(
-    spelling: &Spelling,
+/// Writes how many operations and bytes an encoding has, and as many of both as there is room for.
+pub(crate) fn put_encoding(
+    encoding: &Encoding,
     counts: &mut Counts,
     operations: &mut [Operation],
     bytes: &mut [u8],
 )
-    ensures operations { (counts.new.operations ≡ length spelling.now.operations.items)
-        × (operations.new ≡ over spelling.now.operations.items operations.old) }
-    ensures bytes { (counts.new.bytes ≡ length spelling.now.bytes.items)
-        × (bytes.new ≡ over spelling.now.bytes.items bytes.old) }
+    ensures operations { (counts.new.operations ≡ length encoding.now.operations.items)
+        × (operations.new ≡ over encoding.now.operations.items operations.old) }
+    ensures bytes { (counts.new.bytes ≡ length encoding.now.bytes.items)
+        × (bytes.new ≡ over encoding.now.bytes.items bytes.old) }
 {
     *counts = Counts {
-        operations: spelling.operations.len() as u64,
-        bytes: spelling.bytes.len() as u64,
+        operations: encoding.operations.len() as u64,
+        bytes: encoding.bytes.len() as u64,
     };
-    put(operations, spelling.operations.as_slice());
-    put(bytes, spelling.bytes.as_slice());
+    put(operations, encoding.operations.as_slice());
+    put(bytes, encoding.bytes.as_slice());
 }
 
 /// Writes encoded operations, as far as there is room.
-pub(crate) fn put_spelled(
-    spelled: Result<Spelling, Fault>,
+pub(crate) fn put_encoded(
+    encoded: Result<Encoding, Fault>,
     counts: &mut Counts,
     operations: &mut [Operation],
     bytes: &mut [u8],
 ) -> u32
     ensures listed { (ops : List AnyOp)
-        → IfOk spelled (λ s. AreSpelled s.operations.items s.bytes.items ops)
-        → IfErr spelled (λ e. e ≡ Refused OutOfMemory)
+        → IfOk encoded (λ s. AreEncoded s.operations.items s.bytes.items ops)
+        → IfErr encoded (λ e. e ≡ Refused OutOfMemory)
         → IsPutOut ops counts.new operations.old operations.new bytes.old bytes.new result }
     ensures kept { (result ≡ 0) ⊎ ((counts.new ≡ counts.old) × (operations.new ≡ operations.old)
         × (bytes.new ≡ bytes.old)) }
 {
-    match spelled {
-        Ok(spelling) => {
-            put_spelling(&spelling, counts, operations, bytes);
+    match encoded {
+        Ok(encoding) => {
+            put_encoding(&encoding, counts, operations, bytes);
             0
         }
         Err(fault) => fault.code(),
     }
 }
 
-/// Writes a node's attributes, as far as there is room. What this says of the version follows from
-/// the session's own contract.
-pub(crate) fn tell_attributes(
+/// Writes a node's attributes, as far as there is room. What this means for the version follows
+/// from the session's own contract.
+pub(crate) fn report_attributes(
     alloc: Global,
     node: u64,
     answer: Result<Vec<(Name, Value)>, Fault>,
@@ -82,15 +81,15 @@ pub(crate) fn tell_attributes(
 {
     match answer {
         Ok(list) => {
-            let spelled = attributes_spelled(alloc, node, list.as_slice());
-            put_spelled(spelled, counts, operations, bytes)
+            let encoded = encoded_attributes(alloc, node, list.as_slice());
+            put_encoded(encoded, counts, operations, bytes)
         }
         Err(fault) => fault.code(),
     }
 }
 
 /// Writes the indices, as far as there is room.
-pub(crate) fn tell_indices(
+pub(crate) fn report_indices(
     alloc: Global,
     answer: Result<Vec<(Name, Kind)>, Fault>,
     counts: &mut Counts,
@@ -106,8 +105,8 @@ pub(crate) fn tell_indices(
 {
     match answer {
         Ok(list) => {
-            let spelled = indices_spelled(alloc, list.as_slice());
-            put_spelled(spelled, counts, operations, bytes)
+            let encoded = encoded_indices(alloc, list.as_slice());
+            put_encoded(encoded, counts, operations, bytes)
         }
         Err(fault) => fault.code(),
     }

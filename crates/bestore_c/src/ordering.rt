@@ -1,4 +1,4 @@
-//! Answers of prepared queries a part at a time, and refreshes by what was written.
+//! Reads answers of prepared queries a part at a time, and refreshes queries by what was written.
 ghost use Rattle.std.specs.Prelude.{◌≡◌, ◌⊎◌, IfErr, OnOk, length};
 ghost use Rattle.be_paged_reading.specs.Cells.{name_in};
 ghost use Rattle.be_store.specs.Live.{IsLiveOf};
@@ -14,7 +14,7 @@ use be_session::{Cursor, Fault, HeldOrder, Prepared, Session};
 
 /// Writes how many nodes a prepared query has found, and as many of them as there is room for; or
 /// the number that the error carries.
-fn tell_found(
+fn report_found(
     answer: Result<(), Fault>,
     prepared: &Prepared,
     nodes: &mut [u64],
@@ -43,9 +43,9 @@ fn number_of(others: bool) -> u32
     if others { 1 } else { 0 }
 }
 
-/// Asks a prepared query in the session's pinned version for a page in the order of an index: as
-/// many nodes as there is room for. Writes them, how many they are, and whether there are more, and
-/// moves the cursor to the last of them.
+/// Reads a page of a prepared query's answer in the session's pinned version, in the order of an
+/// index: as many nodes as there is room for. Writes them, their number, and whether there are
+/// more, and moves the cursor to the last of them.
 pub(crate) fn find_ordered(
     session: &mut Session,
     prepared: &mut Prepared,
@@ -67,14 +67,14 @@ pub(crate) fn find_ordered(
     match prepared.find_ordered(session, order, cursor) {
         Ok(others) => {
             *more = number_of(others);
-            tell_found(Ok(()), prepared, nodes, count)
+            report_found(Ok(()), prepared, nodes, count)
         }
         Err(fault) => refuse(fault, count),
     }
 }
 
-/// Asks a prepared query in the session's pinned version for its nodes from a number on, as many as
-/// there is room for, and writes them.
+/// Writes a prepared query's nodes in the session's pinned version from a number on, as many as
+/// there is room for.
 pub(crate) fn find_first(
     session: &mut Session,
     prepared: &mut Prepared,
@@ -90,11 +90,11 @@ pub(crate) fn find_first(
     ensures kept { (result ≡ 0) ⊎ (nodes.new ≡ nodes.old) }
 {
     let answer = prepared.find_first(session, from, nodes.len());
-    tell_found(answer, prepared, nodes, count)
+    report_found(answer, prepared, nodes, count)
 }
 
-/// Asks a prepared query in the session's pinned version for any of its nodes, as many as there is
-/// room for, and writes them.
+/// Writes any of a prepared query's nodes in the session's pinned version, as many as there is room
+/// for.
 pub(crate) fn find_any(
     session: &mut Session,
     prepared: &mut Prepared,
@@ -109,11 +109,12 @@ pub(crate) fn find_any(
     ensures kept { (result ≡ 0) ⊎ (nodes.new ≡ nodes.old) }
 {
     let answer = prepared.find_any(session, nodes.len());
-    tell_found(answer, prepared, nodes, count)
+    report_found(answer, prepared, nodes, count)
 }
 
 /// Refreshes a prepared query in the session's pinned version by what was written since its last
-/// refresh, which was one of the session's store. Writes how many nodes came and how many went.
+/// refresh. That has to be one in the session's store. Writes how many nodes joined the query's
+/// answer and how many left it.
 pub(crate) fn refresh_changed(
     session: &mut Session,
     prepared: &mut Prepared,

@@ -1,6 +1,6 @@
-//! What a handle owns: a box that C holds as a pointer, or nothing.
+//! What a pass's handle owns: a session's box, kept as a pointer, or nothing.
 //!
-//! Its type names no other type, so that it can lie in memory that C passes.
+//! The pointer's type doesn't name the session's, so the struct can lie in memory that C passes.
 ghost use Rattle.std.specs.Prelude.{◌≡◌, Option, None, Some, is_some, true};
 ghost use Rattle.std.specs.contracts.impls.GlobalAllocator.TheImpl.{ghosts};
 ghost use Rattle.be_session.specs.declared.session.Session.{Session};
@@ -30,7 +30,7 @@ impl Owned {
     ghost use Rattle.std.specs.Borrow.{sem};
     ghost use Rattle.bestore_c.specs.Lent.{LendsSession};
 
-    /// Borrows the owned session. What it has become at the borrow's end is owned then.
+    /// Lends the owned session. After the borrow the handle owns what the session has become.
     pub fn lent(&mut self) -> &mut Session
         requires { is_some self.old.value ≡ true }
         ensures* writes_back { sem 𝓛 (LendsSession self.entry result) }
@@ -39,7 +39,7 @@ impl Owned {
         unsafe { &mut *(self.at as *mut Session) }
     }
 
-    /// Owns nothing: a null pointer.
+    /// An owner of nothing: a null pointer.
     pub fn none(alloc: Global) -> Owned
         ensures { result.value ≡ None }
     {
@@ -70,14 +70,14 @@ impl Owned {
         }
     }
 
-    /// Owns this `Session`, whose box becomes a pointer.
+    /// Takes ownership of this session, whose box becomes a pointer.
     pub fn of(session: Box<Session, Global>) -> Owned
         ensures { result.value ≡ Some session.value }
     {
         Owned::of_loose(Loose::of(session))
     }
 
-    /// The owned session in its box again.
+    /// Makes the owned session's box again.
     pub fn into_box(self) -> Box<Session, Global>
         requires { is_some self.value ≡ true }
         ensures { self.value ≡ Some result.value }

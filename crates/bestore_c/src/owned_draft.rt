@@ -1,7 +1,5 @@
-//! What the handle of a change owns: a box that C holds as a pointer, or nothing. As in `owned`,
-//! for another type.
-//!
-//! Its type names no other type, so that it can lie in memory that C passes.
+//! What a change's handle owns: a change's box, kept as a pointer, or nothing. As in `owned`, the
+//! struct can lie in memory that C passes.
 ghost use Rattle.std.specs.Prelude.{◌≡◌, Option, None, Some, is_some, true};
 ghost use Rattle.std.specs.contracts.impls.GlobalAllocator.TheImpl.{ghosts};
 ghost use Rattle.be_change.specs.declared.changes.Change.{Change};
@@ -31,7 +29,7 @@ impl OwnedDraft {
     ghost use Rattle.std.specs.Borrow.{sem};
     ghost use Rattle.bestore_c.specs.Lent.{LendsDraft};
 
-    /// Borrows the owned change. What it has become at the borrow's end is owned then.
+    /// Lends the owned change. After the borrow the handle owns what the change has become.
     pub fn lent(&mut self) -> &mut Change
         requires { is_some self.old.value ≡ true }
         ensures* writes_back { sem 𝓛 (LendsDraft self.entry result) }
@@ -40,7 +38,7 @@ impl OwnedDraft {
         unsafe { &mut *(self.at as *mut Change) }
     }
 
-    /// Owns nothing: a null pointer.
+    /// An owner of nothing: a null pointer.
     pub fn none(alloc: Global) -> OwnedDraft
         ensures { result.value ≡ None }
     {
@@ -71,14 +69,14 @@ impl OwnedDraft {
         }
     }
 
-    /// Owns this change, whose box becomes a pointer.
+    /// Takes ownership of this change, whose box becomes a pointer.
     pub fn of(change: Box<Change, Global>) -> OwnedDraft
         ensures { result.value ≡ Some change.value }
     {
         OwnedDraft::of_loose(Loose::of(change))
     }
 
-    /// The owned change in its box again.
+    /// Makes the owned change's box again.
     pub fn into_box(self) -> Box<Change, Global>
         requires { is_some self.value ≡ true }
         ensures { self.value ≡ Some result.value }

@@ -1,7 +1,5 @@
-//! What the handle of a place owns: a box that C holds as a pointer, or nothing. As in `owned`, for
-//! another type.
-//!
-//! Its type names no other type, so that it can lie in memory that C passes.
+//! What a place's handle owns: a place's box, kept as a pointer, or nothing. As in `owned`, the
+//! struct can lie in memory that C passes.
 ghost use Rattle.std.specs.Prelude.{◌≡◌, Option, None, Some, is_some, true};
 ghost use Rattle.std.specs.contracts.impls.GlobalAllocator.TheImpl.{ghosts};
 ghost use Rattle.be_session.specs.declared.states.StatePlace.{StatePlace};
@@ -29,7 +27,7 @@ impl OwnedPlace {
     ghost use Rattle.std.specs.Borrow.{sem};
     ghost use Rattle.bestore_c.specs.Lent.{LendsPlace};
 
-    /// Borrows the owned place. What it has become at the borrow's end is owned then.
+    /// Lends the owned place. After the borrow the handle owns what the place has become.
     pub fn lent(&mut self) -> &mut StatePlace
         requires { is_some self.old.value ≡ true }
         ensures* writes_back { sem 𝓛 (LendsPlace self.entry result) }
@@ -38,7 +36,7 @@ impl OwnedPlace {
         unsafe { &mut *(self.at as *mut StatePlace) }
     }
 
-    /// Owns nothing: a null pointer.
+    /// An owner of nothing: a null pointer.
     pub fn none(alloc: Global) -> OwnedPlace
         ensures { result.value ≡ None }
     {
@@ -69,14 +67,14 @@ impl OwnedPlace {
         }
     }
 
-    /// Owns this place, whose box becomes a pointer.
+    /// Takes ownership of this place, whose box becomes a pointer.
     pub fn of(place: Box<StatePlace, Global>) -> OwnedPlace
         ensures { result.value ≡ Some place.value }
     {
         OwnedPlace::of_loose(Loose::of(place))
     }
 
-    /// The owned place in its box again.
+    /// Makes the owned place's box again.
     pub fn into_box(self) -> Box<StatePlace, Global>
         requires { is_some self.value ≡ true }
         ensures { self.value ≡ Some result.value }

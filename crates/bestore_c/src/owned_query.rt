@@ -1,7 +1,5 @@
-//! What the handle of a prepared query owns: a box that C holds as a pointer, or nothing. As in
-//! `owned`, for another type.
-//!
-//! Its type names no other type, so that it can lie in memory that C passes.
+//! What a prepared query's handle owns: a prepared query's box, kept as a pointer, or nothing. As
+//! in `owned`, the struct can lie in memory that C passes.
 ghost use Rattle.std.specs.Prelude.{◌≡◌, Option, None, Some, is_some, true};
 ghost use Rattle.std.specs.Coded.{coded_option};
 ghost use Rattle.std.specs.contracts.impls.GlobalAllocator.TheImpl.{ghosts};
@@ -31,7 +29,7 @@ impl OwnedQuery {
     ghost use Rattle.std.specs.Borrow.{sem};
     ghost use Rattle.bestore_c.specs.Lent.{LendsQuery};
 
-    /// Borrows the owned query. What it has become at the borrow's end is owned then.
+    /// Lends the owned query. After the borrow the handle owns what the query has become.
     pub fn lent(&mut self) -> &mut Prepared
         requires { is_some self.old.value ≡ true }
         ensures* writes_back { sem 𝓛 (LendsQuery self.entry result) }
@@ -40,7 +38,7 @@ impl OwnedQuery {
         unsafe { &mut *(self.at as *mut Prepared) }
     }
 
-    /// Owns nothing: a null pointer.
+    /// An owner of nothing: a null pointer.
     pub fn none(alloc: Global) -> OwnedQuery
         ensures { result.value ≡ None }
     {
@@ -71,14 +69,14 @@ impl OwnedQuery {
         }
     }
 
-    /// Owns this query, whose box becomes a pointer.
+    /// Takes ownership of this query, whose box becomes a pointer.
     pub fn of(prepared: Box<Prepared, Global>) -> OwnedQuery
         ensures { result.value ≡ Some prepared.value }
     {
         OwnedQuery::of_loose(Loose::of(prepared))
     }
 
-    /// The owned query in its box again.
+    /// Makes the owned query's box again.
     pub fn into_box(self) -> Box<Prepared, Global>
         requires { is_some self.value ≡ true }
         ensures { self.value ≡ Some result.value }

@@ -1,7 +1,5 @@
-//! What the handle of a witness owns: a box that C holds as a pointer, or nothing. As in `owned`,
-//! for another type.
-//!
-//! Its type names no other type, so that it can lie in memory that C passes.
+//! What a witness's handle owns: a witness's box, kept as a pointer, or nothing. As in `owned`, the
+//! struct can lie in memory that C passes.
 ghost use Rattle.std.specs.Prelude.{◌≡◌, Option, None, Some, is_some, true};
 ghost use Rattle.std.specs.contracts.impls.GlobalAllocator.TheImpl.{ghosts};
 ghost use Rattle.be_table.specs.declared.witness.Witness.{Witness};
@@ -31,7 +29,7 @@ impl OwnedWitness {
     ghost use Rattle.std.specs.Borrow.{sem};
     ghost use Rattle.bestore_c.specs.Lent.{LendsWitness};
 
-    /// Borrows the owned witness. What it has become at the borrow's end is owned then.
+    /// Lends the owned witness. After the borrow the handle owns what the witness has become.
     pub fn lent(&mut self) -> &mut Witness
         requires { is_some self.old.value ≡ true }
         ensures* writes_back { sem 𝓛 (LendsWitness self.entry result) }
@@ -40,7 +38,7 @@ impl OwnedWitness {
         unsafe { &mut *(self.at as *mut Witness) }
     }
 
-    /// Owns nothing: a null pointer.
+    /// An owner of nothing: a null pointer.
     pub fn none(alloc: Global) -> OwnedWitness
         ensures { result.value ≡ None }
     {
@@ -71,14 +69,14 @@ impl OwnedWitness {
         }
     }
 
-    /// Owns this witness, whose box becomes a pointer.
+    /// Takes ownership of this witness, whose box becomes a pointer.
     pub fn of(witness: Box<Witness, Global>) -> OwnedWitness
         ensures { result.value ≡ Some witness.value }
     {
         OwnedWitness::of_loose(Loose::of(witness))
     }
 
-    /// The owned witness in its box again.
+    /// Makes the owned witness's box again.
     pub fn into_box(self) -> Box<Witness, Global>
         requires { is_some self.value ≡ true }
         ensures { self.value ≡ Some result.value }

@@ -1,10 +1,10 @@
-//! Writing to C's places, as far as there is room.
+//! Writes to C's arrays, as far as there is room.
 ghost use Rattle.std.specs.Prelude.{◌≡◌, drop, map};
 ghost use Rattle.bestore_c.specs.Places.{over, node_of};
 
 use be_store::Done;
 
-/// Writes numbers to the first places, as many as there are places.
+/// Copies as many items as fit to the first places. The other places keep what they had.
 pub(crate) fn put<T: Copy>(places: &mut [T], numbers: &[T])
     ensures { places.new ≡ over numbers.now places.old }
 {
@@ -15,7 +15,7 @@ pub(crate) fn put<T: Copy>(places: &mut [T], numbers: &[T])
     }
 }
 
-/// The numbers from an index on; none if the index is at the end or beyond.
+/// The numbers from an index on. There are none if the index is at the end or beyond it.
 pub(crate) fn from_on(numbers: &[u64], from: u64) -> &[u64]
     ensures { result.now ≡ drop from numbers.now }
 {
@@ -33,7 +33,7 @@ fn node_of(done: Done) -> u64
 }
 
 /// Writes the numbers of new nodes to the first places, and 0 for any other outcome, as many as
-/// there are places.
+/// fit.
 pub(crate) fn put_nodes(places: &mut [u64], dones: &[Done])
     ensures { places.new ≡ over (map node_of dones.now) places.old }
 {

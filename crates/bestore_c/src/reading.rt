@@ -1,7 +1,7 @@
 //! Reads an attribute into C's places.
 //!
-//! The bytes of a value go from its page to the caller's places. The pin is tested first, so that
-//! only the store's own answer is left to be joined with it.
+//! A value's bytes go from its page to the caller's places. The pin is tested first. So the proof
+//! needs only what the session says about a pinned read.
 ghost use Rattle.std.specs.Prelude.{◌≡◌, ◌⊎◌};
 ghost use Rattle.be_paged_reading.specs.Cells.{name_in};
 ghost use Rattle.be_store.specs.Passes.{HasRead, volume_pinned};
@@ -13,10 +13,10 @@ use crate::handle::Attribute;
 use be_session::{Fault, Session};
 use be_store::{Cell, HeldName};
 
-/// No attribute of this name: the refusal's number.
+/// The error's number for a name that the node doesn't have.
 pub(crate) const NO_ATTRIBUTE: u32 = 3;
 
-/// What C gets of a value, from its cell.
+/// A value as C gets it, from its cell.
 fn attribute_of(cell: Cell) -> Attribute
     ensures { result ≡ record { code = cell.code; length = cell.length; number = cell.number } }
 {
@@ -32,7 +32,7 @@ pub(crate) fn read(
     session: &mut Session,
     node: u64,
     name: &HeldName,
-    told: &mut Attribute,
+    reported: &mut Attribute,
     bytes: &mut [u8],
 ) -> u32
     ensures store { (session.new.store ≡ session.old.store)
@@ -40,15 +40,15 @@ pub(crate) fn read(
     ensures read { HasRead session.old.knows session.new.knows }
     ensures shown { Shown (pinned_number session.old.knows.phase)
         (attribute (volume_pinned session.old.knows) node (name_in name.now))
-        told.new bytes.old bytes.new result }
-    ensures kept { (result ≡ 0) ⊎ ((told.new ≡ told.old) × (bytes.new ≡ bytes.old)) }
+        reported.new bytes.old bytes.new result }
+    ensures kept { (result ≡ 0) ⊎ ((reported.new ≡ reported.old) × (bytes.new ≡ bytes.old)) }
 {
     if !session.is_pinned() {
         return Fault::NotPinned.code();
     }
     match session.get_into(node, name, bytes) {
         Ok(Some(cell)) => {
-            *told = attribute_of(cell);
+            *reported = attribute_of(cell);
             0
         }
         Ok(None) => NO_ATTRIBUTE,

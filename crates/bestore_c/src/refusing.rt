@@ -1,4 +1,4 @@
-//! What a call that did nothing returns, and the number that goes with it.
+//! What a call that did nothing returns: an error's code, and the number that goes with it.
 ghost use Rattle.std.specs.Prelude.{◌≡◌};
 ghost use Rattle.be_session.specs.Fault.{fault_code};
 ghost use Rattle.bestore_c.specs.Calls.{Refuses};
@@ -13,11 +13,11 @@ pub(crate) fn refuse(fault: Fault, number: &mut u64) -> u32
     fault.code()
 }
 
-/// Writes the place of a list's error, and returns the error's code.
-pub(crate) fn refuse_list(misspelt: ListFault, number: &mut u64) -> u32
-    ensures code { result ≡ fault_code misspelt.fault }
-    ensures place { number.new ≡ misspelt.place }
+/// Writes the place of the list's invalid item, and returns the error's code.
+pub(crate) fn refuse_list(invalid: ListFault, number: &mut u64) -> u32
+    ensures code { result ≡ fault_code invalid.fault }
+    ensures place { number.new ≡ invalid.place }
 {
-    *number = misspelt.place;
-    misspelt.fault.code()
+    *number = invalid.place;
+    invalid.fault.code()
 }

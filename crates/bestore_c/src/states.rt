@@ -1,21 +1,21 @@
-//! The operations that rebuild a version, returned list by list.
+//! Returns the operations that rebuild a version, list by list.
 ghost use Rattle.std.specs.Prelude.{◌≡◌, ◌⊎◌, ◌≤◌, [], OnOk, length, true};
 ghost use Rattle.be_store.specs.Passes.{HasRead, volume_pinned};
-ghost use Rattle.be_session.specs.States.{untold, waiting};
+ghost use Rattle.be_session.specs.States.{unreported, waiting};
 ghost use Rattle.be_table.specs.Seats.{pinned_number};
 ghost use Rattle.be_volume.specs.Volume.{State};
-ghost use Rattle.bestore_c.specs.States.{TellsNext, TellsState, untold_at};
+ghost use Rattle.bestore_c.specs.States.{ReportsNext, ReportsState, unreported_at};
 
 use crate::handle::{Counts, PlaceHandle};
-use crate::listing::put_spelling;
+use crate::listing::put_encoding;
 use crate::owned_place::OwnedPlace;
 use be_session::{Operation, Session, StatePlace};
 use std::alloc::{AllocError, Global};
 
-/// Opens the handle of a place if it is closed.
+/// Opens a place's handle if it is closed.
 pub(crate) fn begin(alloc: Global, place: &mut PlaceHandle) -> Result<(), AllocError>
-    ensures same { (volume : State) → untold_at volume place.new.owned.value
-        ≡ untold_at volume place.old.owned.value }
+    ensures same { (volume : State) → unreported_at volume place.new.owned.value
+        ≡ unreported_at volume place.old.owned.value }
     ensures open { OnOk result (place.new.live ≡ true) }
 {
     if place.live {
@@ -33,25 +33,25 @@ pub(crate) fn begin(alloc: Global, place: &mut PlaceHandle) -> Result<(), AllocE
     }
 }
 
-/// Writes the operations that are ready at a place, as far as there is room. If there is room for
-/// all of them, they count as returned.
-fn tell_ready(
+/// Writes the operations that are ready at a place, as far as there is room. If all of them fit,
+/// they count as returned.
+fn report_ready(
     alloc: Global,
     place: &mut StatePlace,
     counts: &mut Counts,
     operations: &mut [Operation],
     bytes: &mut [u8],
 ) -> u32
-    ensures told { (volume : State) → length (waiting place.old) ≤ 64
-        → (waiting place.old ≡ [] → untold volume place.old ≡ [])
-        → TellsNext (untold volume place.old) (untold volume place.new) counts.new operations.old
-        operations.new bytes.old bytes.new result }
+    ensures reported { (volume : State) → length (waiting place.old) ≤ 64
+        → (waiting place.old ≡ [] → unreported volume place.old ≡ [])
+        → ReportsNext (unreported volume place.old) (unreported volume place.new) counts.new
+        operations.old operations.new bytes.old bytes.new result }
     ensures kept { (result ≡ 0) ⊎ ((counts.new ≡ counts.old) × (operations.new ≡ operations.old)
         × (bytes.new ≡ bytes.old)) }
 {
-    match place.tell(alloc, operations.len(), bytes.len()) {
-        Ok(spelling) => {
-            put_spelling(&spelling, counts, operations, bytes);
+    match place.report(alloc, operations.len(), bytes.len()) {
+        Ok(encoding) => {
+            put_encoding(&encoding, counts, operations, bytes);
             0
         }
         Err(fault) => fault.code(),
@@ -60,7 +60,7 @@ fn tell_ready(
 
 /// Writes the next list of the operations that rebuild the session's pinned version, as far as
 /// there is room.
-pub(crate) fn tell_state(
+pub(crate) fn report_state(
     alloc: Global,
     session: &mut Session,
     place: &mut StatePlace,
@@ -71,15 +71,15 @@ pub(crate) fn tell_state(
     ensures store { (session.new.store ≡ session.old.store)
         × (session.new.spare ≡ session.old.spare) }
     ensures read { HasRead session.old.knows session.new.knows }
-    ensures told { TellsState (pinned_number session.old.knows.phase)
-        (untold (volume_pinned session.old.knows) place.old)
-        (untold (volume_pinned session.old.knows) place.new) counts.new operations.old
+    ensures reported { ReportsState (pinned_number session.old.knows.phase)
+        (unreported (volume_pinned session.old.knows) place.old)
+        (unreported (volume_pinned session.old.knows) place.new) counts.new operations.old
         operations.new bytes.old bytes.new result }
     ensures kept { (result ≡ 0) ⊎ ((counts.new ≡ counts.old) × (operations.new ≡ operations.old)
         × (bytes.new ≡ bytes.old)) }
 {
     match session.state(alloc, place) {
-        Ok(()) => tell_ready(alloc, place, counts, operations, bytes),
+        Ok(()) => report_ready(alloc, place, counts, operations, bytes),
         Err(fault) => fault.code(),
     }
 }

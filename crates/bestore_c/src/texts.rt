@@ -1,10 +1,11 @@
-//! Texts of queries: what one compares, and what is put into one. These calls take no handle.
+//! Calls on the texts of queries: what a query compares, and how to put a text into one. These
+//! calls take no handle.
 ghost use Rattle.std.specs.Prelude.{◌≡◌, ◌⊎◌, ◌≢◌, ℕ, List, IfErr, IfOk, None, false, length, map};
 ghost use Rattle.std.specs.Prelude.{string_bytes};
 ghost use Rattle.be_query.specs.Faults.{fault};
 ghost use Rattle.be_query.specs.Grammar.{Formula, IsTextOf};
 ghost use Rattle.be_query_text.specs.Cases.{MatchesAnyCase};
-ghost use Rattle.be_query_text.specs.Described.{described, leaves, told};
+ghost use Rattle.be_query_text.specs.Described.{described, leaves, reported};
 ghost use Rattle.be_query_text.specs.Encoded.{Encodes, IsOneToken};
 ghost use Rattle.be_query_text.specs.Places.{places};
 ghost use Rattle.be_session.specs.Sitting.{IsNoQuery};
@@ -17,7 +18,9 @@ ghost use Rattle.bestore_c.specs.Texts.{Lists, ListsComparisons, MakesText};
 use crate::handle::Counts;
 use crate::places::put;
 use crate::refusing::refuse;
-use be_query_text::{Compared, SpelledComparison, any_case, comparisons, escaped, spelled};
+use be_query_text::{
+    Compared, EncodedComparison, any_case, comparisons, encoded_comparisons, escaped,
+};
 use be_session::Fault;
 use be_store::Refusal;
 use std::alloc::{AllocError, Global};
@@ -26,15 +29,15 @@ use std::str;
 /// The number of a call that ran out of memory.
 const NO_MEMORY: u32 = 10;
 
-/// Lists the comparisons of a query's text, from left to right, as many as there is room for, and
-/// the bytes of their names and values. Of a text that isn't a query it returns the error, and the
-/// number that goes with it.
+/// Lists the comparisons in a query's text, from left to right, and the bytes of their names and
+/// values. Writes as many as there is room for. If the text isn't a query, it returns the error and
+/// the number that goes with it.
 #[unsafe(no_mangle)]
 pub extern "C" fn bes_query_comparisons(
     alloc: Global,
     text: &[u8],
     counts: &mut Counts,
-    listed: &mut [SpelledComparison],
+    listed: &mut [EncodedComparison],
     bytes: &mut [u8],
     number: &mut u64,
 ) -> u32
@@ -47,14 +50,14 @@ pub extern "C" fn bes_query_comparisons(
 {
     *number = 0;
     match comparisons_of(alloc, text) {
-        Ok(compared) => match spelled(alloc, compared.as_slice()) {
-            Ok(spelling) => {
+        Ok(compared) => match encoded_comparisons(alloc, compared.as_slice()) {
+            Ok(encoding) => {
                 *counts = Counts {
-                    operations: spelling.comparisons.len() as u64,
-                    bytes: spelling.bytes.len() as u64,
+                    operations: encoding.comparisons.len() as u64,
+                    bytes: encoding.bytes.len() as u64,
                 };
-                put(listed, spelling.comparisons.as_slice());
-                put(bytes, spelling.bytes.as_slice());
+                put(listed, encoding.comparisons.as_slice());
+                put(bytes, encoding.bytes.as_slice());
                 0
             }
             Err(_) => refuse(Fault::Refused(Refusal::OutOfMemory), number),
@@ -63,8 +66,8 @@ pub extern "C" fn bes_query_comparisons(
     }
 }
 
-/// Writes a text so that a query reads it back as a name or a value: how many bytes that has, and
-/// as many of them as there is room for.
+/// Escapes a text so that a query reads it back as a name or a value. Returns the length of the
+/// result in bytes, and as many of them as there is room for.
 #[unsafe(no_mangle)]
 pub extern "C" fn bes_escape_bytes(
     alloc: Global,
@@ -77,7 +80,7 @@ pub extern "C" fn bes_escape_bytes(
     ensures kept { (result ≡ 0) ⊎ (bytes.new ≡ bytes.old) }
 {
     match str::from_utf8(text) {
-        Ok(text) => tell_made(escaped(alloc, text), bytes, count),
+        Ok(text) => report_made(escaped(alloc, text), bytes, count),
         Err(_) => {
             *count = 0;
             Fault::NotUtf8.code()
@@ -85,8 +88,8 @@ pub extern "C" fn bes_escape_bytes(
     }
 }
 
-/// Writes a pattern that matches the texts which are equal to this one but for upper and lower
-/// case, as `bes_escape_bytes` writes a text.
+/// Makes a pattern that matches every text which differs from this one only in upper and lower
+/// case. Otherwise as `bes_escape_bytes`.
 #[unsafe(no_mangle)]
 pub extern "C" fn bes_any_case_bytes(
     alloc: Global,
@@ -100,7 +103,7 @@ pub extern "C" fn bes_any_case_bytes(
     ensures kept { (result ≡ 0) ⊎ (bytes.new ≡ bytes.old) }
 {
     match str::from_utf8(text) {
-        Ok(text) => tell_made(any_case(alloc, text), bytes, count),
+        Ok(text) => report_made(any_case(alloc, text), bytes, count),
         Err(_) => {
             *count = 0;
             Fault::NotUtf8.code()
@@ -108,10 +111,11 @@ pub extern "C" fn bes_any_case_bytes(
     }
 }
 
-/// The comparisons of a text in bytes.
+/// Lists the comparisons in the text that these bytes encode.
 fn comparisons_of(alloc: Global, text: &[u8]) -> Result<Vec<Compared>, Fault>
     ensures ok { IfOk result (λ v. (fault text.now ≡ None) × (tree : Formula)
-        × IsTextOf text.now tree × (map told v.items ≡ described (leaves tree) (places text.now))) }
+        × IsTextOf text.now tree × (map reported v.items
+        ≡ described (leaves tree) (places text.now))) }
     ensures err { IfErr result (λ e. IsNoQuery text.now e) }
 {
     match str::from_utf8(text) {
@@ -120,8 +124,8 @@ fn comparisons_of(alloc: Global, text: &[u8]) -> Result<Vec<Compared>, Fault>
     }
 }
 
-/// Writes a text that was made, as far as there is room.
-fn tell_made(made: Result<String, AllocError>, bytes: &mut [u8], count: &mut u64) -> u32
+/// Writes a text that one of these calls made, as far as there is room.
+fn report_made(made: Result<String, AllocError>, bytes: &mut [u8], count: &mut u64) -> u32
     ensures made { IfOk made (λ s. (result ≡ 0) × (count.new ≡ length (string_bytes s))
         × (bytes.new ≡ over (string_bytes s) bytes.old)) }
     ensures memory { IfErr made (λ e. (result ≡ 10) × (count.new ≡ 0)) }

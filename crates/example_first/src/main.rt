@@ -1,4 +1,4 @@
-//! A first program of the store: files a letter, asks who wrote, and prints the journal.
+//! A first program with the store: it files a letter, queries who wrote, and prints the journal.
 #![tactic(auto)]
 
 use be_store::{ApplyIfError, Journal, Kind, Limits, Name, Op, Store, Value, parse};
@@ -6,7 +6,7 @@ use std::alloc::AllocGlobal;
 use std::io;
 use std::process::ExitCode;
 
-/// The nodes of the letters whose sender begins with an A, and the journal of the store.
+/// The nodes of the letters whose sender begins with an A, and the store's journal.
 fn first_letters<R: AllocGlobal>(rt: &R) -> Result<(Vec<u64>, Journal), ApplyIfError> {
     let limits = Limits {
         pages: 64,
@@ -33,7 +33,7 @@ fn first_letters<R: AllocGlobal>(rt: &R) -> Result<(Vec<u64>, Journal), ApplyIfE
     Ok((answer.nodes, store.close(passes)))
 }
 
-/// Prints the nodes and the journal, or on standard error why the store refused.
+/// Prints the nodes and the journal, or the store's error on standard error.
 fn main(rt: HostRuntime) -> io::Result<ExitCode> {
     match first_letters(&rt) {
         Ok((nodes, journal)) => {

@@ -1,4 +1,4 @@
--- Of two passes that write and then ask, the one that wrote later is asked of the whole journal.
+-- If two passes write and then query, the one that wrote later queries the whole journal.
 use Rattle.std.proofs.Common.{◌≡◌, ◌≢◌, ◌<◌, ◌≤◌, ◌+◌, ◌⊎◌, inl, inr, ℕ, zero, suc, List, [], ◌∷◌, ◌++◌, length, take, Option, Some, None, refl, sym, ap, ◌∙◌, subst, arith, length-append}
 use Rattle.std.specs.Prelude.{All, Ok, Result, map, slice_get}
 use Rattle.std.proofs.lemmas.Bool.{cases_lt, eq-eqb, ne_eqb}
@@ -17,7 +17,7 @@ use Rattle.be_store.specs.SmallMachine.{AreSteps, Leads, PassView, Step, Apply, 
 use Rattle.be_store.specs.Views.{Answer, Nodes, volume}
 use Rattle.example_history.specs.Visits.{FindsAll, IsHistoryOf, asks, visits, writes}
 
--- ## How many entries there are
+-- ## The number of entries
 
 abbrev entries_of : List (Step volume) → List Entry
 entries_of [] = []
@@ -54,7 +54,7 @@ first_step s steps (x ∷ xs) e =
     but_head [] = []
     but_head (y ∷ ys) = ys
 
--- the view c after a step of a run that is kept
+-- the view c after a step of a run, and what remains of the run
 record After (journal : List Entry) (a : PassView volume) (s : Step volume) (steps : List (Step volume)) (z : PassView volume) : Type 0 where
   c : PassView volume
   leads : Leads volume a s c
@@ -72,7 +72,7 @@ after journal a s steps xs z e run kept =
     let kept_here : AreKept volume journal a ((s, f.0) ∷ f.1) = subst (AreKept volume journal a) f.2 kept in
     record { c = f.0; leads = run_here.0; kept = kept_here.0; rest = f.1; named = f.3; run = run_here.1; all = kept_here.2 }
 
--- what is known of a visit that wrote the entry e with the number n and found these nodes
+-- what is known about a visit that wrote entry e with the number n and found these nodes
 record Visited (journal : List Entry) (query : Formula) (seen : ℕ) (e : Entry) (n : ℕ) (nodes : List ℕ) : Type 0 where
   later : seen < n
   place : (i : ℕ) × (n ≡ suc i) × (slice_get journal i ≡ Some e)
@@ -112,7 +112,7 @@ abbrev nodes_in : Answer → Result (List ℕ) Refusal
 nodes_in (Nodes r) = r
 nodes_in other = Ok []
 
--- the entry of the later write is the last, so the pin after it is at the whole journal
+-- the later write's entry is the last, so the pin after it is at the whole journal
 at_last : (journal : List Entry) (query : Formula) (seen : ℕ) (e : Entry) (n : ℕ) (nodes : List ℕ) → length journal ≡ 3 → n ≡ 3 → Visited journal query seen e n nodes → scan (state_of volume journal) query ≡ Ok nodes
 at_last journal query seen e n nodes three last v =
     let late = v.late in
@@ -130,7 +130,7 @@ other_place journal n m d e apart (i, at, here) (j, there, its) same =
     let one : i ≡ j = omega (arith, at, there, same) in
     apart (ap (by_of 0) (sym here ∙ (ap (slice_get journal) one ∙ its)))
 
--- a number in the journal is no more than its length
+-- an entry's number is at most the journal's length
 inside : (journal : List Entry) (n : ℕ) (e : Entry) → (i : ℕ) × (n ≡ suc i) × (slice_get journal i ≡ Some e) → n ≤ length journal
 inside journal n e (i, at, here) = let within = slice_get_within journal i e here in omega (arith, at, within)
 

@@ -13,7 +13,7 @@ use Rattle.be_store.proofs.Views.{calls_number}
 use Rattle.be_store.proofs.Calls.{calls_both}
 use Rattle.example_history.specs.Visits.{IsHistoryOf, IsNew}
 
--- what be_store's law of one history says of the calls of all passes
+-- what be_store's law of one history says about the calls of all passes
 abbrev pub Law : Type 0
 Law = (count : ℕ) (log : List Entry) (passes : List PassCalls) → IsClosed count log (map (λ (p : PassCalls). p.last) passes) → (runs : List (PassRun volume))
     × (map (λ (r : PassRun volume). r.number) runs ≡ map (λ (p : PassCalls). p.first.number) passes) × (map (steps_of volume) runs ≡ map (λ (p : PassCalls). p.steps) passes)
@@ -41,14 +41,14 @@ history law journal a b z y first second new_a new_b made_a made_b closed =
     let r = law 2 journal (one ∷ other ∷ []) closed in
     (r.0, r.1 ∙ (λ j. number_of a 0 new_a j ∷ number_of b 1 new_b j ∷ []), r.2, r.5)
 
--- the two passes are two
+-- the two passes are distinct
 pub two_apart : (first second : Knowledge) → first.number ≡ 0 → second.number ≡ 1 → AllPairs ◌≢◌ (map (λ (a : Knowledge). a.number) (first ∷ second ∷ []))
 two_apart first second none one =
     AllPairs-cons ◌≢◌ first.number (second.number ∷ [])
     (All-cons (λ k. first.number ≢ k) second.number [] (λ same. omega (arith, none, one, same)) (All-nil (λ k. first.number ≢ k)))
     (AllPairs-cons ◌≢◌ second.number [] (All-nil (λ k. second.number ≢ k)) (λ i j d lt end. absurd (omega (arith, end))))
 
--- a first write, and what each pass then called, in numbers that are known
+-- a first write, and what each pass then called, given the passes' numbers
 pub history_of_two : Law → (journal : List Entry) (a b w z y : Knowledge) (begin more other : ℕ → List (Step volume)) → IsNew a 0 → IsNew b 1 → Calls a (begin a.number) w → Calls w (more w.number) z → Calls b (other b.number) y → IsClosed 2 journal (z ∷ y ∷ [])
     → IsHistoryOf journal (begin 0 ++ more 0) (other 1)
 history_of_two law journal a b w z y begin more other new_a new_b began went made closed =

@@ -1,4 +1,4 @@
--- The calls of a thread that writes and then asks a query, as steps of be_store's small machine.
+-- The calls of a thread that writes and then runs a query, as steps of be_store's small machine.
 use Rattle.std.specs.Prelude.{◌≡◌, ◌≢◌, ◌<◌, ℕ, List, [], ◌∷◌, ◌++◌, length, map, Ok, Some}
 use Rattle.be_journal.specs.declared.entries.Entry.{Entry}
 use Rattle.be_journal.specs.Journal.{replay}
@@ -13,15 +13,16 @@ use Rattle.be_store.specs.OneHistory.{IsOneHistory, PassRun, steps_of}
 use Rattle.be_store.specs.SmallMachine.{Step, Apply, Pin, Unpin, Read}
 use Rattle.be_store.specs.Views.{Nodes, volume}
 
--- this is what the pass k of a store knows at first
+-- what pass k of a store knows at first
 abbrev pub IsNew : Knowledge → ℕ → Type 0
 IsNew a k = (limits : Limits) × (steps : ℕ) × (a ≡ newcomer limits steps k)
 
--- The pass k writes these operations. The write is accepted with the number n and these outcomes.
+-- Pass k writes these operations. The write is accepted with the commit number n and these
+-- outcomes.
 abbrev pub writes : ℕ → List Op → ℕ → List Done → List (Step volume)
 writes k ops n dones = Apply (record { by = k; ops = ops; dones = dones }) n ∷ []
 
--- A pass pins and gets this number, asks the query and gets these nodes, and unpins.
+-- A pass pins and gets this commit number, runs the query and gets these nodes, and unpins.
 abbrev pub asks : Formula → ℕ → List ℕ → List (Step volume)
 asks query pin nodes = Pin pin ∷ Read (λ s. Nodes (scan s query)) (Some (Nodes (Ok nodes))) ∷ Unpin
     ∷ []
@@ -36,8 +37,8 @@ IsHistoryOf journal first second = (runs : List (PassRun volume))
     × (map (λ (r : PassRun volume). r.number) runs ≡ 0 ∷ 1 ∷ [])
     × (map (steps_of volume) runs ≡ first ∷ second ∷ []) × IsOneHistory volume journal runs
 
--- The journal has three entries. The writes a and b have different numbers, and the query that came
--- after the later one found what the volume has in the end.
+-- The journal has three entries. The writes a and b have different numbers, and the query after the
+-- later write found what the volume has in the end.
 abbrev pub FindsAll : List Entry → Formula → (a b : ℕ) → (found_a found_b : List ℕ) → Type 0
 FindsAll journal query a b found_a found_b = (length journal ≡ 3) × (a ≢ b)
     × (b < a → scan (replay journal) query ≡ Ok found_a)

@@ -1,6 +1,6 @@
-//! Two threads sign a letter each and ask which letters are signed, in one store. The store's
-//! journal is one history of all calls of both: the contract of `sign_both` says it, in the words
-//! of be_store's statement.
+//! In one store, two threads each sign a letter and query which letters are signed. The store's
+//! journal is one history of all calls of both. The contract of `sign_both` says so, in terms of
+//! be_store's statement.
 #![tactic(auto)]
 
 ghost use Rattle.std.specs.Prelude.{◌≡◌, ◌≤◌, ℕ, [], ◌∷◌, ◌++◌, IfOk, None, length};
@@ -20,7 +20,7 @@ use std::process::ExitCode;
 use std::thread::Threads;
 use std::{io, thread};
 
-/// How often a write is tried while another pass is writing.
+/// The maximum number of tries of a write while another pass is writing.
 const TRIES: u64 = 10_000_000;
 
 /// What an accepted write returned: its commit number, and the outcomes of its operations.
@@ -30,7 +30,7 @@ struct Accepted {
     outcomes: ArrayVec<Done, 64>,
 }
 
-/// What a query found: the number of the pin at which it was asked, and the nodes.
+/// What a query found: the nodes, and the commit number of its pin.
 #[derive(Drop)]
 struct Found {
     pin: u64,
@@ -44,8 +44,8 @@ struct Visit {
     found: Found,
 }
 
-/// What all calls of a store returned: a write before the threads, the calls of both threads, and
-/// the journal when the store was closed.
+/// What all calls on a store returned: a write before the threads, both threads' calls, and the
+/// journal when the store was closed.
 #[derive(Drop)]
 struct Outcome {
     begun: Accepted,
@@ -67,7 +67,7 @@ fn write(store: &Store, pass: &mut Pass, ops: &[Op]) -> Result<Accepted, Refusal
     Ok(Accepted { number, outcomes })
 }
 
-/// Asks a query at a pin.
+/// Runs a query at a pin.
 fn ask(alloc: Global, store: &Store, pass: &mut Pass, query: &Query) -> Result<Found, Refusal>
     requires pass { IsPassOf store.now pass.old }
     requires unpinned { pinned_number pass.old.knows.phase ≡ None }
@@ -82,7 +82,7 @@ fn ask(alloc: Global, store: &Store, pass: &mut Pass, query: &Query) -> Result<F
     Ok(Found { pin, nodes })
 }
 
-/// Writes, and then asks a query. The pass is given back.
+/// Writes, and then runs a query. It returns the pass.
 fn write_then_ask(
     alloc: Global,
     store: &Store,
@@ -148,7 +148,7 @@ fn close_two(alloc: Global, store: Store, first: Pass, second: Pass) -> Result<J
     Ok(store.close(passes))
 }
 
-/// Lets two threads make a write each and ask the same query.
+/// Lets two threads each make a write and run the same query.
 fn sign_at_once<R: Threads + Sync>(
     rt: &R,
     alloc: Global,
@@ -197,11 +197,11 @@ fn sign_at_once<R: Threads + Sync>(
     )
 }
 
-/// Begins with a write, and then lets two threads make a write each and ask the same query. The
-/// journal is one history of all these calls: it has each write once, at the number that the write
-/// returned, and each query found what the volume after the prefix has that its pin names. So the
-/// later of the two found what the volume has in the end. If a call is refused, the store isn't
-/// closed, and nothing is said of what the other calls returned.
+/// Makes a write, and then lets two threads each make a write and run the same query. The journal
+/// is one history of all these calls. It has each write once, at the commit number that the write
+/// returned. Each query found what the volume has after the prefix that its pin names. So the later
+/// of the two found what the volume has in the end. If a call is refused, the store isn't closed,
+/// and nothing is said about what the other calls returned.
 fn sign_both<R: AllocGlobal + Threads + Sync>(
     rt: &R,
     begin: &[Op],
@@ -238,7 +238,7 @@ fn sign_both<R: AllocGlobal + Threads + Sync>(
     })
 }
 
-/// Makes an index and two letters, and lets Ann and Bob sign one each. The journal then has these
+/// Makes an index and two letters, and lets Ann and Bob each sign one. The journal then has these
 /// three entries, and the later of the two found what the volume has in the end. If a call is
 /// refused, nothing is said.
 fn letters<R: AllocGlobal + Threads + Sync>(rt: &R) -> Result<Outcome, Refusal>
@@ -254,7 +254,7 @@ fn letters<R: AllocGlobal + Threads + Sync>(rt: &R) -> Result<Outcome, Refusal>
     sign_both(rt, &begin, &ann, &bob, &query)
 }
 
-/// How many letters the later of both writers found.
+/// The number of letters that the later writer found.
 fn found_by_later(outcome: &Outcome) -> usize {
     let (ann, bob) = (&outcome.ann, &outcome.bob);
     if ann.signed.number < bob.signed.number {
@@ -264,9 +264,9 @@ fn found_by_later(outcome: &Outcome) -> usize {
     }
 }
 
-/// Prints how many entries the journal has, and how many letters the later of both writers found.
-/// The contract of `letters` says that this is what the volume has in the end, whatever the threads
-/// do; that these are two letters is what the program is tested to print.
+/// Prints the number of entries in the journal, and the number of letters that the later writer
+/// found. The contract of `letters` says that the volume has these letters in the end, whatever the
+/// threads do. That there are two of them is tested.
 fn main(rt: HostRuntime) -> io::Result<ExitCode> {
     match letters(&rt) {
         Ok(outcome) => {

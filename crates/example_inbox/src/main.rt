@@ -1,5 +1,5 @@
-//! An inbox in a store: two threads file letters, while a third asks a live query at the version
-//! that it has pinned.
+//! An inbox in a store: two threads file letters, while a third runs a live query at the version it
+//! has pinned.
 #![tactic(auto)]
 
 ghost use Rattle.std.specs.Prelude.{◌≡◌, ℕ, None};
@@ -12,11 +12,10 @@ use std::process::ExitCode;
 use std::thread::Threads;
 use std::{io, thread};
 
-/// How often a write is tried while another pass is writing.
+/// The maximum number of tries of a write while another pass is writing.
 const TRIES: u64 = 10_000_000;
 
-/// Files a letter: a node with the name of who sent it and the time when it came, in seconds since
-/// 1970.
+/// Files a letter: a node with the sender's name and the time of arrival, in seconds since 1970.
 fn file(store: &Store, pass: &mut Pass, from: &str, when: i64) -> Result<(), Refusal>
     requires { IsPassOf store.now pass.old }
     ensures { IsPassOf store.now pass.new }
@@ -30,7 +29,7 @@ fn file(store: &Store, pass: &mut Pass, from: &str, when: i64) -> Result<(), Ref
     Ok(())
 }
 
-/// Files ten letters. The pass is given back by its thread.
+/// Files ten letters. The thread returns the pass.
 fn file_ten(store: &Store, mut pass: Pass, from: &str) -> (Pass, Result<(), Refusal>)
     requires { IsPassOf store.now pass }
     ensures { IsPassOf store.now result.0 }
@@ -62,8 +61,8 @@ fn file_both<R: Threads + Sync>(
     bob.1
 }
 
-/// How many letters came into the query's answer since it was asked last. The pass is given back,
-/// without its pin.
+/// The number of letters that have joined the query's answer since it was last run. It returns the
+/// pass, unpinned.
 fn ask(store: &Store, mut pass: Pass, mut live: Live) -> (Pass, Live, Result<usize, Refusal>)
     requires pass { IsPassOf store.now pass }
     requires pinned { (n : ℕ) × IsPinnedTo pass.knows n }
@@ -78,7 +77,7 @@ fn ask(store: &Store, mut pass: Pass, mut live: Live) -> (Pass, Live, Result<usi
     (pass, live, came)
 }
 
-/// Asks at the pin, while the other two passes file their letters.
+/// Runs the live query at the pin, while the other two passes file their letters.
 fn ask_meanwhile<R: Threads + Sync>(
     rt: &R,
     store: &Store,
@@ -103,7 +102,7 @@ fn ask_meanwhile<R: Threads + Sync>(
     )
 }
 
-/// How many letters are from Ada at a pin, and how many came while it was read.
+/// The number of letters from Ada at a pin, and the number that arrived while it was read.
 fn count_letters<R: AllocGlobal + Threads + Sync>(rt: &R) -> Result<(usize, usize), Refusal> {
     let limits = Limits {
         pages: 256,
@@ -132,7 +131,7 @@ fn count_letters<R: AllocGlobal + Threads + Sync>(rt: &R) -> Result<(usize, usiz
     Ok((before?, since?))
 }
 
-/// Prints both numbers of letters, or on standard error why the store refused.
+/// Prints both numbers of letters, or the store's error on standard error.
 fn main(rt: HostRuntime) -> io::Result<ExitCode> {
     match count_letters(&rt) {
         Ok((before, since)) => {

@@ -1,7 +1,7 @@
-//! Look-ups and walks serve any reader of pages: here one that owns a room and counts the words
-//! that are read.
+//! Lookups and walks work with any page reader: here with one that owns a room and counts the words
+//! it reads.
 ghost use Rattle.std.specs.Prelude.{◌≡◌, ℕ, IfOk, IsTrue, OnOk};
-ghost use Rattle.be_pages.specs.declared.room.Standing.TheVariants.{Free};
+ghost use Rattle.be_pages.specs.declared.room.PageState.TheVariants.{Free};
 ghost use Rattle.be_pages.specs.Pages.{IsUnchanged};
 ghost use Rattle.be_tree_reading.specs.Tree.{IsTree};
 
@@ -12,9 +12,9 @@ use be_value::Refusal;
 use std::alloc::Global;
 use std::test::Fail;
 
-/// A room, at the second call if memory is refused at the first.
+/// A page writer in memory. If memory runs out at the first call, it calls again.
 pub(crate) fn room_of(alloc: Global, pages: u64) -> Result<VecRoom, Refusal>
-    ensures { IfOk result (λ r. (q : ℕ) → ⟦<VecRoom as Look>⟧.standing r q ≡ Free) }
+    ensures { IfOk result (λ r. (q : ℕ) → ⟦<VecRoom as Look>⟧.page_state r q ≡ Free) }
 {
     match VecRoom::new(alloc, pages) {
         Err(Refusal::OutOfMemory) => VecRoom::new(alloc, pages),
@@ -25,7 +25,7 @@ pub(crate) fn room_of(alloc: Global, pages: u64) -> Result<VecRoom, Refusal>
 /// Inserts the numbers below `count` in order, and returns the root.
 fn filled<R: Room>(room: &mut R, count: u64) -> Result<u64, Refusal>
     requires { IsTrue (R.is_open (R.kept room.old)) }
-    ensures tree { IfOk result (λ root. IsTree (R.standing room.new) (R.words room.new) root) }
+    ensures tree { IfOk result (λ root. IsTree (R.page_state room.new) (R.words room.new) root) }
     ensures kept { OnOk result (R.kept room.new ≡ R.kept room.old) }
 {
     let mut root = 0;
@@ -35,10 +35,10 @@ fn filled<R: Room>(room: &mut R, count: u64) -> Result<u64, Refusal>
     Ok(root)
 }
 
-/// Whether each number below `count` is found with its payload, and the next one is not.
+/// Whether each number below `count` is found with its payload, and the next one isn't.
 pub(crate) fn finds<L: Look>(look: &mut L, root: u64, count: u64) -> bool
-    requires { IsTree (L.standing look.old) (L.words look.old) root }
-    ensures { IsUnchanged L.kept L.standing L.words look.old look.new }
+    requires { IsTree (L.page_state look.old) (L.words look.old) root }
+    ensures { IsUnchanged L.kept L.page_state L.words look.old look.new }
 {
     for i in 0..count {
         match find(look, root, &i.to_be_bytes()) {
@@ -52,10 +52,10 @@ pub(crate) fn finds<L: Look>(look: &mut L, root: u64, count: u64) -> bool
     !has_key(look, root, &count.to_be_bytes())
 }
 
-/// Whether `range` meets the numbers below `count` one after the other, and nothing else.
+/// Whether `range` meets the numbers below `count` one after another, and nothing else.
 pub(crate) fn ranges<L: Look>(look: &mut L, root: u64, count: u64) -> bool
-    requires { IsTree (L.standing look.old) (L.words look.old) root }
-    ensures { IsUnchanged L.kept L.standing L.words look.old look.new }
+    requires { IsTree (L.page_state look.old) (L.words look.old) root }
+    ensures { IsUnchanged L.kept L.page_state L.words look.old look.new }
 {
     let mut from = [0; 8];
     let mut after = false;
@@ -70,10 +70,10 @@ pub(crate) fn ranges<L: Look>(look: &mut L, root: u64, count: u64) -> bool
     range(look, root, &from, after).is_none()
 }
 
-/// Whether a cursor meets the numbers below `count` one after the other, and nothing else.
+/// Whether a cursor meets the numbers below `count` one after another, and nothing else.
 fn steps<L: Look>(look: &mut L, root: u64, count: u64) -> bool
-    requires { IsTree (L.standing look.old) (L.words look.old) root }
-    ensures { IsUnchanged L.kept L.standing L.words look.old look.new }
+    requires { IsTree (L.page_state look.old) (L.words look.old) root }
+    ensures { IsUnchanged L.kept L.page_state L.words look.old look.new }
 {
     let mut cursor = Cursor::new();
     cursor.seek(look, root, &[], false);
@@ -86,8 +86,8 @@ fn steps<L: Look>(look: &mut L, root: u64, count: u64) -> bool
     cursor.next_key(look).is_none()
 }
 
-/// A hundred pairs lie in two levels: some forty words a look-up, one word a step and the pair's
-/// own.
+/// A hundred pairs need two levels. A lookup reads about forty words; a step reads one word and the
+/// pair's own.
 #[test]
 fn counting_look(rt: HostRuntime) -> Result<(), Fail> {
     let mut room = room_of(rt.alloc(), 64)?;

@@ -1,9 +1,10 @@
 //! Worked examples of journals.
 //!
-//! A request has a journal's limit, and then its entries with ` | ` between them: `OPERATIONS ->
-//! ANSWERS`, in the words of scripts, with `;` between several. Told are the journal's text,
-//! whether it is legal, whether it has room, the next node of its volume, and the attributes of
-//! node 1 there.
+//! A request has a journal's limit and then its entries, with ` | ` between them. An entry is
+//! `OPERATIONS -> OUTCOMES`, in the words of scripts, with `;` between several.
+//!
+//! The reply has the journal's text, whether it is legal, and whether it has room. Then come the
+//! next node of its volume, and the attributes of node 1 there.
 
 use super::lines::{first_number, replies};
 use be_journal::{Entry, Items, Journal};
@@ -26,7 +27,7 @@ fn push(journal: &mut Journal, ops: Vec<Op>, dones: Vec<Done>) -> Result<(), Ref
     })
 }
 
-/// Enters a pass's list in the room that is reserved for it.
+/// Enters a pass's list in room that is reserved for it.
 fn enter(journal: &mut Journal, pass: u64, ops: &[Op], dones: &[Done]) -> Result<(), Refusal> {
     if ops.is_empty() || ops.len() > 64 || dones.len() != ops.len() {
         return Err(Refusal::BadLimits);
@@ -36,7 +37,7 @@ fn enter(journal: &mut Journal, pass: u64, ops: &[Op], dones: &[Done]) -> Result
     Ok(())
 }
 
-/// The answer of a text, `node NUMBER` or `ok`.
+/// The outcome that a text encodes: `node NUMBER` or `ok`.
 fn done_of(text: &str) -> Done {
     match text.strip_prefix("node ") {
         Some(number) => Done::Node(word_of(number.as_bytes()).unwrap_or(0)),
@@ -44,7 +45,7 @@ fn done_of(text: &str) -> Done {
     }
 }
 
-fn dones_of(alloc: Global, texts: &str) -> Result<Vec<Done>, AllocError> {
+fn outcomes_of(alloc: Global, texts: &str) -> Result<Vec<Done>, AllocError> {
     let mut dones = Vec::new(alloc);
     for text in texts.split(';') {
         dones.push(done_of(text))?;
@@ -52,19 +53,18 @@ fn dones_of(alloc: Global, texts: &str) -> Result<Vec<Done>, AllocError> {
     Ok(dones)
 }
 
-/// Pushes the entry of a text. If the list has several operations it is entered in room that is
-/// reserved.
+/// Pushes the entry that a text encodes. A list of several operations is entered in reserved room.
 fn push_text(alloc: Global, journal: &mut Journal, text: &str) -> Result<(), Refusal> {
     let (ops, dones) = text.split_once(" -> ").unwrap_or((text, ""));
     let ops = list_of(alloc, ops)?;
-    let dones = dones_of(alloc, dones)?;
+    let dones = outcomes_of(alloc, dones)?;
     if ops.len() > 1 {
         return enter(journal, 0, &ops, &dones);
     }
     push(journal, ops, dones)
 }
 
-/// A journal of up to `limit` entries.
+/// A journal of at most `limit` entries.
 fn journal_within(alloc: Global, limit: u64) -> Result<Journal, Refusal> {
     if limit > 2_000 {
         return Err(Refusal::BadLimits);
@@ -84,13 +84,13 @@ fn journal_of(alloc: Global, request: &str) -> Result<Journal, Refusal> {
     Ok(journal)
 }
 
-/// Pushes the making of a node.
+/// Pushes an entry that makes a node.
 fn push_node(alloc: Global, journal: &mut Journal, node: u64) -> Result<(), Refusal> {
     let text = format!(in alloc; "new -> node {node}")?;
     push_text(alloc, journal, text.as_str())
 }
 
-/// 1,100 nodes that were made.
+/// A journal that makes 1,100 nodes.
 fn nodes(alloc: Global) -> Result<Journal, Refusal> {
     let mut journal = journal_within(alloc, 1_100)?;
     for node in 1..=1_100 {
@@ -107,8 +107,8 @@ fn long_list(alloc: Global) -> Result<Vec<Op>, Refusal> {
     list_of(alloc, format!(in alloc; "{set}{sets}")?.as_str())
 }
 
-/// So many long lists, each by the pass of its number. A block of the journal has room for 15 of
-/// them.
+/// A journal of `count` long lists, each by the pass with its number. A block of the journal has
+/// room for 15 of them.
 fn long_lists(alloc: Global, count: u64) -> Result<Journal, Refusal> {
     let ops = long_list(alloc)?;
     let dones = vec![in alloc; Done::Unit; 64]?;
@@ -119,7 +119,7 @@ fn long_lists(alloc: Global, count: u64) -> Result<Journal, Refusal> {
     Ok(journal)
 }
 
-/// How many entries are of 64 operations by the pass of their number.
+/// How many entries have 64 operations and are by the pass with their number.
 fn found_lists(journal: &Journal) -> u64 {
     let mut found: u64 = 0;
     for i in 0..journal.len() {
@@ -164,7 +164,8 @@ fn takes_entry(alloc: Global, journal: &mut Journal) -> Result<bool, Refusal> {
     }
 }
 
-/// Whether there is room for 64 operations, and an entry is pushed; at the limit neither is.
+/// Whether there is room for 64 operations, and an entry can be pushed. At the limit, neither is
+/// the case.
 fn room(alloc: Global, journal: &mut Journal) -> Result<&'static str, Refusal> {
     match (has_room(journal)?, takes_entry(alloc, journal)?) {
         (true, true) => Ok("room"),
@@ -174,7 +175,7 @@ fn room(alloc: Global, journal: &mut Journal) -> Result<&'static str, Refusal> {
 }
 
 /// The report on a journal: its text, whether it is legal, whether it has room, and its contents.
-fn told(alloc: Global, mut journal: Journal) -> Result<String, Refusal> {
+fn report(alloc: Global, mut journal: Journal) -> Result<String, Refusal> {
     let text = journal.text()?;
     let word = if is_legal(&journal)? {
         "legal"
@@ -187,32 +188,32 @@ fn told(alloc: Global, mut journal: Journal) -> Result<String, Refusal> {
 }
 
 /// The report on the journal of a request.
-pub(crate) fn told_of(alloc: Global, request: &str) -> Result<String, Refusal> {
-    told(alloc, journal_of(alloc, request)?)
+pub(crate) fn report_of(alloc: Global, request: &str) -> Result<String, Refusal> {
+    report(alloc, journal_of(alloc, request)?)
 }
 
 /// The report on 1,100 nodes, from the text after the 1,099th entry on.
-pub(crate) fn told_end(alloc: Global) -> Result<String, Refusal> {
-    let text = told(alloc, nodes(alloc)?)?;
+pub(crate) fn report_end(alloc: Global) -> Result<String, Refusal> {
+    let text = report(alloc, nodes(alloc)?)?;
     let front = "\n1099 by 0 new -> node 1099\n";
     let (_, end) = text.as_str().split_once(front).unwrap_or(("", ""));
     Ok(String::from_str(alloc, end)?)
 }
 
-/// How many of that many long lists are found in their journal.
-pub(crate) fn told_lists(alloc: Global, text: &str) -> Result<String, Refusal> {
+/// How many of the long lists are found in their journal.
+pub(crate) fn report_lists(alloc: Global, text: &str) -> Result<String, Refusal> {
     let (count, _) = first_number(text);
     let journal = long_lists(alloc, count)?;
     let found = found_lists(&journal);
     Ok(format!(in alloc; "{found} found")?)
 }
 
-/// A text of entries, whether it is legal, and what its volume has. Without entries there is room
-/// for 64 operations. An answer that the volume doesn't give is wrong, and so is an entry that it
-/// refuses. Example `batches` is the last one: a list is entered in the room that was reserved for
-/// it.
+/// Reports entries as text, whether they are legal, and what their volume has. A journal without
+/// entries has room for 64 operations. An outcome that the volume doesn't give is wrong, and so is
+/// an entry that the volume refuses. The last line is the example `batches`: a list is entered in
+/// the room that was reserved for it.
 #[test]
-fn journals_are_told(rt: HostRuntime) -> Result<(), Fail> {
+fn journals_are_reported(rt: HostRuntime) -> Result<(), Fail> {
     let lines =
         "journal 2 new -> node 1 | set 1 size LONG 5 -> ok => 1 by 0 new -> node 1 / 2 by 0 set 1 \
          \"size\" LONG 5 -> ok / legal, spent, next 2 / attrs 1 / \"size\" LONG 5
@@ -227,7 +228,8 @@ journal 2 mkindex k LONG -> ok | new;set 1 k LONG 5 -> node 1;ok => 1 by 0 mkind
     replies(rt.alloc(), lines)
 }
 
-/// Each operation and each value has its text. Node 1 isn't there, so none of these is accepted.
+/// Each operation and each value has its text. There is no node 1, so none of these entries is
+/// accepted.
 #[test]
 fn operations_have_a_text(rt: HostRuntime) -> Result<(), Fail> {
     let lines =
@@ -243,14 +245,15 @@ journal 3 unset 7 m -> ok | rmindex k -> ok | drop 7 -> ok => 1 by 0 unset 7 \"m
     replies(rt.alloc(), lines)
 }
 
-/// A journal of 1,100 entries is reported, checked and played whole.
+/// A journal of 1,100 entries is reported, checked and replayed whole.
 #[test]
 fn long_journal(rt: HostRuntime) -> Result<(), Fail> {
     let lines = "nodes => 1100 by 0 new -> node 1100 / legal, spent, next 1101 / attrs 0";
     replies(rt.alloc(), lines)
 }
 
-/// Entries are found in a journal's first block, if that is just full, and in those after it.
+/// Entries are found in a journal's first block when it is exactly full, and in the blocks after
+/// it.
 #[test]
 fn journal_of_blocks(rt: HostRuntime) -> Result<(), Fail> {
     let lines = "lists 15 => 15 found\nlists 16 => 16 found\nlists 46 => 46 found";

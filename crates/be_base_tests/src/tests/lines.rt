@@ -1,5 +1,5 @@
-//! Requests and replies of tests, as text: a line `COMMAND TEXT => REPLY` each. What is refused is
-//! replied as it is printed.
+//! Requests and replies of tests as text: lines `COMMAND TEXT => REPLY`. The reply to a refused
+//! request is the error as it is printed.
 
 use super::{byte_pattern, journal, machine, pattern, query, stored_words, tree, value};
 use be_test_tools::{Answers, check_lines};
@@ -10,9 +10,9 @@ use std::test::Fail;
 /// The answer to a command.
 fn answer(alloc: Global, command: &str, text: &str) -> Result<String, Refusal> {
     match command {
-        "journal" => journal::told_of(alloc, text),
-        "nodes" => journal::told_end(alloc),
-        "lists" => journal::told_lists(alloc, text),
+        "journal" => journal::report_of(alloc, text),
+        "nodes" => journal::report_end(alloc),
+        "lists" => journal::report_lists(alloc, text),
         "machine" => machine::is_opened(alloc, text),
         "free" => tree::free_with(alloc, text),
         "emptied" => tree::free_without(alloc, text),
@@ -45,13 +45,13 @@ fn answer_pattern(alloc: Global, command: &str, text: &str) -> Result<String, Re
         "decided" => pattern::is_decided_by_prefix(alloc, text),
         "around" => pattern::around(alloc, text),
         "kind" => value::kind_numbered(alloc, text),
-        "number" => value::number_spelt(alloc, text),
+        "number" => value::encoded_number(alloc, text),
         "pair" => value::key_of_pair(alloc, text),
         _ => answer_long(alloc, command, repeated(alloc, text)?.as_str()),
     }
 }
 
-/// The answer to a command on a text of pieces that are repeated.
+/// The answer to a command on a text with repeated pieces.
 fn answer_long(alloc: Global, command: &str, text: &str) -> Result<String, Refusal> {
     match command {
         "name" => value::is_name(alloc, text),
@@ -67,7 +67,7 @@ fn answer_long(alloc: Global, command: &str, text: &str) -> Result<String, Refus
     }
 }
 
-/// The first of these words as a number, 0 if there is none, and the others.
+/// The first of these words as a number, or 0 if it is none, and the other words.
 pub(crate) fn first_number(words: &str) -> (u64, &str) {
     let (word, others) = words.split_once(" ").unwrap_or((words, ""));
     (word_of(word.as_bytes()).unwrap_or(0), others)
@@ -87,7 +87,7 @@ fn repeated(alloc: Global, request: &str) -> Result<String, Refusal> {
     Ok(text)
 }
 
-/// The words of a test's answer.
+/// The word `yes` or `no`.
 pub(crate) fn yes_or_no(alloc: Global, holds: bool) -> Result<String, Refusal> {
     let word = if holds { "yes" } else { "no" };
     Ok(String::from_str(alloc, word)?)

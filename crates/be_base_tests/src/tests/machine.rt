@@ -1,6 +1,7 @@
-//! The worked example of the machine, and its limits. Every call is made once more after
-//! `OutOfMemory`, and is to give the example's answer then: so the tests also pass if any one
-//! request for memory is refused (`rt try --test --fail-alloc N`).
+//! The worked example of the machine, and its limits.
+//!
+//! Every call is made once more after `OutOfMemory`, and then has to give the example's answer. So
+//! the tests also pass if any one request for memory is refused (`rt try --test --fail-alloc N`).
 ghost use Rattle.std.specs.Prelude.{◌≡◌, IfOk};
 ghost use Rattle.be_core.specs.Shown.{page_count};
 
@@ -10,7 +11,7 @@ use be_value::Refusal;
 use std::alloc::Global;
 use std::test::Fail;
 
-/// A new machine, at the second call if memory is refused at the first.
+/// A new machine. If memory runs out at the first call, it calls again.
 fn machine(alloc: Global, pages: u64, passes: u64, commits: u64) -> Result<State, Refusal>
     ensures { IfOk result (λ s. page_count s ≡ pages) }
 {
@@ -20,7 +21,7 @@ fn machine(alloc: Global, pages: u64, passes: u64, commits: u64) -> Result<State
     }
 }
 
-/// The answer to the event, at the second call if memory is refused at the first.
+/// The answer to the event. If memory runs out at the first call, it calls again.
 fn answer(state: &mut State, event: &Event) -> Result<bool, Refusal>
     ensures { page_count state.new ≡ page_count state.old }
 {
@@ -30,7 +31,8 @@ fn answer(state: &mut State, event: &Event) -> Result<bool, Refusal>
     }
 }
 
-/// The event of a word and its numbers. What is published gives up the page of the last one.
+/// The event that a word and its numbers name. `publish` gives up the page that its last number
+/// names.
 fn event_of(alloc: Global, word: &str, numbers: [u64; 4]) -> Result<Event, Refusal> {
     let [pass, second, third, fourth] = numbers;
     match word {
@@ -47,7 +49,7 @@ fn event_of(alloc: Global, word: &str, numbers: [u64; 4]) -> Result<Event, Refus
     }
 }
 
-/// The event of a line of words.
+/// The event that a line of words names.
 fn event_in(alloc: Global, line: &str) -> Result<Event, Refusal> {
     let (word, numbers) = line.split_once(" ").unwrap_or((line, ""));
     let (first, numbers) = first_number(numbers);
@@ -57,8 +59,8 @@ fn event_in(alloc: Global, line: &str) -> Result<Event, Refusal> {
     event_of(alloc, word, [first, second, third, fourth])
 }
 
-/// Whether the events, a line each, are allowed one after the other, but those with a `not` before
-/// them.
+/// Whether the events, one on each line, are allowed one after another. Those after a `not` must be
+/// refused.
 fn gives(alloc: Global, state: &mut State, lines: &str) -> Result<bool, Refusal>
     ensures { page_count state.new ≡ page_count state.old }
 {
@@ -78,8 +80,8 @@ fn gives(alloc: Global, state: &mut State, lines: &str) -> Result<bool, Refusal>
     Ok(true)
 }
 
-/// A run of a writer and a reader: a page that the reader pins is not filled again before it is
-/// unpinned.
+/// A run of a writer and a reader. A page that the reader has pinned isn't filled again before it
+/// is unpinned.
 #[test]
 fn machine_run(rt: HostRuntime) -> Result<(), Fail> {
     let alloc = rt.alloc();
@@ -116,7 +118,7 @@ fill 0 0 0 5";
     Ok(())
 }
 
-/// Whether a machine is made of these pages, passes and commits.
+/// Whether a machine with these numbers of pages, passes and commits can be made.
 pub(crate) fn is_opened(alloc: Global, line: &str) -> Result<String, Refusal> {
     let (pages, numbers) = first_number(line);
     let (passes, numbers) = first_number(numbers);
@@ -138,7 +140,7 @@ machine 16384 64 4294967295 => yes";
     replies(rt.alloc(), lines)
 }
 
-/// Machines of each number of pages, around each power of two, and of passes.
+/// Machines with numbers of pages around each power of two, and with different numbers of passes.
 #[test]
 fn machine_sizes(rt: HostRuntime) -> Result<(), Fail> {
     for power in 3..15u32 {

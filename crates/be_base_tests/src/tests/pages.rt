@@ -1,5 +1,7 @@
-//! A room's pages, counted. The room is made once more after `OutOfMemory`, so the tests also pass
-//! if any one request for memory is refused (`rt try --test --fail-alloc N`).
+//! Counts the pages of a room.
+//!
+//! The room is made once more after `OutOfMemory`. So the tests also pass if any one request for
+//! memory is refused (`rt try --test --fail-alloc N`).
 
 use super::counting_look::room_of;
 use be_pages::{Look, Room, VecRoom};
@@ -7,8 +9,8 @@ use be_value::Refusal;
 use std::alloc::Global;
 use std::test::Fail;
 
-/// How many pages are free after one was taken and filled, with the word in it, after that write
-/// was kept and nothing undone, and after the next write was undone.
+/// How many pages are free after one was taken and filled, and the word in it. Then how many are
+/// free after that write was kept and nothing undone, and after the next write was undone.
 fn free_when_kept(alloc: Global) -> Result<[u64; 4], Refusal> {
     let mut room = room_of(alloc, 8)?;
     let page = room.take()?;
@@ -30,7 +32,8 @@ fn keeps_and_undoes(rt: HostRuntime) -> Result<(), Fail> {
     Ok(())
 }
 
-/// Takes each page once, and then one more. How many were free before each, in digits.
+/// Takes each page once, and then one more. It returns how many were free before each call, as
+/// digits.
 fn take_all(alloc: Global) -> Result<(u64, Refusal), Refusal> {
     let mut room = room_of(alloc, 8)?;
     let mut digits: u64 = 0;
@@ -52,8 +55,7 @@ fn full_room(rt: HostRuntime) -> Result<(), Fail> {
     Ok(())
 }
 
-/// How many pages are free once a page that was taken is given up, and whether it is the next one
-/// taken.
+/// How many pages are free after a taken page is given up, and whether that page is taken next.
 fn take_again(alloc: Global) -> Result<(u64, bool), Refusal> {
     let mut room = room_of(alloc, 8)?;
     let page = room.take()?;
@@ -62,20 +64,20 @@ fn take_again(alloc: Global) -> Result<(u64, bool), Refusal> {
     Ok((free, room.take()? == page))
 }
 
-/// A page that was taken and given up within one write is free at once, and is the next one taken.
+/// A page that was taken and given up in one write is free at once, and is taken next.
 #[test]
 fn page_given_up(rt: HostRuntime) -> Result<(), Fail> {
     assert!(rt; matches!(take_again(rt.alloc())?, (8, true)));
     Ok(())
 }
 
-/// The numbers of pages of a room, around each power of two to the most that a store has.
+/// Numbers of pages in a room: around each power of two, up to the most that a store has.
 const SIZES: [u64; 32] = [
     8, 9, 15, 16, 17, 31, 32, 33, 63, 64, 65, 127, 128, 129, 255, 256, 257, 511, 512, 513, 1023,
     1024, 1025, 2047, 2048, 2049, 4095, 4096, 8191, 8192, 16383, 16384,
 ];
 
-/// Rooms of each size, all of whose pages are free.
+/// In a new room of any size, all pages are free.
 #[test]
 fn room_sizes(rt: HostRuntime) -> Result<(), Fail> {
     for pages in SIZES {

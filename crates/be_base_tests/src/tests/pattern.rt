@@ -17,7 +17,7 @@ pub(crate) fn matches(alloc: Global, request: &str) -> Result<String, Refusal> {
     yes_or_no(alloc, Pattern::parse(alloc, pattern)?.matches(text))
 }
 
-/// The prefix of a pattern, in quotes, and whether it is plain.
+/// The prefix of a pattern, in quotes, and whether the pattern is plain.
 pub(crate) fn prefix(alloc: Global, text: &str) -> Result<String, Refusal> {
     let pattern = Pattern::parse(alloc, text)?;
     let prefix = pattern.prefix();
@@ -29,7 +29,7 @@ pub(crate) fn is_decided_by_prefix(alloc: Global, text: &str) -> Result<String, 
     yes_or_no(alloc, Pattern::parse(alloc, text)?.is_prefix())
 }
 
-/// The canonical text of a literal text with a `*` on each side that a `.` marks in the request.
+/// The canonical text of a literal text, with a `*` on each side that has a `.` in the request.
 pub(crate) fn around(alloc: Global, text: &str) -> Result<String, Refusal> {
     let (before, text) = match text.strip_prefix(".") {
         Some(text) => (true, text),
@@ -42,7 +42,8 @@ pub(crate) fn around(alloc: Global, text: &str) -> Result<String, Refusal> {
     Pattern::around(alloc, before, text, beyond)?.canonical(alloc)
 }
 
-/// Example `patterns`, and the readings of sets. An empty pattern and an empty text are no letters.
+/// The example `patterns`, and the ways to read sets. Neither an empty pattern nor an empty text
+/// has a letter here.
 #[test]
 fn patterns(rt: HostRuntime) -> Result<(), Fail> {
     let lines = "matches *[ch] x.c => yes
@@ -74,7 +75,7 @@ matches a\0 a\0 => yes";
     replies(rt.alloc(), lines)
 }
 
-/// Each canonical text is its own.
+/// Each canonical text is its own canonical text.
 #[test]
 fn canonical_texts(rt: HostRuntime) -> Result<(), Fail> {
     let lines = "pattern a\\** => a\\**
@@ -104,7 +105,7 @@ pattern [a-] => [a\\-]";
     replies(rt.alloc(), lines)
 }
 
-/// Prefixes, which patterns their prefix decides, and literal texts with `*` round them.
+/// Prefixes, patterns that their prefix decides, and literal texts with `*` around them.
 #[test]
 fn prefixes(rt: HostRuntime) -> Result<(), Fail> {
     let lines = "prefix \\*éx*y => \"*éx\"

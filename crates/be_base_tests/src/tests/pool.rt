@@ -6,7 +6,7 @@ use be_pages::{PagePool, Place};
 use std::alloc::{AllocError, Global};
 use std::test::Fail;
 
-/// What stands for a page if none is free.
+/// Stands for no page.
 const NONE: u64 = 99_999;
 
 /// A pool whose pages below `used` are in use.
@@ -27,7 +27,7 @@ fn take_like(pool: &mut PagePool, page: u64) -> u64 {
     pool.take_like(page).unwrap_or(NONE)
 }
 
-/// Gives a page up if it is of the current version.
+/// Gives a page up if it is in the current version.
 fn let_go(pool: &mut PagePool, page: u64) {
     if page >= pool.len() as u64 {
         return;
@@ -38,7 +38,7 @@ fn let_go(pool: &mut PagePool, page: u64) {
     }
 }
 
-/// A write copies two pages, gives them up, and is kept. The copies.
+/// A write copies two pages, gives the originals up, and is kept. It returns the copies.
 fn copy_both(pool: &mut PagePool, first: u64, second: u64) -> (u64, u64) {
     let copies = (take_like(pool, first), take_like(pool, second));
     let_go(pool, first);
@@ -64,8 +64,8 @@ fn copies_return(rt: HostRuntime) -> Result<(), Fail> {
     Ok(())
 }
 
-/// The pages that are taken for nothing that was copied, once a page is spared, and how many are
-/// free before.
+/// Makes one page spared, and takes all pages for something else. It returns how many were free,
+/// and which pages were taken.
 fn take_others(alloc: Global) -> Result<(usize, [u64; 4]), AllocError> {
     let mut pool = pool_of(alloc, 4, 1)?;
     take_like(&mut pool, 0);
@@ -81,15 +81,15 @@ fn take_others(alloc: Global) -> Result<(usize, [u64; 4]), AllocError> {
     Ok((free, taken))
 }
 
-/// A page that is spared is taken for something else only if no other is free.
+/// A spared page is taken for something else only if no other page is free.
 #[test]
 fn spared_page_is_last(rt: HostRuntime) -> Result<(), Fail> {
     assert!(rt; matches!(take_others(rt.alloc())?, (3, [2, 3, 0, NONE])));
     Ok(())
 }
 
-/// What a copy takes before a write is undone, what another page takes after that, and then what
-/// the copy takes again.
+/// Which page a copy takes before its write is undone, which page is then taken for something else,
+/// and which page the copy takes again.
 fn take_again(alloc: Global) -> Result<[u64; 3], AllocError> {
     let mut pool = pool_of(alloc, 4, 1)?;
     take_like(&mut pool, 0);
@@ -100,19 +100,19 @@ fn take_again(alloc: Global) -> Result<[u64; 3], AllocError> {
     Ok([first, take(&mut pool), take_like(&mut pool, 1)])
 }
 
-/// A page that was spared is spared again once the write is undone.
+/// A page that was spared is spared again after the write is undone.
 #[test]
 fn spared_after_undo(rt: HostRuntime) -> Result<(), Fail> {
     assert!(rt; matches!(take_again(rt.alloc())?, [0, 2, 0]));
     Ok(())
 }
 
-/// The numbers of pages of a pool, at bounds.
+/// Numbers of pages in a pool, at bounds.
 const SIZES: [usize; 9] = [1, 2, 3, 8, 63, 64, 65, 16383, 16384];
 
-/// The pages that copies take from a pool of which one page is free: a copy of a page past the
-/// pool; once that write is undone, a copy of the pool's last page; and, with no page free any
-/// more, a copy of the greatest number.
+/// The pages that copies take from a pool with one free page. The first is a copy of a page outside
+/// the pool. After that write is undone, the second is a copy of the pool's last page. The third is
+/// a copy of the greatest page number, when no page is free any more.
 fn take_last(alloc: Global, pages: usize) -> Result<[u64; 3], AllocError>
     requires { 1 ≤ pages }
 {

@@ -6,12 +6,12 @@ use be_value::{Name, Refusal, number_of};
 use std::alloc::Global;
 use std::test::Fail;
 
-/// The canonical text of a text's query.
+/// The canonical text of the query that a text encodes.
 pub(crate) fn printed(alloc: Global, text: &str) -> Result<String, Refusal> {
     print(alloc, &parse(alloc, text)?)
 }
 
-/// The canonical text of a text's query, which encodes the same query.
+/// The canonical text of the query that a text encodes, if it is its own canonical text.
 pub(crate) fn printed_twice(alloc: Global, text: &str) -> Result<String, Refusal> {
     let once = printed(alloc, text)?;
     let twice = printed(alloc, once.as_str())?;
@@ -22,7 +22,7 @@ pub(crate) fn printed_twice(alloc: Global, text: &str) -> Result<String, Refusal
     }
 }
 
-/// The one comparison of a tree.
+/// The comparison that a tree consists of.
 fn leaf(tree: &Tree) -> Result<&Comparison, Refusal> {
     match tree {
         Tree::Leaf(comparison) => Ok(comparison),
@@ -47,7 +47,7 @@ pub(crate) fn right_pattern(alloc: Global, text: &str) -> Result<String, Refusal
     }
 }
 
-/// Whether the pattern of a query's one comparison matches the text after it.
+/// Whether the pattern of a query's only comparison matches the text after it.
 pub(crate) fn leaf_matches(alloc: Global, request: &str) -> Result<String, Refusal> {
     let (query, text) = request.split_once(" ").unwrap_or((request, ""));
     let query = parse(alloc, query)?;
@@ -57,18 +57,18 @@ pub(crate) fn leaf_matches(alloc: Global, request: &str) -> Result<String, Refus
     }
 }
 
-/// The same of a text in which a `|` stands for each line feed.
+/// Does what `printed_twice` does, for a text in which a `|` stands for each line feed.
 pub(crate) fn printed_with_feeds(alloc: Global, text: &str) -> Result<String, Refusal> {
     printed_twice(alloc, text.replace(alloc, "|", "\n")?.as_str())
 }
 
-/// Whether a query is read.
+/// Whether a query can be read.
 pub(crate) fn is_read(alloc: Global, text: &str) -> Result<String, Refusal> {
     let _query = parse(alloc, text)?;
     yes_or_no(alloc, true)
 }
 
-/// Example `faults`, and each reading of a text that has a fault.
+/// The example `faults`, and each way to read a text with an error.
 #[test]
 fn faults(rt: HostRuntime) -> Result<(), Fail> {
     let lines = "query name==\"[a\" => refused 13 BadPattern 7
@@ -98,7 +98,7 @@ read 64 ;\";x => refused 12 Syntax 65";
     replies(rt.alloc(), lines)
 }
 
-/// Example `hostile_queries`.
+/// The example `hostile_queries`.
 #[test]
 fn hostile_queries(rt: HostRuntime) -> Result<(), Fail> {
     let lines = "query a==\" => refused 12 Syntax 4
@@ -115,7 +115,8 @@ read 65 !;a==1 => refused 15 TooDeep";
     replies(rt.alloc(), lines)
 }
 
-/// Example `query_limits`, and one step before each limit. A `!` is open until its operand ends.
+/// The example `query_limits`, and one step before each limit. A `!` is open until its operand
+/// ends.
 #[test]
 fn query_limits(rt: HostRuntime) -> Result<(), Fail> {
     let lines = "read 4097 x => refused 14 TooLong
@@ -138,7 +139,7 @@ read 70 !(a==1)&&;a==1 => yes";
     replies(rt.alloc(), lines)
 }
 
-/// A refusal drops what was built: a tree that leans to the left, levels that wait, a tree that
+/// An error drops what was built: a tree that leans to the left, levels that wait, and a tree that
 /// leans to the right.
 #[test]
 fn trees_given_up(rt: HostRuntime) -> Result<(), Fail> {
@@ -150,7 +151,7 @@ read 32 !(a==1||a==1&&;a==1;); b => refused 12 Syntax 485";
     replies(rt.alloc(), lines)
 }
 
-/// Example `printing`, and each reading of a text that has a tree.
+/// The example `printing`, and each way to read a text that has a tree.
 #[test]
 fn printing(rt: HostRuntime) -> Result<(), Fail> {
     let lines = "query a=1||!(b<2&&c='x*') => \"a\"==\"1\" || (\"b\">=\"2\" || \"c\"!=\"x*\")
@@ -179,7 +180,7 @@ fn line_feeds(rt: HostRuntime) -> Result<(), Fail> {
     replies(rt.alloc(), "feeds \ta|!=\r\"\"  => \"a\"!=\"\"")
 }
 
-/// Example `patterns`, where it compares with patterns.
+/// The part of the example `patterns` that compares with patterns.
 #[test]
 fn patterns(rt: HostRuntime) -> Result<(), Fail> {
     let lines = "leaf name=\"*[ch]\" x.c => yes
@@ -194,7 +195,7 @@ leaf name==\"x.\\*\" x.c => no";
     replies(rt.alloc(), lines)
 }
 
-/// The item of a word: a text after a `'`, an operator, a number, or otherwise a name.
+/// The item that a word names: a text after a `'`, a number, an operator, or otherwise a name.
 fn item_of(alloc: Global, word: &str) -> Result<Item, Refusal> {
     if let Some(text) = word.strip_prefix("'") {
         return Ok(Item::Text(String::from_str(alloc, text)?));
@@ -218,7 +219,7 @@ fn numbered(number: i128) -> Item {
     }
 }
 
-/// The operator item that a word names, none if it names none.
+/// The operator item that a word names, if it names one.
 fn operator_of(word: &str) -> Option<Item> {
     match word {
         "==" => Some(Item::Eq),
@@ -237,7 +238,7 @@ fn operator_of(word: &str) -> Option<Item> {
     }
 }
 
-/// The items of a line of words, none of an empty one.
+/// The items of a line of words. An empty line has none.
 fn items_of(alloc: Global, line: &str) -> Result<Vec<Item>, Refusal> {
     let mut items = Vec::new(alloc);
     if line.is_empty() {
@@ -249,7 +250,7 @@ fn items_of(alloc: Global, line: &str) -> Result<Vec<Item>, Refusal> {
     Ok(items)
 }
 
-/// What the items of a line build.
+/// The query that the items of a line build.
 fn built(alloc: Global, line: &str) -> Result<Query, Refusal> {
     let items = items_of(alloc, line)?;
     from_rpn(alloc, &items)
@@ -280,9 +281,9 @@ pub(crate) fn reread(alloc: Global, line: &str) -> Result<String, Refusal> {
     printed(alloc, printed_items(alloc, line)?.as_str())
 }
 
-/// Examples `predicates` and `unsigned_keys`, and each reading of a predicate that is built. The
-/// one comparison of a query has the query's text. An order operator takes its text as it is, a
-/// pattern's operator as a pattern.
+/// The examples `predicates` and `unsigned_keys`, and each way to read a predicate that can be
+/// built. A query's only comparison has the query's text. An order operator takes its text as it
+/// is, and a pattern operator takes it as a pattern.
 #[test]
 fn predicates(rt: HostRuntime) -> Result<(), Fail> {
     let lines = "items size 5 < ! => \"size\">=\"5\"
@@ -302,7 +303,7 @@ literal name 'a* begins => a\\**";
     replies(rt.alloc(), lines)
 }
 
-/// Example `predicates`, and the order of the refusals of a predicate.
+/// The example `predicates`, and the order of a predicate's errors.
 #[test]
 fn refused_predicates(rt: HostRuntime) -> Result<(), Fail> {
     let lines = "items a => refused 22 BadRpn 1
@@ -315,8 +316,8 @@ items a 1 == b 1 == => refused 22 BadRpn 6";
     replies(rt.alloc(), lines)
 }
 
-/// The stack may have up to 64 things, and a predicate up to 256 comparisons. Items may build a
-/// tree whose canonical text has more parentheses than `parse` takes.
+/// The stack may have at most 64 things, and a predicate at most 256 comparisons. Items may build a
+/// tree whose canonical text has more parentheses than `parse` allows.
 #[test]
 fn predicate_limits(rt: HostRuntime) -> Result<(), Fail> {
     let lines = "build 63 ;a; a => refused 22 BadRpn 64

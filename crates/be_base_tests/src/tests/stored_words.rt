@@ -1,6 +1,6 @@
-//! How many words a write stores, by a room that counts them.
+//! How many words a write stores, counted by its page writer.
 ghost use Rattle.std.specs.Prelude.{◌≡◌, ℕ, ◌<◌, IfOk, IsTrue, OnOk};
-ghost use Rattle.be_pages.specs.declared.room.Standing.TheVariants.{Free};
+ghost use Rattle.be_pages.specs.declared.room.PageState.TheVariants.{Free};
 ghost use Rattle.be_tree_reading.specs.Tree.{IsTree};
 
 use super::counting_look::room_of;
@@ -13,14 +13,14 @@ use be_value::Refusal;
 use std::alloc::Global;
 use std::test::Fail;
 
-/// How many keys the tree has. Each is a thousand from the next.
+/// How many keys the tree has. Each is 1,000 above the previous one.
 const KEYS: u64 = 600;
 
-/// Puts the keys in an order that is far from rising, each in a write that is kept, and returns the
-/// root.
+/// Inserts the keys in an order that is far from ascending, each in a write that is kept, and
+/// returns the root.
 fn put_keys(room: &mut VecRoom) -> Result<u64, Refusal>
-    requires { (q : ℕ) → ⟦<VecRoom as Look>⟧.standing room.old q ≡ Free }
-    ensures { IfOk result (λ root. IsTree (⟦<VecRoom as Look>⟧.standing room.new)
+    requires { (q : ℕ) → ⟦<VecRoom as Look>⟧.page_state room.old q ≡ Free }
+    ensures { IfOk result (λ root. IsTree (⟦<VecRoom as Look>⟧.page_state room.new)
         (⟦<VecRoom as Look>⟧.words room.new) root) }
 {
     let mut root = 0;
@@ -30,7 +30,7 @@ fn put_keys(room: &mut VecRoom) -> Result<u64, Refusal>
     Ok(root)
 }
 
-/// The numbers of a write: that many from one on, each that far from the next.
+/// The numbers of a write: `count` numbers from `first` on, in steps of `step`.
 #[derive(Clone, Copy)]
 struct Numbers {
     first: u64,
@@ -47,11 +47,11 @@ impl Numbers {
     }
 }
 
-/// Puts numbers, and returns the root.
+/// Inserts numbers, and returns the root.
 fn put_all<R: Room>(room: &mut R, root: u64, numbers: Numbers) -> Result<u64, Refusal>
-    requires tree { IsTree (R.standing room.old) (R.words room.old) root }
+    requires tree { IsTree (R.page_state room.old) (R.words room.old) root }
     requires open { IsTrue (R.is_open (R.kept room.old)) }
-    ensures tree { IfOk result (λ new. IsTree (R.standing room.new) (R.words room.new) new) }
+    ensures tree { IfOk result (λ new. IsTree (R.page_state room.new) (R.words room.new) new) }
 {
     let mut root = root;
     for i in 0..numbers.count {
@@ -60,11 +60,11 @@ fn put_all<R: Room>(room: &mut R, root: u64, numbers: Numbers) -> Result<u64, Re
     Ok(root)
 }
 
-/// Takes numbers out, and returns the root.
+/// Removes numbers, and returns the root.
 fn take_all<R: Room>(room: &mut R, root: u64, numbers: Numbers) -> Result<u64, Refusal>
-    requires tree { IsTree (R.standing room.old) (R.words room.old) root }
+    requires tree { IsTree (R.page_state room.old) (R.words room.old) root }
     requires open { IsTrue (R.is_open (R.kept room.old)) }
-    ensures tree { IfOk result (λ new. IsTree (R.standing room.new) (R.words room.new) new) }
+    ensures tree { IfOk result (λ new. IsTree (R.page_state room.new) (R.words room.new) new) }
     ensures kept { OnOk result (R.kept room.new ≡ R.kept room.old) }
 {
     let mut root = root;
@@ -82,7 +82,7 @@ fn change<R: Room>(
     count: u64,
     step: u64,
 ) -> Result<u64, Refusal>
-    requires tree { IsTree (R.standing room.old) (R.words room.old) root }
+    requires tree { IsTree (R.page_state room.old) (R.words room.old) root }
     requires open { IsTrue (R.is_open (R.kept room.old)) }
 {
     let first = KEYS * 500;
@@ -102,7 +102,7 @@ fn change<R: Room>(
     }
 }
 
-/// How many words a write stores, on a tree whose keys were put before it.
+/// How many words a write stores, in a tree whose keys were inserted before it.
 pub(crate) fn stored_by(alloc: Global, line: &str) -> Result<String, Refusal> {
     let (kind, numbers) = line.split_once(" ").unwrap_or((line, ""));
     let (count, steps) = first_number(numbers);
@@ -115,9 +115,9 @@ pub(crate) fn stored_by(alloc: Global, line: &str) -> Result<String, Refusal> {
     Ok(format!(in alloc; "{stores}")?)
 }
 
-/// A page that a write has taken is edited in place: if a list comes to the same leaves again and
-/// again, most words are there already. A key is put, or taken out and another put beside it; then
-/// 64 are, beside one another and far apart.
+/// A page that a write has taken is edited in place. If a list changes the same leaves again and
+/// again, most words are there already. The lines insert one key, and remove one and insert another
+/// beside it. Then they insert or remove 64 keys, next to each other or far apart.
 #[test]
 fn stored_words(rt: HostRuntime) -> Result<(), Fail> {
     let lines = "stored put 1 1 => 65

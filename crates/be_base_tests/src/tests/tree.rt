@@ -1,7 +1,7 @@
-//! Trees in a room of few pages: how many they take, and what a room that is full leaves; and equal
-//! values in one index.
+//! Trees in a room of few pages: how many pages they take, and what is left when a room is full.
+//! Also equal values in one index.
 ghost use Rattle.std.specs.Prelude.{◌≡◌, ◌<◌, ◌≤◌, IfOk, OnErr};
-ghost use Rattle.be_pages.specs.declared.room.Standing.TheVariants.{Free};
+ghost use Rattle.be_pages.specs.declared.room.PageState.TheVariants.{Free};
 ghost use Rattle.be_pages.specs.Pages.{IsUnchanged};
 ghost use Rattle.be_tree_reading.specs.Forest.{IsWriteStart};
 ghost use Rattle.be_tree_reading.specs.Tree.{IsTree};
@@ -14,16 +14,16 @@ use be_value::Refusal;
 use std::alloc::Global;
 use std::test::Fail;
 
-/// Inserts a number's key and keeps the write, or undoes a write that is refused.
+/// Inserts a number's key and keeps the write, or undoes it if it is refused.
 pub(crate) fn put_number(room: &mut VecRoom, root: u64, i: u64) -> Result<u64, Refusal>
-    requires tree { IsTree (⟦<VecRoom as Look>⟧.standing room.old)
+    requires tree { IsTree (⟦<VecRoom as Look>⟧.page_state room.old)
         (⟦<VecRoom as Look>⟧.words room.old) root }
-    requires start { IsWriteStart (⟦<VecRoom as Look>⟧.standing room.old) }
-    ensures ok { IfOk result (λ new. IsTree (⟦<VecRoom as Look>⟧.standing room.new)
+    requires start { IsWriteStart (⟦<VecRoom as Look>⟧.page_state room.old) }
+    ensures ok { IfOk result (λ new. IsTree (⟦<VecRoom as Look>⟧.page_state room.new)
         (⟦<VecRoom as Look>⟧.words room.new) new) }
-    ensures err { OnErr result (IsTree (⟦<VecRoom as Look>⟧.standing room.new)
+    ensures err { OnErr result (IsTree (⟦<VecRoom as Look>⟧.page_state room.new)
         (⟦<VecRoom as Look>⟧.words room.new) root) }
-    ensures start { IsWriteStart (⟦<VecRoom as Look>⟧.standing room.new) }
+    ensures start { IsWriteStart (⟦<VecRoom as Look>⟧.page_state room.new) }
 {
     match insert(room, root, &i.to_be_bytes(), &i.to_le_bytes()) {
         Ok(new) => {
@@ -37,15 +37,15 @@ pub(crate) fn put_number(room: &mut VecRoom, root: u64, i: u64) -> Result<u64, R
     }
 }
 
-/// Inserts the numbers below another in order, each write kept. Returns the root, and the first
-/// number that was refused, or the last one's next.
+/// Inserts the numbers below `to` in order, each in a write that is kept. It returns the root, and
+/// the first number that was refused, or `to`.
 fn put_numbers(room: &mut VecRoom, root: u64, to: u64) -> (u64, u64)
-    requires tree { IsTree (⟦<VecRoom as Look>⟧.standing room.old)
+    requires tree { IsTree (⟦<VecRoom as Look>⟧.page_state room.old)
         (⟦<VecRoom as Look>⟧.words room.old) root }
-    requires start { IsWriteStart (⟦<VecRoom as Look>⟧.standing room.old) }
-    ensures tree { IsTree (⟦<VecRoom as Look>⟧.standing room.new)
+    requires start { IsWriteStart (⟦<VecRoom as Look>⟧.page_state room.old) }
+    ensures tree { IsTree (⟦<VecRoom as Look>⟧.page_state room.new)
         (⟦<VecRoom as Look>⟧.words room.new) result.0 }
-    ensures start { IsWriteStart (⟦<VecRoom as Look>⟧.standing room.new) }
+    ensures start { IsWriteStart (⟦<VecRoom as Look>⟧.page_state room.new) }
 {
     let mut root = root;
     for i in 0..to {
@@ -57,11 +57,11 @@ fn put_numbers(room: &mut VecRoom, root: u64, to: u64) -> (u64, u64)
     (root, to)
 }
 
-/// Takes the numbers below another out in order, each write kept.
+/// Removes the numbers below `to` in order, each in a write that is kept.
 fn take_numbers(room: &mut VecRoom, root: u64, to: u64) -> Result<u64, Refusal>
-    requires tree { IsTree (⟦<VecRoom as Look>⟧.standing room.old)
+    requires tree { IsTree (⟦<VecRoom as Look>⟧.page_state room.old)
         (⟦<VecRoom as Look>⟧.words room.old) root }
-    ensures tree { IfOk result (λ new. IsTree (⟦<VecRoom as Look>⟧.standing room.new)
+    ensures tree { IfOk result (λ new. IsTree (⟦<VecRoom as Look>⟧.page_state room.new)
         (⟦<VecRoom as Look>⟧.words room.new) new) }
 {
     let mut root = root;
@@ -72,8 +72,8 @@ fn take_numbers(room: &mut VecRoom, root: u64, to: u64) -> Result<u64, Refusal>
     Ok(root)
 }
 
-/// How many of that many pages are free once the numbers below a count are inserted, if they are
-/// met in order then.
+/// How many pages are free after the numbers below a count were inserted. It is an error if a walk
+/// doesn't meet them in order.
 pub(crate) fn free_with(alloc: Global, line: &str) -> Result<String, Refusal> {
     let (pages, numbers) = first_number(line);
     let (count, _) = first_number(numbers);
@@ -86,8 +86,8 @@ pub(crate) fn free_with(alloc: Global, line: &str) -> Result<String, Refusal> {
     Ok(format!(in alloc; "{free}")?)
 }
 
-/// The root, and how many of that many pages are free, once the numbers below a count are inserted
-/// and taken out again.
+/// The root, and how many pages are free, after the numbers below a count were inserted and removed
+/// again.
 pub(crate) fn free_without(alloc: Global, line: &str) -> Result<String, Refusal> {
     let (pages, numbers) = first_number(line);
     let (count, _) = first_number(numbers);
@@ -98,8 +98,8 @@ pub(crate) fn free_without(alloc: Global, line: &str) -> Result<String, Refusal>
     Ok(format!(in alloc; "{accepted} taken, root {root}, {free} free")?)
 }
 
-/// Twelve pairs fit in one page; the thirteenth makes two leaves and an inner page. Rising keys
-/// fill their pages: 600 pairs take 50 leaves of 12, five pages above them and the root.
+/// Twelve pairs fit into one page. The thirteenth makes two leaves and an inner page. Ascending
+/// keys fill their pages: 600 pairs take 50 leaves of 12, five pages above them, and the root.
 #[test]
 fn tree_pages(rt: HostRuntime) -> Result<(), Fail> {
     let lines = "free 16 1 => 15
@@ -120,8 +120,8 @@ free 16384 0 => 16384";
     replies(rt.alloc(), lines)
 }
 
-/// In a room of eight pages at least 20 rising keys are accepted and at most 60. The next one is
-/// refused, and its write undone: the pairs before it stay.
+/// A room of eight pages takes at least 20 and at most 60 ascending keys. The next key is refused,
+/// and its write is undone: the earlier pairs stay.
 #[test]
 fn full_tree(rt: HostRuntime) -> Result<(), Fail> {
     let mut room = room_of(rt.alloc(), 8)?;
@@ -136,7 +136,7 @@ fn full_tree(rt: HostRuntime) -> Result<(), Fail> {
     Ok(())
 }
 
-/// The key of the text `x` of a node in an index.
+/// The key of the text `x` at a node, in an index.
 fn value_key(node: u8) -> [u8; 10] {
     let mut key = *b"x\0\0\0\0\0\0\0\0\0";
     key[9] = node;
@@ -145,7 +145,7 @@ fn value_key(node: u8) -> [u8; 10] {
 
 /// Inserts the keys of nodes, and returns the root.
 fn put_nodes(room: &mut VecRoom, nodes: &[u8]) -> Result<u64, Refusal>
-    ensures tree { IfOk result (λ root. IsTree (⟦<VecRoom as Look>⟧.standing room.new)
+    ensures tree { IfOk result (λ root. IsTree (⟦<VecRoom as Look>⟧.page_state room.new)
         (⟦<VecRoom as Look>⟧.words room.new) root) }
 {
     let mut root = 0;
@@ -155,11 +155,10 @@ fn put_nodes(room: &mut VecRoom, nodes: &[u8]) -> Result<u64, Refusal>
     Ok(root)
 }
 
-/// Whether the tree has the keys of these nodes, and no others, from the text `x` on, in this
-/// order.
+/// Whether the tree has exactly the keys of these nodes from the text `x` on, in this order.
 fn has_nodes<L: Look>(look: &mut L, root: u64, nodes: &[u8]) -> bool
-    requires { IsTree (L.standing look.old) (L.words look.old) root }
-    ensures { IsUnchanged L.kept L.standing L.words look.old look.new }
+    requires { IsTree (L.page_state look.old) (L.words look.old) root }
+    ensures { IsUnchanged L.kept L.page_state L.words look.old look.new }
 {
     let mut cursor = Cursor::new();
     cursor.seek(look, root, b"x\0", false);
@@ -172,7 +171,7 @@ fn has_nodes<L: Look>(look: &mut L, root: u64, nodes: &[u8]) -> bool
     cursor.next_key(look).is_none()
 }
 
-/// One value at three nodes is three keys; one of them is taken out.
+/// One value at three nodes is three keys. One of them is removed.
 #[test]
 fn equal_values(rt: HostRuntime) -> Result<(), Fail> {
     let mut room = room_of(rt.alloc(), 8)?;

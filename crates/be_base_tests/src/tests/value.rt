@@ -1,4 +1,4 @@
-//! Vectors from outside: keys as bytes, numbers as texts, and the limits of names and values.
+//! Examples from outside: keys as bytes, numbers as texts, and the limits of names and values.
 
 use super::lines::{replies, yes_or_no};
 use arrayvec::ArrayVec;
@@ -9,7 +9,7 @@ use be_volume::Op;
 use std::alloc::Global;
 use std::test::Fail;
 
-/// Whether these bytes are read as the pair.
+/// Whether these bytes are read as this pair.
 fn reads_as(bytes: &[u8], value: &Value, node: u64) -> bool {
     match read_key(value.kind(), bytes) {
         Some((read, of)) => of == node && Value::order(value, &read).is_eq(),
@@ -17,7 +17,7 @@ fn reads_as(bytes: &[u8], value: &Value, node: u64) -> bool {
     }
 }
 
-/// The key of a pair, none of a value that no index has.
+/// The key of a pair, or no bytes if no index has the value's kind.
 fn key_bytes(value: &Value, node: u64) -> ArrayVec<u8, 264> {
     if value.kind().indexable() {
         key_of(value, node)
@@ -30,7 +30,7 @@ fn ends_with(bytes: &[u8], node: u64) -> bool {
     bytes.len() >= 8 && node_of(bytes) == node
 }
 
-/// The bytes of the key of a pair, as a value of raw bytes has them, if they are read back.
+/// The bytes of a pair's key, printed as a raw value, if they are read back.
 fn key_text(alloc: Global, value: &Value, node: u64) -> Result<String, Refusal> {
     let key = key_bytes(value, node);
     let bytes = key.as_slice();
@@ -40,7 +40,7 @@ fn key_text(alloc: Global, value: &Value, node: u64) -> Result<String, Refusal> 
     Ok(reply_lines(alloc, &Reply::Value(Some(Value::raw(bytes)?)))?)
 }
 
-/// The same of the value and the node that a line sets.
+/// The same for the value and the node that a line sets.
 pub(crate) fn key_of_pair(alloc: Global, line: &str) -> Result<String, Refusal> {
     let ops = list_of(alloc, line)?;
     match ops.first() {
@@ -49,7 +49,7 @@ pub(crate) fn key_of_pair(alloc: Global, line: &str) -> Result<String, Refusal> 
     }
 }
 
-/// Numbers of 32 and of 64 bits, the least one too, and a text.
+/// Numbers of 32 and of 64 bits, including the lowest, and a text.
 #[test]
 fn keys_are_these_bytes(rt: HostRuntime) -> Result<(), Fail> {
     let lines = "pair set 1 k LONG 5 => RAWT \"800000050000000000000001\"
@@ -69,7 +69,7 @@ pub(crate) fn key_length(alloc: Global, text: &str) -> Result<String, Refusal> {
     Ok(format!(in alloc; "{length}")?)
 }
 
-/// Bytes that are the key of no pair, and kinds that no index has.
+/// Bytes that aren't the key of any pair, and kinds that no index has.
 #[test]
 fn keys_of_no_pair(rt: HostRuntime) {
     assert!(rt; read_key(Kind::Cstr, b"ab").is_none());
@@ -78,7 +78,7 @@ fn keys_of_no_pair(rt: HostRuntime) {
 }
 
 /// The number that a text encodes.
-pub(crate) fn number_spelt(alloc: Global, text: &str) -> Result<String, Refusal> {
+pub(crate) fn encoded_number(alloc: Global, text: &str) -> Result<String, Refusal> {
     match number_of(text) {
         Some(number) => Ok(format!(in alloc; "{number}")?),
         None => yes_or_no(alloc, false),
@@ -88,7 +88,7 @@ pub(crate) fn number_spelt(alloc: Global, text: &str) -> Result<String, Refusal>
 /// Texts that encode a number, up to the limits of 64 bits and of 20 digits, and texts that encode
 /// none.
 #[test]
-fn texts_spell_numbers(rt: HostRuntime) -> Result<(), Fail> {
+fn texts_encode_numbers(rt: HostRuntime) -> Result<(), Fail> {
     let lines = "number 0 => 0
 number -0 => 0
 number 00000000000000000005 => 5
@@ -105,12 +105,12 @@ number abc => no";
     replies(rt.alloc(), lines)
 }
 
-/// Whether a name is made of a text, and is that text.
+/// Whether a text makes a name that is this text.
 pub(crate) fn is_name(alloc: Global, text: &str) -> Result<String, Refusal> {
     yes_or_no(alloc, Name::new(text)?.as_str() == text)
 }
 
-/// Whether a text is a value.
+/// Whether a text makes a value that is this text.
 pub(crate) fn is_text(alloc: Global, text: &str) -> Result<String, Refusal> {
     match Value::text(text)? {
         Value::Cstr(made) => yes_or_no(alloc, made.as_str() == text),
@@ -122,12 +122,12 @@ pub(crate) fn is_mime(alloc: Global, text: &str) -> Result<String, Refusal> {
     yes_or_no(alloc, Value::mime(text)?.kind() == Kind::Mims)
 }
 
-/// Whether the bytes of a text are a raw value.
+/// Whether a text's bytes make a raw value.
 pub(crate) fn is_raw(alloc: Global, text: &str) -> Result<String, Refusal> {
     yes_or_no(alloc, Value::raw(text.as_bytes())?.kind() == Kind::Rawt)
 }
 
-/// The kind of a number: its letters, and whether an index takes it.
+/// The kind with a number: its letters, and whether an index may have it.
 pub(crate) fn kind_numbered(alloc: Global, text: &str) -> Result<String, Refusal> {
     let Ok(number) = u8::try_from(number_of(text).unwrap_or(0)) else {
         return yes_or_no(alloc, false);
@@ -137,17 +137,17 @@ pub(crate) fn kind_numbered(alloc: Global, text: &str) -> Result<String, Refusal
     };
     let number = kind.number();
     let letters = kind.code().to_be_bytes();
-    let mut told = format!(in alloc; "{number} ")?;
+    let mut report = format!(in alloc; "{number} ")?;
     for letter in letters {
-        told.push(char::from(letter))?;
+        report.push(char::from(letter))?;
     }
     if kind.indexable() {
-        told.push_str(" indexable")?;
+        report.push_str(" indexable")?;
     }
-    Ok(told)
+    Ok(report)
 }
 
-/// Limits of names and values, and the kinds of the Be Book.
+/// Limits of names and values, and the kinds from the Be Book.
 #[test]
 fn names_and_values_have_limits(rt: HostRuntime) -> Result<(), Fail> {
     let lines = "name 63 x => yes

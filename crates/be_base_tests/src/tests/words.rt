@@ -1,4 +1,4 @@
-//! The words of a page, by an example from outside.
+//! The words of a page, in an example from outside.
 ghost use Rattle.be_tree_reading.specs.Tree.{IsTree};
 
 use super::counting_look::room_of;
@@ -6,9 +6,9 @@ use be_pages::Look;
 use be_tree::insert;
 use std::test::Fail;
 
-/// The first six words of a tree's root page; zeros for the empty tree.
+/// The first six words of a tree's root page, or zeros for the empty tree.
 fn first_words<L: Look>(look: &mut L, root: u64) -> [u64; 6]
-    requires { IsTree (L.standing look.old) (L.words look.old) root }
+    requires { IsTree (L.page_state look.old) (L.words look.old) root }
 {
     if root == 0 {
         return [0; 6];
@@ -25,7 +25,7 @@ fn first_words<L: Look>(look: &mut L, root: u64) -> [u64; 6]
 }
 
 /// A leaf with the attribute `size` of node 1, the LONG 5: its level, its count, and the item's
-/// four words. Zeros follow the payload in the last of them.
+/// four words. Zeros follow the payload in the last word.
 #[test]
 fn words_of_an_attribute(rt: HostRuntime) -> Result<(), Fail> {
     let mut room = room_of(rt.alloc(), 8)?;

@@ -29,8 +29,8 @@ fn next_number(store: &Store, alloc: Global, pass: &mut Pass) -> Result<u64, Ref
     collected(next)
 }
 
-/// The commit number of a change that makes this many nodes on an empty store, the number of the
-/// next node after it, and the number that it gave last.
+/// Makes this many nodes with a change on an empty store. Returns the change's commit number, the
+/// next node's number after it, and the last number that it returned.
 pub(crate) fn written_of(alloc: Global, count: u64) -> Result<(u64, u64, u64), Refusal> {
     let (store, mut pass) = open_for_one(alloc, 100)?;
     let mut change = Change::begin(alloc, &store, &mut pass, Kinds::Checked)?;
@@ -42,8 +42,8 @@ pub(crate) fn written_of(alloc: Global, count: u64) -> Result<(u64, u64, u64), R
     Ok((number, next, last))
 }
 
-/// Whether a change has to be made again after which another pass wrote a 7; the number then, and
-/// after the next attempt, which writes an 8.
+/// Whether a change has to be repeated, if another pass wrote a 7 since it began. Also the number
+/// then, and after the next attempt, which writes an 8.
 fn against(
     store: &Store,
     alloc: Global,
@@ -65,13 +65,13 @@ fn against(
     Ok((again, before, after))
 }
 
-/// The same of a store for two passes.
+/// The same on a store with two passes.
 pub(crate) fn ends_again(alloc: Global) -> Result<(bool, Option<i64>, Option<i64>), Refusal> {
     let (store, mut first, mut second) = open_for_two(alloc)?;
     against(&store, alloc, &mut first, &mut second)
 }
 
-/// Why the change is refused. BadLimits if it isn't.
+/// The error with which the change is refused. BadLimits if it isn't.
 fn refusal_of(change: Change, store: &Store, pass: &mut Pass) -> Result<Refusal, Refusal>
     requires { IsPassOf store.now pass.old }
     ensures { IsPassOf store.now pass.new }
@@ -83,7 +83,7 @@ fn refusal_of(change: Change, store: &Store, pass: &mut Pass) -> Result<Refusal,
     }
 }
 
-/// Why a change is refused that sets an attribute of a node that isn't there.
+/// The error of a change that sets an attribute of a node that doesn't exist.
 fn without_node(store: &Store, alloc: Global, pass: &mut Pass) -> Result<Refusal, Refusal>
     requires { IsPassOf store.now pass.old }
     ensures { IsPassOf store.now pass.new }
@@ -94,7 +94,7 @@ fn without_node(store: &Store, alloc: Global, pass: &mut Pass) -> Result<Refusal
     refusal_of(change, store, pass)
 }
 
-/// Why a change is refused that removes an attribute that isn't there.
+/// The error of a change that removes an attribute that doesn't exist.
 fn without_attribute(store: &Store, alloc: Global, pass: &mut Pass) -> Result<Refusal, Refusal>
     requires { IsPassOf store.now pass.old }
     ensures { IsPassOf store.now pass.new }
@@ -105,7 +105,7 @@ fn without_attribute(store: &Store, alloc: Global, pass: &mut Pass) -> Result<Re
     refusal_of(change, store, pass)
 }
 
-/// Why a change is refused that makes a node.
+/// The error of a change that makes a node.
 fn without_room(store: &Store, alloc: Global, pass: &mut Pass) -> Result<Refusal, Refusal>
     requires { IsPassOf store.now pass.old }
     ensures { IsPassOf store.now pass.new }
@@ -115,7 +115,7 @@ fn without_room(store: &Store, alloc: Global, pass: &mut Pass) -> Result<Refusal
     refusal_of(change, store, pass)
 }
 
-/// Why changes are refused, the last one by a journal at its limit; and the number of the next node
+/// The errors of three changes, the last one at the journal's limit; and the next node's number
 /// before that one.
 pub(crate) fn refusals(alloc: Global) -> Result<(Refusal, Refusal, Refusal, u64), Refusal> {
     let (store, mut pass) = open_for_one(alloc, 1)?;
@@ -127,8 +127,8 @@ pub(crate) fn refusals(alloc: Global) -> Result<(Refusal, Refusal, Refusal, u64)
     Ok((node, attribute, room, next))
 }
 
-/// The pin after a change of a pass that wasn't pinned, after one that was abandoned, and after one
-/// of a pass that was pinned.
+/// The pin after a change by a pass that wasn't pinned, after one that was abandoned, and after one
+/// by a pass that was pinned.
 pub(crate) fn keeps_pins(
     alloc: Global,
 ) -> Result<(Option<u64>, Option<u64>, Option<u64>), Refusal> {

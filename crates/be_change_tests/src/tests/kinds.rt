@@ -1,4 +1,4 @@
-//! Which set of a list has another kind than the index of its name takes.
+//! Which set in a list has another kind than the index of its name.
 ghost use Rattle.be_store.specs.Passes.{IsPassOf};
 
 use crate::tests::steps::{abandoned, open_for_one};
@@ -21,7 +21,7 @@ fn first_mismatch(store: &Store, pass: &mut Pass, ops: &[Op]) -> Option<(usize, 
     }
 }
 
-/// The same of a list in the words of scripts, in a store with an index "a" of texts.
+/// The same for a list in the script language, in a store with an index "a" of texts.
 pub(crate) fn mismatch_of(alloc: Global, list: &str) -> Result<Option<(usize, Kind)>, Refusal> {
     let (store, mut pass) = open_for_one(alloc, 100)?;
     store.apply(&mut pass, &[Op::MkIndex(Name::new("a")?, Kind::Cstr)])?;

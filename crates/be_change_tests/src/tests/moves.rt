@@ -1,4 +1,4 @@
-//! Two threads that move amounts from one node to another, by changes.
+//! Two threads that move amounts from one node to another with changes.
 ghost use Rattle.be_store.specs.Passes.{IsPassOf};
 
 use crate::tests::steps::{
@@ -10,7 +10,7 @@ use std::alloc::{AllocGlobal, Global};
 use std::thread;
 use std::thread::Threads;
 
-/// Moves this much from one node to the other, as the change reads them.
+/// Moves an amount from one node to the other, as the change reads them.
 fn collect_move(
     change: &mut Change,
     store: &Store,
@@ -32,7 +32,7 @@ fn collect_move(
     collected(change.set(nodes.1, name, Value::int64(to.saturating_add(amount))))
 }
 
-/// One attempt to move. Returns whether it is written.
+/// One attempt to move. Returns whether it was written.
 fn try_move(
     store: &Store,
     alloc: Global,
@@ -53,7 +53,7 @@ fn try_move(
     }
 }
 
-/// Whether a move is written; one that ran out of memory isn't.
+/// Whether a move was written; one that ran out of memory wasn't.
 fn has_moved(moved: Result<bool, Refusal>) -> Result<bool, Refusal> {
     match moved {
         Err(Refusal::OutOfMemory) => Ok(false),
@@ -61,7 +61,7 @@ fn has_moved(moved: Result<bool, Refusal>) -> Result<bool, Refusal> {
     }
 }
 
-/// Moves until it is written.
+/// Tries to move until it is written.
 fn move_at_last(
     store: &Store,
     alloc: Global,
@@ -96,7 +96,7 @@ fn move_often(
     Ok(())
 }
 
-/// Two nodes with 1,000 each.
+/// Makes two nodes with 1,000 each.
 fn make_both(store: &Store, pass: &mut Pass) -> Result<(), Refusal>
     requires { IsPassOf store.now pass.old }
     ensures { IsPassOf store.now pass.new }
@@ -107,7 +107,8 @@ fn make_both(store: &Store, pass: &mut Pass) -> Result<(), Refusal>
     Ok(())
 }
 
-/// One thread moves 1 from the first node to the second 200 times, and another moves 2 back.
+/// One thread moves 1 from the first node to the second 200 times, and another moves 2 back 200
+/// times.
 fn move_by_two<R: AllocGlobal + Threads + Sync>(
     rt: &R,
     store: &Store,
@@ -126,11 +127,12 @@ fn move_by_two<R: AllocGlobal + Threads + Sync>(
     other
 }
 
-/// Moves by two threads. Returns what the nodes have then.
+/// Lets two threads move. Returns what the nodes have then.
 pub(crate) fn move_both_ways<R: AllocGlobal + Threads + Sync>(
     rt: &R,
 ) -> Result<(i64, i64), Refusal> {
-    // So many pages that no schedule leaves a write none, however long the other thread is pinned.
+    // There are so many pages that no schedule leaves a write without one, however long the other
+    // thread is pinned.
     let limits = Limits {
         pages: 4096,
         passes: 3,

@@ -1,4 +1,4 @@
-//! What a change reads of its own operations, and which kinds it takes.
+//! What a change reads of its own operations, and which kinds it accepts.
 ghost use Rattle.be_store.specs.Passes.{IsPassOf};
 
 use crate::tests::steps::{
@@ -10,7 +10,8 @@ use std::alloc::Global;
 
 type Read = Option<i64>;
 
-/// The number of node 1 before the operations, after two sets, and after an unset.
+/// The number at node 1, as the change reads it before its operations, after two sets, and after an
+/// unset.
 fn reads_of_old(
     change: &mut Change,
     store: &Store,
@@ -29,7 +30,7 @@ fn reads_of_old(
     Ok((before, set, unset))
 }
 
-/// The number of a new node before it has one, and then; node 1 is removed.
+/// The number at a new node, as the change reads it before and after setting it.
 fn reads_of_new(
     change: &mut Change,
     store: &Store,
@@ -46,8 +47,8 @@ fn reads_of_new(
     Ok((before, set))
 }
 
-/// What the store has after a change that removes node 1: the number of node 2, and that of node 1.
-/// Then what a change reads of node 1, that it removes after it was made with a 1, before it does.
+/// Three reads around a change that removes node 1. They are the number at node 2 in the store
+/// afterwards, and at node 1 in the change, after and before the removal.
 fn removes(
     mut change: Change,
     store: &Store,
@@ -69,7 +70,7 @@ fn removes(
 
 type Reads = ((Read, Read, Read), (Read, Read), (Read, Read, Read));
 
-/// What a change reads beside its own operations.
+/// What a change reads, given its own operations.
 pub(crate) fn own_reads(alloc: Global) -> Result<Reads, Refusal> {
     let (store, mut pass) = open_for_one(alloc, 100)?;
     make_first(&store, &mut pass, 1)?;
@@ -96,8 +97,8 @@ fn with_index(
     Change::begin(alloc, store, pass, kinds)
 }
 
-/// Whether a number is taken at a name that has an index of texts, whether a text is, and whether a
-/// number is at another name.
+/// Whether a change accepts a number at a name with an index of texts, a text there, and a number
+/// at another name.
 fn taken_by_snapshot(change: &mut Change) -> Result<(bool, bool, bool), Refusal> {
     let number = is_taken(change.set(1, Name::new("a")?, Value::int64(1)))?;
     let text = is_taken(change.set(1, Name::new("a")?, Value::text("x")?))?;
@@ -105,8 +106,8 @@ fn taken_by_snapshot(change: &mut Change) -> Result<(bool, bool, bool), Refusal>
     Ok((number, text, other))
 }
 
-/// Whether a number is taken once the index is removed; whether a text is once there is an index of
-/// numbers, and whether a number is.
+/// Whether a change accepts a number once it has removed the index. Then, whether it accepts a text
+/// and a number once it has made an index of numbers.
 fn taken_by_change(change: &mut Change) -> Result<(bool, bool, bool), Refusal> {
     collected(change.remove_index(Name::new("a")?))?;
     let removed = is_taken(change.set(1, Name::new("a")?, Value::int64(1)))?;
@@ -118,7 +119,7 @@ fn taken_by_change(change: &mut Change) -> Result<(bool, bool, bool), Refusal> {
 
 type Taken = ((bool, bool, bool), (bool, bool, bool));
 
-/// Which kinds a change takes that checks them.
+/// Which kinds a change accepts if it checks them.
 pub(crate) fn kinds_taken(alloc: Global) -> Result<Taken, Refusal> {
     let (store, mut pass) = open_for_one(alloc, 100)?;
     let mut change = with_index(&store, alloc, &mut pass, Kinds::Checked)?;
@@ -128,7 +129,7 @@ pub(crate) fn kinds_taken(alloc: Global) -> Result<Taken, Refusal> {
     Ok((before, after))
 }
 
-/// Whether a change that doesn't check kinds takes a number at a name that has an index of texts.
+/// Whether a change that doesn't check kinds accepts a number at a name with an index of texts.
 pub(crate) fn unchecked_kinds(alloc: Global) -> Result<bool, Refusal> {
     let (store, mut pass) = open_for_one(alloc, 100)?;
     let mut change = with_index(&store, alloc, &mut pass, Kinds::Unchecked)?;

@@ -1,5 +1,5 @@
-//! Calls of a change by a pass of which only its store is known. Each tests for itself whether the
-//! pass is pinned; BadLimits if it isn't.
+//! Calls on a change with a pass about which only its store is known. Each call checks whether the
+//! pass is pinned, and returns BadLimits if it isn't.
 ghost use Rattle.std.specs.Prelude.{IfOk};
 ghost use Rattle.be_store.specs.Passes.{IsPassOf};
 
@@ -8,10 +8,10 @@ use be_store::{Limits, Name, Op, Pass, Refusal, Store, Value};
 use be_test_tools::both_of;
 use std::alloc::Global;
 
-/// How often a write is tried while another pass holds the lock.
+/// The maximum number of tries of a write while another pass holds the lock.
 pub(crate) const TRIES: u64 = 10_000_000;
 
-/// What a call says that collects. WrongKind is NotIndexable here.
+/// What a call that collects an operation returns. WrongKind becomes NotIndexable here.
 pub(crate) fn collected<T: Drop>(answer: Result<T, CollectError>) -> Result<T, Refusal> {
     match answer {
         Ok(value) => Ok(value),
@@ -21,7 +21,7 @@ pub(crate) fn collected<T: Drop>(answer: Result<T, CollectError>) -> Result<T, R
     }
 }
 
-/// Whether the kind of a set was taken.
+/// Whether the kind of a set was accepted.
 pub(crate) fn is_taken(answer: Result<(), CollectError>) -> Result<bool, Refusal> {
     match answer {
         Err(CollectError::WrongKind(_, _)) => Ok(false),
@@ -32,7 +32,7 @@ pub(crate) fn is_taken(answer: Result<(), CollectError>) -> Result<bool, Refusal
     }
 }
 
-/// The number that a node has at the name.
+/// The number that a node has at the name, as the change reads it.
 pub(crate) fn number_at(
     change: &Change,
     store: &Store,
@@ -82,7 +82,7 @@ pub(crate) fn abandoned(change: Change, store: &Store, pass: &mut Pass)
     }
 }
 
-/// Sets a number, ends the change, and returns whether it is written.
+/// Sets a number, ends the change, and returns whether it was written.
 pub(crate) fn set_and_end(
     mut change: Change,
     store: &Store,
@@ -104,7 +104,7 @@ pub(crate) fn set_and_end(
     }
 }
 
-/// A number of the current version.
+/// A node's number in the current version.
 pub(crate) fn current_number(
     store: &Store,
     alloc: Global,
@@ -121,7 +121,7 @@ pub(crate) fn current_number(
     Ok(number)
 }
 
-/// A store for one pass, and for this many writes.
+/// A store with one pass, and with this many writes.
 pub(crate) fn open_for_one(alloc: Global, commits: u64) -> Result<(Store, Pass), Refusal>
     ensures { IfOk result (λ r. IsPassOf r.0 r.1) }
 {
@@ -137,7 +137,7 @@ pub(crate) fn open_for_one(alloc: Global, commits: u64) -> Result<(Store, Pass),
     }
 }
 
-/// A store for two passes.
+/// A store with two passes.
 pub(crate) fn open_for_two(alloc: Global) -> Result<(Store, Pass, Pass), Refusal>
     ensures { IfOk result (λ r. IsPassOf r.0 r.1 × IsPassOf r.0 r.2) }
 {

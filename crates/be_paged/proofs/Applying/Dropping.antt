@@ -1,4 +1,4 @@
--- A node that loses its attributes one after another, and then leaves.
+-- A node loses its attributes one by one, and is then removed.
 use Rattle.std.proofs.Common.{◌≡◌, ℕ, ◌+◌, ◌-◌, ◌<◌, ◌^◌, Bool, true, false, cond, List, [], ◌∷◌, map, Some, None, ap, sym, subst, ◌∙◌, refl, is_some, inl, inr, unwrap_or}
 use Rattle.std.specs.Option.{option_map}
 use Rattle.std.specs.Ordering.{nat_cmp, eq_by_cmp}
@@ -20,7 +20,7 @@ use Rattle.be_volume.proofs.StepLemmas.{made}
 use Rattle.be_volume.proofs.Soundness.{step_sound}
 use Rattle.be_paged_reading.specs.Catalog.{value_at}
 use Rattle.be_paged.specs.Changes.{Leaves}
-use Rattle.be_paged_reading.proofs.CatalogPairs.Items.{get_here, get_other, gone_here, gone_other, keys_tell}
+use Rattle.be_paged_reading.proofs.CatalogPairs.Items.{get_here, get_other, gone_here, gone_other, keys_decided}
 use Rattle.be_paged_reading.proofs.CatalogPairs.Segments.{value_there}
 use Rattle.be_paged.proofs.Applying.Stepping.{stepped_found}
 
@@ -47,13 +47,13 @@ same_pairs m node = same_map nat_cmp_total nat_cmp-IsAntisymmetric _ _ (λ q. el
 twice : (index : Index) (node : ℕ) → unpaired (unpaired index node) node ≡ unpaired index node
 twice index node = ap (λ (m : FinMap nat_cmp Value). record { kind = index.kind; pairs = m }) (same_pairs index.pairs node)
 
--- an index that lost the node's pair loses it no more
+-- an index that has lost the node's pair can't lose it again
 indices_left : (indices : Indices) (name : List ℕ) (node : ℕ) → without_node (without_pair indices name node) node ≡ without_node indices node
 indices_left indices name node = by (fin.get indices name) refl
   where
     by : (found : Option Index) → fin.get indices name ≡ found → without_node (unpaired_at indices name found node) node ≡ without_node indices node
     by None e = refl
-    by (Some index) e = same_map names_total exact_names _ _ (λ q. get_left (fin.insert indices name (unpaired index node)) node q ∙ (elim (keys_tell q name) [
+    by (Some index) e = same_map names_total exact_names _ _ (λ q. get_left (fin.insert indices name (unpaired index node)) node q ∙ (elim (keys_decided q name) [
       | inl s ↦ subst (λ n. option_map (λ (i : Index). unpaired i node) (fin.get (fin.insert indices name (unpaired index node)) n) ≡ option_map (λ (i : Index). unpaired i node) (fin.get indices n)) (sym s)
           (ap (option_map (λ (i : Index). unpaired i node)) (get_here names_total exact_names indices name (unpaired index node)) ∙ ap Some (twice index node) ∙ sym (ap (option_map (λ (i : Index). unpaired i node)) e))
       | inr ne ↦ ap (option_map (λ (i : Index). unpaired i node)) (get_other names_total exact_names indices name (unpaired index node) q ne)
@@ -66,7 +66,7 @@ nodes_left nodes node a = same_map nat_cmp_total nat_cmp-IsAntisymmetric _ _ (λ
 ])
 
 module _ (volume left : State) (node : ℕ) (h : Leaves volume left node) where
-  -- one attribute less
+  -- one more attribute is removed
   pub leaves_more : (name : List ℕ) → fin.contains_key (attributes_of left.nodes node) name ≡ true → IsName name → left.next + 1 < 2 ^ 64 → Leaves volume (made left (Unset node name)) node
   leaves_more name has named fits = record {
     sound = step_sound left (made left (Unset node name)) (Unset node name) _ h.sound fits named (stepped_found left (Unset node name) (h.there, has));
@@ -76,7 +76,7 @@ module _ (volume left : State) (node : ℕ) (h : Leaves volume left node) where
     indices = indices_left left.indices name node ∙ h.indices;
   }
 
-  -- one attribute less to count
+  -- one attribute fewer to count
   pub less_to_count : (name : List ℕ) → fin.contains_key (attributes_of left.nodes node) name ≡ true → fin.len (attributes_of (made left (Unset node name)).nodes node) ≡ fin.len (attributes_of left.nodes node) - 1
   less_to_count name has =
       ap (λ (a : Option Attributes). fin.len (unwrap_or a fin.empty)) (get_here nat_cmp_total nat_cmp-IsAntisymmetric left.nodes node (fin.remove (attributes_of left.nodes node) name))
@@ -102,7 +102,7 @@ module _ (volume left : State) (node : ℕ) (h : Leaves volume left node) where
       | inr ne ↦ gone_other nat_cmp_total nat_cmp-IsAntisymmetric index.pairs node q ne
     ]))
 
-    -- no index has a pair of the node any more
+    -- no index has a pair of the node any longer
     pub indices_bare : left.indices ≡ without_node volume.indices node
     indices_bare = same_map names_total exact_names _ _ (λ q. sym (get_left left.indices node q ∙ by q (fin.get left.indices q) refl)) ∙ h.indices
       where

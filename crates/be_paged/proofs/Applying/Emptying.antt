@@ -20,7 +20,7 @@ use Rattle.be_volume.proofs.StepLemmas.{made}
 use Rattle.be_paged.specs.Changes.{Leaves, Steps, IsThinned}
 use Rattle.be_paged_reading.specs.Page.{Contents}
 use Rattle.be_paged_reading.specs.Reading.{AreValid}
-use Rattle.be_paged_reading.specs.Version.{Spells}
+use Rattle.be_paged_reading.specs.Version.{Encodes}
 use Rattle.be_paged.proofs.Applying.Dropping.{leaves_more, less_to_count}
 use Rattle.be_paged_reading.proofs.CatalogPairs.Segments.{value_there}
 use Rattle.be_paged.proofs.Applying.Stepping.{stepped_found}
@@ -28,7 +28,7 @@ use Rattle.be_paged.proofs.Applying.Stepping.{stepped_found}
 abbrev name_of : List ℕ × Value → List ℕ
 name_of e = e.0
 
--- a first entry is found by its name
+-- the first entry is found by its name
 first_found : (es : List (List ℕ × Value)) (name : List ℕ) → Some name ≡ option_map name_of (slice_get es 0) → (v : Value) × (find name_cmp name es ≡ Some v)
 first_found [] name e = absurd (clash e)
   where
@@ -64,7 +64,7 @@ ok_of (Err f) x e = cc
 same_made : (a b : State × Done) → ◌≡◌ {A = Result (State × Done) Refusal} (Ok a) (Ok b) → a.0 ≡ b.0
 same_made a b e = cc
 
--- one attribute less
+-- one attribute fewer
 module _ (volume left : State) (node : ℕ) (name : List ℕ) (h : Leaves volume left node) (has : fin.contains_key (attributes_of left.nodes node) name ≡ true) where
   pub unset_ok : IsOk (step left (Unset node name))
   unset_ok = ok_of (step left (Unset node name)) _ (stepped_found left (Unset node name) (h.there, has))
@@ -75,7 +75,7 @@ module _ (volume left : State) (node : ℕ) (name : List ℕ) (h : Leaves volume
       let same = same_made (steps.made, done) (made left (Unset node name), _) (sym steps.stepped ∙ stepped_found left (Unset node name) (h.there, has)) in
       record {
         left = made left (Unset node name);
-        spells = subst (Spells words c) same steps.spells;
+        encodes = subst (Encodes words c) same steps.encodes;
         leaves = leaves_more volume left node h name has named fits;
         counted = omega (arith, count, some, less_to_count volume left node h name has);
       }

@@ -1,4 +1,4 @@
--- An accepted operation, and what it answers.
+-- An accepted operation, and its outcome.
 use Rattle.std.proofs.Common.{◌≡◌, refl, Ok, IsOk}
 use Rattle.be_volume.specs.Volume.{State, step}
 use Rattle.be_volume.specs.declared.ops.Done.{Done}

@@ -1,4 +1,4 @@
--- What contents spell after the pair of a node changed in the index of a name.
+-- What contents encode after a node's pair in the index of a name has changed.
 use Rattle.std.proofs.Common.{◌≡◌, ℕ, Bool, true, false, cond, List, get_or, Some, None, ap, sym, subst, ◌∙◌, refl}
 use Rattle.std.specs.declared.option.Option.{Option}
 use Rattle.std.specs.FinMap as fin
@@ -14,7 +14,7 @@ use Rattle.be_paged_reading.specs.Entry.{Entry}
 use Rattle.be_paged_reading.specs.Page.{Contents, IsNamedAt, IsGapAt}
 use Rattle.be_paged_reading.specs.Catalog.{IsIndexOf}
 use Rattle.be_paged.specs.Changes.{IsReady, repaired, with_change, with_indices}
-use Rattle.be_paged_reading.specs.Version.{Spells}
+use Rattle.be_paged_reading.specs.Version.{Encodes}
 use Rattle.be_paged_reading.proofs.IndexEntries.Indexing.{Found, named_found, gap_none}
 use Rattle.be_paged.proofs.IndexEntries.Repairs.{ready_index}
 
@@ -26,13 +26,13 @@ change_some : (indices : Indices) (name : List ℕ) (node : ℕ) (value : Option
 change_some indices name node None index e = ap (λ i. unpaired_at indices name i node) e
 change_some indices name node (Some v) index e = ap (λ i. paired_at indices name i node v) e
 
--- without an index of that name nothing changes
-pub spells_unindexed : (w : ℕ → ℕ → ℕ) (c : Contents) (volume : State) (name : List ℕ) (node i : ℕ) (value : Option Value) → Spells w c volume → IsGapAt c.entries name i → Spells w c (with_indices volume name node value)
-spells_unindexed w c volume name node i value spells gap =
-    let none = fin.get-entries volume.indices name ∙ gap_none w c.entries (fin.entries volume.indices) name i spells.indices (fin.entries_sorted volume.indices) gap in
-    subst (λ (is : Indices). Spells w c (record { next = volume.next; nodes = volume.nodes; indices = is })) (sym (change_none volume.indices name node value none)) spells
+-- nothing changes if the name has no index
+pub encodes_unindexed : (w : ℕ → ℕ → ℕ) (c : Contents) (volume : State) (name : List ℕ) (node i : ℕ) (value : Option Value) → Encodes w c volume → IsGapAt c.entries name i → Encodes w c (with_indices volume name node value)
+encodes_unindexed w c volume name node i value encodes gap =
+    let none = fin.get-entries volume.indices name ∙ gap_none w c.entries (fin.entries volume.indices) name i encodes.indices (fin.entries_sorted volume.indices) gap in
+    subst (λ (is : Indices). Encodes w c (record { next = volume.next; nodes = volume.nodes; indices = is })) (sym (change_none volume.indices name node value none)) encodes
 
--- the index of a name that is there
+-- the name has an index
 pub record Indexed (w : ℕ → ℕ → ℕ) (c : Contents) (volume : State) (name : List ℕ) (node i : ℕ) (old new : Option Value) : Type 0 where
   pub index : Index
   pub there : fin.get volume.indices name ≡ Some index
@@ -50,10 +50,10 @@ repaired_kind index node (Some v) = by (same_kind index.kind (kind_of v))
     by true = refl
     by false = refl
 
-pub indexed : (w : ℕ → ℕ → ℕ) (c : Contents) (volume : State) (name : List ℕ) (node i : ℕ) (old new : Option Value) → Spells w c volume → IsSound volume → old ≡ attribute volume node name → IsNamedAt c.entries name i
+pub indexed : (w : ℕ → ℕ → ℕ) (c : Contents) (volume : State) (name : List ℕ) (node i : ℕ) (old new : Option Value) → Encodes w c volume → IsSound volume → old ≡ attribute volume node name → IsNamedAt c.entries name i
     → Indexed w c volume name node i old new
-indexed w c volume name node i old new spells sound value at =
-    let found : Found w c.entries (fin.entries volume.indices) name i = named_found w c.entries (fin.entries volume.indices) name i spells.indices at in
+indexed w c volume name node i old new encodes sound value at =
+    let found : Found w c.entries (fin.entries volume.indices) name i = named_found w c.entries (fin.entries volume.indices) name i encodes.indices at in
     let there = fin.get-entries volume.indices name ∙ found.found in
     record {
       index = found.index;

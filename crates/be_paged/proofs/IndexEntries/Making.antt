@@ -1,4 +1,4 @@
--- An index that is made, and one that is removed, among the entries of a version.
+-- Making and removing an index, in the entries of a version.
 use Rattle.std.proofs.Common.{◌≡◌, ℕ, zero, suc, ◌+◌, ◌<◌, ◌≤◌, Bool, true, false, cond, not, List, [], ◌∷◌, ◌++◌, length, map, take, drop, All, Some, None, ap, sym, subst, ◌∙◌, refl, arith, is_some, nat_le, T, ◌&&◌, IsOk}
 use Rattle.std.proofs.lemmas.Bool.Decides.{nat_tests}
 use Rattle.std.specs.List.{filter}
@@ -9,7 +9,7 @@ use Rattle.std.specs.declared.cmp.Ordering.TheVariants.{Less, Equal, Greater}
 use Rattle.std.specs.FinMap as fin
 use Rattle.std.specs.FinMap.{is_sorted, get-empty}
 use Rattle.std.specs.FinMap.Entries.{below_all, find, where_key, is_sorted-where_key, find-where_key}
-use Rattle.be_pages.specs.declared.room.Standing.{Standing}
+use Rattle.be_pages.specs.declared.room.PageState.{PageState}
 use Rattle.be_pages.specs.Pages.{times, Swaps}
 use Rattle.be_tree_reading.specs.Tree.{IsTree, pages, pairs}
 use Rattle.be_tree_reading.specs.Forest.{pages_of}
@@ -28,7 +28,7 @@ use Rattle.be_volume.proofs.MapLemmas.{names_total, exact_names}
 use Rattle.be_paged_reading.specs.Entry.{Entry}
 use Rattle.be_paged_reading.specs.Page.{Contents, IsNamedAt, IsGapAt, roots}
 use Rattle.be_paged_reading.specs.Catalog.{IsPairOf}
-use Rattle.be_paged_reading.specs.Version.{IsEntryOf, AreEntriesOf, IsInHand, Spells}
+use Rattle.be_paged_reading.specs.Version.{IsEntryOf, AreEntriesOf, IsInHand, Encodes}
 use Rattle.be_paged.specs.Changes.{Changes, Steps}
 use Rattle.be_paged.proofs.Applying.Composing.{swaps_none}
 use Rattle.be_paged.proofs.Applying.Stepping.{stepped_is}
@@ -59,15 +59,15 @@ inserted_length es x zero = omega arith
 inserted_length [] x (suc i) = omega arith
 inserted_length (e ∷ es) x (suc i) = omega (arith, inserted_length es x i)
 
--- contents with one index more, which has no pages
+-- contents with one more index, which has no pages
 abbrev pub with_entry : Contents → ℕ → Entry → Contents
 with_entry c i entry = record { next = c.next; catalog = c.catalog; entries = take i c.entries ++ entry ∷ drop i c.entries }
 
-pub made_changes : {S K : Type 0} (kept_of : S → K) (standing_of : S → ℕ → Standing) (words_of : S → ℕ → ℕ → ℕ) (room : S) (c : Contents) (i : ℕ) (entry : Entry) → IsInHand (standing_of room) (words_of room) c
-    → length c.entries < 32 → IsName entry.name → entry.root ≡ 0 → Changes kept_of standing_of words_of c (with_entry c i entry) room room
-made_changes kept_of standing_of words_of room c i entry h less named r =
+pub made_changes : {S K : Type 0} (kept_of : S → K) (page_state_of : S → ℕ → PageState) (words_of : S → ℕ → ℕ → ℕ) (room : S) (c : Contents) (i : ℕ) (entry : Entry) → IsInHand (page_state_of room) (words_of room) c
+    → length c.entries < 32 → IsName entry.name → entry.root ≡ 0 → Changes kept_of page_state_of words_of c (with_entry c i entry) room room
+made_changes kept_of page_state_of words_of room c i entry h less named r =
     let w = words_of room in
-    let every : All (IsTree (standing_of room) w) (map (λ e. e.root) c.entries) = λ j d lt. h.trees.each (suc j) d (omega (arith, lt)) in
+    let every : All (IsTree (page_state_of room) w) (map (λ e. e.root) c.entries) = λ j d lt. h.trees.each (suc j) d (omega (arith, lt)) in
     let same = ap (λ ps. pages w c.catalog ++ ps) (inserted_pages w c.entries entry i r) in
     record {
       in_hand = record {
@@ -75,25 +75,25 @@ made_changes kept_of standing_of words_of room c i entry h less named r =
         few = omega (arith, less, inserted_length c.entries entry i);
         named = inserted_all (λ e. IsName e.name) c.entries entry i named h.named;
         trees = record {
-          each = all_cons (IsTree (standing_of room) w) c.catalog _ (h.trees.each zero zero (omega arith))
-              (inserted_roots (IsTree (standing_of room) w) c.entries entry i (subst (IsTree (standing_of room) w) (sym r) tt) every);
+          each = all_cons (IsTree (page_state_of room) w) c.catalog _ (h.trees.each zero zero (omega arith))
+              (inserted_roots (IsTree (page_state_of room) w) c.entries entry i (subst (IsTree (page_state_of room) w) (sym r) tt) every);
           once = λ q. omega (arith, ap (times q) same, h.trees.once q);
         };
       };
-      swaps = subst (λ ps. Swaps kept_of standing_of words_of (pages_of w (roots c)) ps room room) (sym same)
-          (swaps_none kept_of standing_of words_of (pages_of w (roots c)) room (λ q some. trees_in_use (standing_of room) w (roots c) h.trees.each q some));
+      swaps = subst (λ ps. Swaps kept_of page_state_of words_of (pages_of w (roots c)) ps room room) (sym same)
+          (swaps_none kept_of page_state_of words_of (pages_of w (roots c)) room (λ q some. trees_in_use (page_state_of room) w (roots c) h.trees.each q some));
     }
 
-pub made_spells : (w : ℕ → ℕ → ℕ) (c : Contents) (volume : State) (name : List ℕ) (kind : Kind) (i : ℕ) (entry : Entry) → Spells w c volume → IsGapAt c.entries name i → entry.name ≡ name → entry.kind ≡ kind → entry.root ≡ 0
-    → Spells w (with_entry c i entry) (record { next = volume.next; nodes = volume.nodes; indices = fin.insert volume.indices name (new_index kind) })
-made_spells w c volume name kind i entry spells at n k r = record {
-  next = spells.next;
-  catalog = spells.catalog;
+pub made_encodes : (w : ℕ → ℕ → ℕ) (c : Contents) (volume : State) (name : List ℕ) (kind : Kind) (i : ℕ) (entry : Entry) → Encodes w c volume → IsGapAt c.entries name i → entry.name ≡ name → entry.kind ≡ kind → entry.root ≡ 0
+    → Encodes w (with_entry c i entry) (record { next = volume.next; nodes = volume.nodes; indices = fin.insert volume.indices name (new_index kind) })
+made_encodes w c volume name kind i entry encodes at n k r = record {
+  next = encodes.next;
+  catalog = encodes.catalog;
   indices = subst (AreEntriesOf w (take i c.entries ++ entry ∷ drop i c.entries)) (sym (fin.entries-insert names_total volume.indices name (new_index kind)))
-      (gap_entries w c.entries (fin.entries volume.indices) name (new_index kind) entry i spells.indices at (new_entry w entry name kind n k r));
+      (gap_entries w c.entries (fin.entries volume.indices) name (new_index kind) entry i encodes.indices at (new_entry w entry name kind n k r));
 }
 
--- an entry without pages leaves
+-- removing an entry without pages
 left_pages : (w : ℕ → ℕ → ℕ) (fs gs : List Entry) (e : Entry) → e.root ≡ 0 → pages_of w (map (λ x. x.root) (fs ++ e ∷ gs)) ≡ pages_of w (map (λ x. x.root) (fs ++ gs))
 left_pages w [] gs e r = ap (λ (n : ℕ). pages w n ++ pages_of w (map (λ (x : Entry). x.root) gs)) r
 left_pages w (f ∷ fs) gs e r = ap (λ ps. pages w f.root ++ ps) (left_pages w fs gs e r)
@@ -110,10 +110,10 @@ left_length : (fs gs : List Entry) (e : Entry) → length (fs ++ gs) ≤ length 
 left_length [] gs e = omega arith
 left_length (f ∷ fs) gs e = omega (arith, left_length fs gs e)
 
-pub left_changes : {S K : Type 0} (kept_of : S → K) (standing_of : S → ℕ → Standing) (words_of : S → ℕ → ℕ → ℕ) (old new : S) (c : Contents) (next catalog : ℕ) (fs gs : List Entry) (e : Entry) → e.root ≡ 0
-    → Changes kept_of standing_of words_of c (record { next = next; catalog = catalog; entries = fs ++ e ∷ gs }) old new
-    → Changes kept_of standing_of words_of c (record { next = next; catalog = catalog; entries = fs ++ gs }) old new
-left_changes kept_of standing_of words_of old new c next catalog fs gs e r change =
+pub left_changes : {S K : Type 0} (kept_of : S → K) (page_state_of : S → ℕ → PageState) (words_of : S → ℕ → ℕ → ℕ) (old new : S) (c : Contents) (next catalog : ℕ) (fs gs : List Entry) (e : Entry) → e.root ≡ 0
+    → Changes kept_of page_state_of words_of c (record { next = next; catalog = catalog; entries = fs ++ e ∷ gs }) old new
+    → Changes kept_of page_state_of words_of c (record { next = next; catalog = catalog; entries = fs ++ gs }) old new
+left_changes kept_of page_state_of words_of old new c next catalog fs gs e r change =
     let w = words_of new in
     let h = change.in_hand in
     let same = ap (λ ps. pages w catalog ++ ps) (left_pages w fs gs e r) in
@@ -123,14 +123,14 @@ left_changes kept_of standing_of words_of old new c next catalog fs gs e r chang
         few = omega (arith, h.few, left_length fs gs e);
         named = left_all (λ x. IsName x.name) fs gs e h.named;
         trees = record {
-          each = all_cons (IsTree (standing_of new) w) catalog _ (h.trees.each zero zero (omega arith)) (left_roots (IsTree (standing_of new) w) fs gs e (λ j d lt. h.trees.each (suc j) d (omega (arith, lt))));
+          each = all_cons (IsTree (page_state_of new) w) catalog _ (h.trees.each zero zero (omega arith)) (left_roots (IsTree (page_state_of new) w) fs gs e (λ j d lt. h.trees.each (suc j) d (omega (arith, lt))));
           once = λ q. omega (arith, ap (times q) same, h.trees.once q);
         };
       };
-      swaps = subst (λ ps. Swaps kept_of standing_of words_of (pages_of (words_of old) (roots c)) ps old new) same change.swaps;
+      swaps = subst (λ ps. Swaps kept_of page_state_of words_of (pages_of (words_of old) (roots c)) ps old new) same change.swaps;
     }
 
--- the entries of a map without a name
+-- the entries of a map without one name
 turned : {A : Type 0} (b : Bool) (x y : A) → cond (not b) x y ≡ cond b y x
 turned true x y = refl
 turned false x y = refl
@@ -172,7 +172,7 @@ less Greater p = absurd p
 flip : (a b : List ℕ) (r : Ordering) → name_cmp a b ≡ r → name_cmp b a ≡ ordering_reverse r
 flip a b r e = names_total.antisymm b a ∙ ap ordering_reverse e
 
--- names above one are not that one
+-- names above a name differ from it
 all_other : (name : List ℕ) (is : List (List ℕ × Index)) → T (below_all name_cmp name is) → filter (λ e. not (eq_by_cmp name_cmp name e.0)) is ≡ is
 all_other name [] h = refl
 all_other name (x ∷ is) h =
@@ -196,42 +196,42 @@ named_gone w (e ∷ es) (x ∷ is) name (suc i) h sorted at =
 pub gone_entries : (w : ℕ → ℕ → ℕ) (es : List Entry) (m : Indices) (name : List ℕ) (i : ℕ) → AreEntriesOf w es (fin.entries m) → IsNamedAt es name i → AreEntriesOf w (take i es ++ drop (suc i) es) (fin.entries (fin.remove m name))
 gone_entries w es m name i h at = subst (AreEntriesOf w (take i es ++ drop (suc i) es)) (sym (entries_without m name)) (named_gone w es (fin.entries m) name i h (fin.entries_sorted m) at)
 
--- what an accepted operation on an index found
-pub made_steps : (w : ℕ → ℕ → ℕ) (c : Contents) (volume : State) (name : List ℕ) (kind : Kind) (i : ℕ) (entry : Entry) → Spells w c volume → IsOk (step volume (MkIndex name kind)) → IsGapAt c.entries name i
+-- what a volume accepted, for an operation on an index
+pub made_steps : (w : ℕ → ℕ → ℕ) (c : Contents) (volume : State) (name : List ℕ) (kind : Kind) (i : ℕ) (entry : Entry) → Encodes w c volume → IsOk (step volume (MkIndex name kind)) → IsGapAt c.entries name i
     → entry.name ≡ name → entry.kind ≡ kind → entry.root ≡ 0 → Steps w (with_entry c i entry) volume (MkIndex name kind) Nothing
-made_steps w c volume name kind i entry spells ok at n k r = record {
+made_steps w c volume name kind i entry encodes ok at n k r = record {
   made = made volume (MkIndex name kind);
   stepped = stepped_is volume (MkIndex name kind) ok;
-  spells = made_spells w c volume name kind i entry spells at n k r;
+  encodes = made_encodes w c volume name kind i entry encodes at n k r;
 }
 
 never : {A : Type 0} → true ≡ false → A
 never e = cc
 
-pub not_there : {A : Type 0} (w : ℕ → ℕ → ℕ) (c : Contents) (volume : State) (name : List ℕ) (kind : Kind) (i : ℕ) → Spells w c volume → IsOk (step volume (MkIndex name kind)) → IsNamedAt c.entries name i → A
-not_there w c volume name kind i spells ok at =
+pub not_there : {A : Type 0} (w : ℕ → ℕ → ℕ) (c : Contents) (volume : State) (name : List ℕ) (kind : Kind) (i : ℕ) → Encodes w c volume → IsOk (step volume (MkIndex name kind)) → IsNamedAt c.entries name i → A
+not_there w c volume name kind i encodes ok at =
     let found = (accepted volume (MkIndex name kind) ok).found in
-    never (sym (ap is_some (fin.get-entries volume.indices name ∙ (named_found w c.entries (fin.entries volume.indices) name i spells.indices at).found)) ∙ found.0)
+    never (sym (ap is_some (fin.get-entries volume.indices name ∙ (named_found w c.entries (fin.entries volume.indices) name i encodes.indices at).found)) ∙ found.0)
 
-pub not_full : {A : Type 0} (w : ℕ → ℕ → ℕ) (c : Contents) (volume : State) (name : List ℕ) (kind : Kind) → Spells w c volume → IsOk (step volume (MkIndex name kind)) → 32 ≤ length c.entries → A
-not_full w c volume name kind spells ok many =
+pub not_full : {A : Type 0} (w : ℕ → ℕ → ℕ) (c : Contents) (volume : State) (name : List ℕ) (kind : Kind) → Encodes w c volume → IsOk (step volume (MkIndex name kind)) → 32 ≤ length c.entries → A
+not_full w c volume name kind encodes ok many =
     let found = (accepted volume (MkIndex name kind) ok).found in
-    let count : fin.len volume.indices ≡ length c.entries = fin.len-entries volume.indices ∙ sym (entries_len w c.entries (fin.entries volume.indices) spells.indices) in
+    let count : fin.len volume.indices ≡ length c.entries = fin.len-entries volume.indices ∙ sym (entries_len w c.entries (fin.entries volume.indices) encodes.indices) in
     let full : nat_le 32 (fin.len volume.indices) ≡ true = ap (nat_le 32) count ∙ grind (arith, nat_tests, many) in
     never (sym full ∙ found.1)
 
-pub is_there : {A : Type 0} (w : ℕ → ℕ → ℕ) (c : Contents) (volume : State) (name : List ℕ) (i : ℕ) → Spells w c volume → IsOk (step volume (RmIndex name)) → IsGapAt c.entries name i → A
-is_there w c volume name i spells ok at =
+pub is_there : {A : Type 0} (w : ℕ → ℕ → ℕ) (c : Contents) (volume : State) (name : List ℕ) (i : ℕ) → Encodes w c volume → IsOk (step volume (RmIndex name)) → IsGapAt c.entries name i → A
+is_there w c volume name i encodes ok at =
     let found = (accepted volume (RmIndex name) ok).found in
-    never (sym found ∙ ap is_some (fin.get-entries volume.indices name ∙ gap_none w c.entries (fin.entries volume.indices) name i spells.indices (fin.entries_sorted volume.indices) at))
+    never (sym found ∙ ap is_some (fin.get-entries volume.indices name ∙ gap_none w c.entries (fin.entries volume.indices) name i encodes.indices (fin.entries_sorted volume.indices) at))
 
-pub gone_steps : (v w : ℕ → ℕ → ℕ) (c : Contents) (volume : State) (name : List ℕ) (i : ℕ) → w ≡ v → Spells v c volume → IsOk (step volume (RmIndex name)) → IsNamedAt c.entries name i
+pub gone_steps : (v w : ℕ → ℕ → ℕ) (c : Contents) (volume : State) (name : List ℕ) (i : ℕ) → w ≡ v → Encodes v c volume → IsOk (step volume (RmIndex name)) → IsNamedAt c.entries name i
     → Steps w (record { next = c.next; catalog = c.catalog; entries = take i c.entries ++ drop (suc i) c.entries }) volume (RmIndex name) Nothing
-gone_steps v w c volume name i same spells ok at =
+gone_steps v w c volume name i same encodes ok at =
     let left : Contents = record { next = c.next; catalog = c.catalog; entries = take i c.entries ++ drop (suc i) c.entries } in
     record {
       made = made volume (RmIndex name);
       stepped = stepped_is volume (RmIndex name) ok;
-      spells = subst (λ (u : ℕ → ℕ → ℕ). Spells u left (made volume (RmIndex name))) (sym same)
-          (record { next = spells.next; catalog = spells.catalog; indices = gone_entries v c.entries volume.indices name i spells.indices at });
+      encodes = subst (λ (u : ℕ → ℕ → ℕ). Encodes u left (made volume (RmIndex name))) (sym same)
+          (record { next = encodes.next; catalog = encodes.catalog; indices = gone_entries v c.entries volume.indices name i encodes.indices at });
     }

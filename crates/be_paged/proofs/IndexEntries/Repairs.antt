@@ -1,4 +1,4 @@
--- The pair of a node in an index, where the old value's leaves and the new one's enters.
+-- A node's pair in an index: the old value's is removed, and the new value's inserted.
 use Rattle.std.proofs.Common.{◌≡◌, ℕ, ◌<◌, ◌^◌, Bool, true, false, cond, List, [], IsTrue, Some, None, ap, sym, subst, ◌∙◌, refl, is_some}
 use Rattle.std.specs.Option.{IfSome, IfNone, option_map}
 use Rattle.std.specs.declared.option.Option.{Option}
@@ -46,7 +46,7 @@ kinds_same a b h = cc
 pub same_value : (a b : Value) → Some a ≡ Some b → a ≡ b
 same_value a b e = cc
 
--- the value, if there is one, is of the kind, and this is its key; or it has none
+-- there is a value, it is of the kind, and this is its key
 abbrev pub Leaves : Kind → ℕ → Option Value → List ℕ → Type 0
 Leaves kind node value k = (v : Value) × (value ≡ Some v) × (kind_of v ≡ kind) × IsValue v × (k ≡ key v node)
 
@@ -66,7 +66,7 @@ module _ (index : Index) (kind : Kind) (node : ℕ) (old : Option Value) (fits :
   taken items (Some k) some none h =
       index_without items index node some.0 k fits ready.fits (λ w e. same_value w some.0 (sym (ready.own w e) ∙ some.1)) some.4 h
 
-  -- the pair of the new value
+  -- the new value's pair is inserted
   enters_not : (v : Value) → (kind_of v ≡ kind → ⊥) → unpaired index node ≡ paired index node v
   enters_not v ne = by (same_kind index.kind (kind_of v)) refl
     where
@@ -90,13 +90,13 @@ module _ (index : Index) (kind : Kind) (node : ℕ) (old : Option Value) (fits :
       subst (IsIndexOf (put (record { key = k; payload = [] }) items)) (enters_so v (ap kind_of same ∙ some.2))
       (index_with items index node v (record { key = k; payload = [] }) fits ready.fits (some.4 ∙ ap (λ (w : Value). key w node) (sym same)) refl h)
 
-  -- the pair of the new value stands already
-  pub stands : (items : List Pair) (k : List ℕ) (new : Option Value) → Leaves kind node new k → IsTrue (is_indexable kind) → is_some (payload_at items k) ≡ true → IsIndexOf items index → IsIndexOf items (repaired index node new)
-  stands items k None some indexable found h = absurd (clash some.0 some.1)
+  -- the new value's pair is already there
+  pub lies : (items : List Pair) (k : List ℕ) (new : Option Value) → Leaves kind node new k → IsTrue (is_indexable kind) → is_some (payload_at items k) ≡ true → IsIndexOf items index → IsIndexOf items (repaired index node new)
+  lies items k None some indexable found h = absurd (clash some.0 some.1)
     where
       clash : (v : Value) → None ≡ Some v → ⊥
       clash v e = cc
-  stands items k (Some v) some indexable found h =
+  lies items k (Some v) some indexable found h =
       let same = same_value v some.0 some.1 in
       let pair = found_pair (IsPairOf index) k items h.only found in
       let p = pair.1 in
@@ -108,7 +108,7 @@ module _ (index : Index) (kind : Kind) (node : ℕ) (old : Option Value) (fits :
       subst (IsIndexOf items) (enters_so v (ap kind_of same ∙ some.2))
       (index_still items index node v (ap (fin.get index.pairs) (sym one.1) ∙ p.there ∙ ap Some (one.0 ∙ sym same)) h)
 
--- an index of a sound volume is ready for a change of its node's pair
+-- an index of a sound volume is ready for a change to its node's pair
 pub ready_index : (s : State) (name : List ℕ) (index : Index) (kind : Kind) (node : ℕ) (old : Option Value) → IsSound s → fin.get s.indices name ≡ Some index → index.kind ≡ kind → old ≡ attribute s node name → IsReady index kind node old
 ready_index s name index kind node old sound at is e = record {
   kind_is = is;
@@ -118,7 +118,7 @@ ready_index s name index kind node old sound at is e = record {
   own = λ v p. e ∙ (sound.pairs name index node v at p).attribute_is;
 }
 
--- what is said of an answer, said of what is seen of it
+-- what holds for a result also holds for a function of it
 pub seen_some : {A B : Type 0} (f : A → B) (P : B → Type 0) (r : Option A) → IfSome r (λ x. P (f x)) → IfSome (option_map f r) P
 seen_some f P None h = h
 seen_some f P (Some x) h = h
@@ -137,7 +137,7 @@ seen_at {B} P (Some y) x h e = subst P (same y x e) h
     same : (a b : B) → Some a ≡ Some b → a ≡ b
     same a b e = cc
 
--- the key of a value of the kind is there
+-- a value of the kind has a key
 pub key_there : (kind : Kind) (node : ℕ) (value : Option Value) (seen : Option (List ℕ)) → IfSome seen (Leaves kind node value) → IfNone seen (HasNone kind value)
     → (v : Value) → value ≡ Some v → kind_of v ≡ kind → IsTrue (is_indexable kind) → seen ≡ Some (key v node)
 key_there kind node value None some none v is of_kind indexable = absurd (none v is of_kind indexable)

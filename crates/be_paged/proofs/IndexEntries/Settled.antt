@@ -1,4 +1,4 @@
--- A Set of what stands: the index of its name has the pair already, and its entry is as it was.
+-- A Set of what is already set: its index already has the pair, so the entry stays as it is.
 use Rattle.std.proofs.Common.{◌≡◌, ℕ, suc, ◌<◌, Bool, true, false, cond, List, ◌∷◌, ◌++◌, take, drop, length, get_or, IsTrue, IsOk, Some, None, Ok, ap, sym, subst, ◌∙◌, refl, is_ok, is_some}
 use Rattle.std.specs.Option.{IfSome, option_map, option_and_then}
 use Rattle.std.specs.Result.{IfOk}
@@ -30,7 +30,7 @@ use Rattle.be_volume.specs.declared.ops.Op.TheVariants.{New, Drop, Set, Unset, M
 use Rattle.be_volume.proofs.MapLemmas.{exact_names, names_total}
 use Rattle.be_volume.proofs.StepLemmas.{made}
 use Rattle.be_paged_reading.specs.Catalog.{IsIndexOf}
-use Rattle.be_paged.specs.Changes.{SetsWhatStands}
+use Rattle.be_paged.specs.Changes.{SetsSameValue}
 use Rattle.be_paged_reading.specs.Entries.{with_root}
 use Rattle.be_paged_reading.specs.Entry.{Entry}
 use Rattle.be_paged_reading.proofs.CatalogPairs.Items.{get_here}
@@ -46,8 +46,8 @@ same_index i j h = cc
 clash : false ≡ true → ⊥
 clash h = cc
 
--- the step of such an operation
-sets_step : (s : State) (op : Op) → SetsWhatStands s op → step s op ≡ Ok (s, Nothing)
+-- the step of a Set of what is already set
+sets_step : (s : State) (op : Op) → SetsSameValue s op → step s op ≡ Ok (s, Nothing)
 sets_step s New h = absurd h
 sets_step s (Drop node) h = absurd h
 sets_step s (Set node name value) h = h
@@ -55,18 +55,18 @@ sets_step s (Unset node name) h = absurd h
 sets_step s (MkIndex name kind) h = absurd h
 sets_step s (RmIndex name) h = absurd h
 
-pub sets_ok : (s : State) (op : Op) → SetsWhatStands s op → IsOk (step s op)
+pub sets_ok : (s : State) (op : Op) → SetsSameValue s op → IsOk (step s op)
 sets_ok s op h = ap is_ok (sets_step s op h)
 
-pub sets_same : (s reached : State) (op : Op) (done : Done) → SetsWhatStands s op → step s op ≡ Ok (reached, done) → reached ≡ s
+pub sets_same : (s reached : State) (op : Op) (done : Done) → SetsSameValue s op → step s op ≡ Ok (reached, done) → reached ≡ s
 sets_same s reached op done h is = same_made reached s done Nothing (sym is ∙ sets_step s op h)
 
--- what a volume has where a Set leaves it as it is
+-- the volume's contents, if a Set leaves it as it is
 pub record Settled (s : State) (node : ℕ) (name : List ℕ) (value : Value) : Type 0 where
   pub has : attribute s node name ≡ Some value
   pub indices : with_pair s.indices name node value ≡ s.indices
 
-pub settled : (s : State) (node : ℕ) (name : List ℕ) (value : Value) → SetsWhatStands s (Set node name value) → Settled s node name value
+pub settled : (s : State) (node : ℕ) (name : List ℕ) (value : Value) → SetsSameValue s (Set node name value) → Settled s node name value
 settled s node name value h =
     let op = Set node name value in
     let is = same_made (made s op) s _ Nothing (sym (stepped_is s op (ap is_ok h)) ∙ h) in
@@ -81,7 +81,7 @@ settled s node name value h =
         ap (option_and_then (λ (a : Attributes). fin.get a name)) (get_here nat_cmp_total nat_cmp-IsAntisymmetric s.nodes node attributes)
         ∙ get_here names_total exact_names (attributes_of s.nodes node) name value
 
--- the index of the name is as it was
+-- the index of the name stays as it is
 pub paired_same : (indices : Indices) (name : List ℕ) (index : Index) (node : ℕ) (value : Value) → fin.get indices name ≡ Some index → with_pair indices name node value ≡ indices → paired index node value ≡ index
 paired_same indices name index node value there same =
     same_index (paired index node value) index
@@ -95,7 +95,7 @@ has_pair index node value of_kind same =
     let pairs : fin.insert index.pairs node value ≡ index.pairs = ap (λ (i : Index). i.pairs) (ap chosen (sym (kinds_agree index.kind (kind_of value) of_kind)) ∙ same) in
     sym (ap (λ (m : FinMap nat_cmp Value). fin.get m node) pairs) ∙ get_here nat_cmp_total nat_cmp-IsAntisymmetric index.pairs node value
 
--- what holds where the index has the value's key, and where the value is of another kind, holds
+-- what holds if the index has the value's key, and if the value is of another kind, holds
 pub by_kinds : (items : List Pair) (index : Index) (kind : Kind) (node : ℕ) (v : Value) (old new : Option Value) (P Q : Type 0) → IsIndexOf items index → index.kind ≡ kind → IsTrue (is_indexable kind)
     → paired index node v ≡ index → old ≡ Some v → new ≡ Some v
     → ((u : Value) → kind_of u ≡ kind → IsTrue (is_indexable kind) → old ≡ Some u → new ≡ Some u → is_some (payload_at items (key u node)) ≡ true → P × Q)
@@ -119,13 +119,13 @@ key_clash f r x is none = no (sym (ap (option_map f) is) ∙ none)
     no : Some (f x) ≡ None → ⊥
     no e = cc
 
--- an entry that got the root that it has
+-- an entry that gets the root it already has
 pub root_kept : (es : List Entry) (i : ℕ) (d : Entry) (root : ℕ) → i < length es → root ≡ (get_or es i d).root → with_root es i (get_or es i d) root ≡ es
 root_kept es i d root lt e =
     let entry = get_or es i d in
     ap (λ (r : ℕ). take i es ++ record { name = entry.name; kind = entry.kind; root = r } ∷ drop (suc i) es) e ∙ sym (in_three es i d lt)
 
--- what holds of all values holds of an answer
+-- what holds for all values holds for the result
 pub if_ok : {A E : Type 0} (r : Result A E) (P : A → Type 0) → ((x : A) → P x) → IfOk r P
 if_ok (results.Ok x) P h = h x
 if_ok (results.Err e) P h = tt

@@ -1,4 +1,4 @@
--- The pairs of a version's trees are no more than the items of its volume.
+-- A version's trees have no more pairs than its volume has items.
 use Rattle.std.proofs.Common.{◌≡◌, ℕ, suc, ◌+◌, ◌*◌, ◌≤◌, true, false, List, [], ◌∷◌, map, length, All, Some, None, is_some, ap, sym, ◌∙◌, refl, arith}
 use Rattle.std.specs.FinMap as fin
 use Rattle.std.specs.FinMap.{nat_cmp-IsAntisymmetric}
@@ -10,7 +10,7 @@ use Rattle.std.proofs.lemmas.List.{length-append, length-map}
 use Rattle.std.proofs.lemmas.List.Sums.{sum_by-cons}
 use Rattle.be_value.specs.Key.{key}
 use Rattle.be_value.specs.declared.values.Value.{Value}
-use Rattle.be_pages.specs.declared.room.Standing.{Standing}
+use Rattle.be_pages.specs.declared.room.PageState.{PageState}
 use Rattle.be_tree.specs.Counting.{pairs_of_all}
 use Rattle.be_tree_reading.specs.Key.{IsRising, key_cmp, payload_at}
 use Rattle.be_tree_reading.specs.Pair.{Pair}
@@ -29,7 +29,7 @@ use Rattle.be_paged_reading.proofs.CatalogPairs.Finding.{found_pair}
 use Rattle.be_paged_reading.proofs.IndexEntries.Indexing.{names_exact}
 use Rattle.be_paged.proofs.Sizes.Keys.{is_in, same_key, few_pairs, or_left, or_right, any_entry, any_flat, any_map}
 
--- the keys of a node: its mark's, and those of its attributes
+-- a node's keys: its mark's, and its attributes'
 abbrev node_keys : ℕ × Attributes → List (List ℕ)
 node_keys e = catalog_key e.0 [] ∷ map (λ a. catalog_key e.0 a.0) (fin.entries e.1)
 
@@ -107,27 +107,27 @@ pub record AreCounted (words : ℕ → ℕ → ℕ) (es : List Entry) (is : List
   pub count : length es ≡ length is
   pub pairs_count : length (pairs_of_all words (map (λ e. e.root) es)) ≤ sum_by (λ i. fin.len i.1.pairs) is
 
-pub indices_size : (standing : ℕ → Standing) (words : ℕ → ℕ → ℕ) (es : List Entry) (is : List (List ℕ × Index)) → All (IsTree standing words) (map (λ e. e.root) es) → AreEntriesOf words es is → AreCounted words es is
-indices_size standing words [] [] trees h = record { count = refl; pairs_count = omega arith }
-indices_size standing words [] (i ∷ is) trees h = absurd h
-indices_size standing words (e ∷ es) [] trees h = absurd h
-indices_size standing words (e ∷ es) (i ∷ is) trees h =
-    let rest = indices_size standing words es is (λ j d lt. trees (suc j) d (omega (arith, lt))) h.1 in
-    let here = index_size (pairs words e.root) i.1 (tree_rising standing words e.root (trees 0 0 (omega arith))) h.0.keys in
+pub indices_size : (page_state : ℕ → PageState) (words : ℕ → ℕ → ℕ) (es : List Entry) (is : List (List ℕ × Index)) → All (IsTree page_state words) (map (λ e. e.root) es) → AreEntriesOf words es is → AreCounted words es is
+indices_size page_state words [] [] trees h = record { count = refl; pairs_count = omega arith }
+indices_size page_state words [] (i ∷ is) trees h = absurd h
+indices_size page_state words (e ∷ es) [] trees h = absurd h
+indices_size page_state words (e ∷ es) (i ∷ is) trees h =
+    let rest = indices_size page_state words es is (λ j d lt. trees (suc j) d (omega (arith, lt))) h.1 in
+    let here = index_size (pairs words e.root) i.1 (tree_rising page_state words e.root (trees 0 0 (omega arith))) h.0.keys in
     record {
       count = omega (arith, rest.count);
       pairs_count = omega (arith, rest.pairs_count, here, length-append (pairs words e.root) (pairs_of_all words (map (λ e. e.root) es)), sum_by-cons (λ (a : List ℕ × Index). fin.len a.1.pairs) i is);
     }
 
--- a version's pages
-pub version_size : (standing : ℕ → Standing) (words : ℕ → ℕ → ℕ) (page : ℕ) (volume : State) → IsVersion standing words page volume
+-- the number of a version's pages
+pub version_size : (page_state : ℕ → PageState) (words : ℕ → ℕ → ℕ) (page : ℕ) (volume : State) → IsVersion page_state words page volume
     → 5 * length (reach words page) ≤ items volume + 4 * fin.len volume.indices + 9
-version_size standing words page volume version =
+version_size page_state words page volume version =
     let c = contents_of (words page) in
     let trees = version.in_hand.trees.each in
-    let forest = forest_size standing words (roots c) trees in
-    let catalog = catalog_size (pairs words c.catalog) volume.nodes (tree_rising standing words c.catalog (trees 0 0 (omega arith))) version.spells.catalog in
-    let indices = indices_size standing words c.entries (fin.entries volume.indices) (λ j d lt. trees (suc j) d (omega (arith, lt))) version.spells.indices in
+    let forest = forest_size page_state words (roots c) trees in
+    let catalog = catalog_size (pairs words c.catalog) volume.nodes (tree_rising page_state words c.catalog (trees 0 0 (omega arith))) version.encodes.catalog in
+    let indices = indices_size page_state words c.entries (fin.entries volume.indices) (λ j d lt. trees (suc j) d (omega (arith, lt))) version.encodes.indices in
     omega (
       arith,
       forest,

@@ -1,4 +1,4 @@
--- Pairs that rise are no more than the keys among which their keys are.
+-- Ascending pairs are no more than the keys that contain theirs.
 use Rattle.std.proofs.Common.{◌≡◌, ℕ, ◌≤◌, Bool, true, false, cond, ◌||◌, List, [], ◌∷◌, map, length, Some, None, is_some, unwrap_or, ap, sym, subst, ◌∙◌, refl}
 use Rattle.std.specs.FinMap.{IsAntisymmetric}
 use Rattle.std.specs.FinMap.Entries.{find}
@@ -17,7 +17,7 @@ use Rattle.be_tree_reading.proofs.Order.{key_total, key_cmp_flip}
 pub same_key : IsEquivalence (eq_by_cmp key_cmp)
 same_key = eq_by_cmp_equiv key_total
 
--- whether the key is one of these
+-- whether the key is one of `ys`
 abbrev pub is_in : List (List ℕ) → List ℕ → Bool
 is_in ys q = list_any (eq_by_cmp key_cmp q) ys
 
@@ -43,7 +43,7 @@ pub few_pairs : (xs : List Pair) (ys : List (List ℕ)) → IsRising xs → ((q 
 few_pairs xs ys rising among =
     subst (λ n. n ≤ length ys) (length-map xs (λ x. x.key)) (length-le_from_is_member same_key (map (λ x. x.key) xs) ys (distinct xs rising) (λ q e. among q (found xs q e)))
 
--- a test of the keys of an entry that is there passes for one of them
+-- if a test passes for the second of two, it passes for one of them
 pub or_right : (a b : Bool) → b ≡ true → (a || b) ≡ true
 or_right true b e = refl
 or_right false b e = e

@@ -1,4 +1,4 @@
--- One page spells one volume: its pairs tell the nodes, the attributes and the indices, and nothing else is in a volume.
+-- A page encodes only one volume: its pairs determine the nodes, the attributes and the indices, which are all of a volume.
 use Rattle.std.proofs.Common.{◌≡◌, ℕ, ◌<◌, ◌≤◌, ◌^◌, List, [], ◌∷◌, drop, cond, true, false, Some, None, unwrap_or, is_some, refl, sym, ap, subst, ◌∙◌, inl, inr, arith, IsTrue}
 use Rattle.std.proofs.lemmas.Bool.{cases_lt}
 use Rattle.std.proofs.lemmas.Nat.{from_be_bytes-to_be_bytes_4, from_be_bytes-to_be_bytes_8}
@@ -20,7 +20,7 @@ use Rattle.be_value.specs.declared.values.Kind.{Kind}
 use Rattle.be_value.specs.declared.values.Value.{Value}
 use Rattle.be_value.specs.declared.values.Value.TheVariants.{Cstr, Long, Llng, Mims, Rawt, Ulng, Ullg}
 use Rattle.be_value.proofs.KeyPairs.{one_pair_of}
-use Rattle.be_pages.specs.declared.room.Standing.{Standing}
+use Rattle.be_pages.specs.declared.room.PageState.{PageState}
 use Rattle.be_tree_reading.specs.Pair.{Pair}
 use Rattle.be_volume.specs.Maps.{Nodes, Attributes, name_cmp}
 use Rattle.be_volume.specs.Indices.{Indices}
@@ -37,7 +37,7 @@ use Rattle.be_paged_reading.proofs.IndexEntries.Indexing.{names_exact, names_tot
 use Rattle.be_paged_reading.proofs.CatalogPairs.Segments.{no_nameless}
 use Rattle.be_paged_reading.proofs.CatalogPairs.Validity.{values_valid}
 
--- bytes tell their number
+-- bytes determine their number
 word32 : (a b : ℕ) → a < 2 ^ 32 → b < 2 ^ 32 → to_be_bytes w32 a ≡ to_be_bytes w32 b → a ≡ b
 word32 a b p q e = sym (from_be_bytes-to_be_bytes_4 a p) ∙ ap (from_be_bytes w32) e ∙ from_be_bytes-to_be_bytes_4 b q
 
@@ -50,7 +50,7 @@ signed32 a b p q e = sym (to_z-of_z p) ∙ ap (cast_signed w32) (word32 (cast_un
 signed64 : (a b : ℤ) → FitsSigned w64 a → FitsSigned w64 b → to_be_bytes w64 (cast_unsigned w64 a) ≡ to_be_bytes w64 (cast_unsigned w64 b) → a ≡ b
 signed64 a b p q e = sym (to_z-of_z p) ∙ ap (cast_signed w64) (word64 (cast_unsigned w64 a) (cast_unsigned w64 b) (Fits-of_z p).fits (Fits-of_z q).fits e) ∙ to_z-of_z q
 
--- a payload is that of one value
+-- a payload belongs to only one value
 same_payload : (v w : Value) → IsValue v → IsValue w → payload_of v ≡ payload_of w → v ≡ w
 same_payload (Cstr a) (Cstr b) p q e = ap Cstr (ap (drop 1) e)
 same_payload (Long a) (Long b) p q e = ap Long (signed32 a b p q (ap (drop 1) e))
@@ -103,7 +103,7 @@ one_catalog items s t g h p q small_s small_t =
       | inr past ↦ no_node s node p small_s past ∙ sym (no_node t node q small_t past)
     ])
 
--- what the keys of an index are
+-- what is known about the keys of an index
 record IsKeyed (index : Index) : Type 0 where
   indexable : IsTrue (is_indexable index.kind)
   valid : (n : ℕ) (v : Value) → fin.get index.pairs n ≡ Some v → IsValue v
@@ -184,8 +184,8 @@ one_list w es s t g h p q =
 same_state : {a b : ℕ} {m n : Nodes} {i j : Indices} → a ≡ b → m ≡ n → i ≡ j → ◌≡◌ {A = State} (record { next = a; nodes = m; indices = i }) (record { next = b; nodes = n; indices = j })
 same_state p q r = cc
 
-pub one_volume : (s t : ℕ → Standing) (words : ℕ → ℕ → ℕ) (page : ℕ) (a b : State) → IsVersion s words page a → IsVersion t words page b → a ≡ b
+pub one_volume : (s t : ℕ → PageState) (words : ℕ → ℕ → ℕ) (page : ℕ) (a b : State) → IsVersion s words page a → IsVersion t words page b → a ≡ b
 one_volume s t words page a b g h =
-    same_state (sym g.spells.next ∙ h.spells.next)
-    (one_catalog _ a b g.spells.catalog h.spells.catalog g.sound h.sound (omega (arith, g.in_hand.fits, g.spells.next)) (omega (arith, h.in_hand.fits, h.spells.next)))
-    (one_list words _ a b g.spells.indices h.spells.indices g.sound h.sound)
+    same_state (sym g.encodes.next ∙ h.encodes.next)
+    (one_catalog _ a b g.encodes.catalog h.encodes.catalog g.sound h.sound (omega (arith, g.in_hand.fits, g.encodes.next)) (omega (arith, h.in_hand.fits, h.encodes.next)))
+    (one_list words _ a b g.encodes.indices h.encodes.indices g.sound h.sound)

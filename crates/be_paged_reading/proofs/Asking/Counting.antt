@@ -1,4 +1,4 @@
--- Whether a node is there, and how many attributes it has, by a walk from its mark.
+-- Whether a node exists, and how many attributes it has, by a walk from its mark.
 use Rattle.std.proofs.Common.{◌≡◌, ℕ, zero, ◌<◌, ◌≤◌, ◌^◌, Bool, true, false, cond, List, [], ◌∷◌, length, drop, All, Some, None, ap, sym, subst, ◌∙◌, refl, arith, is_some, unwrap_or}
 use Rattle.std.specs.Int.{to_be_bytes, w64}
 use Rattle.std.specs.List.{slice_get}
@@ -57,7 +57,7 @@ present nodes node count = by (fin.get nodes node)
     by None h e = never h
     by (Some a) h e = ap Some e
 
--- what is counted of a node tells whether it is there, and its attributes
+-- a node's count says whether the node exists, and how many attributes it has
 pub count_there : (nodes : Nodes) (node : ℕ) → is_some (count_of nodes node) ≡ fin.contains_key nodes node
 count_there nodes node = by (fin.get nodes node)
   where
@@ -72,7 +72,7 @@ count_all nodes node = by (fin.get nodes node)
     by None = sym (fin.len-empty name_cmp Value)
     by (Some a) = refl
 
--- a node that has no number yet isn't there
+-- a number that no node has had yet is no node's
 pub uncounted : (s : State) (node next : ℕ) → IsSound s → next ≡ s.next → next ≤ node → None ≡ count_of s.nodes node
 uncounted s node next sound same past = absent s.nodes node (by (fin.contains_key s.nodes node) refl)
   where
@@ -80,31 +80,31 @@ uncounted s node next sound same past = absent s.nodes node (by (fin.contains_ke
     by true e = absurd (omega (arith, sound.nodes node e, same, past))
     by false e = refl
 
--- a node of which no attribute was counted has none
+-- a node that was counted as having no attribute has none
 pub bare_counted : (s : State) (node : ℕ) (count : Option ℕ) → count ≡ count_of s.nodes node → unwrap_or count 0 ≡ 0 → fin.len (attributes_of s.nodes node) ≡ 0
 bare_counted s node count is none = sym (count_all s.nodes node) ∙ ap (λ (n : Option ℕ). unwrap_or n 0) (sym is) ∙ none
 
 module _ (ps : List Pair) (nodes : Nodes) (node : ℕ) (mark : List ℕ) (fits : node < 2 ^ 64) (is_mark : mark ≡ to_be_bytes w64 node) (rising : IsRising ps) (catalog : IsCatalog ps nodes) where
   marked : (now : List Pair) → now ≡ pairs_from ps mark false → is_some (payload_at now mark) ≡ fin.contains_key nodes node
-  marked now stands = ap (λ (xs : List Pair). is_some (payload_at xs mark)) stands
+  marked now lies = ap (λ (xs : List Pair). is_some (payload_at xs mark)) lies
       ∙ ap is_some (payload_from mark mark false ps ∙ ap (λ b. cond b (payload_at ps mark) None) (from_equal mark false mark (tied_itself key_total mark)))
       ∙ node_there ps nodes node mark catalog fits is_mark
 
-  -- no pair stands from the mark on
+  -- no pair is at the mark or after it
   pub none_at_end : (now : List Pair) → now ≡ pairs_from ps mark false → now ≡ [] → None ≡ count_of nodes node
-  none_at_end now stands empty = absent nodes node (sym (marked now stands) ∙ ap (λ (xs : List Pair). is_some (payload_at xs mark)) empty)
+  none_at_end now lies empty = absent nodes node (sym (marked now lies) ∙ ap (λ (xs : List Pair). is_some (payload_at xs mark)) empty)
 
-  -- the first pair from the mark on is another one's
+  -- the first pair at the mark or after it has another key
   pub none_elsewhere : (now : List Pair) (x : Pair) (same : Bool) → now ≡ pairs_from ps mark false → slice_get now 0 ≡ Some x → same ≡ is_eq (key_cmp x.key mark) → same ≡ false → None ≡ count_of nodes node
-  none_elsewhere [] x same stands first is other = none_some x first
-  none_elsewhere (y ∷ ys) x same stands first is other =
-      absent nodes node (sym (marked (y ∷ ys) stands) ∙ ap is_some (payload_at_above mark (y ∷ ys) (greater, AllAbove_trans y.key mark ys greater rises.0)))
+  none_elsewhere [] x same lies first is other = none_some x first
+  none_elsewhere (y ∷ ys) x same lies first is other =
+      absent nodes node (sym (marked (y ∷ ys) lies) ∙ ap is_some (payload_at_above mark (y ∷ ys) (greater, AllAbove_trans y.key mark ys greater rises.0)))
     where
       rises : IsRising (y ∷ ys)
-      rises = subst IsRising (sym stands) (rising_from mark false ps rising)
+      rises = subst IsRising (sym lies) (rising_from mark false ps rising)
 
       from : is_from mark false y.key ≡ true
-      from = (subst (λ (zs : List Pair). All (λ (z : Pair). IsCatalogKey z.key × (is_from mark false z.key ≡ true)) zs) (sym stands) (all_from (λ (z : Pair). IsCatalogKey z.key) mark false ps catalog.only) zero y (omega arith)).1
+      from = (subst (λ (zs : List Pair). All (λ (z : Pair). IsCatalogKey z.key × (is_from mark false z.key ≡ true)) zs) (sym lies) (all_from (λ (z : Pair). IsCatalogKey z.key) mark false ps catalog.only) zero y (omega arith)).1
 
       untied : is_eq (key_cmp y.key mark) ≡ false
       untied = ap (λ (z : Pair). is_eq (key_cmp z.key mark)) (same_some y x first) ∙ sym is ∙ other
@@ -117,15 +117,15 @@ module _ (ps : List Pair) (nodes : Nodes) (node : ℕ) (mark : List ℕ) (fits :
           by Equal t = never (sym untied ∙ ap is_eq t)
           by Greater t = refl
 
-  -- after the mark stand the node's attributes
+  -- the node's attributes follow its mark
   pub counted_after : AreValid nodes → (now rest : List Pair) (x : Pair) (same : Bool) (count : ℕ) → now ≡ pairs_from ps mark false → slice_get now 0 ≡ Some x → rest ≡ drop 1 now
       → same ≡ is_eq (key_cmp x.key mark) → same ≡ true → fin.len (attributes_of nodes node) ≤ 64 → (length (front_of_node node rest) ≤ 64 → count ≡ length (front_of_node node rest)) → Some count ≡ count_of nodes node
-  counted_after valid now rest x same count stands first left is here few counts =
+  counted_after valid now rest x same count lies first left is here few counts =
       let key = key_exact x.key mark (tied (key_cmp x.key mark) (sym is ∙ here)) in
-      let beyond = left ∙ beyond_next ps rising mark false now mark stands (sym (ap (option_map (λ (z : Pair). z.key)) first ∙ ap Some key)) in
+      let beyond = left ∙ beyond_next ps rising mark false now mark lies (sym (ap (option_map (λ (z : Pair). z.key)) first ∙ ap Some key)) in
       let all = ap (λ (xs : List Pair). length (front_of_node node xs)) beyond ∙ ap (λ (k : List ℕ). length (front_of_node node (pairs_from ps k true))) is_mark
       ∙ counted ps nodes node fits rising catalog valid ∙ sym (fin.len-entries (attributes_of nodes node)) in
-      present nodes node count (sym (marked now stands) ∙ has now x first key) (counts (omega (arith, all, few)) ∙ all)
+      present nodes node count (sym (marked now lies) ∙ has now x first key) (counts (omega (arith, all, few)) ∙ all)
     where
       has : (now : List Pair) (x : Pair) → slice_get now 0 ≡ Some x → x.key ≡ mark → is_some (payload_at now mark) ≡ true
       has [] x first key = none_some x first

@@ -1,4 +1,4 @@
--- The nodes that the keys of a range end with.
+-- The nodes at the ends of the keys in a range.
 use Rattle.std.proofs.Common.{◌≡◌, ◌⊎◌, ℕ, suc, ◌-◌, ◌<◌, ◌^◌, Bool, true, false, cond, not, List, [], ◌∷◌, length, drop, map, get_or, Some, None, inl, inr, ap, sym, subst, ◌∙◌, refl, arith, is_some, if◌then◌else◌}
 use Rattle.std.specs.Int.{from_be_bytes, to_be_bytes, w64}
 use Rattle.std.specs.List.{Contains}
@@ -26,12 +26,12 @@ use Rattle.be_plan.specs.Walk.{IsNodeWithin, HasOnly, Keeps}
 use Rattle.be_paged_reading.specs.Catalog.{IsPairOf}
 use Rattle.be_paged_reading.specs.Entry.{Entry}
 use Rattle.be_paged_reading.specs.Page.{Contents, IsNamedAt}
-use Rattle.be_paged_reading.specs.Version.{Spells}
+use Rattle.be_paged_reading.specs.Version.{Encodes}
 use Rattle.be_paged_reading.proofs.IndexEntries.Indexing.{named_found}
 use Rattle.be_paged_reading.proofs.CatalogPairs.Segments.{all_from, payload_from, rising_from}
 use Rattle.be_paged_reading.proofs.Asking.SourceKeys.{key_finds, same_from}
 
--- the number that a key ends with is its node
+-- the number at the end of a key is its node
 pub node_of_key : (v : Value) (n : ℕ) → n < 2 ^ 64 → number_of (key v n) ≡ n
 unfolding number_of
 node_of_key v n fits =
@@ -40,13 +40,13 @@ node_of_key v n fits =
     ∙ ap (from_be_bytes w64) (drop-append_seam (value_key v) (to_be_bytes w64 n))
     ∙ from_be_bytes-to_be_bytes_8 n fits
 
--- both crates mean the same bound
+-- both crates define the same bound
 pub past_above : (high : Option (List ℕ)) (k : List ℕ) → is_past high k ≡ is_above high k
 unfolding key_cmp
 past_above None k = refl
 past_above (Some h) k = refl
 
--- what is below a key within the bound is within it
+-- a key below one that is within the bound is within it too
 pub below_past : (high : Option (List ℕ)) (a k : List ℕ) → key_cmp a k ≡ Less → is_past high k ≡ false → is_past high a ≡ false
 below_past None a k t h = refl
 below_past (Some b) a k t h = by (key_cmp a b) refl
@@ -59,7 +59,7 @@ below_past (Some b) a k t h = by (key_cmp a b) refl
 opened : (x : Pair) (xs : List Pair) (high : Option (List ℕ)) → is_past high x.key ≡ false → numbers_to (x ∷ xs) high ≡ number_of x.key ∷ numbers_to xs high
 opened x xs high h = ap (λ b. map (λ (y : Pair). number_of y.key) (if b then [] else x ∷ pairs_to xs high)) h
 
--- what holds of the number of each pair within the bound holds of all numbers
+-- what holds for the number of each pair within the bound holds for all the numbers
 each_number : (Q : ℕ → Type 0) (xs : List Pair) (high : Option (List ℕ)) → ((i : ℕ) (d : Pair) → i < length xs → is_past high (get_or xs i d).key ≡ false → Q (number_of (get_or xs i d).key))
     → (n : ℕ) → Contains (numbers_to xs high) n → Q n
 each_number Q [] high all n has = absurd (omega (arith, has.1))
@@ -80,7 +80,7 @@ each_number Q (x ∷ xs) high all n has = by (is_past high x.key) refl (each_num
     by true e rest has = absurd (omega (arith, has.1))
     by false e rest has = either e rest (Contains-append_cases (number_of x.key ∷ []) (numbers_to xs high) n has)
 
--- the number of a key within the bound is there
+-- the number of a key within the bound is among the numbers
 has_number : (xs : List Pair) (high : Option (List ℕ)) (k : List ℕ) → IsRising xs → is_some (payload_at xs k) ≡ true → is_past high k ≡ false → Contains (numbers_to xs high) (number_of k)
 has_number [] high k rising some h = absurd (never some)
   where
@@ -103,11 +103,11 @@ pub not_true : (b : Bool) → not b ≡ true → b ≡ false
 not_true true h = cc
 not_true false h = refl
 
-module _ (w : ℕ → ℕ → ℕ) (c : Contents) (volume : State) (name : List ℕ) (i : ℕ) (d : Entry) (spells : Spells w c volume) (at : IsNamedAt c.entries name i) where
-  -- the keys of an index are long enough
+module _ (w : ℕ → ℕ → ℕ) (c : Contents) (volume : State) (name : List ℕ) (i : ℕ) (d : Entry) (encodes : Encodes w c volume) (at : IsNamedAt c.entries name i) where
+  -- an index's keys are long enough
   pub keys_long : AreLong (pairs w (get_or c.entries i d).root)
   keys_long j e lt =
-      let p = ((named_found w c.entries (fin.entries volume.indices) name i spells.indices at).entry d).keys.only j e lt in
+      let p = ((named_found w c.entries (fin.entries volume.indices) name i encodes.indices at).entry d).keys.only j e lt in
       omega (arith, ap length p.is, length-append (value_key p.value) (to_be_bytes w64 p.node))
 
   module _ (sound : IsSound volume) (low : List ℕ) (high : Option (List ℕ)) where
@@ -116,7 +116,7 @@ module _ (w : ℕ → ℕ → ℕ) (c : Contents) (volume : State) (name : List 
     range_has rising k h within =
         let all = pairs w (get_or c.entries i d).root in
         let from : is_from low false k ≡ true = sym (same_from low false k) ∙ ap not within.from_low in
-        let some = ap is_some (payload_from low k false all) ∙ ap (λ b. is_some (cond b (payload_at all k) None)) from ∙ key_finds w c volume name i spells d at k h in
+        let some = ap is_some (payload_from low k false all) ∙ ap (λ b. is_some (cond b (payload_at all k) None)) from ∙ key_finds w c volume name i encodes d at k h in
         let fits = (sound.pairs name h.index h.node h.value h.there h.paired).node_fits in
         subst (λ (m : ℕ). Contains (numbers_to (pairs_from all low false) high) m) (ap number_of h.is ∙ node_of_key h.value h.node fits)
         (has_number (pairs_from all low false) high k (rising_from low false all rising) some (past_above high k ∙ within.to_high))
@@ -124,7 +124,7 @@ module _ (w : ℕ → ℕ → ℕ) (c : Contents) (volume : State) (name : List 
     pub range_only : (n : ℕ) → Contains (numbers_to (pairs_from (pairs w (get_or c.entries i d).root) low false) high) n → IsNodeWithin volume name low high n
     range_only n has =
         let all = pairs w (get_or c.entries i d).root in
-        let found = named_found w c.entries (fin.entries volume.indices) name i spells.indices at in
+        let found = named_found w c.entries (fin.entries volume.indices) name i encodes.indices at in
         each_number (IsNodeWithin volume name low high) (pairs_from all low false) high
         (λ j e lt not_past.
         let both = all_from (IsPairOf found.index) low false all (found.entry d).keys.only j e lt in
@@ -140,7 +140,7 @@ module _ (w : ℕ → ℕ → ℕ) (c : Contents) (volume : State) (name : List 
         })
         n has
 
-    -- a list that has got the first of the numbers has nothing else new
+    -- a list that has gained the first of the numbers has gained nothing else
     pub first_only : (before after : List ℕ) → HasFirst before (numbers_to (pairs_from (pairs w (get_or c.entries i d).root) low false) high) after → HasOnly volume name low high before after
     first_only before after first n h =
         by (Contains-append_cases before first.has.got n (subst (λ (l : List ℕ). Contains l n) first.has.is h))

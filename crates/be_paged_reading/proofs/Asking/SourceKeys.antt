@@ -1,4 +1,4 @@
--- The keys of an index as a source of queries sees them.
+-- An index's keys as an index reader sees them.
 use Rattle.std.proofs.Common.{◌≡◌, ℕ, zero, suc, ◌<◌, Bool, true, false, cond, not, List, [], ◌∷◌, length, map, drop, get_or, Some, None, ap, sym, subst, ◌∙◌, refl, arith, is_some}
 use Rattle.std.specs.List.{slice_get}
 use Rattle.std.specs.Option.{option_map}
@@ -8,7 +8,7 @@ use Rattle.std.specs.declared.cmp.Ordering.{Ordering}
 use Rattle.std.specs.declared.cmp.Ordering.TheVariants.{Less, Equal, Greater}
 use Rattle.std.specs.declared.option.Option.{Option}
 use Rattle.std.specs.FinMap as fin
-use Rattle.be_pages.specs.declared.room.Standing.{Standing}
+use Rattle.be_pages.specs.declared.room.PageState.{PageState}
 use Rattle.be_tree_reading.specs.Pair.{Pair}
 use Rattle.be_tree_reading.specs.Key.{key_cmp, payload_at, IsRising}
 use Rattle.be_tree_reading.specs.Range.{is_from, pairs_from}
@@ -23,7 +23,7 @@ use Rattle.be_volume.specs.declared.maps.Index.{Index}
 use Rattle.be_paged_reading.specs.Entry.{Entry}
 use Rattle.be_paged_reading.specs.Page.{Contents, IsNamedAt, IsGapAt}
 use Rattle.be_paged_reading.specs.Catalog.{IsPairOf}
-use Rattle.be_paged_reading.specs.Version.{IsInHand, Spells}
+use Rattle.be_paged_reading.specs.Version.{IsInHand, Encodes}
 use Rattle.be_paged_reading.proofs.IndexEntries.Indexing.{named_found, gap_none}
 use Rattle.be_paged_reading.proofs.CatalogPairs.Finding.{found_pair}
 use Rattle.be_paged_reading.proofs.CatalogPairs.Segments.{payload_from, rising_from}
@@ -37,16 +37,16 @@ mapped_len : (es : List Entry) → length (map (λ (e : Entry). e.root) es) ≡ 
 mapped_len [] = refl
 mapped_len (e ∷ es) = ap suc (mapped_len es)
 
--- the tree of an index
-pub entry_tree : (s : ℕ → Standing) (w : ℕ → ℕ → ℕ) (c : Contents) (i : ℕ) (d : Entry) → IsInHand s w c → i < length c.entries → IsTree s w (get_or c.entries i d).root
+-- an index's tree
+pub entry_tree : (s : ℕ → PageState) (w : ℕ → ℕ → ℕ) (c : Contents) (i : ℕ) (d : Entry) → IsInHand s w c → i < length c.entries → IsTree s w (get_or c.entries i d).root
 entry_tree s w c i d h lt = subst (IsTree s w) (mapped_or c.entries i d lt) (h.trees.each (suc i) d.root (omega (arith, lt, mapped_len c.entries)))
 
 same_index : (a b : Index) → Some a ≡ Some b → a ≡ b
 same_index a b e = cc
 
-module _ (w : ℕ → ℕ → ℕ) (c : Contents) (volume : State) (name : List ℕ) (i : ℕ) (spells : Spells w c volume) where
+module _ (w : ℕ → ℕ → ℕ) (c : Contents) (volume : State) (name : List ℕ) (i : ℕ) (encodes : Encodes w c volume) where
   pub no_key : IsGapAt c.entries name i → (k : List ℕ) → IsKey volume name k → ⊥
-  no_key gap k is = clash is.index (sym (fin.get-entries volume.indices name ∙ gap_none w c.entries (fin.entries volume.indices) name i spells.indices (fin.entries_sorted volume.indices) gap) ∙ is.there)
+  no_key gap k is = clash is.index (sym (fin.get-entries volume.indices name ∙ gap_none w c.entries (fin.entries volume.indices) name i encodes.indices (fin.entries_sorted volume.indices) gap) ∙ is.there)
     where
       clash : (x : Index) → None ≡ Some x → ⊥
       clash x e = cc
@@ -54,7 +54,7 @@ module _ (w : ℕ → ℕ → ℕ) (c : Contents) (volume : State) (name : List 
   module _ (d : Entry) (at : IsNamedAt c.entries name i) where
     pub key_found : (k : List ℕ) → is_some (payload_at (pairs w (get_or c.entries i d).root) k) ≡ true → IsKey volume name k
     key_found k some =
-        let found = named_found w c.entries (fin.entries volume.indices) name i spells.indices at in
+        let found = named_found w c.entries (fin.entries volume.indices) name i encodes.indices at in
         let pair = found_pair (IsPairOf found.index) k (pairs w (get_or c.entries i d).root) (found.entry d).keys.only some in
         let p = pair.1 in
         record {
@@ -68,12 +68,12 @@ module _ (w : ℕ → ℕ → ℕ) (c : Contents) (volume : State) (name : List 
 
     pub key_finds : (k : List ℕ) → IsKey volume name k → is_some (payload_at (pairs w (get_or c.entries i d).root) k) ≡ true
     key_finds k is =
-        let found = named_found w c.entries (fin.entries volume.indices) name i spells.indices at in
+        let found = named_found w c.entries (fin.entries volume.indices) name i encodes.indices at in
         let same = same_index is.index found.index (sym is.there ∙ fin.get-entries volume.indices name ∙ found.found) in
         ap (λ q. is_some (payload_at (pairs w (get_or c.entries i d).root) q)) is.is
         ∙ ap is_some ((found.entry d).keys.each is.node is.value (ap (λ (x : Index). fin.get x.pairs is.node) (sym same) ∙ is.paired))
 
--- both crates mean the same keys
+-- both crates define the same keys
 pub same_from : (from : List ℕ) (after : Bool) (k : List ℕ) → pair_keys.is_at_or_after from after k ≡ is_from from after k
 unfolding key_cmp
 same_from from true k = refl
@@ -129,20 +129,20 @@ module _ (Is : List ℕ → Type 0) (all : List Pair) (rising : IsRising all) (f
           by Equal t = refl
           by Greater t = refl
 
--- the least key from there on, as a walk reads it
-pub is_next_key : (w : ℕ → ℕ → ℕ) (c : Contents) (volume : State) (name : List ℕ) (i : ℕ) (d : Entry) → Spells w c volume → IsNamedAt c.entries name i → IsRising (pairs w (get_or c.entries i d).root)
+-- the lowest key from there on, as a walk reads it
+pub is_next_key : (w : ℕ → ℕ → ℕ) (c : Contents) (volume : State) (name : List ℕ) (i : ℕ) (d : Entry) → Encodes w c volume → IsNamedAt c.entries name i → IsRising (pairs w (get_or c.entries i d).root)
     → (from : List ℕ) (after : Bool) (now : List Pair) (r : Option (List ℕ)) → now ≡ pairs_from (pairs w (get_or c.entries i d).root) from after → r ≡ option_map (λ (x : Pair). x.key) (slice_get now 0) → IsNextKey volume name from after r
-is_next_key w c volume name i d spells at rising from after now r stands read =
+is_next_key w c volume name i d encodes at rising from after now r lies read =
     subst (IsNextKey volume name from after) (sym read)
-    (next_is_first (IsKey volume name) (pairs w (get_or c.entries i d).root) rising (key_found w c volume name i spells d at) (key_finds w c volume name i spells d at) from after now (sym stands))
+    (next_is_first (IsKey volume name) (pairs w (get_or c.entries i d).root) rising (key_found w c volume name i encodes d at) (key_finds w c volume name i encodes d at) from after now (sym lies))
 
--- after the key that was read stand the pairs after it
+-- the pairs after the key that was read follow it
 pub beyond_next : (all : List Pair) → IsRising all → (from : List ℕ) (after : Bool) (now : List Pair) (k : List ℕ) → now ≡ pairs_from all from after → Some k ≡ option_map (λ (x : Pair). x.key) (slice_get now 0) → drop 1 now ≡ pairs_from all k true
-beyond_next all rising from after [] k stands read = absurd (clash read)
+beyond_next all rising from after [] k lies read = absurd (clash read)
   where
     clash : Some k ≡ None → ⊥
     clash e = cc
-beyond_next all rising from after (x ∷ xs) k stands read = sym (ap (λ q. pairs_from all q true) (same k x.key read) ∙ next_from all from after x xs rising (sym stands))
+beyond_next all rising from after (x ∷ xs) k lies read = sym (ap (λ q. pairs_from all q true) (same k x.key read) ∙ next_from all from after x xs rising (sym lies))
   where
     same : (a b : List ℕ) → Some a ≡ Some b → a ≡ b
     same a b e = cc

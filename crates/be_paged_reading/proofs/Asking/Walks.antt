@@ -16,7 +16,7 @@ use Rattle.std.proofs.lemmas.Bool.{cases_lt}
 use Rattle.be_value.specs.declared.values.Value.{Value}
 use Rattle.be_value.specs.declared.values.Value.TheVariants.{Rawt}
 use Rattle.be_value.specs.Key.{IsValue}
-use Rattle.be_pages.specs.declared.room.Standing.{Standing}
+use Rattle.be_pages.specs.declared.room.PageState.{PageState}
 use Rattle.be_tree_reading.specs.Cursor.{IsCursor}
 use Rattle.be_tree_reading.specs.declared.cursor.Cursor.{Cursor}
 use Rattle.be_tree_reading.specs.Pair.{Pair}
@@ -51,7 +51,7 @@ not_end [] (suc i) x some = absurd (clash some)
 not_end (y ∷ xs) zero x some = omega arith
 not_end (y ∷ xs) (suc i) x some = omega (arith, not_end xs i x some)
 
--- the same of a test
+-- the same for a test
 pub none_left : {A : Type 0} (xs : List A) (i : ℕ) → i ≤ length xs → is_some (slice_get (drop i xs) 0) ≡ false → i ≡ length xs
 none_left [] zero le none = refl
 none_left [] (suc i) le none = absurd (omega (arith, le))
@@ -163,11 +163,11 @@ module _ (xs : List Pair) (nodes : Nodes) (node : ℕ) (fits : node < 2 ^ 64) (r
   entry_valid i d lt =
       valid node _ _ (sym (value_there nodes node (get_or (fin.entries (attributes_of nodes node)) i d).0) ∙ fin.get-entries (attributes_of nodes node) _ ∙ found_at (fin.entries (attributes_of nodes node)) i d (fin.entries_sorted (attributes_of nodes node)) lt)
 
-  -- what a walk reads after i others is entry i
+  -- after i entries a walk reads entry i
   pub next_is : (i : ℕ) (r : Option (List ℕ × Value)) (now : List Pair) → now ≡ drop i (front_of_node node (pairs_from xs (to_be_bytes w64 node) true))
       → ((name : List ℕ) (value : Value) → IsName name → IsValue value → slice_get now 0 ≡ Some (attribute_pair node (name, value)) → r ≡ Some (name, value)) → (slice_get now 0 ≡ None → r ≡ None)
       → r ≡ slice_get (drop i (fin.entries (attributes_of nodes node))) 0
-  next_is i r now stands reads ends = elim (cases_lt i (length (fin.entries (attributes_of nodes node)))) [
+  next_is i r now lies reads ends = elim (cases_lt i (length (fin.entries (attributes_of nodes node)))) [
     | inl lt ↦
         let e = get_or (fin.entries (attributes_of nodes node)) i d in
         let valid = entry_valid i d lt in
@@ -179,13 +179,13 @@ module _ (xs : List Pair) (nodes : Nodes) (node : ℕ) (fits : node < 2 ^ 64) (r
       d = ([], Rawt [])
 
       at : slice_get now 0 ≡ slice_get (drop i (map (attribute_pair node) (fin.entries (attributes_of nodes node)))) 0
-      at = ap (λ ys. slice_get ys 0) stands ∙ ap (λ ys. slice_get (drop i ys) 0) walked
+      at = ap (λ ys. slice_get ys 0) lies ∙ ap (λ ys. slice_get (drop i ys) 0) walked
 
-  -- what a walk reads first is the first name
+  -- the first name that a walk reads is the first name
   pub first_name : (r : Option (List ℕ)) (now : List Pair) → now ≡ front_of_node node (pairs_from xs (to_be_bytes w64 node) true)
       → ((name : List ℕ) (value : Value) → IsName name → slice_get now 0 ≡ Some (attribute_pair node (name, value)) → r ≡ Some name) → (slice_get now 0 ≡ None → r ≡ None)
       → r ≡ option_map (λ (e : List ℕ × Value). e.0) (slice_get (fin.entries (attributes_of nodes node)) 0)
-  first_name r now stands reads ends = elim (cases_lt 0 (length (fin.entries (attributes_of nodes node)))) [
+  first_name r now lies reads ends = elim (cases_lt 0 (length (fin.entries (attributes_of nodes node)))) [
     | inl lt ↦
         let e = get_or (fin.entries (attributes_of nodes node)) 0 d in
         let valid = entry_valid 0 d lt in
@@ -199,16 +199,16 @@ module _ (xs : List Pair) (nodes : Nodes) (node : ℕ) (fits : node < 2 ^ 64) (r
       d = ([], Rawt [])
 
       at : slice_get now 0 ≡ slice_get (drop 0 (map (attribute_pair node) (fin.entries (attributes_of nodes node)))) 0
-      at = ap (λ ys. slice_get ys 0) stands ∙ ap (λ ys. slice_get ys 0) walked
+      at = ap (λ ys. slice_get ys 0) lies ∙ ap (λ ys. slice_get ys 0) walked
 
--- a walk that ends has listed all
+-- a walk that has ended has listed everything
 pub all_listed : {A : Type 0} (es list : List A) (i : ℕ) → list ≡ take i es → i ≤ length es → None ≡ slice_get (drop i es) 0 → list ≡ es
 all_listed es list i listed le none = listed ∙ ap (λ (n : ℕ). take n es) (at_end es i le (sym none)) ∙ take_all es
 
 pub all_passed : {A : Type 0} (es list : List A) (i : ℕ) → list ≡ take i es → i ≡ length es → list ≡ es
 all_passed es list i listed e = listed ∙ ap (λ (n : ℕ). take n es) e ∙ take_all es
 
--- one more is listed
+-- the list has one more item
 pub one_listed : {A : Type 0} (es list : List A) (i : ℕ) (x : A) → list ≡ take i es → Some x ≡ slice_get (drop i es) 0 → list ++ x ∷ [] ≡ take (i + 1) es
 one_listed {A} es list i x listed some =
     let lt = not_end es i x (sym some) in
@@ -217,12 +217,12 @@ one_listed {A} es list i x listed some =
     same : (a b : A) → Some a ≡ Some b → a ≡ b
     same a b e = cc
 
--- a cursor after reads
-pub cursor_since : (s t : ℕ → Standing) (v w : ℕ → ℕ → ℕ) (cursor : Cursor) → t ≡ s → w ≡ v → IsCursor s v cursor → IsCursor t w cursor
-cursor_since s t v w cursor standing words h =
-    subst (λ (u : ℕ → Standing). IsCursor u w cursor) (sym standing) (subst (λ (x : ℕ → ℕ → ℕ). IsCursor s x cursor) (sym words) h)
+-- a cursor after pages were only read
+pub cursor_since : (s t : ℕ → PageState) (v w : ℕ → ℕ → ℕ) (cursor : Cursor) → t ≡ s → w ≡ v → IsCursor s v cursor → IsCursor t w cursor
+cursor_since s t v w cursor page_state words h =
+    subst (λ (u : ℕ → PageState). IsCursor u w cursor) (sym page_state) (subst (λ (x : ℕ → ℕ → ℕ). IsCursor s x cursor) (sym words) h)
 
--- what holds anyway holds of an answer
+-- what always holds, holds for an answer
 pub always : {A P : Type 0} (r : Option A) → P → IfSome r (λ _. P)
 always None p = tt
 always (Some x) p = p

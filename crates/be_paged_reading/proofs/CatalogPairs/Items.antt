@@ -1,4 +1,4 @@
--- Look-ups and pairs of a list after a put or a removal, and the catalog after one.
+-- Look-ups in a list of pairs after a put or a removal, and the catalog after one.
 use Rattle.std.proofs.Common.{◌≡◌, ℕ, zero, suc, ◌<◌, ◌^◌, true, cond, List, [], ◌∷◌, take, drop, All, Some, None, Ok, ap, sym, subst, ◌∙◌, refl, inl, inr, arith, ◌⊎◌, is_some}
 use Rattle.std.specs.Int.{from_be_bytes, w64}
 use Rattle.std.specs.Option.{option_map, option_and_then}
@@ -92,9 +92,9 @@ all_without P Q k (x ∷ xs) f all =
     apart : (r : Ordering) → key_cmp x.key k ≡ r → x.key ≡ k → (r ≡ Equal → ⊥) → ⊥
     apart r t s no_tie = no_tie (sym t ∙ ap (λ y. key_cmp y k) s ∙ tied_itself key_total k)
 
--- two keys of the catalog are equal or not
-pub keys_tell : (a b : List ℕ) → (a ≡ b) ⊎ (a ≡ b → ⊥)
-keys_tell a b = elim (key_cmp a b) as (λ o. key_cmp a b ≡ o → (a ≡ b) ⊎ (a ≡ b → ⊥)) [
+-- two of the catalog's keys are equal or not
+pub keys_decided : (a b : List ℕ) → (a ≡ b) ⊎ (a ≡ b → ⊥)
+keys_decided a b = elim (key_cmp a b) as (λ o. key_cmp a b ≡ o → (a ≡ b) ⊎ (a ≡ b → ⊥)) [
   | Less ↦ λ t. inr (λ e. apart Less t e (λ f. cc))
   | Equal ↦ λ t. inl (key_exact a b t)
   | Greater ↦ λ t. inr (λ e. apart Greater t e (λ f. cc))
@@ -109,7 +109,7 @@ key_node a b x y p q e = sym (from_be_bytes-to_be_bytes_8 a p) ∙ ap (λ k. fro
 pub key_name : (a b : ℕ) (x y : List ℕ) → catalog_key a x ≡ catalog_key b y → x ≡ y
 key_name a b x y e = ap (drop 8) e
 
--- The catalog after one pair was put or taken out: what stands at its key has changed so, and nothing else has.
+-- The catalog after one pair was put or taken out: what is at its key has changed accordingly, and nothing else has.
 module _ (items : List Pair) (nodes new : Nodes) (node : ℕ) (name : List ℕ) (fits : node < 2 ^ 64) (catalog : IsCatalog items nodes)
     (same : (q : ℕ) (m : List ℕ) → (q ≡ node → m ≡ name → ⊥) → stored new q m ≡ stored nodes q m) where
   here : (q : ℕ) (m : List ℕ) → q < 2 ^ 64 → catalog_key q m ≡ catalog_key node name → stored new q m ≡ stored new node name
@@ -120,7 +120,7 @@ module _ (items : List Pair) (nodes new : Nodes) (node : ℕ) (name : List ℕ) 
 
   pub catalog_put : (pair : Pair) → pair.key ≡ catalog_key node name → stored new node name ≡ Some pair.payload → IsCatalog (put pair items) new
   catalog_put pair key is = record {
-    each = λ q m lt. elim (keys_tell (catalog_key q m) (catalog_key node name)) [
+    each = λ q m lt. elim (keys_decided (catalog_key q m) (catalog_key node name)) [
       | inl e ↦ ap (payload_at (put pair items)) (e ∙ sym key) ∙ put_here pair items ∙ sym (here q m lt e ∙ is)
       | inr ne ↦ put_other pair (catalog_key q m) items (λ e. ne (sym e ∙ key)) ∙ catalog.each q m lt ∙ sym (same q m (apart q m ne))
     ];
@@ -129,7 +129,7 @@ module _ (items : List Pair) (nodes new : Nodes) (node : ℕ) (name : List ℕ) 
 
   pub catalog_without : (k : List ℕ) → k ≡ catalog_key node name → stored new node name ≡ None → IsCatalog (without k items) new
   catalog_without k key is = record {
-    each = λ q m lt. elim (keys_tell (catalog_key q m) (catalog_key node name)) [
+    each = λ q m lt. elim (keys_decided (catalog_key q m) (catalog_key node name)) [
       | inl e ↦ ap (payload_at (without k items)) (e ∙ sym key) ∙ without_here k items ∙ sym (here q m lt e ∙ is)
       | inr ne ↦ without_other k (catalog_key q m) items (λ e. ne (sym e ∙ key)) ∙ catalog.each q m lt ∙ sym (same q m (apart q m ne))
     ];
@@ -161,7 +161,7 @@ module _ {K X : Type 0} {R : K → K → Ordering} (o : IsTotalOrder R) (exact :
 abbrev mark : Attributes → List ℕ
 mark a = []
 
--- what is stored rests on whether the node is there, and on its value
+-- what is stored depends only on whether the node exists, and on its value
 pub stored_same : (nodes new : Nodes) (q : ℕ) (m : List ℕ) → is_some (fin.get new q) ≡ is_some (fin.get nodes q) → value_at new q m ≡ value_at nodes q m → stored new q m ≡ stored nodes q m
 stored_same nodes new q [] there same = by (fin.get new q) (fin.get nodes q) there
   where
@@ -179,7 +179,7 @@ at_name name a = option_and_then (λ (attributes : Attributes). fin.get attribut
 pub stored_apart : (nodes new : Nodes) (q : ℕ) (m : List ℕ) → fin.get new q ≡ fin.get nodes q → stored new q m ≡ stored nodes q m
 stored_apart nodes new q m e = stored_same nodes new q m (ap is_some e) (ap (at_name m) e)
 
--- a node that has other attributes now
+-- a node that now has other attributes
 module _ (nodes : Nodes) (node : ℕ) (attributes : Attributes) where
   pub value_of : (m : List ℕ) → value_at (fin.insert nodes node attributes) node m ≡ fin.get attributes m
   value_of m = ap (at_name m) (get_here nat_cmp_total nat_cmp-IsAntisymmetric nodes node attributes)
@@ -229,7 +229,7 @@ catalog_set items nodes node name v pair fits there valid key payload catalog =
       | inr ne ↦ elsewhere nodes node (fin.insert (attributes_of nodes node) name v) q m ne
     ]
 
--- the catalog after a node's attribute was taken away
+-- the catalog after a node's attribute was unset
 pub catalog_unset : (items : List Pair) (nodes : Nodes) (node : ℕ) (name k : List ℕ) → node < 2 ^ 64 → is_some (fin.get nodes node) ≡ true → name_from name ≡ Ok name
     → k ≡ catalog_key node name → IsCatalog items nodes → IsCatalog (without k items) (fin.insert nodes node (fin.remove (attributes_of nodes node) name))
 catalog_unset items nodes node name k fits there valid key catalog =
@@ -246,7 +246,7 @@ catalog_unset items nodes node name k fits there valid key catalog =
       | inr ne ↦ elsewhere nodes node (fin.remove (attributes_of nodes node) name) q m ne
     ]
 
--- the catalog after a node left that had no attributes
+-- the catalog after a node without attributes was dropped
 pub catalog_dropped : (items : List Pair) (nodes : Nodes) (node : ℕ) (k : List ℕ) → node < 2 ^ 64 → ((m : List ℕ) → value_at nodes node m ≡ None) → k ≡ catalog_key node []
     → IsCatalog items nodes → IsCatalog (without k items) (fin.remove nodes node)
 catalog_dropped items nodes node k fits bare key catalog =

@@ -1,4 +1,4 @@
--- The values that payloads tell, by their kind and the data after its byte.
+-- The values that payloads encode: a kind, and the data after its byte.
 use Rattle.std.proofs.Common.{◌≡◌, ℕ, suc, ◌<◌, ◌≤◌, ◌^◌, List, ◌∷◌, length, take, drop, get_or, Some, None, Ok, unwrap_or, ap, sym, ◌∙◌, refl, arith}
 use Rattle.std.specs.Prelude.{IsUtf8}
 use Rattle.std.specs.Int.{cast_signed, cast_unsigned, from_be_bytes, to_be_bytes, w32, w64}
@@ -30,11 +30,11 @@ length32 payload k n is = ap length is
 pub length64 : (payload : List ℕ) (k n : ℕ) → payload ≡ k ∷ to_be_bytes w64 n → length payload ≡ 9
 length64 payload k n is = ap length is
 
--- how long a text is
+-- how long a text can be
 pub text_short : (t : List ℕ) → text_from t ≡ Ok t → length t ≤ 255
 text_short t e = grind (arith, nat_tests)
 
--- the first byte of a payload
+-- a payload's first byte
 pub first_of : (v : Value) → get_or (payload_of v) 0 0 ≡ kind_number (kind_of v)
 first_of (Cstr t) = refl
 first_of (Long n) = refl
@@ -63,20 +63,20 @@ numbers_differ kinds.Ulng kinds.Ulng e = refl
 numbers_differ kinds.Ullg kinds.Ullg e = refl
 numbers_differ a b e = absurd (omega (arith, e))
 
--- a kind with the number of the first byte is the value's
+-- the kind whose number is the first byte is the value's
 pub kind_read : (payload : List ℕ) (byte : ℕ) (kind : Kind) (v : Value) → byte ≡ get_or payload 0 0 → kind_number kind ≡ byte → payload ≡ payload_of v → kind ≡ kind_of v
 kind_read payload byte kind v is number e = numbers_differ kind (kind_of v) (number ∙ is ∙ ap (λ p. get_or p 0 0) e ∙ first_of v)
 
-pub kind_told : (r : Option Kind) (payload : List ℕ) (byte : ℕ) (v : Value) → IfSome r (λ k. kind_number k ≡ byte) → IfNone r ((k : Kind) → kind_number k ≡ byte → ⊥) → byte ≡ get_or payload 0 0 → payload ≡ payload_of v
+pub kind_reported : (r : Option Kind) (payload : List ℕ) (byte : ℕ) (v : Value) → IfSome r (λ k. kind_number k ≡ byte) → IfNone r ((k : Kind) → kind_number k ≡ byte → ⊥) → byte ≡ get_or payload 0 0 → payload ≡ payload_of v
     → r ≡ Some (kind_of v)
-kind_told None payload byte v some none is e = absurd (none (kind_of v) (sym (is ∙ ap (λ p. get_or p 0 0) e ∙ first_of v)))
-kind_told (Some k) payload byte v some none is e = ap (λ (x : Kind). Some x) (kind_read payload byte k v is some e)
+kind_reported None payload byte v some none is e = absurd (none (kind_of v) (sym (is ∙ ap (λ p. get_or p 0 0) e ∙ first_of v)))
+kind_reported (Some k) payload byte v some none is e = ap (λ (x : Kind). Some x) (kind_read payload byte k v is some e)
 
 pub some_kind : (a b : Kind) → Some a ≡ Some b → a ≡ b
 some_kind a b e = ap (λ o. unwrap_or o a) e
 
 module _ (payload : List ℕ) where
-  -- what is read is the value whose payload it is
+  -- `read` is the value with this payload
   abbrev pub IsRead : Option Value → Type 0
   IsRead read = (v : Value) → IsValue v → payload ≡ payload_of v → read ≡ Some v
 
@@ -96,33 +96,33 @@ module _ (payload : List ℕ) where
   Reads64 number = (k n : ℕ) → n < 2 ^ 64 → payload ≡ k ∷ to_be_bytes w64 n → number ≡ Some n
 
   pub cstr : (text : Option (List ℕ)) → IsKind kinds.Cstr → ReadsText text → IsRead (option_map Cstr text)
-  cstr text told reads (Cstr t) is e = ap (option_map Cstr) (reads 1 t is.0 is.1 e)
-  cstr text told reads v is e = let h = told v e in cc
+  cstr text reported reads (Cstr t) is e = ap (option_map Cstr) (reads 1 t is.0 is.1 e)
+  cstr text reported reads v is e = let h = reported v e in cc
 
   pub long : (number : Option ℕ) → IsKind kinds.Long → Reads32 number → IsRead (option_map (λ n. Long (cast_signed w32 n)) number)
-  long number told reads (Long n) is e = ap (option_map (λ n. Long (cast_signed w32 n))) (reads 2 (cast_unsigned w32 n) (Fits-lt-pow {w = w32} (Fits-of_z is)) e) ∙ ap (λ m. Some (Long m)) (to_z-of_z w32 n is)
-  long number told reads v is e = let h = told v e in cc
+  long number reported reads (Long n) is e = ap (option_map (λ n. Long (cast_signed w32 n))) (reads 2 (cast_unsigned w32 n) (Fits-lt-pow {w = w32} (Fits-of_z is)) e) ∙ ap (λ m. Some (Long m)) (to_z-of_z w32 n is)
+  long number reported reads v is e = let h = reported v e in cc
 
   pub llng : (number : Option ℕ) → IsKind kinds.Llng → Reads64 number → IsRead (option_map (λ n. Llng (cast_signed w64 n)) number)
-  llng number told reads (Llng n) is e = ap (option_map (λ n. Llng (cast_signed w64 n))) (reads 3 (cast_unsigned w64 n) (Fits-lt-pow {w = w64} (Fits-of_z is)) e) ∙ ap (λ m. Some (Llng m)) (to_z-of_z w64 n is)
-  llng number told reads v is e = let h = told v e in cc
+  llng number reported reads (Llng n) is e = ap (option_map (λ n. Llng (cast_signed w64 n))) (reads 3 (cast_unsigned w64 n) (Fits-lt-pow {w = w64} (Fits-of_z is)) e) ∙ ap (λ m. Some (Llng m)) (to_z-of_z w64 n is)
+  llng number reported reads v is e = let h = reported v e in cc
 
   pub mims : (text : Option (List ℕ)) → IsKind kinds.Mims → ReadsText text → IsRead (option_map Mims text)
-  mims text told reads (Mims t) is e = ap (option_map Mims) (reads 4 t is.0 is.1 e)
-  mims text told reads v is e = let h = told v e in cc
+  mims text reported reads (Mims t) is e = ap (option_map Mims) (reads 4 t is.0 is.1 e)
+  mims text reported reads v is e = let h = reported v e in cc
 
   pub rawt : (bytes : Option (List ℕ)) → IsKind kinds.Rawt → ReadsBytes bytes → IsRead (option_map Rawt bytes)
-  rawt bytes told reads (Rawt t) is e = ap (option_map Rawt) (reads 5 t is e)
-  rawt bytes told reads v is e = let h = told v e in cc
+  rawt bytes reported reads (Rawt t) is e = ap (option_map Rawt) (reads 5 t is e)
+  rawt bytes reported reads v is e = let h = reported v e in cc
 
   pub ulng : (number : Option ℕ) → IsKind kinds.Ulng → Reads32 number → IsRead (option_map Ulng number)
-  ulng number told reads (Ulng n) is e = ap (option_map Ulng) (reads 6 n is e)
-  ulng number told reads v is e = let h = told v e in cc
+  ulng number reported reads (Ulng n) is e = ap (option_map Ulng) (reads 6 n is e)
+  ulng number reported reads v is e = let h = reported v e in cc
 
   pub ullg : (number : Option ℕ) → IsKind kinds.Ullg → Reads64 number → IsRead (option_map Ullg number)
-  ullg number told reads (Ullg n) is e = ap (option_map Ullg) (reads 7 n is e)
-  ullg number told reads v is e = let h = told v e in cc
+  ullg number reported reads (Ullg n) is e = ap (option_map Ullg) (reads 7 n is e)
+  ullg number reported reads v is e = let h = reported v e in cc
 
-  -- the same of what is seen of the value
+  -- the same for what is seen of the value
   pub seen : {A : Type 0} (f : Value → A) (none : A) (read : Option Value) → IsRead read → (v : Value) → IsValue v → payload ≡ payload_of v → option_map_or f read none ≡ f v
   seen f none read reads v is e = ap (λ r. option_map_or f r none) (reads v is e)

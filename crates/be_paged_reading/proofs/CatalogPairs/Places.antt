@@ -1,4 +1,4 @@
--- Where attributes stand in the catalog's tree, as look-ups and walks find them.
+-- Where attributes are in the catalog's tree, as look-ups and walks find them.
 use Rattle.std.proofs.Common.{◌≡◌, ℕ, ◌+◌, ◌≤◌, Bool, true, false, cond, List, [], ◌∷◌, drop, IsTrue, Some, None, is_some, ap, sym, subst, ◌∙◌, refl}
 use Rattle.std.specs.List.{slice_get}
 use Rattle.std.specs.Option.{IfSome, IfNone, option_or}
@@ -10,7 +10,7 @@ use Rattle.std.specs.declared.cmp.Ordering.TheVariants.{Less, Equal, Greater}
 use Rattle.std.specs.declared.option.Option.{Option}
 use Rattle.std.specs.Prelude.{nat_eq}
 use Rattle.std.proofs.lemmas.Map.Lookups.{exact_bytes}
-use Rattle.be_pages.specs.declared.room.Standing.{Standing}
+use Rattle.be_pages.specs.declared.room.PageState.{PageState}
 use Rattle.be_pages.specs.Pages.{is_readable}
 use Rattle.be_tree_reading.specs.Key.{payload_at}
 use Rattle.be_tree_reading.specs.Page.{IsItem, IsReadableAt, item_at}
@@ -25,29 +25,29 @@ use Rattle.be_paged_reading.specs.Reading.{is_of, front_of_node}
 use Rattle.be_paged_reading.specs.declared.asked.Asked.{Asked}
 use Rattle.be_paged_reading.proofs.CatalogPairs.Segments.{is_node, payload_from}
 
--- what was found in pages that were only read since
-pub found_since : (s t : ℕ → Standing) (v w : ℕ → ℕ → ℕ) (root : ℕ) (key : List ℕ) (found : Option (ℕ × ℕ)) → t ≡ s → w ≡ v → IsFoundAt s v root key found → IsFoundAt t w root key found
-found_since s t v w root key found standing words h =
-    subst (λ (u : ℕ → Standing). IsFoundAt u w root key found) (sym standing) (subst (λ (x : ℕ → ℕ → ℕ). IsFoundAt s x root key found) (sym words) h)
+-- what was found stays true after pages were only read
+pub found_since : (s t : ℕ → PageState) (v w : ℕ → ℕ → ℕ) (root : ℕ) (key : List ℕ) (found : Option (ℕ × ℕ)) → t ≡ s → w ≡ v → IsFoundAt s v root key found → IsFoundAt t w root key found
+found_since s t v w root key found page_state words h =
+    subst (λ (u : ℕ → PageState). IsFoundAt u w root key found) (sym page_state) (subst (λ (x : ℕ → ℕ → ℕ). IsFoundAt s x root key found) (sym words) h)
 
 -- what a descent found
 pub found_there : (found : Option (ℕ × ℕ)) (payload : ℕ × ℕ → List ℕ) (there : Option (List ℕ)) → IfNone found (there ≡ None) → IfSome found (λ at. there ≡ Some (payload at)) → is_some found ≡ is_some there
 found_there None payload there none some = sym (ap is_some none)
 found_there (Some at) payload there none some = sym (ap is_some some)
 
-pub place_found : (s t : ℕ → Standing) (v w : ℕ → ℕ → ℕ) (root : ℕ) (key : List ℕ) (found : Option (ℕ × ℕ)) → t ≡ s → w ≡ v
+pub place_found : (s t : ℕ → PageState) (v w : ℕ → ℕ → ℕ) (root : ℕ) (key : List ℕ) (found : Option (ℕ × ℕ)) → t ≡ s → w ≡ v
     → IfNone found (payload_at (pairs v root) key ≡ None) → IfSome found (λ at. payload_at (pairs v root) key ≡ Some (item_at (v at.0) at.1).payload)
     → IfSome found (λ at. IsTrue (is_readable (s at.0))) → IfSome found (λ at. at.1 + 42 ≤ 512) → IfSome found (λ at. IsItem (v at.0) at.1) → IsFoundAt t w root key found
-place_found s t v w root key None standing words none some readable in_page fits = found_since s t v w root key None standing words none
-place_found s t v w root key (Some at) standing words none some readable in_page fits =
-    found_since s t v w root key (Some at) standing words (record { item = (readable, (in_page, fits)); there = some })
+place_found s t v w root key None page_state words none some readable in_page fits = found_since s t v w root key None page_state words none
+place_found s t v w root key (Some at) page_state words none some readable in_page fits =
+    found_since s t v w root key (Some at) page_state words (record { item = (readable, (in_page, fits)); there = some })
 
--- an attribute is remembered unless one is
-pub asked_or : (s : ℕ → Standing) (w : ℕ → ℕ → ℕ) (root : ℕ) (asked : Option Asked) (last : Asked) → IsAsked s w root asked → IsFoundAt s w root (catalog_key last.node last.name) last.place → IsAsked s w root (option_or asked (Some last))
+-- an attribute is remembered unless there is one already
+pub asked_or : (s : ℕ → PageState) (w : ℕ → ℕ → ℕ) (root : ℕ) (asked : Option Asked) (last : Asked) → IsAsked s w root asked → IsFoundAt s w root (catalog_key last.node last.name) last.place → IsAsked s w root (option_or asked (Some last))
 asked_or s w root None last first second = second
 asked_or s w root (Some a) last first second = first
 
--- names that are the same byte by byte
+-- names that are equal byte by byte
 pub same_name : (a b : List ℕ) → pointwise nat_eq a b ≡ true → a ≡ b
 same_name a b e = exact_bytes a b (tied (name_cmp a b) (sym (texts_ties a b) ∙ e))
   where
@@ -56,11 +56,11 @@ same_name a b e = exact_bytes a b (tied (name_cmp a b) (sym (texts_ties a b) ∙
     tied Equal e = refl
     tied Greater e = cc
 
--- what is remembered of an attribute is known of it
-pub known_is : (s : ℕ → Standing) (w : ℕ → ℕ → ℕ) (root node : ℕ) (name : List ℕ) (asked : Option Asked) (last : Asked) → asked ≡ Some last → last.node ≡ node → pointwise nat_eq last.name name ≡ true
+-- what is remembered about an attribute is known about it
+pub known_is : (s : ℕ → PageState) (w : ℕ → ℕ → ℕ) (root node : ℕ) (name : List ℕ) (asked : Option Asked) (last : Asked) → asked ≡ Some last → last.node ≡ node → pointwise nat_eq last.name name ≡ true
     → IsAsked s w root asked → IsFoundAt s w root (catalog_key node name) last.place
-known_is s w root node name asked last is of named told =
-    let found = subst (IsAsked s w root) is told in
+known_is s w root node name asked last is of named reported =
+    let found = subst (IsAsked s w root) is reported in
     let key = ap (λ (n : ℕ). catalog_key n last.name) of ∙ ap (catalog_key node) (same_name last.name name named) in
     subst (λ (k : List ℕ). IsFoundAt s w root k last.place) key found
 
@@ -70,10 +70,10 @@ none_some x e = absurd (clash e)
     clash : None ≡ Some x → ⊥
     clash e = cc
 
--- the first pair from a key on stands in the list
-pub first_stands : (xs : List Pair) (from : List ℕ) (after : Bool) (now : List Pair) (x : Pair) → now ≡ pairs_from xs from after → slice_get now 0 ≡ Some x → payload_at xs x.key ≡ Some x.payload
-first_stands xs from after [] x is e = none_some x e
-first_stands xs from after (y ∷ ys) x is e = subst (λ (z : Pair). payload_at xs z.key ≡ Some z.payload) (same y x e) (chosen (is_from from after y.key) (payload_at xs y.key) (sym (payload_from from y.key after xs) ∙ here))
+-- the first pair from a key on is in the list
+pub first_lies : (xs : List Pair) (from : List ℕ) (after : Bool) (now : List Pair) (x : Pair) → now ≡ pairs_from xs from after → slice_get now 0 ≡ Some x → payload_at xs x.key ≡ Some x.payload
+first_lies xs from after [] x is e = none_some x e
+first_lies xs from after (y ∷ ys) x is e = subst (λ (z : Pair). payload_at xs z.key ≡ Some z.payload) (same y x e) (chosen (is_from from after y.key) (payload_at xs y.key) (sym (payload_from from y.key after xs) ∙ here))
   where
     same : (a b : Pair) → Some a ≡ Some b → a ≡ b
     same a b e = cc
@@ -88,7 +88,7 @@ first_stands xs from after (y ∷ ys) x is e = subst (λ (z : Pair). payload_at 
         clash : None ≡ Some y.payload → ⊥
         clash e = cc
 
--- the first pair of a node at the front is the first pair, and its key begins with the node
+-- a node's first pair at the beginning of the list is the list's first pair, and its key begins with the node
 first_front : (node : ℕ) (xs : List Pair) (x : Pair) → slice_get (front_of_node node xs) 0 ≡ Some x → (slice_get xs 0 ≡ Some x) × (is_of node x.key ≡ true)
 first_front node [] x e = none_some x e
 first_front node (y ∷ ys) x e = by (is_of node y.key) refl e
@@ -100,16 +100,16 @@ first_front node (y ∷ ys) x e = by (is_of node y.key) refl e
     by true of e = (e, ap (λ (z : Pair). is_of node z.key) (sym (same y x e)) ∙ of)
     by false of e = none_some x e
 
--- what a walk over a node's attributes meets first stands at the node's name
-pub place_walked : (s t : ℕ → Standing) (v w : ℕ → ℕ → ℕ) (root node : ℕ) (from : List ℕ) (after : Bool) (now : List Pair) (found : Option (List ℕ × (ℕ × ℕ))) → t ≡ s → w ≡ v → now ≡ pairs_from (pairs v root) from after
+-- the first thing that a walk over a node's attributes meets is at its name in the tree
+pub place_walked : (s t : ℕ → PageState) (v w : ℕ → ℕ → ℕ) (root node : ℕ) (from : List ℕ) (after : Bool) (now : List Pair) (found : Option (List ℕ × (ℕ × ℕ))) → t ≡ s → w ≡ v → now ≡ pairs_from (pairs v root) from after
     → IfSome found (λ f. slice_get (front_of_node node now) 0 ≡ Some (item_at (v f.1.0) f.1.1)) → IfSome found (λ f. f.0 ≡ drop 8 (item_at (v f.1.0) f.1.1).key)
     → IfSome found (λ f. IsReadableAt s v f.1.0 f.1.1) → IfSome found (λ f. IsPlaceOf t w root (catalog_key node f.0) f.1.0 f.1.1)
-place_walked s t v w root node from after now None standing words stands met beyond fits = tt
-place_walked s t v w root node from after now (Some f) standing words stands met beyond fits =
+place_walked s t v w root node from after now None page_state words lies met beyond fits = tt
+place_walked s t v w root node from after now (Some f) page_state words lies met beyond fits =
     let item = item_at (v f.1.0) f.1.1 in
     let front = first_front node now item met in
     let key = is_node node item.key front.1 ∙ ap (catalog_key node) (sym beyond) in
-    found_since s t v w root (catalog_key node f.0) (Some f.1) standing words (record {
+    found_since s t v w root (catalog_key node f.0) (Some f.1) page_state words (record {
       item = fits;
-      there = ap (payload_at (pairs v root)) (sym key) ∙ first_stands (pairs v root) from after now item stands front.0;
+      there = ap (payload_at (pairs v root)) (sym key) ∙ first_lies (pairs v root) from after now item lies front.0;
     })

@@ -1,4 +1,4 @@
--- What a sound volume has.
+-- Facts about a sound volume.
 use Rattle.std.proofs.Common.{◌≡◌, ℕ, refl, List, [], ◌∷◌, Some, None, Ok, is_some, ap, arith}
 use Rattle.std.specs.declared.option.Option.{Option}
 use Rattle.std.specs.FinMap as fin
@@ -11,7 +11,7 @@ use Rattle.be_paged_reading.specs.Reading.{AreValid}
 pub values_valid : (s : State) → IsSound s → AreValid s.nodes
 values_valid s sound node name value e = sound.attributes node name value e
 
--- the next node isn't there
+-- the next node doesn't exist yet
 pub none_at_next : (s : State) → IsSound s → fin.get s.nodes s.next ≡ None
 none_at_next s sound = by (fin.get s.nodes s.next) refl
   where

@@ -1,4 +1,4 @@
--- How the entries of a version stand for the indices of its volume.
+-- How a version's entries correspond to its volume's indices.
 use Rattle.std.proofs.Common.{◌≡◌, ℕ, zero, suc, ◌+◌, ◌<◌, Bool, true, false, cond, List, [], ◌∷◌, ◌++◌, length, map, take, drop, get_or, All, Some, None, ap, sym, subst, ◌∙◌, refl, arith, T, ◌&&◌}
 use Rattle.std.proofs.Common.{inl, inr}
 use Rattle.std.proofs.lemmas.Bool.{cases_lt}

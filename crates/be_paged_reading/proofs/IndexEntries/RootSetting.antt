@@ -1,4 +1,4 @@
--- An entry that got another root.
+-- An entry whose root was changed.
 use Rattle.std.proofs.Common.{◌≡◌, ℕ, zero, suc, ◌<◌, List, [], ◌∷◌, ◌++◌, length, take, drop, get_or, set, ap, ◌∙◌, refl, arith}
 use Rattle.std.proofs.lemmas.List.{get_or_default}
 use Rattle.be_paged_reading.specs.Entry.{Entry}

@@ -1,4 +1,4 @@
--- Indices where they stand on a version page.
+-- Indices on their version page.
 use Rattle.std.proofs.Common.{◌≡◌, ℕ, ◌+◌, ◌<◌, ◌≤◌, List, length, get_or, ap, sym, subst, ◌∙◌, inl, inr, zero-add, arith}
 use Rattle.std.proofs.lemmas.Bool.{cases_lt}
 use Rattle.std.proofs.lemmas.List.FromFn.{get_or-map-range_with_len, length-map-range_with_len}
@@ -6,7 +6,7 @@ use Rattle.std.specs.declared.cmp.Ordering.{Ordering}
 use Rattle.std.specs.declared.option.Option.{Option}
 use Rattle.std.specs.declared.option.Option.TheVariants.{Some, None}
 use Rattle.std.specs.declared.cmp.Ordering.TheVariants.{Less, Equal, Greater}
-use Rattle.be_pages.specs.declared.room.Standing.{Standing}
+use Rattle.be_pages.specs.declared.room.PageState.{PageState}
 use Rattle.be_tree_reading.specs.declared.cursor.Cursor.{Cursor}
 use Rattle.be_volume.specs.Maps.{name_cmp}
 use Rattle.be_volume.specs.Volume.{State}
@@ -16,11 +16,11 @@ use Rattle.be_paged_reading.specs.Source.{IsFound, IsIndexOf, IsKnown, SourceOf}
 use Rattle.be_paged_reading.specs.declared.on_page.FoundIndex.{FoundIndex}
 use Rattle.be_paged_reading.proofs.IndexEntries.Indexing.{NamesRise, flip, names_exact, names_total}
 
--- the names of the indices before a place of a page are less than this one
+-- the names of the indices before this place are lower than this one
 abbrev pub AreBelow : (words : ℕ → ℕ) → List ℕ → ℕ → Type 0
 AreBelow words name i = (j : ℕ) (d : Entry) → j < i → name_cmp (get_or (contents_of words).entries j d).name name ≡ Less
 
--- and those from there on are greater
+-- and those from there on are higher
 abbrev pub AreAbove : (words : ℕ → ℕ) → List ℕ → ℕ → Type 0
 AreAbove words name i = (j : ℕ) (d : Entry) → i ≤ j → j < words 1 → name_cmp (get_or (contents_of words).entries j d).name name ≡ Greater
 
@@ -34,7 +34,7 @@ module _ (words : ℕ → ℕ) (name : List ℕ) where
   compared : (i : ℕ) (r : Ordering) → i < words 1 → name_cmp (entry_at words (entry_place i)).name name ≡ r → (d : Entry) → name_cmp (get_or (contents_of words).entries i d).name name ≡ r
   compared i r lt e d = ap (λ (x : Entry). name_cmp x.name name) (at_place i d lt) ∙ e
 
-  -- what one comparison tells of all, where the names ascend
+  -- since the names ascend, one comparison decides about all the indices on that side
   module _ (rise : NamesRise (contents_of words).entries) (i : ℕ) (lt : i < words 1) where
     rises : (j k : ℕ) (d : Entry) → j < k → k < words 1 → name_cmp (get_or (contents_of words).entries j d).name (get_or (contents_of words).entries k d).name ≡ Less
     rises j k d less within = rise j k d less (omega (arith, within, how_many))
@@ -72,18 +72,18 @@ module _ (words : ℕ → ℕ) (name : List ℕ) where
     above = λ d within. above low d past (omega (arith, within, how_many));
   }
 
--- a source that was only read since, with what it remembers now
-pub source_since : (s t : ℕ → Standing) (v w : ℕ → ℕ → ℕ) (page : ℕ) (was known : Option FoundIndex) (cursor : Cursor) (place last_page last_at : ℕ) (volume : State) → t ≡ s → w ≡ v →
+-- an index reader after pages were only read, with what it now remembers
+pub source_since : (s t : ℕ → PageState) (v w : ℕ → ℕ → ℕ) (page : ℕ) (was known : Option FoundIndex) (cursor : Cursor) (place last_page last_at : ℕ) (volume : State) → t ≡ s → w ≡ v →
     IsKnown (contents_of (w page)).entries known → SourceOf s v page was cursor place last_page last_at volume → SourceOf t w page known cursor place last_page last_at volume
-source_since s t v w page was known cursor place last_page last_at volume standing words is h =
-    let now = subst (λ (u : ℕ → Standing). SourceOf u w page was cursor place last_page last_at volume) (sym standing) (subst (λ (x : ℕ → ℕ → ℕ). SourceOf s x page was cursor place last_page last_at volume) (sym words) h) in
+source_since s t v w page was known cursor place last_page last_at volume page_state words is h =
+    let now = subst (λ (u : ℕ → PageState). SourceOf u w page was cursor place last_page last_at volume) (sym page_state) (subst (λ (x : ℕ → ℕ → ℕ). SourceOf s x page was cursor place last_page last_at volume) (sym words) h) in
     record { version = now.version; known_is = is; beyond = now.beyond }
 
--- what is remembered of an index
+-- what is remembered about an index
 pub of_known : (entries : List Entry) (known : Option FoundIndex) (index : FoundIndex) → known ≡ Some index → IsKnown entries known → IsIndexOf entries index
 of_known entries known index is h = subst (IsKnown entries) is h
 
--- an index that was found is to be remembered
+-- an index that was found can be remembered
 pub found_known : (entries : List Entry) (name : List ℕ) (found : Option FoundIndex) → IsFound entries name found → IsKnown entries found
 found_known entries name None h = tt
 found_known entries name (Some index) h = record { in_range = h.named.in_range; kind = h.kind; root = h.root }

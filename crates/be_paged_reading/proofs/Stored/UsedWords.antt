@@ -1,4 +1,4 @@
--- What a version page tells fixes the words that it uses.
+-- A version page's contents determine the words that it uses.
 use Rattle.std.proofs.Common.{◌≡◌, ℕ, zero, suc, ◌+◌, ◌-◌, ◌*◌, ◌/◌, ◌%◌, ◌<◌, ◌≤◌, List, [], length, map, get_or, slice_index, inl, inr, ap, sym, ◌∙◌, refl, arith}
 use Rattle.std.specs.Int.{to_be_bytes, from_be_bytes, w64}
 use Rattle.std.specs.List.{flat_map, range_with_len}
@@ -14,8 +14,8 @@ use Rattle.be_tree_reading.proofs.Codec.{flat_map_length}
 use Rattle.be_paged_reading.specs.Entry.{Entry, HaveText}
 use Rattle.be_paged_reading.specs.Page.{Contents, contents_of, entry_at, kind_numbered, entry_place, IsEntry, IsVersionPage}
 
-pub length_told : (words : ℕ → ℕ) (at n : ℕ) → length (bytes_at words at n) ≡ n
-length_told words at n = length-take-le n (flat_map (to_be_bytes w64) (map (λ i. words (at + i)) (range_with_len 0 (words_for n)))) (omega (arith, flat_map_length (λ i. words (at + i)) (words_for n)))
+pub length_reported : (words : ℕ → ℕ) (at n : ℕ) → length (bytes_at words at n) ≡ n
+length_reported words at n = length-take-le n (flat_map (to_be_bytes w64) (map (λ i. words (at + i)) (range_with_len 0 (words_for n)))) (omega (arith, flat_map_length (λ i. words (at + i)) (words_for n)))
 
 number_back : (n : ℕ) → 1 ≤ n → n ≤ 7 → place (kind_numbered n) + 1 ≡ n
 number_back zero lo hi = absurd (omega (arith, lo))
@@ -30,7 +30,7 @@ number_back (suc (suc (suc (suc (suc (suc (suc (suc n)))))))) lo hi = absurd (om
 
 pub name_len : (v : ℕ → ℕ) (at : ℕ) → length (entry_at v at).name ≡ v at
 unfolding entry_at
-name_len v at = length_told v (at + 1) (v at)
+name_len v at = length_reported v (at + 1) (v at)
 
 kind_in : (v : ℕ → ℕ) (at : ℕ) → (entry_at v at).kind ≡ kind_numbered (v (at + 9))
 unfolding entry_at
@@ -46,7 +46,7 @@ text_word v w a b j lt same p q =
     ∙ ap (from_be_bytes w64) (p.bytes j lt ∙ ap (λ (text : List ℕ). map (λ k. slice_index text k) (range_with_len (8 * j) 8)) same ∙ sym (q.bytes j lt))
     ∙ from_be_bytes-to_be_bytes_8 (w j) (q.small j lt)
 
--- the eleven words of an index
+-- an index's eleven words
 entry_words : (v w : ℕ → ℕ) (at : ℕ) → IsEntry v at → IsEntry w at → entry_at v at ≡ entry_at w at → (r : ℕ) → r < 11 → v (at + r) ≡ w (at + r)
 entry_words v w at p q e zero lt =
     let z : at + 0 ≡ at = omega arith in
@@ -66,8 +66,8 @@ entry_words v w at p q e (suc j) lt = elim (cases_lt j 8) [
   ]
 ]
 
-pub one_spelling : (v w : ℕ → ℕ) → IsVersionPage v → IsVersionPage w → contents_of v ≡ contents_of w → (i : ℕ) → i < 4 + 11 * v 1 → v i ≡ w i
-one_spelling v w p q e i lt = elim (cases_lt i 4) [
+pub one_encoding : (v w : ℕ → ℕ) → IsVersionPage v → IsVersionPage w → contents_of v ≡ contents_of w → (i : ℕ) → i < 4 + 11 * v 1 → v i ≡ w i
+one_encoding v w p q e i lt = elim (cases_lt i 4) [
   | inl low ↦ head i low
   | inr high ↦
       let k : ℕ = (i - 4) / 11 in

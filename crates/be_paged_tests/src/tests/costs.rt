@@ -1,10 +1,10 @@
-//! What requests cost the volume in pages: how many words of pages they read and store, and how
-//! many pages they take.
+//! What requests cost a volume in pages: how many words of pages they read and store, and how many
+//! pages they take.
 //!
-//! A row is `REQUEST => COST`, in the words of a script. Each row has a volume of its own, which is
-//! made alike each time: a page that is used again has words of what was written there before, and
-//! of these none is stored again. So a cost depends on no other row, and is the same in each run.
-//! It is exact: a row fails if its cost grows, and if it falls.
+//! A row is `REQUEST => COST`, in the words of a script. Each row has its own volume, which is made
+//! the same way each time. A page that is used again still has the words written there before, and
+//! none of these is stored again. So a cost doesn't depend on other rows, and is the same in each
+//! run. It is exact: a row fails if its cost grows, and also if it falls.
 ghost use Rattle.std.specs.Prelude.{◌≤◌, ◌<◌, ◌+◌, ◌^◌, length, IsTrue};
 ghost use Rattle.be_volume.specs.Volume.{State};
 ghost use Rattle.be_paged_reading.specs.Version.{IsVersion};
@@ -31,7 +31,7 @@ enum Cost {
     Write { stores: u64, takes: u64, reads: u64 },
 }
 
-/// Whether a node has an attribute, and what the look at it costs.
+/// Whether a node has an attribute, and what reading it costs.
 fn count_get(both: Both, node: u64, name: &Name) -> Cost {
     let Both { room, page, .. } = both;
     let mut look = Counted::new(room);
@@ -42,7 +42,7 @@ fn count_get(both: Both, node: u64, name: &Name) -> Cost {
     }
 }
 
-/// The cell of nothing, which a read of a row writes over.
+/// An empty cell, which reading a row overwrites.
 fn no_cell() -> Cell {
     Cell {
         error: 1,
@@ -64,7 +64,7 @@ fn values_in(cells: &[Cell]) -> u64 {
     found
 }
 
-/// How many of three attributes a node has, and what the look at their row costs.
+/// How many of three attributes a node has, and what reading their row costs.
 fn count_row(both: Both, node: u64, names: &[HeldName; 3]) -> Cost {
     let Both { room, page, .. } = both;
     let mut look = Counted::new(room);
@@ -77,7 +77,7 @@ fn count_row(both: Both, node: u64, names: &[HeldName; 3]) -> Cost {
     }
 }
 
-/// The same by the node and the names as words.
+/// The same, with the node and the names as words.
 fn row_cost(alloc: Global, text: &str) -> Result<Cost, Fail> {
     let mut words = text.split(" ");
     let node = word_of(words.next().unwrap_or("").as_bytes()).unwrap_or(0);
@@ -88,8 +88,8 @@ fn row_cost(alloc: Global, text: &str) -> Result<Cost, Fail> {
     Ok(count_row(filled(alloc)?, node, &names))
 }
 
-/// The nodes of a query, as a store asks for them, and the look. The plain volume isn't asked: it
-/// names the volume that the pages encode.
+/// The nodes that a query finds, as a store asks for them, and the page reader. The plain volume
+/// isn't read: it names the volume that the pages encode.
 fn answer_pages<L: Look>(
     alloc: Global,
     _plain: &Volume,
@@ -98,14 +98,14 @@ fn answer_pages<L: Look>(
     query: &Query,
 ) -> (L, Result<Vec<u64>, Refusal>)
     ghost volume: { State }
-    requires version { IsVersion (L.standing look) (L.words look) page volume }
+    requires version { IsVersion (L.page_state look) (L.words look) page volume }
 {
     let mut reader = source(look, page);
     let nodes = answer(alloc, query, &mut reader);
     (reader.into_look(), nodes)
 }
 
-/// What a query costs, or its refusal.
+/// What a query costs, or its error.
 fn count_query(alloc: Global, both: Both, query: &Query) -> Result<Cost, Refusal> {
     let Both { plain, room, page } = both;
     let (look, nodes) = answer_pages(alloc, &plain, Counted::new(room), page, query);
@@ -116,7 +116,7 @@ fn count_query(alloc: Global, both: Both, query: &Query) -> Result<Cost, Refusal
     })
 }
 
-/// The same by a query's text, of another volume if memory is refused.
+/// The same for a query's text. If memory runs out, it tries again on a new volume.
 fn query_cost(alloc: Global, text: &str) -> Result<Cost, Fail> {
     let query = read_query(alloc, text)?;
     match count_query(alloc, filled(alloc)?, &query) {
@@ -125,7 +125,7 @@ fn query_cost(alloc: Global, text: &str) -> Result<Cost, Fail> {
     }
 }
 
-/// What a prepared query costs when it is asked again: the nodes, or none if a plan would be asked.
+/// What a prepared query costs when it is asked a second time. One range has to decide it.
 fn count_again(alloc: Global, both: Both, query: Query) -> Result<Cost, Refusal> {
     let Both { room, page, .. } = both;
     let mut look = Counted::new(room);
@@ -140,7 +140,7 @@ fn count_again(alloc: Global, both: Both, query: Query) -> Result<Cost, Refusal>
     })
 }
 
-/// The same by a query's text, of another volume if memory is refused.
+/// The same for a query's text. If memory runs out, it tries again on a new volume.
 fn again_cost(alloc: Global, text: &str) -> Result<Cost, Fail> {
     match count_again(alloc, filled(alloc)?, read_query(alloc, text)?) {
         Err(Refusal::OutOfMemory) => {
@@ -150,7 +150,7 @@ fn again_cost(alloc: Global, text: &str) -> Result<Cost, Fail> {
     }
 }
 
-/// Applies a list to the pages. The plain volume isn't asked: it names the volume that they encode.
+/// Applies a list to the pages. The plain volume isn't read: it names the volume that they encode.
 fn apply_counted<R: Room>(
     _plain: &Volume,
     room: &mut R,
@@ -158,7 +158,7 @@ fn apply_counted<R: Room>(
     ops: &[Op],
 ) -> Result<(), Refusal>
     ghost volume: { State }
-    requires version { IsVersion (R.standing room.old) (R.words room.old) page volume }
+    requires version { IsVersion (R.page_state room.old) (R.words room.old) page volume }
     requires count { (1 ≤ length ops.now) × (length ops.now ≤ 64) }
     requires fits { volume.next + 64 < 2 ^ 64 }
     requires open { IsTrue (R.is_open (R.kept room.old)) }
@@ -169,7 +169,7 @@ fn apply_counted<R: Room>(
     Ok(())
 }
 
-/// What a list costs that is accepted.
+/// What an accepted list costs.
 fn count_write(both: Both, ops: &[Op]) -> Result<Cost, Fail> {
     let Both { plain, room, page } = both;
     if ops.is_empty() || ops.len() > 64 || plain.next() > u64::MAX - 65 {
@@ -184,8 +184,8 @@ fn count_write(both: Both, ops: &[Op]) -> Result<Cost, Fail> {
     })
 }
 
-/// One of several sets in a list: of the sizes of nodes far apart, or of new names on the bare
-/// node.
+/// One of several sets in a list: of sizes of nodes far apart, or of new names on the node without
+/// attributes.
 fn set_of(kind: &str, number: u8) -> Result<Op, Refusal> {
     if kind == "names" {
         return Ok(Op::Set(NODES + 1, numbered(number)?, Value::int32(1)));
@@ -203,7 +203,7 @@ fn sets_of(alloc: Global, kind: &str, count: u8) -> Result<Vec<Op>, Refusal> {
     Ok(ops)
 }
 
-/// The operations of a row: that many sizes or names, or a list in the words of a script.
+/// The operations of a row: a number of sizes or names, or a list in the words of a script.
 fn ops_of(alloc: Global, request: &str) -> Result<Vec<Op>, Refusal> {
     let (kind, count) = request.split_once(" ").unwrap_or((request, ""));
     if kind != "sizes" && kind != "names" {
@@ -218,7 +218,7 @@ fn write_cost(alloc: Global, request: &str) -> Result<Cost, Fail> {
     count_write(filled(alloc)?, &ops)
 }
 
-/// What a request costs. A prepared query and a row have words of their own.
+/// What a request costs. A prepared query begins with `again`, and a row with `row`.
 fn cost_of(alloc: Global, request: &str) -> Result<Cost, Fail> {
     if let Some(("again", text)) = request.split_once(" ") {
         return again_cost(alloc, text);
@@ -233,7 +233,7 @@ fn cost_of(alloc: Global, request: &str) -> Result<Cost, Fail> {
     }
 }
 
-/// The row of a request with the cost that it has.
+/// The row of a request, with its cost.
 fn row_of(alloc: Global, request: &str, cost: Cost) -> Result<String, AllocError> {
     match cost {
         Cost::Read { found, reads } => {
@@ -249,7 +249,7 @@ fn row_of(alloc: Global, request: &str, cost: Cost) -> Result<String, AllocError
     }
 }
 
-/// Fails unless a row is so, with the row as it would be right.
+/// Fails unless a row is right. The message is the row as it would be right.
 fn expect_row(alloc: Global, row: &str) -> Result<(), Fail> {
     let (request, _) = row.split_once(" => ").unwrap_or((row, ""));
     let cost = cost_of(alloc, request)?;
@@ -270,12 +270,15 @@ fn expect_rows(alloc: Global, rows: &str) -> Result<(), Fail> {
     Ok(())
 }
 
-/// What each cost would grow by. The get: a second descent of the catalog's tree. A query of one
-/// node: a second descent of its index's tree, or a look at the node. The size 1420 has the least
-/// key of its leaf: its range begins at the end of the leaf before, so it takes that second
-/// descent. A range and a front: a descent for each key, instead of a step along the leaves. The
-/// filter: a descent of the catalog's tree for each of the hundred nodes of the front, some 63
-/// words, instead of a walk of the range of sizes.
+/// How each cost could grow.
+///
+/// The get: by a second descent of the catalog's tree. A query for one node: by a second descent of
+/// its index's tree, or by reading the node. The size 1420 has the lowest key of its leaf. Its
+/// range begins at the end of the previous leaf, so it does take that second descent.
+///
+/// A range and a front: by a descent for each key instead of a step along the leaves. The filter
+/// walks over the range of sizes. Its cost would grow by a descent of the catalog's tree, about 63
+/// words, for each of the front's hundred nodes.
 #[test]
 fn read_costs(rt: HostRuntime) -> Result<(), Fail> {
     let rows = r#"get 150 size => 1 found, 44 words read
@@ -288,9 +291,10 @@ query name=="101*" && size>=1500 => 50 found, 1090 words read"#;
     expect_rows(rt.alloc(), rows)
 }
 
-/// Queries by patterns that no range decides, of 300 texts of 18 bytes, which take three words
-/// each. The cost of the one that finds none would grow by 300 for each word more that is read of
-/// a key, as of its number, and that of the other too for each word more that is read of a node.
+/// Queries by patterns that no range decides, on 300 texts of 18 bytes, which take three words
+/// each. The cost of the one that finds nothing would grow by 300 for each further word read of a
+/// key, such as its number. The cost of the other would also grow for each further word read of a
+/// node.
 #[test]
 fn text_costs(rt: HostRuntime) -> Result<(), Fail> {
     let rows = r#"query name=="*x*" => 300 found, 2595 words read
@@ -298,8 +302,9 @@ query name=="*z*" => 0 found, 1695 words read"#;
     expect_rows(rt.alloc(), rows)
 }
 
-/// Prepared queries at their second asking. Each cost would grow by a search for its index, whose
-/// name is compared at its place of the first asking, or by a look at a node.
+/// Prepared queries, asked the second time. Each cost could grow by a search for the query's index,
+/// or by reading a node. The index's name is compared only at the place where it was found the
+/// first time.
 #[test]
 fn prepared_costs(rt: HostRuntime) -> Result<(), Fail> {
     let rows = r#"again name=="10150-document.txt" => 1 found, 39 words read
@@ -309,10 +314,10 @@ again size>=1000 && size<2000 => 100 found, 458 words read"#;
     expect_rows(rt.alloc(), rows)
 }
 
-/// Rows of a node: its attributes of three names in one call. Names in the order of the catalog
-/// take one descent, and would take one more for each step along the leaf that isn't made. From the
-/// last to the first each takes a descent, and so does a name that the node hasn't. A node that
-/// isn't there takes one for each name, and one for itself.
+/// Rows of a node: its attributes with three names, in one call. Names in the catalog's order take
+/// one descent. They would take another for each step along the leaf that isn't made. In reverse
+/// order each name takes a descent, and so does a name that the node doesn't have. A node that
+/// doesn't exist takes one for each name, and one for itself.
 #[test]
 fn row_costs(rt: HostRuntime) -> Result<(), Fail> {
     let rows = r#"row 150 kind name size => 3 found, 66 words read
@@ -323,13 +328,14 @@ row 302 kind name size => 0 found, 138 words read"#;
     expect_rows(rt.alloc(), rows)
 }
 
-/// A new node, a set with an index, two sets without one, of which the second sets the value that
-/// is there already, lists of sets of many nodes and of one, and a drop.
+/// The costs of a new node, of a set with an index, and of two sets without one. The second of
+/// these sets the value that is already there. Then the costs of lists of sets on many nodes and on
+/// one, and of a drop.
 ///
-/// What each cost would grow by. In pages: one that is copied twice in a list, as the version's
-/// page for each operation, or one of a tree that doesn't change. In words stored: a page that is
-/// written whole instead of edited, or words that are written though they are there already. In
-/// words read: one descent more, or what is asked anew for each set of a list.
+/// How each cost could grow. In pages: by one that is copied twice in a list, such as the version
+/// page, or by one of a tree that doesn't change. In words stored: by a page that is written whole
+/// instead of edited, or by words that are already there. In words read: by one more descent, or by
+/// what is asked again for each set of a list.
 #[test]
 fn write_costs(rt: HostRuntime) -> Result<(), Fail> {
     let rows =

@@ -1,5 +1,5 @@
-//! Requests of tests and the texts of answers, in the words of scripts. What is refused memory is
-//! made again.
+//! Requests of tests and the texts of answers, in the words of scripts. If memory runs out, a
+//! request is made again.
 use arrayvec::ArrayVec;
 use be_script_language::{Reply, Request, read_line};
 use be_test_tools::{done_lines, reply_lines};
@@ -19,7 +19,7 @@ pub(crate) fn refused(alloc: Global, refusal: Refusal) -> Result<String, AllocEr
     reply_lines(alloc, &Reply::Refused(refusal))
 }
 
-/// The answer to a read.
+/// The text of the answer to a read.
 pub(crate) fn answer_text(
     alloc: Global,
     answer: Result<Reply, Refusal>,
@@ -30,7 +30,7 @@ pub(crate) fn answer_text(
     }
 }
 
-/// The answer to a query.
+/// The text of the answer to a query.
 pub(crate) fn nodes_text(
     alloc: Global,
     answer: Result<Vec<u64>, Refusal>,
@@ -41,7 +41,7 @@ pub(crate) fn nodes_text(
     }
 }
 
-/// The answer to a write.
+/// The text of the answer to a write.
 pub(crate) fn written_text(
     alloc: Global,
     answer: Result<ArrayVec<Done, 64>, Refusal>,

@@ -1,5 +1,5 @@
-//! Versions read by another look than their room: one that counts its calls, and while a write is
-//! open one that sees the pages as they were before it.
+//! Reads versions by a page reader other than their room. One counts its calls; another, while a
+//! write is open, sees the pages as they were before it.
 ghost use Rattle.std.specs.Prelude.{◌≡◌, IfOk};
 ghost use Rattle.be_pages.specs.Pages.{IsUnchanged, after_undo};
 ghost use Rattle.be_tree_reading.specs.Forest.{IsWriteStart};
@@ -16,7 +16,7 @@ use be_volume::{Op, Volume};
 use std::alloc::Global;
 use std::test::Fail;
 
-/// Fails unless both forms give these nodes. Returns the look as it was.
+/// Fails unless both forms give these nodes. It returns the page reader unchanged.
 fn expect_look<L: Look + Drop>(
     alloc: Global,
     plain: &Volume,
@@ -25,8 +25,8 @@ fn expect_look<L: Look + Drop>(
     text: &str,
     expected: &str,
 ) -> Result<L, Fail>
-    requires version { IsVersion (L.standing look) (L.words look) page plain.now }
-    ensures unchanged { IfOk result (λ r. IsUnchanged L.kept L.standing L.words look r) }
+    requires version { IsVersion (L.page_state look) (L.words look) page plain.now }
+    ensures unchanged { IfOk result (λ r. IsUnchanged L.kept L.page_state L.words look r) }
 {
     let query = read_query(alloc, text)?;
     let (look, answer) = query_both(alloc, plain, look, page, &query, None)?;
@@ -36,8 +36,8 @@ fn expect_look<L: Look + Drop>(
     Err(Fail::new(text))
 }
 
-/// Fails unless both forms give these nodes, the one over pages by a look that counts its calls.
-/// Returns both as they were.
+/// Fails unless both forms give these nodes. The form in pages is read by a page reader that counts
+/// its calls. It returns both forms unchanged.
 fn expect_counting(alloc: Global, both: Both, text: &str, expected: &str) -> Result<Both, Fail> {
     let Both { plain, room, page } = both;
     let counting = Counted {
@@ -54,8 +54,8 @@ fn expect_counting(alloc: Global, both: Both, text: &str, expected: &str) -> Res
     })
 }
 
-/// A walk over a hundred names, which looks at each node. The version is in the room that comes
-/// back, and can be written on.
+/// A walk over a hundred names that reads each node. The version is in the room that comes back,
+/// and can be written to.
 #[test]
 fn counting_look(rt: HostRuntime) -> Result<(), Fail> {
     let query = r#"name=="101*" && size>=2900"#;
@@ -66,15 +66,15 @@ fn counting_look(rt: HostRuntime) -> Result<(), Fail> {
     Ok(())
 }
 
-/// An equal volume, copied again if memory is refused.
+/// An equal volume. If memory runs out, it is copied again.
 fn copy_of(plain: &Volume) -> Result<Volume, Refusal>
     ensures { IfOk result (λ copy. copy ≡ plain.now) }
 {
     again!(plain.copy())
 }
 
-/// Fails unless the version from before the open write gives these nodes. Returns the room as it
-/// was.
+/// Fails unless the version from before the open write gives these nodes. It returns the room
+/// unchanged.
 fn expect_before(
     alloc: Global,
     plain: &Volume,
@@ -83,17 +83,17 @@ fn expect_before(
     text: &str,
     expected: &str,
 ) -> Result<VecRoom, Fail>
-    requires version { IsVersion (λ q. after_undo (⟦<VecRoom as Look>⟧.standing room q))
+    requires version { IsVersion (λ q. after_undo (⟦<VecRoom as Look>⟧.page_state room q))
         (⟦<VecRoom as Look>⟧.words room) page plain.now }
     ensures unchanged { IfOk result (λ r. IsUnchanged ⟦<VecRoom as Look>⟧.kept
-        ⟦<VecRoom as Look>⟧.standing ⟦<VecRoom as Look>⟧.words room r) }
+        ⟦<VecRoom as Look>⟧.page_state ⟦<VecRoom as Look>⟧.words room r) }
 {
     let before = Before { look: room };
     let before = expect_look(alloc, plain, before, page, text, expected)?;
     Ok(before.look)
 }
 
-/// Reads a version and the copy of which a node was dropped, while the write is open.
+/// Reads a version, and the copy from which a node was dropped, while the write is open.
 fn read_copies(
     alloc: Global,
     original: &Volume,
@@ -102,11 +102,11 @@ fn read_copies(
     page: u64,
     new_page: u64,
 ) -> Result<VecRoom, Fail>
-    requires before { IsVersion (λ q. after_undo (⟦<VecRoom as Look>⟧.standing room q))
+    requires before { IsVersion (λ q. after_undo (⟦<VecRoom as Look>⟧.page_state room q))
         (⟦<VecRoom as Look>⟧.words room) page original.now }
-    requires version { IsVersion (⟦<VecRoom as Look>⟧.standing room)
+    requires version { IsVersion (⟦<VecRoom as Look>⟧.page_state room)
         (⟦<VecRoom as Look>⟧.words room) new_page copy.now }
-    ensures version { IfOk result (λ r. IsVersion (⟦<VecRoom as Look>⟧.standing r)
+    ensures version { IfOk result (λ r. IsVersion (⟦<VecRoom as Look>⟧.page_state r)
         (⟦<VecRoom as Look>⟧.words r) new_page copy.now) }
 {
     let room = expect_before(alloc, original, room, page, "k==x", "nodes 1 3\n")?;
@@ -114,8 +114,8 @@ fn read_copies(
     Ok(room)
 }
 
-/// Drops node 1 of the copy, and returns it with the room and the new version page, while the write
-/// is open.
+/// Drops node 1 of the copy, and leaves the write open. It returns the copy, the room and the new
+/// version page.
 fn drop_first(
     original: &Volume,
     mut copy: Volume,
@@ -123,13 +123,13 @@ fn drop_first(
     page: u64,
 ) -> Result<(Volume, VecRoom, u64), Fail>
     requires same { copy ≡ original.now }
-    requires version { IsVersion (⟦<VecRoom as Look>⟧.standing room)
+    requires version { IsVersion (⟦<VecRoom as Look>⟧.page_state room)
         (⟦<VecRoom as Look>⟧.words room) page original.now }
-    requires start { IsWriteStart (⟦<VecRoom as Look>⟧.standing room) }
+    requires start { IsWriteStart (⟦<VecRoom as Look>⟧.page_state room) }
     ensures before { IfOk result (λ r. IsVersion
-        (λ q. after_undo (⟦<VecRoom as Look>⟧.standing r.1 q)) (⟦<VecRoom as Look>⟧.words r.1) page
-        original.now) }
-    ensures version { IfOk result (λ r. IsVersion (⟦<VecRoom as Look>⟧.standing r.1)
+        (λ q. after_undo (⟦<VecRoom as Look>⟧.page_state r.1 q)) (⟦<VecRoom as Look>⟧.words r.1)
+        page original.now) }
+    ensures version { IfOk result (λ r. IsVersion (⟦<VecRoom as Look>⟧.page_state r.1)
         (⟦<VecRoom as Look>⟧.words r.1) r.2 r.0) }
 {
     if original.next() > u64::MAX - 65 {
@@ -147,7 +147,7 @@ fn drop_first(
 
 /// Keeps the write, and reads the copy.
 fn read_kept(alloc: Global, copy: &Volume, mut room: VecRoom, page: u64) -> Result<(), Fail>
-    requires version { IsVersion (⟦<VecRoom as Look>⟧.standing room)
+    requires version { IsVersion (⟦<VecRoom as Look>⟧.page_state room)
         (⟦<VecRoom as Look>⟧.words room) page copy.now }
 {
     room.keep();
@@ -155,8 +155,8 @@ fn read_kept(alloc: Global, copy: &Volume, mut room: VecRoom, page: u64) -> Resu
     Ok(())
 }
 
-/// Drops node 1 of a copy. The version page of before the write stands for the original, until the
-/// write is kept.
+/// Drops node 1 of a copy. Until the write is kept, the old version page still encodes the
+/// original.
 fn drop_of_copy(alloc: Global, both: Both) -> Result<(), Fail> {
     let Both {
         plain: original,

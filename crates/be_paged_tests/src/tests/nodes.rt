@@ -1,7 +1,7 @@
-//! The nodes of a version from a number on, of volumes that a leaf holds and that it doesn't: a
-//! leaf has 12 pairs at most.
+//! The nodes of a version from a number on, in volumes that fit into a leaf and in larger ones. A
+//! leaf has at most 12 pairs.
 //!
-//! A row is `FROM MOST => NODES`. What is refused memory is asked again, as elsewhere here.
+//! A row is `FROM MOST => NODES`. If memory runs out, a request is made again, as elsewhere here.
 use crate::tests::sizes::numbered;
 use be_paged_test_tools::Both;
 use be_value::{Value, word_of};
@@ -29,7 +29,7 @@ fn are_numbers(list: &[u64], words: &str) -> bool {
     rest.is_empty()
 }
 
-/// Fails unless a row is so.
+/// Fails unless a row is right.
 fn expect_row(alloc: Global, mut both: Both, row: &str) -> Result<Both, Fail> {
     let Some((asked, expected)) = row.split_once(" => ") else {
         return Err(Fail::new(row));
@@ -56,7 +56,7 @@ fn written(both: Both, op: Op) -> Result<Both, Fail> {
     Ok(both)
 }
 
-/// Makes that many nodes.
+/// Makes `count` nodes.
 fn with_nodes(mut both: Both, count: u64) -> Result<Both, Fail> {
     for _ in 0..count {
         both = written(both, Op::New)?;
@@ -64,7 +64,7 @@ fn with_nodes(mut both: Both, count: u64) -> Result<Both, Fail> {
     Ok(both)
 }
 
-/// Gives a node 26 attributes, more than two leaves hold.
+/// Gives a node 26 attributes, more than two leaves can hold.
 fn with_attributes(mut both: Both, node: u64) -> Result<Both, Fail> {
     for letter in 0..26u8 {
         both = written(both, Op::Set(node, numbered(letter)?, Value::int32(1)))?;
@@ -72,8 +72,8 @@ fn with_attributes(mut both: Both, node: u64) -> Result<Both, Fail> {
     Ok(both)
 }
 
-/// Nodes without attributes are listed from any number on, up to the count asked for, as nodes are
-/// added.
+/// Nodes without attributes are listed from any number on, up to the count asked for, while nodes
+/// are added.
 #[test]
 fn bare_nodes(rt: HostRuntime) -> Result<(), Fail> {
     let both = Both::new(rt.alloc(), 128)?;
@@ -100,7 +100,8 @@ fn bare_nodes(rt: HostRuntime) -> Result<(), Fail> {
     Ok(())
 }
 
-/// Of a hundred nodes two are removed, and the ones at the ends and before the gap have attributes.
+/// Two of a hundred nodes are removed. The first and the last node, and the one before the gap,
+/// have attributes.
 #[test]
 fn nodes_with_attributes(rt: HostRuntime) -> Result<(), Fail> {
     let mut both = with_nodes(Both::new(rt.alloc(), 128)?, 100)?;

@@ -7,8 +7,8 @@ use be_volume::{Done, Op};
 use std::alloc::{AllocError, Global};
 use std::test::Fail;
 
-/// What lists are made of: of the youngest nodes so many, so many names, one new node in so many
-/// that could be, and the pages of the room.
+/// What lists are made of. `nodes` is how many of the youngest nodes are used, and `names` how many
+/// names. One in `news` possible new nodes is made. `pages` is the size of the room.
 #[derive(Drop)]
 struct Mix {
     nodes: u64,
@@ -29,7 +29,7 @@ fn random_value(random: &mut Random) -> Option<Value> {
     Value::text(str::from_utf8(&letters[..length as usize % 256]).ok()?).ok()
 }
 
-/// A random kind of an index, mostly LONG; RAWT can't be indexed.
+/// A random kind of an index, mostly LONG. RAWT can't be indexed.
 fn random_kind(random: &mut Random) -> Kind {
     match random.below(8) {
         0 => Kind::Rawt,
@@ -38,8 +38,8 @@ fn random_kind(random: &mut Random) -> Kind {
     }
 }
 
-/// A random operation on one of the last nodes before `next`, or a new node if there is none. None
-/// if its name or value can't be made.
+/// A random operation on one of the last nodes before `next`, or a new node if there is none. It is
+/// `None` if the name or the value can't be made.
 fn random_op(random: &mut Random, mix: &Mix, next: u64) -> Option<Op> {
     if next == 1 {
         return Some(Op::New);
@@ -72,7 +72,7 @@ fn random_list(
     Ok(ops)
 }
 
-/// A random list. If memory is refused, the same list is made again.
+/// A random list. If memory runs out, the same list is made again.
 fn list_of(
     alloc: Global,
     random: &mut Random,
@@ -89,7 +89,7 @@ fn list_of(
     }
 }
 
-/// Notes how a list was answered: 0, or the number of its refusal.
+/// Counts how a list was answered: at 0, or at the number of its error.
 fn note(seen: &mut [u64; 23], answer: &Result<ArrayVec<Done, 64>, Refusal>) {
     let place = match answer {
         Ok(_) => 0,
@@ -112,7 +112,7 @@ fn random_write(
     Ok(both)
 }
 
-/// Queries of few names, some of which have an index.
+/// Queries on few names, some of which have an index.
 const QUERIES: &str = "aa==1
 aa>=0 && ab<2
 aa<0 || ab==x
@@ -122,7 +122,7 @@ ac==\"x*\"
 ad>=-4 && ac>=-4 && ab>=-4
 ab>x || ab<x";
 
-/// Asks both forms for an attribute, and for all of its node.
+/// Asks both forms for an attribute, and for all attributes of its node.
 fn random_attributes(
     alloc: Global,
     random: &mut Random,
@@ -136,7 +136,7 @@ fn random_attributes(
     Ok(())
 }
 
-/// Asks both forms a query.
+/// Asks both forms a random query.
 fn random_query(alloc: Global, random: &mut Random, both: Both) -> Result<Both, Fail> {
     let text = QUERIES.lines().nth(random.below(8) as usize).unwrap_or("");
     let query = read_query(alloc, text)?;
@@ -144,7 +144,7 @@ fn random_query(alloc: Global, random: &mut Random, both: Both) -> Result<Both, 
     Ok(both)
 }
 
-/// Asks both forms for what is random.
+/// Reads random things from both forms.
 fn random_reads(alloc: Global, random: &mut Random, mix: &Mix, both: Both) -> Result<Both, Fail> {
     let mut both = both;
     random_attributes(alloc, random, mix, &mut both)?;
@@ -152,7 +152,7 @@ fn random_reads(alloc: Global, random: &mut Random, mix: &Mix, both: Both) -> Re
     random_query(alloc, random, both)
 }
 
-/// Writes a random list, and reads if that is asked for.
+/// Writes a random list, and then reads if `reads`.
 fn random_turn(
     alloc: Global,
     random: &mut Random,
@@ -168,7 +168,7 @@ fn random_turn(
     random_reads(alloc, random, mix, both)
 }
 
-/// Writes random lists, and reads at each eighth.
+/// Writes random lists, and reads after every eighth.
 fn run_mix(
     alloc: Global,
     random: &mut Random,
@@ -183,7 +183,7 @@ fn run_mix(
     Ok(())
 }
 
-/// Of four sorts: few names, many nodes, one node with many names, and a small room.
+/// Four sorts: few names, many nodes, one node with many names, and a small room.
 fn mix_of(sort: u64) -> Mix {
     match sort {
         0 => Mix {
@@ -213,14 +213,14 @@ fn mix_of(sort: u64) -> Mix {
     }
 }
 
-/// Whether more than 100 lists were answered so.
+/// Whether more than 100 lists were answered like this.
 fn is_often(seen: &[u64; 23], number: &str) -> bool {
     let place = word_of(number.as_bytes()).unwrap_or(0) as usize % 23;
     seen[place] > 100
 }
 
-/// 10,000 lists. Many are accepted, and many are refused by the volume in each way, or because the
-/// pages are full.
+/// 10,000 lists. Many are accepted, and many are refused by the volume for each reason, or because
+/// the pages are full.
 #[test]
 fn random_lists(rt: HostRuntime) -> Result<(), Fail> {
     let mut random = Random::new(88172645463325252);

@@ -1,6 +1,6 @@
-//! The greatest sizes, by the plain volume and by the one over pages: a list of 64 operations is
-//! taken, 64 attributes of a node and 32 indices are taken and listed whole, and one attribute and
-//! one index more are refused.
+//! The greatest sizes, in the plain volume and in the volume in pages. A list of 64 operations is
+//! accepted. 64 attributes of a node and 32 indices are accepted and listed whole. One more
+//! attribute or index is refused.
 use be_paged_test_tools::Both;
 use be_test_tools::again;
 use be_value::{Kind, Name, Refusal, Value};
@@ -23,7 +23,7 @@ fn index(number: u8) -> Result<Op, Refusal> {
     Ok(Op::MkIndex(numbered(number)?, Kind::Long))
 }
 
-/// A node and 63 attributes of it.
+/// A list that makes a node with 63 attributes.
 fn node_list(alloc: Global) -> Result<Vec<Op>, Refusal> {
     let mut ops = Vec::new(alloc);
     ops.push(Op::New)?;
@@ -33,7 +33,7 @@ fn node_list(alloc: Global) -> Result<Vec<Op>, Refusal> {
     Ok(ops)
 }
 
-/// 32 indices.
+/// A list that makes 32 indices.
 fn index_list(alloc: Global) -> Result<Vec<Op>, Refusal> {
     let mut ops = Vec::new(alloc);
     for number in 0..32u8 {
@@ -42,7 +42,7 @@ fn index_list(alloc: Global) -> Result<Vec<Op>, Refusal> {
     Ok(ops)
 }
 
-/// Fails unless a write of one operation is refused so.
+/// Fails unless a write of one operation is refused with this error.
 fn refused(both: Both, op: Op, refusal: Refusal) -> Result<(), Fail> {
     let (_both, answer) = both.write(&[op])?;
     match answer {
@@ -51,7 +51,7 @@ fn refused(both: Both, op: Op, refusal: Refusal) -> Result<(), Fail> {
     }
 }
 
-/// Both forms after a list of that many operations.
+/// Both forms after a list of `count` operations.
 fn with_list(alloc: Global, ops: &[Op], count: usize) -> Result<Both, Fail> {
     if ops.len() != count {
         return Err(Fail::new("another number of operations"));
@@ -59,7 +59,7 @@ fn with_list(alloc: Global, ops: &[Op], count: usize) -> Result<Both, Fail> {
     Both::new(alloc, 64)?.accepted(ops)
 }
 
-/// Fails unless both forms list that many attributes of node 1.
+/// Fails unless both forms list `count` attributes of node 1.
 fn lists_attributes(alloc: Global, both: &mut Both, count: usize) -> Result<(), Fail> {
     if both.attrs(alloc, 1)??.len() == count {
         return Ok(());
@@ -67,7 +67,7 @@ fn lists_attributes(alloc: Global, both: &mut Both, count: usize) -> Result<(), 
     Err(Fail::new("another number of attributes"))
 }
 
-/// Fails unless both forms list that many indices.
+/// Fails unless both forms list `count` indices.
 fn lists_indices(alloc: Global, both: &mut Both, count: usize) -> Result<(), Fail> {
     if both.indices(alloc)?.len() == count {
         return Ok(());
@@ -75,7 +75,7 @@ fn lists_indices(alloc: Global, both: &mut Both, count: usize) -> Result<(), Fai
     Err(Fail::new("another number of indices"))
 }
 
-/// Both forms with a node of 64 attributes, 63 of which came by the list that made it.
+/// Both forms with a node of 64 attributes, 63 of which are from the list that made it.
 fn with_attributes(alloc: Global, ops: &[Op]) -> Result<Both, Fail> {
     let both = with_list(alloc, ops, 64)?;
     both.accepted(&[sized(63)?])

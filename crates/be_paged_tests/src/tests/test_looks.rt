@@ -1,8 +1,8 @@
-//! A reader for tests, which sees the room as it was when its write began.
+//! A page reader for tests, which sees the pages as they were when the open write began.
 use be_pages::Look;
 
-/// A reader as it was when the open write began. What the write gave up can be read, and what it
-/// took can't.
+/// A page reader that sees the state from when the open write began. It can read pages that the
+/// write gave up, but not pages that it took.
 #[derive(Drop)]
 pub(crate) struct Before<L> {
     pub look: L,
@@ -12,15 +12,15 @@ impl<L: Look> Look for Before<L> {
     ghost use Rattle.std.specs.Prelude.{ℕ};
     ghost use Rattle.std.proofs.Common.{ap};
     ghost use Rattle.be_pages.specs.Pages.{after_undo};
-    ghost use Rattle.be_pages.specs.declared.room.Standing.{Standing as Stands};
+    ghost use Rattle.be_pages.specs.declared.room.PageState.{PageState as AnyPageState};
 
-    ghost Kept = { L.Kept × (ℕ → Stands) };
+    ghost Kept = { L.Kept × (ℕ → AnyPageState) };
 
-    ghost kept = { λ b. (L.kept b.look, L.standing b.look) };
+    ghost kept = { λ b. (L.kept b.look, L.page_state b.look) };
 
     ghost is_open = { λ k. L.is_open k.0 };
 
-    ghost standing = { λ b q. after_undo (L.standing b.look q) };
+    ghost page_state = { λ b q. after_undo (L.page_state b.look q) };
 
     ghost words = { λ b. L.words b.look };
 

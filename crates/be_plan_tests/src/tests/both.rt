@@ -1,5 +1,5 @@
-//! Both sides of an `&&` of two names with indices: at so many hits of one that the source is asked
-//! of each, and at one hit more, where the other's index is walked too.
+//! Both sides of an `&&` of two indexed names. Up to a number of hits of one, the source is asked
+//! about each of them. With one hit more, the other's index is walked too.
 
 ghost use Rattle.be_volume.specs.Volume.{State};
 ghost use Rattle.be_plan.specs.Sources.{IsVolume};
@@ -14,8 +14,8 @@ use be_volume::Volume;
 use std::alloc::Global;
 use std::test::Fail;
 
-/// A volume's source that estimates each index at this many keys, and counts what it is asked of
-/// nodes.
+/// A volume's source that estimates this many keys for each index, and counts how often a value is
+/// read.
 #[derive(Drop)]
 struct Estimating<'a> {
     source: VolumeSource<'a>,
@@ -23,7 +23,7 @@ struct Estimating<'a> {
     values: u64,
 }
 
-/// A source that was asked nothing yet.
+/// A source that hasn't been asked anything yet.
 fn start_estimating(volume: &Volume, keys: u64) -> Estimating<'_>
     ensures { IsVolume result.source volume.now }
 {
@@ -72,7 +72,7 @@ impl Source for Estimating<'_> {
     }
 }
 
-/// The lines of nodes 1 to 130: k is the node's number and m falls from 130 to 1, and both have an
+/// The lines of nodes 1 to 130. k is the node's number and m falls from 130 to 1; both have an
 /// index.
 fn crossing_lines(alloc: Global) -> Result<String, Refusal> {
     let mut lines = String::from_str(alloc, "mkindex k ULLG\nmkindex m ULLG")?;
@@ -85,14 +85,14 @@ fn crossing_lines(alloc: Global) -> Result<String, Refusal> {
     Ok(lines)
 }
 
-/// The volume of these lines. The lines are made again if memory is refused.
+/// The volume of these lines. If memory runs out, the lines are made again.
 fn crossing(alloc: Global) -> Result<Volume, Refusal> {
     let lines = again!(crossing_lines(alloc))?;
     volume_of(alloc, lines.as_str())
 }
 
-/// The nodes and how often a value was asked for, as `FIRST LAST COUNT asks ASKED`.
-fn told(alloc: Global, volume: &Volume, text: &str, keys: u64) -> Result<String, Refusal> {
+/// The nodes, and how often a value was read, as `FIRST LAST COUNT asks ASKED`.
+fn summary(alloc: Global, volume: &Volume, text: &str, keys: u64) -> Result<String, Refusal> {
     let query = parse(alloc, text)?;
     let mut source = start_estimating(volume, keys);
     let nodes = answer(alloc, &query, &mut source)?;
@@ -101,50 +101,50 @@ fn told(alloc: Global, volume: &Volume, text: &str, keys: u64) -> Result<String,
     Ok(format!(in alloc; "{first} {last} {} asks {}", nodes.len(), source.values)?)
 }
 
-/// Whether it is this text, at the second try if memory is refused.
-fn tells(
+/// Whether `summary` returns this text. If memory runs out, it tries again.
+fn has_summary(
     alloc: Global,
     volume: &Volume,
     text: &str,
     keys: u64,
     wanted: &str,
 ) -> Result<bool, Refusal> {
-    let told = match told(alloc, volume, text, keys) {
-        Err(Refusal::OutOfMemory) => told(alloc, volume, text, keys)?,
-        told => told?,
+    let summary = match summary(alloc, volume, text, keys) {
+        Err(Refusal::OutOfMemory) => summary(alloc, volume, text, keys)?,
+        summary => summary?,
     };
-    Ok(told.as_str() == wanted)
+    Ok(summary.as_str() == wanted)
 }
 
-/// The query, the estimate of an index, and the text.
+/// The query, the estimate for an index, and the text.
 const CASES: &[(&str, u64, &str)] = &[
-    // 64 hits are asked one by one, and of 65 the other index is walked.
+    // With 64 hits the source is asked about each; with 65 the other index is walked.
     ("k<=64 && m>=70", 130, "1 61 61 asks 64"),
     ("k<=65 && m>=70", 130, "1 61 61 asks 0"),
-    // The first and the last of both lists are the same, or one of them is.
+    // The first and last nodes of both lists are the same, or one of them is.
     ("k<=65 && m>=66", 130, "1 65 65 asks 0"),
     ("k>=66 && m<=65", 130, "66 130 65 asks 0"),
     ("k<=65 && m<=130", 130, "1 65 65 asks 0"),
     ("k>=60 && m>=65", 130, "60 66 7 asks 0"),
-    // One list or both are empty.
+    // One or both lists are empty.
     ("k<=65 && m>=131", 130, "0 0 0 asks 0"),
     ("k>=131 && m>=1", 130, "0 0 0 asks 0"),
     ("k<=65 && m<=65", 130, "0 0 0 asks 0"),
-    // Two ends of the other one's range, and of the first one's.
+    // Two ends of the other range, and of the first one.
     ("k<=70 && (m>=70 && m<=120)", 130, "11 61 51 asks 0"),
     ("k>=3 && k<=67 && m>=70", 130, "3 61 59 asks 0"),
-    // An index that is large beside the hits isn't walked.
+    // An index with many more keys than there are hits isn't walked.
     ("k<=65 && m>=70", 527, "1 61 61 asks 0"),
     ("k<=65 && m>=70", 528, "1 61 61 asks 65"),
     ("k<=65 && m>=70", u64::MAX, "1 61 61 asks 65"),
-    // An `||` is asked of each.
+    // The source is asked about each node of an `||`.
     ("k<=65 && (m>=70 || m==1)", 130, "1 61 61 asks 69"),
 ];
 
 /// Fails unless each case has its text.
-fn tells_each(alloc: Global, volume: &Volume) -> Result<(), Fail> {
+fn check_summaries(alloc: Global, volume: &Volume) -> Result<(), Fail> {
     for (text, keys, wanted) in CASES {
-        if !tells(alloc, volume, text, *keys, wanted)? {
+        if !has_summary(alloc, volume, text, *keys, wanted)? {
             return Err(Fail::new(text));
         }
     }
@@ -153,5 +153,5 @@ fn tells_each(alloc: Global, volume: &Volume) -> Result<(), Fail> {
 
 #[test]
 fn both_sides(rt: HostRuntime) -> Result<(), Fail> {
-    tells_each(rt.alloc(), &crossing(rt.alloc())?)
+    check_summaries(rt.alloc(), &crossing(rt.alloc())?)
 }

@@ -1,4 +1,4 @@
-//! Queries answered from a plain volume by a source that writes down and counts what it is asked.
+//! Answers queries from a plain volume, by a source that records and counts what it is asked.
 
 ghost use Rattle.be_volume.specs.Volume.{State};
 ghost use Rattle.be_plan.specs.Sources.{IsVolume};
@@ -22,7 +22,7 @@ fn is_past(high: Option<&[u8]>, key: &[u8]) -> bool {
     }
 }
 
-/// How many keys of the index lie from `low` to `high`, up to 64, counted from key to key.
+/// How many keys of the index lie from `low` to `high`, at most 64, counted from key to key.
 fn keys_within(volume: &Volume, name: &Name, low: &[u8], high: Option<&[u8]>) -> usize {
     let mut next = volume.next_key(name, low, false);
     for count in 0..64 {
@@ -40,8 +40,8 @@ fn keys_within(volume: &Volume, name: &Name, low: &[u8], high: Option<&[u8]>) ->
 /// What a source was asked.
 #[derive(Drop)]
 pub(crate) struct Counts {
-    /// The first letter of an index for each key that was asked of it; of a range that was asked
-    /// for whole, for each of its keys and for its end.
+    /// The first letter of an index's name, for each key that it was asked for. A range that is
+    /// asked for whole has one for each of its keys and one for its end.
     pub asked: ArrayString<64>,
     pub kinds: u64,
     pub ranges: u64,
@@ -50,14 +50,14 @@ pub(crate) struct Counts {
     pub searches: u64,
 }
 
-/// Writes down a step for each of that many keys, and one for the end.
+/// Records a step for each of the keys, and one for the end.
 fn write_steps(counts: &mut Counts, name: &Name, keys: usize) {
     for _ in 0..=keys {
         let _full = counts.asked.try_push(first_letter(name));
     }
 }
 
-/// A volume's source that writes down and counts what it is asked.
+/// A volume's source that records and counts what it is asked.
 #[derive(Drop)]
 struct Counting<'a> {
     source: VolumeSource<'a>,
@@ -122,7 +122,8 @@ impl Source for Counting<'_> {
     }
 }
 
-/// The nodes by a cover, and what was asked for them; none if it doesn't cover the query.
+/// The nodes that a cover finds, and what was asked for to find them. It is `None` if the cover
+/// doesn't cover the query.
 pub(crate) fn nodes_by(
     alloc: Global,
     volume: &Volume,
@@ -137,8 +138,8 @@ pub(crate) fn nodes_by(
     Ok(Some((nodes, source.counts)))
 }
 
-/// The nodes by the picks that are chosen from a source that knows the kinds, and the counts of
-/// what choosing and finding them asked for.
+/// The nodes by the picks chosen from a source that knows the kinds, and the counts of what
+/// choosing and finding asked for.
 pub(crate) fn nodes_chosen(
     alloc: Global,
     volume: &Volume,

@@ -1,10 +1,11 @@
-//! How many keys a walk asks for, and what else is asked of the nodes that it finds.
+//! How many keys a walk asks for, and what else is asked about the nodes that it finds.
 //!
-//! A range that held a key too many would lose no answer, so no contract refuses it. Here each
-//! range is counted: of an index of known keys, the keys that the range of one comparison holds,
-//! and one more for its end. No answer would be lost either if a walk asked for a value that the
-//! key has given, or searched an index for a value of which the comparison is false: these are
-//! counted too.
+//! A range with too many keys would lose no answer, so no contract forbids it. So these tests count
+//! each range. The range of one comparison should have exactly the known keys that it allows, and
+//! one more for its end.
+//!
+//! A walk might also read a value that the key has given, or search an index for a value of which
+//! the comparison is false. That would lose no answer either, so these are counted too.
 
 use crate::tests::{replies, replies_of, volume_of};
 use be_value::Refusal;
@@ -12,7 +13,7 @@ use be_volume::Volume;
 use std::alloc::{AllocError, Global};
 use std::test::Fail;
 
-/// A volume with an index k of a kind. Nodes 1, 2, .. have these values at k, `count` in all.
+/// A volume with an index k of a kind, and `count` nodes 1, 2, .. with these values at k.
 fn volume_of_values(
     alloc: Global,
     kind: &str,
@@ -35,16 +36,16 @@ fn lines_of_values(
     format!(in alloc; "mkindex k {kind}\n{count} times new\neach k {kind}: {values}")
 }
 
-/// Of each kind seven values in rising order, with the least and the greatest, and both sides of 0
-/// or of the middle.
+/// Seven ascending values of each kind: the lowest and the highest, and both sides of 0 or of the
+/// middle.
 const SEVENS: &str = "LONG -2147483648 -2147483647 -1 0 1 2147483646 2147483647
 LLNG -9223372036854775808 -9223372036854775807 -1 0 1 9223372036854775806 9223372036854775807
 ULNG 0 1 2147483647 2147483648 2147483649 4294967294 4294967295
 ULLG 0 1 9223372036854775807 9223372036854775808 9223372036854775809 18446744073709551614 \
  18446744073709551615";
 
-/// Of seven rising values, `below` are below this one. The text says how many keys each range of a
-/// comparison with it holds.
+/// Of seven ascending values, `below` are below this one. The text says how many keys the range of
+/// each comparison with it has.
 fn keys_of_value(alloc: Global, value: &str, below: u64) -> Result<String, AllocError> {
     let above = 6u64.wrapping_sub(below);
     let to = below.wrapping_add(1);
@@ -55,7 +56,7 @@ fn keys_of_value(alloc: Global, value: &str, below: u64) -> Result<String, Alloc
     )
 }
 
-/// The same for each of them.
+/// The same for each value.
 fn keys_of_values(alloc: Global, values: &str) -> Result<String, AllocError> {
     let mut lines = String::new(alloc);
     let mut below: u64 = 0;
@@ -66,7 +67,8 @@ fn keys_of_values(alloc: Global, values: &str) -> Result<String, AllocError> {
     Ok(lines)
 }
 
-/// Fails unless each range of a comparison with one of the values leaves out what it can.
+/// Fails unless the range of each comparison with one of the values leaves out every key that it
+/// can.
 fn exact(alloc: Global, kind: &str, values: &str) -> Result<(), Fail> {
     let lines = match keys_of_values(alloc, values) {
         Err(_) => keys_of_values(alloc, values)?,
@@ -85,12 +87,12 @@ fn integer_ranges_are_exact(rt: HostRuntime) -> Result<(), Fail> {
     Ok(())
 }
 
-/// Texts in rising order: below a front, the front itself, those that begin with it, and above
+/// Texts in ascending order: below a front, the front itself, those that begin with it, and above
 /// them.
 const TEXTS: &str = "\"\" a a\u{1} ab aé aéz b \u{10ffff} \u{10ffff}z";
 
-/// Patterns, and how many of the texts begin with what comes before the first wildcard, or are the
-/// text if there is none.
+/// Patterns, and how many of the texts begin with the pattern's front. Without a wildcard: how many
+/// are the text.
 const FRONTS: &str = "keys k==\"*\" => 9
 keys k==\"a*\" => 5
 keys k==\"a?\" => 5
@@ -110,7 +112,7 @@ fn front_ranges_are_exact(rt: HostRuntime) -> Result<(), Fail> {
     replies(rt.alloc(), &volume, FRONTS)
 }
 
-/// A volume with five nodes, which have their number at k, p and q. Of these k and q have an index.
+/// A volume with five nodes, which have their number at k, p and q. k and q have an index.
 const FIVE: &str = "mkindex k ULLG
 mkindex q ULLG
 5 times new
@@ -118,9 +120,8 @@ each k ULLG: 1 2 3 4 5
 each p ULLG: 1 2 3 4 5
 each q ULLG: 1 2 3 4 5";
 
-/// Of a node that a walk finds, the key gives the value at the picked name. At other names the
-/// value is asked for. If the comparison is true of it, and the name has an index, that is
-/// searched.
+/// For a node that a walk finds, the key gives the value at the picked name. At other names, the
+/// value is read. If the comparison is then true and the name has an index, that is searched.
 const LOOKS: &str = "looks k!=3 => values 0 searches 0
 looks k!=3&&(k!=2||k!=4) => values 0 searches 0
 looks k>=2&&p<4 => values 4 searches 0

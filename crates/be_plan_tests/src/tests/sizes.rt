@@ -1,5 +1,5 @@
-//! As many nodes of a plain volume as a version may have, by each way to ask for them. No contract
-//! rules out that memory runs out at one size alone.
+//! Finds as many nodes of a plain volume as a version may have, in each way. No contract rules out
+//! that memory runs out at only one size.
 use super::volume_of;
 use be_plan::{answer, choose_from, run, volume_source};
 use be_query::{Query, parse};
@@ -9,13 +9,13 @@ use be_volume::Volume;
 use std::alloc::Global;
 use std::test::Fail;
 
-/// How many nodes are asked for: around each power of two, and the bound.
+/// How many nodes are asked for: numbers around each power of two, and the bound.
 const COUNTS: &str =
     "1 2 3 4 5 7 8 9 15 16 17 31 32 33 63 64 65 127 128 129 255 256 257 511 512 513 1023 1024 1025 \
      2047 2048 \
 2049 4095 4096 4097 8191 8192 8193 16383 16384 16385 26000";
 
-/// The lines of a volume of that many nodes, each of which has its number in the attribute k.
+/// The lines of a volume of `count` nodes, each with its number in the attribute k.
 fn numbered_lines(alloc: Global, count: u64) -> Result<String, Refusal> {
     let mut lines = String::from_str(alloc, "mkindex k ULLG")?;
     for node in 1..=count {
@@ -24,25 +24,25 @@ fn numbered_lines(alloc: Global, count: u64) -> Result<String, Refusal> {
     Ok(lines)
 }
 
-/// The volume of these lines. The lines are made again if memory is refused.
+/// The volume of these lines. If memory runs out, the lines are made again.
 fn numbered(alloc: Global, count: u64) -> Result<Volume, Refusal> {
     let lines = again!(numbered_lines(alloc, count))?;
     volume_of(alloc, lines.as_str())
 }
 
-/// Whether these are the nodes from 1 to a number.
+/// Whether these are the nodes from 1 to `count`.
 fn are_from_one(nodes: &[u64], count: u64) -> bool {
     nodes.len() as u64 == count && nodes.first() == Some(&1) && nodes.last() == Some(&count)
 }
 
-/// The nodes by what is chosen, as `run` walks it.
+/// The nodes that `run` finds by what is chosen.
 fn by_plan(alloc: Global, volume: &Volume, query: &Query) -> Result<Vec<u64>, Refusal> {
     let mut source = volume_source(volume);
     let cover = choose_from(alloc, query, &mut source)?;
     run(alloc, &cover, query, &mut source)
 }
 
-/// The nodes as `answer` finds them.
+/// The nodes that `answer` finds.
 fn by_answer(alloc: Global, volume: &Volume, query: &Query) -> Result<Vec<u64>, Refusal> {
     let mut source = volume_source(volume);
     answer(alloc, query, &mut source)

@@ -1,4 +1,4 @@
-//! Races: scripts at once, each on a thread of its own.
+//! Races: scripts that run concurrently, each on its own thread.
 use be_script_runner::{Gate, Limits, OpenGate, RunFault, race};
 use be_test_tools::{Narrow, list_with_room, longest_list, may_write};
 use be_value::word_of;
@@ -11,7 +11,7 @@ use std::test::Fail;
 use std::thread::Threads;
 use std::{str, thread};
 
-/// Fails with what was written unless it is as expected.
+/// Fails, and shows what was written, unless it is as expected.
 pub fn expect(is_as_expected: bool, written: &str) -> Result<(), Fail> {
     if is_as_expected {
         return Ok(());
@@ -28,7 +28,7 @@ fn scripts_of(alloc: Global, texts: &[&str]) -> Result<Vec<Vec<u8>>, AllocError>
     Ok(scripts)
 }
 
-/// Races scripts on a store of so many pages and a thousand commits.
+/// Races scripts on a store with this many pages and a limit of a thousand commits.
 fn race_on<R: Threads + Wait, G: Gate + Sync, W: Write>(
     rt: &R,
     scripts: Vec<Vec<u8>>,
@@ -48,7 +48,7 @@ fn race_on<R: Threads + Wait, G: Gate + Sync, W: Write>(
     race(rt, alloc, scripts, limits, gate, writer)
 }
 
-/// The text of what was written, or None if a line was refused because memory ran out.
+/// The text that was written, or `None` if a line was refused because memory ran out.
 fn text_of(written: Vec<u8>) -> Option<String> {
     let text = String::from_utf8(written).ok()?;
     if text.contains("refused 10 OutOfMemory\n") {
@@ -57,7 +57,7 @@ fn text_of(written: Vec<u8>) -> Option<String> {
     Some(text)
 }
 
-/// What a race on so many pages writes, or None if memory ran out.
+/// What a race on this many pages writes, or `None` if memory ran out.
 fn raced_on<R: Threads + Wait, G: Gate + Sync>(
     rt: &R,
     alloc: Global,
@@ -72,13 +72,13 @@ fn raced_on<R: Threads + Wait, G: Gate + Sync>(
     match race_on(rt, scripts, pages, gate, &mut written) {
         Ok(true) => Ok(text_of(written)),
         Ok(false) => Err(RunFault::Limits),
-        // A vector that can't grow is a write that fails.
+        // If a vector can't grow, that is a failed write.
         Err(RunFault::Memory | RunFault::Write) => Ok(None),
         Err(fault) => Err(fault),
     }
 }
 
-/// The same on 256 pages.
+/// The same with 256 pages.
 pub fn raced<R: Threads + Wait, G: Gate + Sync>(
     rt: &R,
     alloc: Global,
@@ -88,7 +88,7 @@ pub fn raced<R: Threads + Wait, G: Gate + Sync>(
     raced_on(rt, alloc, texts, 256, gate)
 }
 
-/// What a race writes, raced again if memory ran out.
+/// What a race writes. If memory ran out, the scripts are raced again.
 fn outcome_of<R: Threads + Wait, G: Gate + Sync>(
     rt: &R,
     alloc: Global,
@@ -115,10 +115,10 @@ fn race_of_two(rt: HostRuntime) -> Result<(), Fail> {
 /// The calls of a gate for the lines of one pass.
 #[derive(Drop)]
 struct Calls {
-    /// The line that began last, and the one that ended last.
+    /// The last line that began, and the last one that ended.
     begun: AtomicU64,
     ended: AtomicU64,
-    /// How many calls were out of their turn.
+    /// The number of calls that were out of order.
     strays: AtomicU64,
 }
 
@@ -131,7 +131,7 @@ impl Calls {
         }
     }
 
-    /// A line begins. It is in its turn after the end of the one before it.
+    /// A line begins. It should come right after the end of the line before it.
     fn begin(&self, line: u64) {
         let begun = self.begun.swap(line, SeqCst);
         if begun != self.ended.load(SeqCst) || line != begun.wrapping_add(1) {
@@ -139,7 +139,7 @@ impl Calls {
         }
     }
 
-    /// A line ends. It is in its turn if it began last, and hasn't ended.
+    /// A line ends. It should be the last one that began, and not have ended.
     fn end(&self, line: u64) {
         let ended = self.ended.swap(line, SeqCst);
         if line != self.begun.load(SeqCst) || line != ended.wrapping_add(1) {
@@ -147,8 +147,8 @@ impl Calls {
         }
     }
 
-    /// Whether the calls were just these: for each of so many lines from 1 on one before it, and
-    /// then one after it.
+    /// Whether the calls were exactly these: for each of this many lines, one before it and then
+    /// one after it.
     fn are_of(&self, lines: u64) -> bool {
         self.strays.load(SeqCst) == 0
             && self.begun.load(SeqCst) == lines
@@ -186,12 +186,12 @@ impl Gate for Record {
     }
 }
 
-/// A flag for each of two passes. Before its second line a pass raises its own and waits until the
-/// other's is up.
+/// A flag for each of two passes. Before its second line, a pass raises its flag, and waits until
+/// the other's is up.
 #[derive(Drop)]
 struct Meeting {
     flags: [AtomicU64; 2],
-    /// How many waits reached their limit.
+    /// The number of waits that reached their limit.
     missed: AtomicU64,
     record: Record,
 }
@@ -205,7 +205,7 @@ impl Meeting {
         }
     }
 
-    /// Whether the other pass's flag is up after at most 100,000,000 turns.
+    /// Whether the other pass's flag is up within 100,000,000 turns.
     fn meets(&self, pass: u64) -> bool {
         let [first, second] = &self.flags;
         let (mine, other) = if pass == 0 {
@@ -237,14 +237,14 @@ impl Gate for Meeting {
     }
 }
 
-/// Whether the gate was called for both lines of each of two passes, and each pass found the other
-/// one in the middle of its script.
+/// Whether the gate was called for both lines of both passes, and each pass found the other in the
+/// middle of its script.
 fn have_met(gate: &Meeting) -> bool {
     gate.missed.load(SeqCst) == 0 && gate.record.first.are_of(2) && gate.record.second.are_of(2)
 }
 
-/// Two threads are in the middle of their scripts at once. One thread can't pass, in whatever order
-/// it takes the lines.
+/// Two threads are in the middle of their scripts at the same time. A single thread can't pass this
+/// test, whatever order it takes the lines in.
 #[test]
 fn both_threads_run(rt: HostRuntime) -> Result<(), Fail> {
     let gate = Meeting::new();
@@ -257,9 +257,9 @@ fn both_threads_run(rt: HostRuntime) -> Result<(), Fail> {
     )
 }
 
-/// Whether a gate is called for so many lines of a script, and for none of an empty one beside it;
-/// None if memory ran out.
-fn tells_lines<R: Threads + Wait>(
+/// Whether a gate is called for this many lines of a script, and for none of an empty second
+/// script. `None` if memory ran out.
+fn is_called_for_lines<R: Threads + Wait>(
     rt: &R,
     alloc: Global,
     script: &str,
@@ -273,7 +273,7 @@ fn tells_lines<R: Threads + Wait>(
 }
 
 /// Fails unless a gate is called for as many lines of a script as the number before it says. A `|`
-/// in the script is an LF.
+/// in the script stands for an LF.
 fn check_lines<R: Threads + Wait>(rt: &R, alloc: Global, line: &str) -> Result<(), Fail> {
     let (count, script) = line.split_once(" ").unwrap_or(("0", line));
     let lines = word_of(count.as_bytes()).unwrap_or(0);
@@ -281,14 +281,15 @@ fn check_lines<R: Threads + Wait>(rt: &R, alloc: Global, line: &str) -> Result<(
         Ok(script) => script,
         Err(_) => script.replace(alloc, "|", "\n")?,
     };
-    let told = match tells_lines(rt, alloc, script.as_str(), lines)? {
-        None => tells_lines(rt, alloc, script.as_str(), lines)?,
-        told => told,
+    let called = match is_called_for_lines(rt, alloc, script.as_str(), lines)? {
+        None => is_called_for_lines(rt, alloc, script.as_str(), lines)?,
+        called => called,
     };
-    expect(told == Some(true), line)
+    expect(called == Some(true), line)
 }
 
-/// Blank lines, comments and bad ones count, and what follows the last LF if it isn't empty.
+/// Blank lines, comments and bad lines count, and so does what follows the last LF, unless it is
+/// empty.
 #[test]
 fn lines_at_the_gate(rt: HostRuntime) -> Result<(), Fail> {
     let lines = "1 new\n1 new|\n1 |\n2 ||\n4 # a||new\r|sett|\n2 new| ";
@@ -305,7 +306,7 @@ const MIXED: &str =
     unpin\nset 2 k LONG 8\nlive k==8\nrefresh\nrmindex k\ndrop 99\nset 2 \"\" CSTR x\nsett\n# a \
      comment\nnew\n";
 
-/// Fails unless a race of so many such scripts ends with a right replay.
+/// Fails unless a race of this many such scripts ends with a right replay.
 fn check_race<R: Threads + Wait>(rt: &R, alloc: Global, count: usize) -> Result<(), Fail> {
     let texts = [MIXED; 4];
     if count > 4 {
@@ -329,7 +330,7 @@ fn races_of_two_to_four(rt: HostRuntime) -> Result<(), Fail> {
     Ok(())
 }
 
-/// A text so many times. It is made again if memory is refused.
+/// A text repeated. If memory runs out, it is made again.
 fn repeated(alloc: Global, text: &str, count: usize) -> Result<String, AllocError> {
     match text.repeat(alloc, count) {
         Err(_) => text.repeat(alloc, count),
@@ -346,7 +347,7 @@ fn has_batches(written: &str) -> bool {
         && written.ends_with("\nreplay ok\n")
 }
 
-/// Batches of two scripts, which find each other writing: each is committed whole, as one entry.
+/// Batches of two scripts whose commits meet: each is committed whole, as one entry.
 #[test]
 fn batches_at_once(rt: HostRuntime) -> Result<(), Fail> {
     let script = repeated(rt.alloc(), "begin\nnew\nnew\ncommit\n", 50)?;
@@ -355,7 +356,7 @@ fn batches_at_once(rt: HostRuntime) -> Result<(), Fail> {
     expect(has_batches(written.as_str()), written.as_str())
 }
 
-/// A reply is written whole among the replies of a race, however long it is.
+/// A reply is written in one piece among a race's replies, however long it is.
 #[test]
 fn longest_replies(rt: HostRuntime) -> Result<(), Fail> {
     let (script, replies) = longest_list(rt.alloc())?;
@@ -364,7 +365,7 @@ fn longest_replies(rt: HostRuntime) -> Result<(), Fail> {
     Ok(())
 }
 
-/// The words for how a race ended, and whether anything was written.
+/// How a race ended, and whether anything was written, in words.
 fn words_of(ended: Result<bool, RunFault>, has_written: bool) -> &'static str {
     match (ended, has_written) {
         (Ok(true), true) => "right, written",
@@ -378,14 +379,14 @@ fn words_of(ended: Result<bool, RunFault>, has_written: bool) -> &'static str {
     }
 }
 
-/// How a race of these scripts on so many pages ends.
+/// How a race of these scripts on this many pages ends.
 fn end_of<R: Threads + Wait>(rt: &R, scripts: Vec<Vec<u8>>, pages: u64) -> &'static str {
     let mut written: Vec<u8> = Vec::new(*scripts.allocator());
     let ended = race_on(rt, scripts, pages, &OpenGate, &mut written);
     words_of(ended, !written.is_empty())
 }
 
-/// The same of an empty script and one of so many bytes.
+/// The same for an empty script and one with this many bytes.
 fn end_of_length<R: Threads + Wait>(rt: &R, alloc: Global, length: usize) -> &'static str {
     let (Ok(mut scripts), Ok(long)) = (scripts_of(alloc, &[""]), vec![in alloc; b'#'; length])
     else {
@@ -397,7 +398,7 @@ fn end_of_length<R: Threads + Wait>(rt: &R, alloc: Global, length: usize) -> &'s
     end_of(rt, scripts, 64)
 }
 
-/// Fails unless it ends so, at the second race if memory ran out at the first.
+/// Fails unless it ends like this. If memory ran out, it is raced again.
 fn check_length<R: Threads + Wait>(
     rt: &R,
     alloc: Global,
@@ -411,15 +412,14 @@ fn check_length<R: Threads + Wait>(
     expect(ended == end, ended)
 }
 
-/// A script that is too long, after one that is empty: nothing is written. A byte less, and it is
-/// run.
+/// After an empty script, one that is too long: nothing is written. With one byte less it is run.
 #[test]
 fn longest_scripts(rt: HostRuntime) -> Result<(), Fail> {
     check_length(&rt, rt.alloc(), 1_048_577, "too long")?;
     check_length(&rt, rt.alloc(), 1_048_576, "right, written")
 }
 
-/// How a race of two short scripts on so many pages ends.
+/// How a race of two short scripts on this many pages ends.
 fn end_on<R: Threads + Wait>(rt: &R, alloc: Global, pages: u64) -> &'static str {
     match scripts_of(alloc, &["new\n", ""]) {
         Ok(scripts) => end_of(rt, scripts, pages),
@@ -427,8 +427,8 @@ fn end_on<R: Threads + Wait>(rt: &R, alloc: Global, pages: u64) -> &'static str 
     }
 }
 
-/// Fails unless so many pages are reported to be out of range, at the second race if memory ran out
-/// at the first.
+/// Fails unless this number of pages is reported to be out of range. If memory ran out, it is raced
+/// again.
 fn check_limits<R: Threads + Wait>(rt: &R, alloc: Global, pages: u64) -> Result<(), Fail> {
     let ended = match end_on(rt, alloc, pages) {
         "memory" => end_on(rt, alloc, pages),
@@ -437,15 +437,15 @@ fn check_limits<R: Threads + Wait>(rt: &R, alloc: Global, pages: u64) -> Result<
     expect(ended == "limits", ended)
 }
 
-/// A limit that is out of its range is reported first, and nothing is written.
+/// A limit out of range is reported first, and nothing is written.
 #[test]
 fn limits_of_a_race(rt: HostRuntime) -> Result<(), Fail> {
     check_limits(&rt, rt.alloc(), 7)?;
     check_limits(&rt, rt.alloc(), 16385)
 }
 
-/// How many nodes the second script of a race made, and how many of its lines were refused by Full
-/// with this number of entries.
+/// The number of nodes that the second script of a race made, and the number of lines refused with
+/// Full and this number of entries.
 fn count_fulls(alloc: Global, written: &str) -> Result<(usize, usize), AllocError> {
     let entries = written.matches(" by 1 new -> node ").count();
     let full = format!(in alloc; "refused 11 Full {entries}")?;
@@ -454,7 +454,8 @@ fn count_fulls(alloc: Global, written: &str) -> Result<(usize, usize), AllocErro
     Ok((entries, fulls))
 }
 
-/// The same of a race of an empty script and this one, on so many pages; None if memory ran out.
+/// The same for a race of an empty script and this one, on this many pages. `None` if memory ran
+/// out.
 fn fulls_on<R: Threads + Wait>(
     rt: &R,
     alloc: Global,
@@ -467,7 +468,7 @@ fn fulls_on<R: Threads + Wait>(
     }
 }
 
-/// Fails unless so many pages take 60 nodes, or refuse those that they don't take.
+/// Fails unless a store with this many pages makes 60 nodes, or refuses those it can't make.
 fn check_fulls<R: Threads + Wait>(
     rt: &R,
     alloc: Global,
@@ -486,8 +487,8 @@ fn check_fulls<R: Threads + Wait>(
     Err(Fail::new(pages))
 }
 
-/// A race has as many pages as its limits say: 8 refuse some of 60 nodes, and report the current
-/// version if nothing is pinned; 64 take them all.
+/// A race has as many pages as its limits say. With 8, some of 60 nodes are refused, and the
+/// current version is reported if nothing is pinned. With 64, all are made.
 #[test]
 fn pages_of_a_race(rt: HostRuntime) -> Result<(), Fail> {
     let script = repeated(rt.alloc(), "new\n", 60)?;
@@ -495,8 +496,8 @@ fn pages_of_a_race(rt: HostRuntime) -> Result<(), Fail> {
     check_fulls(&rt, rt.alloc(), script.as_str(), 64, false)
 }
 
-/// Whether a race writes as many bytes as there is room for, and then ends with `Write`; or with
-/// success if there is room for all. It may return false if memory ran out, which isn't reported as
+/// Whether a race writes as many bytes as the writer takes, and then ends with `Write`, or with
+/// success if the writer takes all. It may return false if memory ran out, which isn't reported as
 /// `Write`.
 fn fills<R: Threads + Wait>(rt: &R, alloc: Global, room: usize) -> bool {
     let Ok(scripts) = scripts_of(alloc, &["new\n", ""]) else {
@@ -510,7 +511,7 @@ fn fills<R: Threads + Wait>(rt: &R, alloc: Global, room: usize) -> bool {
     )
 }
 
-/// A writer that fails at each place: a front is written.
+/// A writer that fails at each place: a prefix is written.
 #[test]
 fn failing_writer_of_a_race(rt: HostRuntime) -> Result<(), Fail> {
     let alloc = rt.alloc();
@@ -523,11 +524,11 @@ fn failing_writer_of_a_race(rt: HostRuntime) -> Result<(), Fail> {
     Ok(())
 }
 
-/// What is written if the one line of a race is refused because memory ran out.
+/// What is written if the only line of a race is refused because memory ran out.
 const OF_NONE: &str = "pass 0\nrefused 10 OutOfMemory\npass 1\njournal 0\nreplay ok\n";
 
-/// A request for memory that is refused is reported as Memory, or by the line, over a writer that
-/// needs none.
+/// If memory runs out, the race reports Memory or the line is refused, even with a writer that
+/// needs no memory.
 #[test]
 fn refused_memory(rt: HostRuntime) -> Result<(), Fail> {
     let alloc = rt.alloc();

@@ -1,4 +1,4 @@
-//! The shared store and a plain volume with its journal answer scripts alike.
+//! The shared store and a plain volume with its journal give scripts the same replies.
 ghost use Rattle.std.specs.Prelude.{◌<◌};
 
 use super::{By, LIMITS, run_by};
@@ -27,7 +27,7 @@ k>=-7
 k==[
 k<18446744073709551615"#;
 
-/// Lines of one word, or of one word and a query, which takes the place of `{query}`.
+/// Lines of one word, or of one word and a query, which replaces `{query}`.
 const SHORT_LINES: &str = "pin
 pin
 unpin
@@ -46,7 +46,7 @@ page by k limit 2 {query}
 page by k descending after LONG 5 6 limit 3 {query}
 page by a after CSTR x.c 4 limit 1 {query}";
 
-/// Lines with a node, a name and a value in place of these words.
+/// Lines in which a node, a name and a value replace these words.
 const LONG_LINES: &str = "new
 new
 drop {node}
@@ -64,7 +64,7 @@ set {node} {name} {value}";
 
 const NODES: &str = "0\n1\n2\n3\n4\n5\n6\n7\n8\n9\n10\n11";
 
-/// Pseudo-random numbers, the same at each run.
+/// Pseudo-random numbers, the same in each run.
 #[derive(Drop)]
 struct Dice {
     state: u64,
@@ -82,7 +82,7 @@ impl Dice {
         (self.state >> 33) % sides
     }
 
-    /// One of so many lines.
+    /// One of `count` lines.
     fn one_of(&mut self, lines: &'static str, count: u64) -> &'static str
         requires { 0 < count }
     {
@@ -109,7 +109,7 @@ fn long_line(alloc: Global, dice: &mut Dice) -> Result<String, AllocError> {
     Ok(line)
 }
 
-/// A script of so many lines.
+/// A script of this many lines.
 fn made(alloc: Global, lines: u64) -> Result<String, AllocError> {
     let mut dice = Dice { state: 1 };
     let mut script = String::new(alloc);

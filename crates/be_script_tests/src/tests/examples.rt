@@ -3,7 +3,7 @@ use super::{FIVE, check, check_after, check_bytes};
 use be_test_tools::{COVERAGE, EXAMPLES, TEXTS, TWO_INDICES};
 use std::test::Fail;
 
-/// The examples that other forms of a volume answer alike.
+/// The examples that every form of a volume has to answer the same way.
 #[test]
 fn shared_examples(rt: HostRuntime) -> Result<(), Fail> {
     for rows in EXAMPLES {
@@ -12,7 +12,7 @@ fn shared_examples(rt: HostRuntime) -> Result<(), Fail> {
     Ok(())
 }
 
-/// What only a script asks, after three of these.
+/// What only a script can ask, after three of these examples.
 #[test]
 fn after_examples(rt: HostRuntime) -> Result<(), Fail> {
     check_after(
@@ -39,8 +39,8 @@ fn faults(rt: HostRuntime) -> Result<(), Fail> {
     )
 }
 
-/// A batch is written whole, or not at all if one of its operations is refused. The reply says so
-/// if no batch is open, or one is open already or empty.
+/// A batch is written whole, or not at all if one of its operations is refused. The reply says if
+/// no batch is open, or if one is already open or empty.
 #[test]
 fn batches(rt: HostRuntime) -> Result<(), Fail> {
     check(
@@ -65,8 +65,8 @@ fn batches(rt: HostRuntime) -> Result<(), Fail> {
     )
 }
 
-/// A live query reports at each refresh which nodes joined and left its result since the one
-/// before.
+/// At each refresh, a live query reports which nodes have joined and left its result since the
+/// previous one.
 #[test]
 fn live_query(rt: HostRuntime) -> Result<(), Fail> {
     let rows = "

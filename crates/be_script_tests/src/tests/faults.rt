@@ -14,7 +14,7 @@ const SCRIPT: &str =
     begin\nset 1 \"n\" CSTR \"x\"\nunset 1 \
      k\ncommit\nrefresh\nunpin\nrefresh\nbegin\nabort\nrmindex k\ndrop 1\nsett\n";
 
-/// What it is answered.
+/// The script's replies.
 const REPLIES: &str = "node 1\nok\nok\nok\nnodes 1\nnodes 1\nend after LONG 6 \
      1\n\"k\"==\"6\" score 1\nLONG 6\nattrs 1\n\"k\" LONG 6\nindices \
      1\n\"k\" LONG\npin 4\nok\n\
@@ -31,7 +31,7 @@ fn some_error(number: usize) -> io::Error {
     })
 }
 
-/// Gives its bytes one at a time, then fails if it is to, and counts its reads.
+/// Returns its bytes one at a time, then fails if `fails`, and counts its reads.
 #[derive(Drop)]
 struct Dripping<'a> {
     bytes: &'a [u8],
@@ -40,8 +40,8 @@ struct Dripping<'a> {
 }
 
 impl Read for Dripping<'_> {
-    /// Counts the read, and gives the next byte; after the last one the end, or an error if it is
-    /// to fail.
+    /// Counts the read, and returns the next byte. After the last byte it returns the end, or an
+    /// error if `fails`.
     fn read(&mut self, buf: &mut [u8]) -> io::Result<usize> {
         self.reads = self.reads.saturating_add(1);
         let Some((byte, rest)) = self.bytes.split_first() else {
@@ -79,7 +79,7 @@ pub struct Outcome {
     pub reads: usize,
 }
 
-/// Runs a script that comes byte by byte once.
+/// Runs once a script that comes byte by byte.
 fn drip(alloc: Global, bytes: &[u8], fails: bool) -> Outcome {
     let mut reader = Dripping {
         bytes,
@@ -95,7 +95,7 @@ fn drip(alloc: Global, bytes: &[u8], fails: bool) -> Outcome {
     }
 }
 
-/// Runs a script that comes byte by byte, again if memory ran out.
+/// Runs a script that comes byte by byte. If memory ran out, it runs it again.
 pub fn dripped(alloc: Global, bytes: &[u8], fails: bool) -> Outcome {
     let outcome = drip(alloc, bytes, fails);
     if outcome.end == "memory" {
@@ -104,14 +104,13 @@ pub fn dripped(alloc: Global, bytes: &[u8], fails: bool) -> Outcome {
     outcome
 }
 
-/// Whether a run of a script whose reader fails after these bytes ends with `Read`, and writes
-/// nothing.
+/// Whether a run whose reader fails after these bytes ends with `Read` and writes nothing.
 fn fails_after(alloc: Global, bytes: &[u8]) -> bool {
     let outcome = dripped(alloc, bytes, true);
     outcome.end == "read" && outcome.written == 0
 }
 
-/// A reader that fails at each place, the end too, by errors of four kinds: nothing is written.
+/// If the reader fails at any place, or at the end, by errors of four kinds, nothing is written.
 #[test]
 fn failing_reader(rt: HostRuntime) -> Result<(), Fail> {
     let script = SCRIPT.as_bytes();
@@ -124,21 +123,21 @@ fn failing_reader(rt: HostRuntime) -> Result<(), Fail> {
 }
 
 /// Whether a run writes as many bytes of the replies as there is room for, and then ends with
-/// `Write`; or with success if there is room for all.
+/// `Write`. It has to succeed if there is room for all.
 fn fills(alloc: Global, room: usize, fails: bool) -> bool {
     let mut writer = Narrow::new(REPLIES.as_bytes(), room, fails);
     let end = end_of(run(alloc, &mut SCRIPT.as_bytes(), &mut writer, LIMITS));
     writer.may_end(end == "well", end == "write")
 }
 
-/// The same of a writer that fails and of one that takes nothing, at the second run if memory may
-/// have run out at the first.
+/// The same for a writer that fails and for one that takes nothing. If memory may have run out in
+/// the first run, the second run decides.
 fn fills_by_each(alloc: Global, room: usize) -> bool {
     (fills(alloc, room, true) || fills(alloc, room, true))
         && (fills(alloc, room, false) || fills(alloc, room, false))
 }
 
-/// A writer that fails or takes nothing at each place: a front of the replies is written.
+/// If the writer fails or takes nothing at any place, a front of the replies is written.
 #[test]
 fn failing_writer(rt: HostRuntime) -> Result<(), Fail> {
     for room in 0..=REPLIES.len() {
@@ -152,14 +151,14 @@ fn failing_writer(rt: HostRuntime) -> Result<(), Fail> {
 /// What is written if memory never runs out.
 const OUTPUT: &str = "node 1\nok\nok\nnodes\n";
 
-/// What may be written if memory runs out in a line, but its last LF, with a blank line between:
-/// that line is refused, and those after it see a store without it.
+/// What may be written if memory runs out in a line, without the last LF and with a blank line
+/// between the cases. That line is refused, and later lines see a store without it.
 const OUTPUTS: &str = "refused 10 OutOfMemory\nrefused 2 NoNode\nok\nnodes\n
 node 1\nrefused 10 OutOfMemory\nok\nnodes\n
 node 1\nok\nrefused 10 OutOfMemory\nrefused 17 NotCovered\n
 node 1\nok\nok\nrefused 10 OutOfMemory";
 
-/// Whether a run that ended so may have written this.
+/// Whether a run that ended like this may have written this text.
 fn may_write(end: &str, written: &str) -> bool {
     match end {
         "well" => written == OUTPUT || is_among(written, OUTPUTS),
@@ -168,7 +167,7 @@ fn may_write(end: &str, written: &str) -> bool {
     }
 }
 
-/// Whether a text is one of these and an LF.
+/// Whether a text is one of these followed by an LF.
 fn is_among(text: &str, texts: &str) -> bool {
     let text = text.strip_suffix("\n").unwrap_or("none");
     for other in texts.split("\n\n") {
@@ -179,8 +178,8 @@ fn is_among(text: &str, texts: &str) -> bool {
     false
 }
 
-/// If a request for memory is refused, the line is answered so, or the run ends with `Memory` and a
-/// front is written.
+/// If a request for memory is refused, the line's reply says so, or the run ends with `Memory` and
+/// a front is written.
 #[test]
 fn refused_memory(rt: HostRuntime) -> Result<(), Fail> {
     let alloc = rt.alloc();

@@ -1,4 +1,4 @@
-//! What there may be most of.
+//! The limits of scripts and stores.
 use super::faults::{dripped, end_of};
 use super::{LIMITS, check, check_bytes};
 use be_script_runner::{Limits, run};
@@ -7,7 +7,7 @@ use be_value::word_of;
 use std::alloc::{AllocError, Global};
 use std::test::Fail;
 
-/// Rows with a numbered one for each number from 1 to `count` between the first and the last.
+/// Rows between a first and a last one, numbered from 1 to `count`.
 fn numbered(
     alloc: Global,
     first: &str,
@@ -38,7 +38,7 @@ fn check_numbered(
     check(alloc, &rows)
 }
 
-/// A node has 64 attributes at most: a new name is refused, an old one isn't.
+/// A node has at most 64 attributes: a new name is refused, and an old one isn't.
 #[test]
 fn too_many_attrs(rt: HostRuntime) -> Result<(), Fail> {
     let last = "
@@ -85,8 +85,8 @@ fn longest_replies(rt: HostRuntime) -> Result<(), Fail> {
     check_bytes(rt.alloc(), script.as_bytes(), &replies, LIMITS.commits)
 }
 
-/// A store has up to 32 indices. If the name has an index, that is reported before the limit, and a
-/// kind that can't be indexed after it.
+/// A store has at most 32 indices. A name that already has an index is reported before the limit,
+/// and a kind that can't be indexed after it.
 #[test]
 fn too_many_indices(rt: HostRuntime) -> Result<(), Fail> {
     let last = "
@@ -113,7 +113,7 @@ fn too_many_indices(rt: HostRuntime) -> Result<(), Fail> {
     check_numbered(rt.alloc(), "", 32, ("mkindex i", " LONG => ok"), last)
 }
 
-/// A batch takes 64 operations. Bad lines and refusals go before `full batch`.
+/// A batch takes 64 operations. Bad lines and errors are reported before `full batch`.
 #[test]
 fn full_batch(rt: HostRuntime) -> Result<(), Fail> {
     check(
@@ -162,7 +162,7 @@ fn long_queries(rt: HostRuntime) -> Result<(), Fail> {
     )
 }
 
-/// As many writes as `--commits` allows.
+/// The number of writes that `--commits` allows.
 #[test]
 fn commits_spent(rt: HostRuntime) -> Result<(), Fail> {
     let script =
@@ -173,15 +173,15 @@ fn commits_spent(rt: HostRuntime) -> Result<(), Fail> {
     check_bytes(rt.alloc(), script, replies, 2)
 }
 
-/// Whether a run of these bytes, each of which costs a read, ends so after 1,048,577 reads, and
-/// writes nothing.
+/// Whether a run of these bytes, each of which costs a read, ends like this after 1,048,577 reads,
+/// and writes nothing.
 fn ends_unwritten(alloc: Global, bytes: &[u8], fails: bool, end: &str) -> bool {
     let outcome = dripped(alloc, bytes, fails);
     outcome.end == end && outcome.written == 0 && outcome.reads == 1_048_577
 }
 
-/// 1,048,576 bytes run, a byte more is too long, and each byte costs a read. A read that fails
-/// after the last allowed byte is reported, and a read after one byte more is never made.
+/// A script of 1,048,576 bytes runs, and one more byte is too long. Each byte costs a read. A read
+/// that fails after the last allowed byte is reported. A read after one byte more is never made.
 #[test]
 fn longest_script(rt: HostRuntime) -> Result<(), Fail> {
     let alloc = rt.alloc();
@@ -197,13 +197,13 @@ fn longest_script(rt: HostRuntime) -> Result<(), Fail> {
     Ok(())
 }
 
-/// How a run of a script without a request ends within these limits.
+/// How a run of a script without requests ends, within these limits.
 fn run_within(alloc: Global, limits: Limits) -> &'static str {
     let mut written: Vec<u8> = Vec::new(alloc);
     end_of(run(alloc, &mut b"# x".as_slice(), &mut written, limits))
 }
 
-/// The same, run again if memory ran out.
+/// The same. If memory ran out, it runs again.
 fn end_within(alloc: Global, limits: Limits) -> &'static str {
     match run_within(alloc, limits) {
         "memory" => run_within(alloc, limits),
@@ -211,13 +211,13 @@ fn end_within(alloc: Global, limits: Limits) -> &'static str {
     }
 }
 
-/// The number that a word encodes, 0 if there is none.
+/// The number that a word encodes, or 0 if it encodes none.
 fn number_in(word: Option<&str>) -> u64 {
     word_of(word.unwrap_or("").as_bytes()).unwrap_or(0)
 }
 
 /// Whether a run ends as a line says: the pages, the passes, the commits, and the end.
-fn ends_as_told(alloc: Global, line: &str) -> bool {
+fn ends_as_said(alloc: Global, line: &str) -> bool {
     let mut words = line.split(' ');
     let limits = Limits {
         pages: number_in(words.next()),
@@ -227,7 +227,7 @@ fn ends_as_told(alloc: Global, line: &str) -> bool {
     words.next() == Some(end_within(alloc, limits))
 }
 
-/// The limits of a store, each at both ends of its range and outside.
+/// The limits of a store: both ends of each range, and values outside it.
 #[test]
 fn limits(rt: HostRuntime) -> Result<(), Fail> {
     let lines = "7 1 1 limits
@@ -239,7 +239,7 @@ fn limits(rt: HostRuntime) -> Result<(), Fail> {
 8 1 1 well
 16384 64 4294967295 well";
     for line in lines.lines() {
-        if !ends_as_told(rt.alloc(), line) {
+        if !ends_as_said(rt.alloc(), line) {
             return Err(Fail::new(line));
         }
     }

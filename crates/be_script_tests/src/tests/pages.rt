@@ -2,7 +2,7 @@
 use super::{FIVE, check, check_after};
 use std::test::Fail;
 
-/// Rows that make five letters: two of one time, and one without a time.
+/// Rows that make five letters: two with the same time, and one without a time.
 const LETTERS: &str = r#"mkindex w LLNG => ok
 mkindex b CSTR => ok
 new => node 1
@@ -20,8 +20,8 @@ set 3 b CSTR in => ok
 set 4 b CSTR "o\"t" => ok
 set 5 b CSTR in => ok"#;
 
-/// Pages in both directions, of one node and of all, with a filter, and after places where a node
-/// is and where none is.
+/// Pages in both directions, of one node and of all, with a filter, and after places with and
+/// without a node.
 #[test]
 fn orders(rt: HostRuntime) -> Result<(), Fail> {
     check_after(
@@ -62,7 +62,7 @@ fn orders(rt: HostRuntime) -> Result<(), Fail> {
     )
 }
 
-/// Which words a line has, in which order.
+/// Which words a line has, and in which order.
 #[test]
 fn words(rt: HostRuntime) -> Result<(), Fail> {
     check_after(
@@ -111,7 +111,7 @@ fn words(rt: HostRuntime) -> Result<(), Fail> {
     )
 }
 
-/// The text's place in the line, and what a line is refused for first.
+/// At which place of a line its text begins, and which error is reported first.
 #[test]
 fn refusals(rt: HostRuntime) -> Result<(), Fail> {
     check_after(
@@ -142,7 +142,7 @@ fn refusals(rt: HostRuntime) -> Result<(), Fail> {
     )
 }
 
-/// A page goes on from its place, whatever was written in between, and is one of the pin.
+/// A page continues from its place, whatever was written in between, and reads the pinned version.
 #[test]
 fn places_stay(rt: HostRuntime) -> Result<(), Fail> {
     let rows = "

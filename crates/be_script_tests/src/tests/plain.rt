@@ -1,4 +1,4 @@
-//! A volume with its journal on one thread, as another server of scripts.
+//! A volume with its journal in one thread, as another server of scripts.
 ghost use Rattle.std.specs.Prelude.{◌≡◌, ◌≤◌, ◌<◌, ◌^◌, OnOk, IfErr, IsSome, true, length};
 ghost use Rattle.std.specs.Prelude.{unwrap_or};
 ghost use Rattle.be_value.specs.Refusal.{Answers};
@@ -22,7 +22,7 @@ use be_volume::{Done, Op, Volume};
 use std::alloc::{AllocError, Global};
 use std::marker::Model;
 
-/// A volume and its journal, on one thread.
+/// A volume and its journal, in one thread.
 #[derive(Drop)]
 pub struct PlainStore {
     alloc: Global,
@@ -30,7 +30,7 @@ pub struct PlainStore {
     journal: Journal,
     /// How many writes were accepted before the pinned version.
     pin: Option<u64>,
-    /// The pinned version's volume, if a write was tried since.
+    /// The pinned version's volume, if a write has been tried since.
     kept: Option<Volume>,
 }
 
@@ -59,7 +59,7 @@ impl Model for PlainStore {
 }
 
 impl PlainStore {
-    /// A store before its first write, which takes this many writes.
+    /// A store before its first write. It takes this many writes.
     pub fn new(alloc: Global, commits: u64) -> PlainStore
         requires { commits < 2 ^ 32 }
         ensures { result ≡ start commits }
@@ -73,8 +73,8 @@ impl PlainStore {
         }
     }
 
-    /// A refusal of the volume goes before one of the journal, and the journal makes its room
-    /// before the volume is changed.
+    /// Writes a list of operations. An error of the volume comes before one of the journal. The
+    /// journal makes room before the volume is changed.
     fn write(&mut self, ops: &[Op]) -> Result<(u64, ArrayVec<Done, 64>), Refusal>
         requires some { 1 ≤ length ops.now }
         requires few { length ops.now ≤ 64 }
@@ -100,7 +100,7 @@ impl PlainStore {
     }
 }
 
-/// Keeps a copy of the volume for a pinned version, if none is kept.
+/// Keeps a copy of the volume for a pinned version, if none is kept yet.
 fn keep(is_pinned: bool, kept: &mut Option<Volume>, volume: &Volume) -> Result<(), Refusal>
     ensures kept { OnOk result (is_pinned ≡ true → IsSome kept.new) }
     ensures same { unwrap_or kept.new volume.now ≡ unwrap_or kept.old volume.now }
@@ -112,7 +112,7 @@ fn keep(is_pinned: bool, kept: &mut Option<Volume>, volume: &Volume) -> Result<(
     Ok(())
 }
 
-/// The value of the last of some nodes, and its number.
+/// The value of the last of these nodes, and its number.
 fn last_in(volume: &Volume, by: &Name, nodes: &[u64]) -> Option<(Value, u64)>
     ensures { result ≡ last_pair volume.now by.now nodes.now }
 {
@@ -121,7 +121,7 @@ fn last_in(volume: &Volume, by: &Name, nodes: &[u64]) -> Option<(Value, u64)>
     Some((value, node))
 }
 
-/// The page after a key: the whole answer is sorted.
+/// The page after a key, found by sorting the whole answer.
 fn page_after(
     alloc: Global,
     volume: &Volume,

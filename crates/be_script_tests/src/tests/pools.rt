@@ -4,7 +4,7 @@ use be_script_runner::{Limits, run};
 use std::alloc::{AllocError, Global};
 use std::test::Fail;
 
-/// A script: its first lines, a line as often as counted, and its last lines.
+/// A script: its first lines, a repeated line, and its last lines.
 fn repeated(
     alloc: Global,
     first: &str,
@@ -18,7 +18,7 @@ fn repeated(
     Ok(script)
 }
 
-/// The replies to a script over so few pages, or none if memory ran out.
+/// The replies to a script over this many pages, or `None` if memory ran out.
 fn replies_over(alloc: Global, pages: u64, script: &str) -> Option<String> {
     let mut replies: Vec<u8> = Vec::new(alloc);
     let limits = Limits { pages, ..LIMITS };
@@ -39,15 +39,14 @@ fn count_nodes(replies: &str) -> usize {
         .count()
 }
 
-/// The end of the replies if so many nodes fill the pages and `full` refuses the next.
+/// How the replies end if `nodes` nodes fill the pages and `full` refuses the next.
 fn end_of_full(alloc: Global, full: &str, nodes: usize) -> Result<String, AllocError> {
     format!(in alloc;
         "{full}\npin {nodes}\nnone\nindices 0\nok\nok\nqueued\nqueued\nrefused 2 NoNode\n{full}\n"
     )
 }
 
-/// Whether these are 13 nodes or more but not 37, a refusal of each one after the first that is
-/// refused, and answers even so.
+/// Whether the replies show 13 to 36 nodes, a refusal of each later one, and answers even so.
 fn is_of_eight_pages(alloc: Global, replies: &str) -> Result<bool, AllocError> {
     let nodes = count_nodes(replies);
     let full = format!(in alloc; "refused 11 Full {nodes}")?;
@@ -60,7 +59,7 @@ fn is_of_eight_pages(alloc: Global, replies: &str) -> Result<bool, AllocError> {
     )
 }
 
-/// Whether 8 pages take so many nodes of 60, and then answer.
+/// Whether 8 pages hold that many nodes of 60, and reads are still answered.
 fn fills_eight_pages(alloc: Global) -> Result<bool, AllocError> {
     let last = "pin\nget 1 k\nindices\nunpin\nbegin\nnew\ndrop 99\ncommit\nnew\n";
     let script = repeated(alloc, "", "new\n", 60, last)?;
@@ -79,14 +78,14 @@ fn smallest_pool(rt: HostRuntime) -> Result<(), Fail> {
     Ok(())
 }
 
-/// Whether writes were refused, the pin was answered from throughout, and then gave the pages back.
+/// Whether writes were refused, the pin was readable throughout, and unpinning gave the pages back.
 fn is_of_pin(replies: &str) -> bool {
     count_of(replies, "refused 11 Full 3") > 16
         && count_of(replies, "LONG 0") == 80
         && replies.ends_with("refused 11 Full 3\nLONG 0\nnodes 1\nok\nok\nnodes 1\n")
 }
 
-/// Whether a pin keeps 64 pages from taking 64 writes, and is answered from.
+/// Whether a pin keeps 64 pages from taking 64 writes, and stays readable.
 fn is_held_full(alloc: Global) -> Result<bool, AllocError> {
     let first = "mkindex k LONG\nnew\nset 1 k LONG 0\npin\n";
     let last = "query k==0\nunpin\nset 1 k LONG 7\nquery k==7\n";

@@ -1,9 +1,9 @@
-//! Rules of the script language, one after the other. A comment in a row is a comment of its script
-//! too.
+//! Rules of the script language, one after another. A comment in a row is also a comment of its
+//! script.
 use super::{FIVE, check, check_after};
 use std::test::Fail;
 
-/// Which lines are comments or blank, and what a CR and other blank-like characters in a line are.
+/// Which lines are comments or blank, and what a CR and other blank-like characters in a line mean.
 #[test]
 fn lines(rt: HostRuntime) -> Result<(), Fail> {
     check(
@@ -36,7 +36,7 @@ fn lines(rt: HostRuntime) -> Result<(), Fail> {
     )
 }
 
-/// How a line is parted into words, and what a quoted word stands for.
+/// How a line is split into words, and what a quoted word stands for.
 #[test]
 fn words(rt: HostRuntime) -> Result<(), Fail> {
     check(
@@ -78,7 +78,7 @@ fn words(rt: HostRuntime) -> Result<(), Fail> {
     )
 }
 
-/// A line whose command isn't known, or whose words are too many or too few, is bad.
+/// A line with an unknown command, or with too many or too few words, is bad.
 #[test]
 fn counts(rt: HostRuntime) -> Result<(), Fail> {
     check(
@@ -116,7 +116,7 @@ fn counts(rt: HostRuntime) -> Result<(), Fail> {
     )
 }
 
-/// The digits and the range of a node's number and of LONG, LLNG, ULNG and ULLG values.
+/// The digits and the range of a node's number, and of LONG, LLNG, ULNG and ULLG values.
 #[test]
 fn numbers(rt: HostRuntime) -> Result<(), Fail> {
     check(
@@ -204,7 +204,8 @@ fn kinds(rt: HostRuntime) -> Result<(), Fail> {
     )
 }
 
-/// All causes of a bad line come before a refusal, and refusals have an order too.
+/// Every cause of a bad line is reported before an error of the store, and those errors have an
+/// order too.
 #[test]
 fn order_of_faults(rt: HostRuntime) -> Result<(), Fail> {
     check(
@@ -245,7 +246,7 @@ fn order_of_faults(rt: HostRuntime) -> Result<(), Fail> {
     )
 }
 
-/// The text of a query isn't split into words, and its errors have their place.
+/// The text of a query isn't split into words, and its errors report their place.
 #[test]
 fn query_texts(rt: HostRuntime) -> Result<(), Fail> {
     check(
@@ -288,7 +289,7 @@ fn query_texts(rt: HostRuntime) -> Result<(), Fail> {
     )
 }
 
-/// Comparisons with sets, with numbers, and with texts that are no number; and faulty sets.
+/// Comparisons with sets, with numbers, and with texts that encode no number; and faulty sets.
 #[test]
 fn comparisons(rt: HostRuntime) -> Result<(), Fail> {
     check(
@@ -424,7 +425,7 @@ fn pins(rt: HostRuntime) -> Result<(), Fail> {
     )
 }
 
-/// A pin and an open batch don't change one another.
+/// A pin and an open batch don't change each other.
 #[test]
 fn pins_and_batches(rt: HostRuntime) -> Result<(), Fail> {
     check(

@@ -1,4 +1,4 @@
-//! A live query that one thread refreshes by what changed, while another thread writes.
+//! A live query that one thread refreshes from what changed, while another thread writes.
 ghost use Rattle.be_store.specs.Live.{IsLiveOf};
 ghost use Rattle.be_store.specs.Passes.{IsPassOf};
 
@@ -9,7 +9,7 @@ use std::alloc::{AllocGlobal, Global};
 use std::thread;
 use std::thread::Threads;
 
-/// So many that an answer has more than the 96 nodes from which on a refresh goes by what changed.
+/// So many nodes that an answer has more than 96. From then on, a refresh reads only what changed.
 const NODES: u32 = 400;
 
 /// Writes random operations.
@@ -20,7 +20,7 @@ fn write_on(store: &Store, mut writer: Pass) -> Result<(), Refusal>
     Ok(())
 }
 
-/// Refreshes at 100 pins. Whether the list always was what the query found at the pin.
+/// Refreshes at 100 pins. Returns whether the list always equalled what the query found at the pin.
 fn follow_on(
     store: &Store,
     alloc: Global,
@@ -40,7 +40,7 @@ fn follow_on(
     Ok(true)
 }
 
-/// Refreshes and writes at once, in a new store.
+/// Refreshes and writes concurrently, in a new store.
 pub(crate) fn follows_another_thread<R: AllocGlobal + Threads + Sync>(
     rt: &R,
 ) -> Result<bool, Refusal> {

@@ -1,4 +1,4 @@
-//! A live query that is refreshed beside random writes, and a list that is kept by what the
+//! A live query that is refreshed between random writes, and a list that is updated from what the
 //! refreshes return.
 ghost use Rattle.std.specs.Prelude.{◌≡◌, ◌<◌, ◌≤◌, None, length};
 ghost use Rattle.be_store.specs.Live.{IsLiveOf};
@@ -9,18 +9,18 @@ use be_store::{Kind, Limits, Live, Name, Op, Pass, Query, Refusal, Store, Update
 use be_test_tools::both_of;
 use std::alloc::Global;
 
-/// How often a write is tried while another pass has the lock.
+/// The maximum number of tries of a write while another pass holds the lock.
 const TRIES: u64 = 10_000_000;
 
-/// About four of ten nodes.
+/// A query that about four in ten nodes pass.
 pub(crate) const TEXT: &str = "size>30&&size<70||size==5&&other>50";
 
-/// Numbers that look random: each by a product from the one before.
+/// Numbers that look random: each is computed from the one before.
 fn next_number(number: u32) -> u32 {
     number.wrapping_mul(1_664_525).wrapping_add(1_013_904_223)
 }
 
-/// An operation by a random number, on one of these nodes.
+/// An operation that a random number determines, on one of these nodes.
 fn random_op(nodes: u32, number: u32) -> Result<Op, Refusal>
     requires { 0 < nodes }
 {
@@ -42,8 +42,8 @@ fn random_op(nodes: u32, number: u32) -> Result<Op, Refusal>
     }
 }
 
-/// Writes an operation, which the volume may refuse. So may the pool, while a version that another
-/// thread has pinned keeps all its pages.
+/// Writes an operation, which the volume may refuse. It is also refused if no page is free, since
+/// another thread has pinned a version and keeps its pages.
 fn write_or_not(store: &Store, pass: &mut Pass, op: Op) -> Result<(), Refusal>
     requires { IsPassOf store.now pass.old }
     ensures { IsPassOf store.now pass.new }
@@ -57,7 +57,7 @@ fn write_or_not(store: &Store, pass: &mut Pass, op: Op) -> Result<(), Refusal>
     }
 }
 
-/// Writes so many random operations. Returns the next random number.
+/// Writes this many random operations. Returns the next random number.
 pub(crate) fn write_some(
     store: &Store,
     pass: &mut Pass,
@@ -77,8 +77,8 @@ pub(crate) fn write_some(
     Ok(number)
 }
 
-/// Takes what went out of a list and puts what came into it. Returns false if something went that
-/// isn't there, or came that is.
+/// Removes from a list the nodes that left the answer, and adds those that joined. Returns false if
+/// a node left that isn't in the list, or joined that is.
 fn follow(list: &mut Vec<u64>, updates: &Updates) -> Result<bool, Refusal> {
     for node in updates.removed.as_slice() {
         let Some(at) = list.iter().position(|kept| kept == node) else {
@@ -98,7 +98,7 @@ fn follow(list: &mut Vec<u64>, updates: &Updates) -> Result<bool, Refusal> {
     Ok(true)
 }
 
-/// Pins the pass if it isn't pinned. Returns the pin's number.
+/// Pins the pass unless it is pinned, and returns the pin's number.
 fn pin_if_not(store: &Store, pass: &mut Pass) -> u64
     requires pass { IsPassOf store.now pass.old }
     ensures pass { IsPassOf store.now pass.new }
@@ -110,7 +110,8 @@ fn pin_if_not(store: &Store, pass: &mut Pass) -> u64
     }
 }
 
-/// Refreshes at a pin that goes with the read. Whether the list is then what the query finds there.
+/// Refreshes at a pin that ends with the read. Returns whether the list then equals what the query
+/// finds there.
 pub(crate) fn agrees(
     store: &Store,
     alloc: Global,
@@ -132,7 +133,7 @@ pub(crate) fn agrees(
     Ok(kept && list.as_slice() == found.nodes.as_slice())
 }
 
-/// Refreshes by the one pass or by the other.
+/// Refreshes with one of two passes.
 fn agrees_by(
     store: &Store,
     alloc: Global,
@@ -156,8 +157,8 @@ fn agrees_by(
     agrees(store, alloc, reader, query, live, list)
 }
 
-/// Writes by one pass and refreshes by another, time after time. Whether the list always was what
-/// the query found.
+/// Writes with one pass and refreshes with others, again and again. Returns whether the list always
+/// equalled what the query found.
 fn agrees_always(
     store: &Store,
     alloc: Global,
@@ -190,7 +191,7 @@ fn agrees_always(
     Ok(true)
 }
 
-/// Makes so many nodes with sizes by random numbers.
+/// Makes this many nodes, with sizes from random numbers.
 pub(crate) fn make_nodes(store: &Store, pass: &mut Pass, nodes: u32) -> Result<(), Refusal>
     requires { IsPassOf store.now pass.old }
     ensures { IsPassOf store.now pass.new }
@@ -205,7 +206,7 @@ pub(crate) fn make_nodes(store: &Store, pass: &mut Pass, nodes: u32) -> Result<(
     Ok(())
 }
 
-/// The same in a new store with so many nodes at the start.
+/// The same in a new store with this many nodes at the start.
 fn follows_writes(alloc: Global, nodes: u32) -> Result<bool, Refusal>
     requires { 0 < nodes }
 {
@@ -232,8 +233,8 @@ fn follows_writes(alloc: Global, nodes: u32) -> Result<bool, Refusal>
     )
 }
 
-/// An answer of few nodes is asked anew at each refresh. One of some 160 is changed by what was
-/// written, if that is little.
+/// With a small answer, each refresh runs the whole query. With one of about 160 nodes, a refresh
+/// reads only what was written, if that is little.
 pub(crate) fn follows_random_writes(alloc: Global) -> Result<bool, Refusal> {
     Ok(follows_writes(alloc, 40)? && follows_writes(alloc, 400)?)
 }

@@ -1,7 +1,7 @@
 //! The calls of one pass, as texts: a request in the words of scripts, and its reply.
 //!
-//! Each call's clauses end with the helper that makes it: what is left of them is that the pass is
-//! one of the store, with its number. The helpers ask the pass whether it is pinned.
+//! The helper that makes a call drops most of the call's clauses. What is left is that the pass is
+//! the store's, with the same number. The helpers ask the pass whether it is pinned.
 ghost use Rattle.std.specs.Prelude.{◌≡◌, ◌≤◌, ℕ, None, IfSome, length};
 ghost use Rattle.be_store.specs.Live.{IsLiveOf};
 ghost use Rattle.be_store.specs.Passes.{HasRead, IsPassOf, IsPinnedTo};
@@ -16,7 +16,7 @@ use be_store::{
 use be_test_tools::{list_of, reply_lines};
 use std::alloc::Global;
 
-/// The outcome of a write: its number and the outcomes of its operations, or why it was refused.
+/// A write's outcome: its commit number and the operations' outcomes, or why it was refused.
 type Written = Result<(u64, ArrayVec<Done, 64>), Refusal>;
 
 /// Names, each with its value or its kind.
@@ -30,7 +30,7 @@ pub(crate) fn written_text(alloc: Global, written: Written) -> Text {
     Ok(reply_lines(alloc, &Reply::Committed(number, dones))?)
 }
 
-/// The answer's pin, and then its nodes.
+/// An answer's pin, followed by its nodes.
 fn nodes_text(alloc: Global, answer: Result<Answer, Refusal>) -> Text {
     let Answer { pin, nodes } = answer?;
     let mut text = reply_lines(alloc, &Reply::Pinned(pin))?;
@@ -55,7 +55,7 @@ fn text_of(alloc: Global, reply: Reply) -> Text {
     Ok(reply_lines(alloc, &reply)?)
 }
 
-/// A write of a list. BadLimits if it has no operation, or more than 64.
+/// Writes a list. BadLimits if it has no operations, or more than 64.
 pub(crate) fn write(store: &Store, pass: &mut Pass, ops: &[Op]) -> Written
     requires { IsPassOf store.now pass.old }
     ensures { StaysPass store.now pass.old pass.new }
@@ -100,7 +100,7 @@ fn find(store: &Store, alloc: Global, pass: &mut Pass, text: &str) -> Text
     }
 }
 
-/// The answer in a list that had another node.
+/// A query's answer, in a list that had another node before.
 fn find_into(
     store: &Store,
     alloc: Global,
@@ -117,7 +117,7 @@ fn find_into(
     Ok(Answer { pin, nodes })
 }
 
-/// Asks a live query, which stays of the store.
+/// Runs a live query, which stays the store's.
 fn find_once(
     store: &Store,
     pass: &mut Pass,
@@ -133,7 +133,7 @@ fn find_once(
     live.query_into(store, pass, nodes)
 }
 
-/// The nodes that a live query finds, asked twice with one list.
+/// The nodes that a live query finds, in a list that it is run with twice.
 fn find_again(
     store: &Store,
     alloc: Global,
@@ -152,7 +152,7 @@ fn find_again(
     Ok(Answer { pin, nodes })
 }
 
-/// What a live query finds without a refresh, at the pin.
+/// What a live query finds at the pin, without a refresh.
 fn found_text(store: &Store, alloc: Global, pass: &mut Pass, live: &mut Live) -> Text
     requires pass { IsPassOf store.now pass.old }
     requires own { IsLiveOf store.now live.old }
@@ -183,8 +183,8 @@ pub(crate) fn ask_again(
     }
 }
 
-/// Which nodes came to a live query and which went since it was refreshed last, at the pin, or at a
-/// pin that goes with the read.
+/// Which nodes have joined a live query's answer since its last refresh, and which have left. It
+/// reads at the pin, or at a pin made for the read.
 fn refresh(store: &Store, pass: &mut Pass, live: &mut Live) -> Result<Updates, Refusal>
     requires pass { IsPassOf store.now pass.old }
     requires own { IsLiveOf store.now live.old }
@@ -208,7 +208,7 @@ fn refresh_once(store: &Store, pass: &mut Pass, live: &mut Live) -> Result<Updat
     version.refresh_changed(live)
 }
 
-/// Reads by a pinned pass.
+/// Reads with a pinned pass.
 fn read(store: &Store, alloc: Global, pass: &mut Pass, request: &Request) -> Text
     requires pass { IsPassOf store.now pass.old }
     requires pinned { (n : ℕ) × IsPinnedTo pass.old.knows n }
@@ -223,7 +223,7 @@ fn read(store: &Store, alloc: Global, pass: &mut Pass, request: &Request) -> Tex
     }
 }
 
-/// Reads by a pass that isn't pinned, at a pin that goes with the read.
+/// Reads with a pass that isn't pinned, at a pin made for the read.
 fn read_once(store: &Store, alloc: Global, pass: &mut Pass, request: &Request) -> Text
     requires pass { IsPassOf store.now pass.old }
     requires unpinned { pinned_number pass.old.knows.phase ≡ None }
@@ -249,7 +249,7 @@ fn read_once(store: &Store, alloc: Global, pass: &mut Pass, request: &Request) -
     }
 }
 
-/// A request that is neither a write nor of a live query.
+/// Carries out a request that isn't a write and isn't about a live query.
 fn ask(store: &Store, alloc: Global, pass: &mut Pass, request: &Request) -> Text
     requires { IsPassOf store.now pass.old }
     ensures { StaysPass store.now pass.old pass.new }
@@ -277,13 +277,13 @@ fn updates(store: &Store, alloc: Global, pass: &mut Pass, live: &mut Option<Live
     }
 }
 
-/// The request that isn't a list of operations.
+/// Parses a request that isn't a list of operations.
 fn asked(alloc: Global, words: &str) -> Result<Request, Refusal> {
     Ok(read_line(alloc, words.as_bytes())?)
 }
 
-/// What a pass replies. The words are a list of operations with `;` between them, or another
-/// request that a line of a script may have.
+/// A pass's reply. The words are a list of operations separated by `;`, or any other request of a
+/// script's line.
 pub(crate) fn answer(
     store: &Store,
     alloc: Global,

@@ -1,4 +1,4 @@
-//! A state that is written to a second room, list by list, while another pass writes.
+//! Writes a state to a second room, list by list, while another pass writes.
 ghost use Rattle.std.specs.Prelude.{◌≡◌};
 ghost use Rattle.be_store.specs.Passes.{IsPassOf};
 ghost use Rattle.be_store_tests.specs.Staying.{StaysPass};
@@ -12,8 +12,8 @@ use std::alloc::Global;
 use std::thread;
 use std::thread::Threads;
 
-/// Reads the next list, again after running out of memory, and writes it to the room; false if
-/// there is none.
+/// Reads the next list and writes it to the room; reads again if memory runs out. Returns false if
+/// there was none.
 fn carry_list(
     store: &Store,
     alloc: Global,
@@ -50,7 +50,7 @@ fn carry_lists(
     Err(Refusal::BadLimits)
 }
 
-/// A room to which the state at the pin was written, each of its lists accepted.
+/// A room to which the state at the pin was written, with each list accepted.
 fn carried(store: &Store, alloc: Global, pass: &mut Pass) -> Result<Room, Refusal>
     requires { IsPassOf store.now pass.old }
     ensures { StaysPass store.now pass.old pass.new }
@@ -60,7 +60,7 @@ fn carried(store: &Store, alloc: Global, pass: &mut Pass) -> Result<Room, Refusa
     Ok(room)
 }
 
-/// The same, and the pass back.
+/// The same; also returns the pass.
 fn carry(store: &Store, alloc: Global, mut pass: Pass) -> (Pass, Result<Room, Refusal>)
     requires { IsPassOf store.now pass }
     ensures { StaysPass store.now pass result.0 }
@@ -69,8 +69,8 @@ fn carry(store: &Store, alloc: Global, mut pass: Pass) -> (Pass, Result<Room, Re
     (pass, room)
 }
 
-/// One pass makes a hundred nodes, while the state at the other's pin is written to a second room,
-/// each on a thread of its own.
+/// One pass makes a hundred nodes, while the state at the other pass's pin is written to a second
+/// room, each on its own thread.
 pub(crate) fn carry_meanwhile<R: Threads + Sync>(
     rt: &R,
     alloc: Global,

@@ -1,4 +1,4 @@
-//! Conditional writes, the number of the next node, and entries of the journal, as texts.
+//! Conditional writes, the next node's number, and journal entries, as texts.
 ghost use Rattle.std.specs.Prelude.{◌≡◌, None};
 ghost use Rattle.be_store.specs.Passes.{IsPassOf};
 ghost use Rattle.be_store.specs.Seats.{pinned_number};
@@ -10,7 +10,7 @@ use be_store::{ApplyIfError, Op, Pass, Refusal, Store};
 use be_test_tools::list_of;
 use std::alloc::Global;
 
-/// A write of a list if the journal has this many entries. BadLimits if it has no operation, or
+/// Writes a list if the journal has this many entries. BadLimits if the list has no operations, or
 /// more than 64.
 fn write_if(store: &Store, alloc: Global, pass: &mut Pass, number: u64, ops: &[Op]) -> Text
     requires { IsPassOf store.now pass.old }
@@ -26,7 +26,7 @@ fn write_if(store: &Store, alloc: Global, pass: &mut Pass, number: u64, ops: &[O
     }
 }
 
-/// The number of the next node, at a pin that goes with the read.
+/// The next node's number, at a pin made for the read.
 fn next_once(store: &Store, pass: &mut Pass) -> u64
     requires pass { IsPassOf store.now pass.old }
     requires unpinned { pinned_number pass.old.knows.phase ≡ None }
@@ -36,7 +36,7 @@ fn next_once(store: &Store, pass: &mut Pass) -> u64
     snapshot.next()
 }
 
-/// The number of the next node, at the pin, or at a pin that goes with the read.
+/// The next node's number, at the pin or at a pin made for the read.
 fn next(store: &Store, pass: &mut Pass) -> u64
     requires { IsPassOf store.now pass.old }
     ensures { StaysPass store.now pass.old pass.new }
@@ -47,7 +47,7 @@ fn next(store: &Store, pass: &mut Pass) -> u64
     }
 }
 
-/// The lines of up to `most` entries of the journal, from an index on.
+/// Up to `most` journal entries as lines, from an index on.
 fn entries_text(store: &Store, alloc: Global, pass: &mut Pass, from: u64, most: usize) -> Text
     requires { IsPassOf store.now pass.old }
     ensures { StaysPass store.now pass.old pass.new }
@@ -66,7 +66,7 @@ fn number_of(word: &str) -> u64 {
     word.parse().unwrap_or(0)
 }
 
-/// The write of `NUMBER OPERATIONS`.
+/// The reply to the write `NUMBER OPERATIONS`.
 fn answer_if(store: &Store, alloc: Global, pass: &mut Pass, words: &str) -> Text
     requires { IsPassOf store.now pass.old }
     ensures { StaysPass store.now pass.old pass.new }
@@ -76,7 +76,7 @@ fn answer_if(store: &Store, alloc: Global, pass: &mut Pass, words: &str) -> Text
     write_if(store, alloc, pass, number_of(number), ops.as_slice())
 }
 
-/// The entries of `FROM MOST`.
+/// The reply to `FROM MOST`: journal entries.
 fn answer_entries(store: &Store, alloc: Global, pass: &mut Pass, words: &str) -> Text
     requires { IsPassOf store.now pass.old }
     ensures { StaysPass store.now pass.old pass.new }
@@ -91,8 +91,8 @@ fn answer_entries(store: &Store, alloc: Global, pass: &mut Pass, words: &str) ->
     )
 }
 
-/// What a pass replies to `if NUMBER OPERATIONS`, `next` and `entries FROM MOST`, for which scripts
-/// have no words.
+/// A pass's reply to `if NUMBER OPERATIONS`, `next` and `entries FROM MOST`, which scripts don't
+/// have.
 pub(crate) fn answer_beside(
     store: &Store,
     alloc: Global,

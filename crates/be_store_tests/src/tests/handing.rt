@@ -10,7 +10,7 @@ use be_store::{Pass, Store, Witness};
 use std::thread;
 use std::thread::Threads;
 
-/// Joins the witness and pins. Returns the number of the pin.
+/// Joins the witness and pins. Returns the pin's number.
 fn pin_after(store: &Store, mut pass: Pass, mut witness: Witness) -> (Pass, u64)
     requires pass { IsPassOf store.now pass × (pinned_number pass.knows.phase ≡ None) }
     requires witness { IsWitnessOf store.now witness }
@@ -21,8 +21,8 @@ fn pin_after(store: &Store, mut pass: Pass, mut witness: Witness) -> (Pass, u64)
     (pass, number)
 }
 
-/// The first pass hands what it has seen to the second, which pins on a thread of its own while the
-/// first makes a hundred nodes. Returns whether each node was accepted, and the number of the pin.
+/// The first pass hands what it has seen to the second, which pins on its own thread while the
+/// first makes a hundred nodes. Returns whether all nodes were accepted, and the pin's number.
 pub(crate) fn hand_over<R: Threads + Sync>(
     rt: &R,
     store: &Store,

@@ -1,4 +1,4 @@
-//! Writes by two threads, and the end of a store.
+//! Writes by two threads, and closing a store.
 ghost use Rattle.std.specs.Prelude.{◌≡◌};
 ghost use Rattle.be_store.specs.Passes.{IsPassOf};
 ghost use Rattle.be_store_tests.specs.Staying.{StaysPass};
@@ -20,7 +20,7 @@ fn make_once(store: &Store, pass: &mut Pass) -> Result<(), Refusal>
     }
 }
 
-/// The same, once more after running out of memory.
+/// The same, tried once more if memory runs out.
 fn make_at_last(store: &Store, pass: &mut Pass) -> Result<(), Refusal>
     requires { IsPassOf store.now pass.old }
     ensures { StaysPass store.now pass.old pass.new }
@@ -28,7 +28,7 @@ fn make_at_last(store: &Store, pass: &mut Pass) -> Result<(), Refusal>
     again!(make_once(store, pass))
 }
 
-/// Makes a hundred nodes. Returns whether each was accepted.
+/// Makes a hundred nodes. Returns whether all were accepted.
 pub(crate) fn make_hundred(store: &Store, mut pass: Pass) -> (Pass, bool)
     requires { IsPassOf store.now pass }
     ensures { StaysPass store.now pass result.0 }
@@ -41,7 +41,7 @@ pub(crate) fn make_hundred(store: &Store, mut pass: Pass) -> (Pass, bool)
     (pass, true)
 }
 
-/// Two passes make a hundred nodes each, each on a thread of its own.
+/// Two passes make a hundred nodes each, each on its own thread.
 pub(crate) fn make_both<R: Threads + Sync>(
     rt: &R,
     store: &Store,
@@ -59,7 +59,7 @@ pub(crate) fn make_both<R: Threads + Sync>(
     )
 }
 
-/// The journal of a store for two passes.
+/// Closes a store with two passes, and returns its journal.
 pub(crate) fn journal_of(
     alloc: Global,
     store: Store,
@@ -74,7 +74,7 @@ pub(crate) fn journal_of(
     Ok(store.close(passes))
 }
 
-/// The length of the journal of a store for one pass, and whether it is legal.
+/// Closes a store with one pass. Returns the journal's length, and whether it is legal.
 pub(crate) fn closed(alloc: Global, store: Store, pass: Pass) -> Result<(u64, bool), Refusal>
     requires one { store.limits.passes ≡ 1 }
     requires pass { IsPassOf store pass × (pass.knows.number ≡ 0) }

@@ -1,5 +1,5 @@
-//! A store with its passes, which replies to requests. What is known of them is its invariant, so
-//! no method has a clause.
+//! A store with its passes, which replies to requests. Its invariant says what is known about them,
+//! so no method has a clause.
 
 use crate::tests::calls::{Text, answer, ask_again, write};
 use crate::tests::carrying::carry_meanwhile;
@@ -13,16 +13,16 @@ use std::alloc::Global;
 use std::marker::Model;
 use std::thread::Threads;
 
-/// A store for one pass or for two, and a live query.
+/// A store with one pass or two, and a live query.
 #[derive(Drop)]
 pub(crate) struct Room {
     store: Store,
     first: Pass,
-    /// Blank if there is none.
+    /// Blank if there is no second pass.
     second: Pass,
     has_second: bool,
     live: Option<Live>,
-    /// For how many passes the store is.
+    /// How many passes the store has.
     passes: u64,
 }
 
@@ -42,7 +42,7 @@ impl Model for Room {
         × IfSome r.live (λ live. IsLiveOf r.store live) };
 }
 
-/// The store of a room for one pass.
+/// Opens a room for one pass.
 fn open_for_one(alloc: Global, pages: u64, commits: u64) -> Result<Room, Refusal> {
     let limits = Limits {
         pages,
@@ -64,7 +64,7 @@ fn open_for_one(alloc: Global, pages: u64, commits: u64) -> Result<Room, Refusal
     })
 }
 
-/// The store of a room for two passes.
+/// Opens a room for two passes.
 fn open_for_two(alloc: Global, pages: u64, commits: u64) -> Result<Room, Refusal> {
     let limits = Limits {
         pages,
@@ -83,24 +83,24 @@ fn open_for_two(alloc: Global, pages: u64, commits: u64) -> Result<Room, Refusal
     })
 }
 
-/// A room for one pass, opened again after running out of memory.
+/// A room for one pass; opened again if memory runs out.
 pub(crate) fn for_one(alloc: Global, pages: u64, commits: u64) -> Result<Room, Refusal> {
     again!(open_for_one(alloc, pages, commits))
 }
 
-/// A room for two passes, opened again after running out of memory.
+/// A room for two passes; opened again if memory runs out.
 pub(crate) fn for_two(alloc: Global, pages: u64, commits: u64) -> Result<Room, Refusal> {
     again!(open_for_two(alloc, pages, commits))
 }
 
-/// The first line of a reply.
+/// A reply's first line.
 fn first_line(alloc: Global, reply: Text) -> Text {
     let reply = reply?;
     let line = reply.as_str().lines().next().unwrap_or("");
     Ok(String::from_str(alloc, line)?)
 }
 
-/// How much of the journal each of two passes has seen.
+/// How much of the journal each of two passes has seen, as text.
 fn seen_text(alloc: Global, seen: Option<(u64, u64)>) -> Text {
     match seen {
         Some((first, second)) => Ok(format!(in alloc; "seen {first} {second}")?),
@@ -108,7 +108,7 @@ fn seen_text(alloc: Global, seen: Option<(u64, u64)>) -> Text {
     }
 }
 
-/// How much of the journal two passes have seen after they met.
+/// How much of the journal two passes have seen after they met, as text.
 fn met_text(alloc: Global, met: Option<u64>) -> Text {
     match met {
         Some(number) => Ok(format!(in alloc; "met {number}")?),
@@ -117,7 +117,7 @@ fn met_text(alloc: Global, met: Option<u64>) -> Text {
 }
 
 impl Room {
-    /// Writes a list by pass 0. Returns its number, or why it was refused.
+    /// Writes a list with pass 0. Returns its commit number, or why it was refused.
     fn write_once(&mut self, ops: &[Op]) -> Result<u64, Refusal> {
         match write(&self.store, &mut self.first, ops) {
             Ok((number, _)) => Ok(number),
@@ -125,17 +125,17 @@ impl Room {
         }
     }
 
-    /// The same, once more after running out of memory.
+    /// The same, tried once more if memory runs out.
     pub(crate) fn write_list(&mut self, ops: &[Op]) -> Result<u64, Refusal> {
         again!(self.write_once(ops))
     }
 
-    /// The same of one operation.
+    /// The same for one operation.
     pub(crate) fn write(&mut self, op: Op) -> Result<u64, Refusal> {
         self.write_list(&[op])
     }
 
-    /// What pass 0 replies.
+    /// Pass 0's reply.
     fn answer_first(&mut self, alloc: Global, words: &str) -> Text {
         match answer_beside(&self.store, alloc, &mut self.first, words) {
             Some(text) => text,
@@ -143,7 +143,7 @@ impl Room {
         }
     }
 
-    /// What pass 1 replies.
+    /// Pass 1's reply.
     fn answer_second(&mut self, alloc: Global, words: &str) -> Text {
         if !self.has_second {
             return Err(Refusal::BadLimits);
@@ -162,7 +162,7 @@ impl Room {
         Some((self.first.seen(), self.second.seen()))
     }
 
-    /// Pass 1 meets pass 0. Returns how much of the journal both have seen.
+    /// Pass 1 meets pass 0. Returns how much of the journal both have then seen.
     fn meet(&mut self) -> Option<u64> {
         if !self.has_second {
             return None;
@@ -170,7 +170,7 @@ impl Room {
         Some(self.store.meet(&mut self.second, &mut self.first))
     }
 
-    /// Pass 1 joins a witness of pass 0. Returns how much of the journal it has then seen.
+    /// Pass 1 joins a witness of pass 0. Returns how much of the journal pass 1 has then seen.
     fn join(&mut self) -> Option<u64> {
         if !self.has_second {
             return None;
@@ -194,8 +194,7 @@ impl Room {
         state_text(&self.store, alloc, &mut self.first)
     }
 
-    /// The operations that rebuild the version of pass 0, read once more after running out of
-    /// memory.
+    /// The operations that rebuild pass 0's version; read once more if memory runs out.
     pub(crate) fn state(&mut self, alloc: Global) -> Text {
         again!(self.state_once(alloc))
     }
@@ -215,13 +214,13 @@ impl Room {
         Ok(String::from_str(alloc, "ok")?)
     }
 
-    /// What the live query finds at the pin of pass 0.
+    /// What the live query finds at pass 0's pin.
     fn again(&mut self, alloc: Global) -> Text {
         ask_again(&self.store, alloc, &mut self.first, &mut self.live)
     }
 
-    /// The reply to a request. Its first word names the pass or what both passes do, as in the
-    /// texts of the tests; any other word is BadLimits.
+    /// The reply to a request. As in the tests' texts, its first word names the pass, or what both
+    /// passes do; for any other word, BadLimits.
     fn answer(&mut self, alloc: Global, request: &str) -> Text {
         let (who, words) = request.split_once(" ").unwrap_or((request, ""));
         match who {
@@ -238,7 +237,7 @@ impl Room {
         }
     }
 
-    /// The journal's length, and whether it is legal, of a store for one pass.
+    /// Closes a store with one pass. Returns the journal's length, and whether it is legal.
     pub(crate) fn close(self, alloc: Global) -> Result<(u64, bool), Refusal> {
         let Room {
             store,
@@ -254,8 +253,8 @@ impl Room {
         closed(alloc, store, first)
     }
 
-    /// Two passes make a hundred nodes each, each on a thread of its own. Returns the journal, and
-    /// whether each write was accepted.
+    /// Two passes make a hundred nodes each, each on its own thread. Returns the journal, and
+    /// whether all writes were accepted.
     pub(crate) fn race<R: Threads + Sync>(
         self,
         rt: &R,
@@ -278,8 +277,8 @@ impl Room {
         Ok((journal, is_accepted))
     }
 
-    /// Pass 0 hands what it has seen to pass 1, which pins on a thread of its own while pass 0
-    /// makes a hundred nodes. Returns the number of the pin, and whether each node was accepted.
+    /// Pass 0 hands what it has seen to pass 1, which pins on its own thread while pass 0 makes a
+    /// hundred nodes. Returns the pin's number, and whether all nodes were accepted.
     pub(crate) fn hand<R: Threads + Sync>(&mut self, rt: &R) -> Result<(u64, bool), Refusal> {
         if !self.has_second {
             return Err(Refusal::BadLimits);
@@ -295,9 +294,8 @@ impl Room {
         Ok((pinned.1, written.1))
     }
 
-    /// The state at the pin of pass 0 is written to a second room, while pass 1 makes a hundred
-    /// nodes, each on a thread of its own. Returns the second room, and whether each node was
-    /// accepted.
+    /// Writes the state at pass 0's pin to a second room, while pass 1 makes a hundred nodes, each
+    /// on its own thread. Returns the second room, and whether all nodes were accepted.
     pub(crate) fn carry<R: Threads + Sync>(
         &mut self,
         rt: &R,

@@ -1,9 +1,10 @@
-//! Requests and their replies at sizes between their bounds. No contract rules out that a call runs
-//! out of memory at one size alone.
+//! Requests and their replies at sizes between the limits. No contract excludes that a call runs
+//! out of memory at one particular size.
 //!
-//! A row has the greatest size, and then requests with their replies, as all tests of a room have.
-//! In them `@` is the size. `{PART}` is the part once for each number from 2 to the size, with the
-//! number in place of `#`. So with what is before it there are as many parts as the size says.
+//! A row has its largest size, and then requests with their replies, as in all tests of a room. In
+//! them, `@` is the size. `{PART}` repeats the part once for each number from 2 to the size, with
+//! the number replacing `#`. Together with what comes before it, the part appears as often as the
+//! size says.
 
 use crate::tests::room::{Room, for_one};
 use be_store::{Name, Op, Refusal, Value};
@@ -13,8 +14,7 @@ use std::alloc::{AllocError, Global};
 use std::test::Fail;
 
 /// Comparisons, operations and attributes, indices, bytes of a query, of a name and of a value.
-/// Each is read from the version of a pin that goes with the read, and from that of a pin that
-/// stays.
+/// Each is read at a pin made for the read, and at a pin that stays.
 const ROWS: &str = "256
 0 mkindex k LONG;new;set 1 k LONG 0 => commit 1 / ok / node 1 / ok
 0 query k==0{||k==#} / 0 query k<1{&&k<#} => pin 1 / nodes 1 / pin 1 / nodes 1
@@ -43,7 +43,7 @@ head indices / 0 pin / head indices => indices @ / pin 1 / indices @
 0 get 1 k / 0 query k==x{x} / 0 pin / 0 get 1 r => CSTR \"x{x}\" / pin 1 / nodes 1 / pin 1 / MIMS \
  \"x{x}\"";
 
-/// The powers of two below the greatest size of a row.
+/// The powers of two below the largest size of a row.
 const POWERS: [u64; 12] = [2, 4, 8, 16, 32, 64, 128, 256, 512, 1024, 2048, 4096];
 
 /// Appends a part once for each number from 2 to the size.
@@ -68,7 +68,7 @@ fn lines_at(alloc: Global, row: &str, size: u64) -> Result<String, AllocError> {
     Ok(text)
 }
 
-/// Fails unless a new room gives the replies of a row at this size.
+/// Fails unless a new room gives a row's replies at this size.
 fn check_size(alloc: Global, row: &str, size: u64) -> Result<(), Fail> {
     let lines = match lines_at(alloc, row, size) {
         Err(_) => lines_at(alloc, row, size)?,
@@ -78,14 +78,14 @@ fn check_size(alloc: Global, row: &str, size: u64) -> Result<(), Fail> {
     check_lines(alloc, &mut for_one(alloc, pages, 20_000)?, lines.as_str())
 }
 
-/// The same at one less than a power of two, at it and at one more.
+/// The same at one less than a power of two, at the power, and at one more.
 fn check_around(alloc: Global, row: &str, power: u64) -> Result<(), Fail> {
     check_size(alloc, row, power.saturating_sub(1).max(1))?;
     check_size(alloc, row, power)?;
     check_size(alloc, row, power.saturating_add(1))
 }
 
-/// The same around each power of two below the greatest size, and at that.
+/// The same around each power of two below the largest size, and at that size.
 fn check_row(alloc: Global, row: &str) -> Result<(), Fail> {
     let (most, row) = row.split_once("\n").unwrap_or(("", row));
     let most = word_of(most.as_bytes()).unwrap_or(1);
@@ -107,15 +107,15 @@ fn sizes(rt: HostRuntime) -> Result<(), Fail> {
     Ok(())
 }
 
-/// How many nodes there are when a query and a live one are asked: around each power of two, and
-/// the bound.
+/// The numbers of nodes at which a query and a live query run: around each power of two, and the
+/// limit.
 const COUNTS: &str =
     "1 2 3 4 5 7 8 9 15 16 17 31 32 33 63 64 65 127 128 129 255 256 257 511 512 513 1023 1024 1025 \
      2047 2048 \
 2049 4095 4096 4097 8191 8192 8193 16383 16384 16385 26000";
 
-/// The requests that find all of `count` nodes, and their replies, by the version after this many
-/// writes.
+/// Requests that find all of `count` nodes, and their replies. `pin` is the number of writes so
+/// far.
 fn found_lines(alloc: Global, count: u64, pin: u64) -> Result<String, AllocError> {
     let mut nodes = String::from_str(alloc, "1")?;
     push_each(alloc, &mut nodes, " #", count)?;
@@ -128,7 +128,7 @@ live k>6 / 0 refresh / 0 unpin => ok / created {nodes} / removed / ok"
     )
 }
 
-/// Makes the nodes after the first `made`, up to a count.
+/// Makes the nodes after the first `made`, up to `count`.
 fn make_nodes(room: &mut Room, made: u64, count: u64) -> Result<(), Refusal> {
     for node in made.saturating_add(1)..=count {
         room.write(Op::New)?;
@@ -137,7 +137,7 @@ fn make_nodes(room: &mut Room, made: u64, count: u64) -> Result<(), Refusal> {
     Ok(())
 }
 
-/// The same, and then checks what finds all of them.
+/// The same, and then checks that queries find all of them.
 fn find_nodes(alloc: Global, room: &mut Room, made: u64, count: u64) -> Result<(), Fail> {
     make_nodes(room, made, count)?;
     let pin = count.saturating_mul(2).saturating_add(1);
@@ -148,7 +148,7 @@ fn find_nodes(alloc: Global, room: &mut Room, made: u64, count: u64) -> Result<(
     check_lines(alloc, room, lines.as_str())
 }
 
-/// Makes an index and then nodes, up to each count.
+/// Makes an index and then nodes, up to each of the counts.
 fn find_growing(alloc: Global, room: &mut Room) -> Result<(), Fail> {
     check_lines(alloc, room, "0 mkindex k LONG => commit 1 / ok")?;
     let mut made = 0;
@@ -160,19 +160,19 @@ fn find_growing(alloc: Global, room: &mut Room) -> Result<(), Fail> {
     Ok(())
 }
 
-/// Nodes of an answer and of a live query.
+/// The nodes of a query's answer and of a live query's.
 #[test]
 fn many_nodes(rt: HostRuntime) -> Result<(), Fail> {
     find_growing(rt.alloc(), &mut for_one(rt.alloc(), 16384, 60_000)?)
 }
 
-/// The list of the first nodes, asked for again after running out of memory.
+/// Lists the first nodes; again if memory runs out.
 fn list_first(alloc: Global, room: &mut Room, count: u64) -> Result<Vec<u64>, Refusal> {
     let most = usize::try_from(count).unwrap_or(0);
     again!(room.nodes(alloc, 1, most))
 }
 
-/// Fails unless as many nodes are listed as are asked for, up to each count.
+/// Fails unless as many nodes are listed as are asked for, up to each of the counts.
 fn list_growing(alloc: Global, room: &mut Room) -> Result<(), Fail> {
     for _ in 0..26_000u64 {
         room.write(Op::New)?;
@@ -187,7 +187,7 @@ fn list_growing(alloc: Global, room: &mut Room) -> Result<(), Fail> {
     Ok(())
 }
 
-/// Nodes that are listed.
+/// Nodes can be listed.
 #[test]
 fn listed_nodes(rt: HostRuntime) -> Result<(), Fail> {
     list_growing(rt.alloc(), &mut for_one(rt.alloc(), 16384, 30_000)?)

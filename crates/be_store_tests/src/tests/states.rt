@@ -1,4 +1,4 @@
-//! The operations that rebuild a version, a line each.
+//! The operations that rebuild a version, one per line.
 ghost use Rattle.std.specs.Prelude.{◌≡◌, ℕ, None};
 ghost use Rattle.be_store.specs.Passes.{IsPassOf, IsPinnedTo};
 ghost use Rattle.be_store.specs.Seats.{pinned_number};
@@ -9,10 +9,10 @@ use be_journal::op_text;
 use be_store::{Op, Pass, Place, Refusal, Store};
 use std::alloc::{AllocError, Global};
 
-/// The next operations, none after the last, or why they were refused.
+/// The next operations, None after the last, or why they were refused.
 type List = Result<Option<Vec<Op>>, Refusal>;
 
-/// Adds a line for each of these operations; false if there are none.
+/// Adds a line for each of these operations. Returns false if there are none.
 fn push_list(alloc: Global, list: List, text: &mut String) -> Result<bool, Refusal> {
     let Some(ops) = list? else {
         return Ok(false);
@@ -29,7 +29,7 @@ fn push_lines(alloc: Global, ops: &[Op], text: &mut String) -> Result<(), AllocE
     Ok(())
 }
 
-/// The first list, at a pin that goes with the read.
+/// The first list, at a pin made for the read.
 fn first_list(store: &Store, alloc: Global, pass: &mut Pass, place: &mut Place) -> List
     requires pass { IsPassOf store.now pass.old }
     requires unpinned { pinned_number pass.old.knows.phase ≡ None }
@@ -39,7 +39,7 @@ fn first_list(store: &Store, alloc: Global, pass: &mut Pass, place: &mut Place) 
     version.state(alloc, place)
 }
 
-/// The next list at the pin; for a pass that isn't pinned, the first.
+/// The next list at the pin; for a pass that isn't pinned, the first list.
 pub(crate) fn next_list(store: &Store, alloc: Global, pass: &mut Pass, place: &mut Place) -> List
     requires { IsPassOf store.now pass.old }
     ensures { StaysPass store.now pass.old pass.new }
@@ -50,8 +50,8 @@ pub(crate) fn next_list(store: &Store, alloc: Global, pass: &mut Pass, place: &m
     }
 }
 
-/// The operations of up to a hundred lists at the pin; of the first list alone, if the pass isn't
-/// pinned.
+/// The operations of up to a hundred lists at the pin; if the pass isn't pinned, only those of the
+/// first list.
 pub(crate) fn state_text(store: &Store, alloc: Global, pass: &mut Pass) -> Text
     requires { IsPassOf store.now pass.old }
     ensures { StaysPass store.now pass.old pass.new }
@@ -67,8 +67,7 @@ pub(crate) fn state_text(store: &Store, alloc: Global, pass: &mut Pass) -> Text
     Ok(text)
 }
 
-/// Up to `most` nodes from a number on, of the version of the pin, or at a pin that goes with the
-/// read.
+/// Up to `most` nodes from a number on, at the pin or at a pin made for the read.
 pub(crate) fn nodes_from(
     store: &Store,
     alloc: Global,

@@ -1,4 +1,4 @@
-//! Four threads that write on what they read.
+//! Four threads whose writes depend on what they read.
 ghost use Rattle.std.specs.Prelude.{◌≡◌, None};
 ghost use Rattle.be_store.specs.Passes.{IsPassOf};
 ghost use Rattle.be_store.specs.Seats.{pinned_number};
@@ -10,8 +10,8 @@ use std::thread::Threads;
 
 const TRIES: u64 = 10_000_000;
 
-/// What a pass read before its next write: its pin, the number of the next node, and the count at
-/// node 1.
+/// What a pass read before its next write: its pin, the next node's number, and the count at node
+/// 1.
 #[derive(Clone, Copy)]
 struct Seen {
     number: u64,
@@ -36,8 +36,8 @@ fn look(store: &Store, pass: &mut Pass, count: &Name) -> Seen
     }
 }
 
-/// Makes a node that says which pass made it, and adds one to the count, on what was read. Returns
-/// whether no other write came first.
+/// Makes a node that says which pass made it, and adds one to the count, based on what was read.
+/// Returns whether no other write came first.
 fn change(store: &Store, pass: &mut Pass, seen: &Seen) -> Result<bool, Refusal>
     requires { IsPassOf store.now pass.old }
     ensures { IsPassOf store.now pass.new }
@@ -59,7 +59,7 @@ fn change(store: &Store, pass: &mut Pass, seen: &Seen) -> Result<bool, Refusal>
     }
 }
 
-/// Reads and writes. Returns whether no other write came between.
+/// Reads and then writes. Returns whether no other write came in between.
 fn change_once(store: &Store, pass: &mut Pass) -> Result<bool, Refusal>
     requires { IsPassOf store.now pass.old }
     ensures { IsPassOf store.now pass.new }
@@ -74,7 +74,7 @@ fn change_once(store: &Store, pass: &mut Pass) -> Result<bool, Refusal>
     }
 }
 
-/// Reads and writes until no other write came between.
+/// Reads and writes, until no other write comes in between.
 fn change_at_last(store: &Store, pass: &mut Pass) -> Result<(), Refusal>
     requires { IsPassOf store.now pass.old }
     ensures { IsPassOf store.now pass.new }
@@ -87,7 +87,7 @@ fn change_at_last(store: &Store, pass: &mut Pass) -> Result<(), Refusal>
     Err(Refusal::BadLimits)
 }
 
-/// Fifty changes.
+/// Makes fifty changes.
 fn change_fifty(store: &Store, mut pass: Pass) -> Result<(), Refusal>
     requires { IsPassOf store.now pass }
 {
@@ -114,7 +114,7 @@ fn change_by_two<R: Threads + Sync>(
     other
 }
 
-/// Whether a query finds exactly fifty nodes, at a pin that goes with the read.
+/// Whether a query finds exactly fifty nodes, at a pin that ends with the read.
 fn find_fifty(store: &Store, alloc: Global, pass: &mut Pass, text: &str) -> Result<bool, Refusal>
     requires pass { IsPassOf store.now pass.old }
     requires unpinned { pinned_number pass.old.knows.phase ≡ None }
@@ -159,8 +159,8 @@ fn totals(store: &Store, alloc: Global, pass: &mut Pass) -> Result<(u64, i64), R
     Ok((made, count_of(store, pass)?))
 }
 
-/// Four threads make fifty nodes each and count them. Returns how many of the four have made
-/// exactly fifty, and the count.
+/// Four threads each make fifty nodes and count them. Returns how many of them have made exactly
+/// fifty, and the count.
 pub(crate) fn change_by_four<R: AllocGlobal + Threads + Sync>(
     rt: &R,
 ) -> Result<(u64, i64), Refusal> {

@@ -1,7 +1,7 @@
-//! Calls on a seat as texts: a request, and its reply.
+//! Calls on a seat as texts: requests and their replies.
 ghost use Rattle.be_table_tests.specs.Resting.{IsPinnedSeat, IsResting, StaysSeat};
 
-use crate::tests::reads::{Told, look_at, pin, read, tell, unpin};
+use crate::tests::reads::{Reported, look_at, pin, read, report, unpin};
 use crate::tests::writes::in_write;
 use be_script_language::{Reply, Request, read_line};
 use be_table::{Seat, VersionTable};
@@ -10,10 +10,10 @@ use be_value::{Kind, Name, Refusal, Value};
 use be_volume::Op;
 use std::alloc::{AllocError, Global};
 
-/// A reply as a text, or why it was refused.
+/// A reply as a text, or the error.
 pub(crate) type Text = Result<String, Refusal>;
 
-/// The number as a line, written again if its memory is refused once.
+/// The number as a line. If memory runs out, it is written again.
 pub(crate) fn number_text(alloc: Global, number: u64) -> Text {
     match format!(in alloc; "{number}\n") {
         Err(_) => Ok(format!(in alloc; "{number}\n")?),
@@ -35,15 +35,15 @@ fn kind_text(alloc: Global, kind: Option<Kind>) -> Result<String, AllocError> {
     }
 }
 
-/// The value by the reader of pages, the index's kind, and the value by a source of queries.
-fn told_text(alloc: Global, told: Told) -> Text {
-    let mut text = text_of(alloc, Reply::Value(told.value))?;
-    text.push_str(kind_text(alloc, told.kind)?.as_str())?;
-    text.push_str(text_of(alloc, Reply::Value(told.asked))?.as_str())?;
+/// The value by the page reader, the index's kind, and the value by a query's source.
+fn reported_text(alloc: Global, reported: Reported) -> Text {
+    let mut text = text_of(alloc, Reply::Value(reported.value))?;
+    text.push_str(kind_text(alloc, reported.kind)?.as_str())?;
+    text.push_str(text_of(alloc, Reply::Value(reported.asked))?.as_str())?;
     Ok(text)
 }
 
-/// Appends text, tried once more if memory is refused.
+/// Appends text, and tries again if memory runs out.
 fn push(text: &mut String, part: &str) -> Result<(), Refusal> {
     if text.push_str(part).is_err() {
         text.push_str(part)?;
@@ -51,7 +51,7 @@ fn push(text: &mut String, part: &str) -> Result<(), Refusal> {
     Ok(())
 }
 
-/// Appends a reply, or the line that says why it was refused.
+/// Appends a reply, or a line with its error.
 fn push_reply(alloc: Global, text: &mut String, reply: Text) -> Result<(), Refusal> {
     match reply {
         Ok(reply) => push(text, reply.as_str()),
@@ -60,7 +60,7 @@ fn push_reply(alloc: Global, text: &mut String, reply: Text) -> Result<(), Refus
     }
 }
 
-/// Two replies, one after the other.
+/// Two replies, one after another.
 pub(crate) fn both_texts(alloc: Global, first: Text, second: Text) -> Text {
     let mut text = String::new(alloc);
     push_reply(alloc, &mut text, first)?;
@@ -68,7 +68,7 @@ pub(crate) fn both_texts(alloc: Global, first: Text, second: Text) -> Text {
     Ok(text)
 }
 
-/// Reads by a pinned pass.
+/// Reads with a pinned pass.
 fn read_pinned(
     table: &VersionTable,
     alloc: Global,
@@ -81,8 +81,8 @@ fn read_pinned(
 {
     match request {
         Request::Get(node, Ok(name)) => {
-            let (seat, told) = tell(table, seat, *node, name);
-            (seat, told_text(alloc, told))
+            let (seat, reported) = report(table, seat, *node, name);
+            (seat, reported_text(alloc, reported))
         }
         _ if words == "look" => {
             let (seat, word) = look_at(table, seat);
@@ -95,7 +95,7 @@ fn read_pinned(
     }
 }
 
-/// The pin, or that the pass is pinned.
+/// The reply to a pin: its number, or that the pass was already pinned.
 fn pin_text(alloc: Global, pin: Option<u64>) -> Text {
     match pin {
         Some(number) => text_of(alloc, Reply::Pinned(number)),
@@ -111,12 +111,12 @@ fn unpin_text(alloc: Global, was_pinned: bool) -> Text {
     }
 }
 
-/// The reply to a request to an open write.
+/// The reply to a request on an open write.
 pub(crate) fn write_text(alloc: Global, answer: Result<u64, Refusal>) -> Text {
     number_text(alloc, answer?)
 }
 
-/// The operations of the words; no operations if they are no list.
+/// The operations in the words, or none if the words aren't a list of operations.
 fn ops_of(alloc: Global, words: &str) -> Result<Vec<Op>, Refusal> {
     match list_of(alloc, words) {
         Err(Refusal::BadLimits) => Ok(Vec::new(alloc)),
@@ -124,7 +124,7 @@ fn ops_of(alloc: Global, words: &str) -> Result<Vec<Op>, Refusal> {
     }
 }
 
-/// The reply to a pass's request to lock and write.
+/// The reply to a pass that locks and writes.
 fn answer_write(table: &VersionTable, alloc: Global, seat: &mut Seat, words: &str) -> Text
     requires { IsResting table.now seat.old }
     ensures { StaysSeat table.now seat.old seat.new }
@@ -135,7 +135,7 @@ fn answer_write(table: &VersionTable, alloc: Global, seat: &mut Seat, words: &st
     }
 }
 
-/// The request that isn't a list of operations, read again if memory is refused.
+/// A request that isn't a list of operations. If memory runs out, it is read again.
 fn asked(alloc: Global, words: &str) -> Result<Request, Refusal> {
     match read_line(alloc, words.as_bytes()) {
         Err(_) => Ok(read_line(alloc, words.as_bytes())?),
@@ -179,7 +179,7 @@ pub(crate) fn answer(table: &VersionTable, alloc: Global, seat: &mut Seat, words
     }
 }
 
-/// The replies to several requests of a pass, with a comma and a space between them.
+/// The replies to several requests of a pass, which are separated by a comma and a space.
 pub(crate) fn answers(table: &VersionTable, alloc: Global, seat: &mut Seat, requests: &str) -> Text
     requires { IsResting table.now seat.old }
     ensures { IsResting table.now seat.new }

@@ -1,4 +1,4 @@
-//! Writes by two threads, and the end of a table.
+//! Writes by two threads, and closing a table.
 ghost use Rattle.std.specs.Prelude.{◌≡◌};
 ghost use Rattle.be_table_tests.specs.Resting.{IsResting, StaysSeat};
 
@@ -12,7 +12,7 @@ use std::alloc::Global;
 use std::thread;
 use std::thread::Threads;
 
-/// Enters a hundred nodes. Whether it did.
+/// Makes a hundred nodes, and returns whether it could.
 fn enter_hundred(table: &VersionTable, mut seat: Seat) -> (Seat, bool)
     requires { IsResting table.now seat }
     ensures { StaysSeat table.now seat result.0 }
@@ -21,8 +21,8 @@ fn enter_hundred(table: &VersionTable, mut seat: Seat) -> (Seat, bool)
     (seat, entered)
 }
 
-/// The journal after two passes have entered a hundred nodes each, each on a thread of its own, and
-/// whether each was entered.
+/// The journal after two passes have made a hundred nodes each, each on its own thread, and whether
+/// all were made.
 fn race_once<R: Threads + Sync>(rt: &R, alloc: Global) -> Result<(Journal, bool), Refusal> {
     let limits = Limits {
         pages: 64,
@@ -40,7 +40,7 @@ fn race_once<R: Threads + Sync>(rt: &R, alloc: Global) -> Result<(Journal, bool)
     Ok((table.close(seats), first.1 && second.1))
 }
 
-/// The same, tried once more if memory is refused.
+/// The same, tried again if memory runs out.
 pub(crate) fn race<R: Threads + Sync>(rt: &R, alloc: Global) -> Result<(Journal, bool), Refusal> {
     again!(race_once(rt, alloc))
 }

@@ -10,7 +10,7 @@ use be_plan::Source;
 use be_table::{Seat, VersionTable};
 use be_value::{Kind, Name, Value};
 
-/// Pins, if the pass isn't pinned yet. Returns the pin.
+/// Pins, unless the pass is pinned already, and returns the pin.
 #[tactic(auto, using(crate::proofs::Phases::idle_at_rest))]
 pub(crate) fn pin(table: &VersionTable, seat: &mut Seat) -> Option<u64>
     requires { IsResting table.now seat.old }
@@ -24,7 +24,7 @@ pub(crate) fn pin(table: &VersionTable, seat: &mut Seat) -> Option<u64>
     Some(table.look_again(seat).0)
 }
 
-/// Unpins, if the pass is pinned. Returns whether it was.
+/// Unpins, and returns whether the pass was pinned.
 #[tactic(auto, using(crate::proofs::Phases::pinned_phase))]
 pub(crate) fn unpin(table: &VersionTable, seat: &mut Seat) -> bool
     requires { IsResting table.now seat.old }
@@ -39,7 +39,7 @@ pub(crate) fn unpin(table: &VersionTable, seat: &mut Seat) -> bool
     }
 }
 
-/// Word 2 of the pinned version's page: the number that the next node gets.
+/// Word 2 of the pinned version's page: the next node's number.
 pub(crate) fn read(table: &VersionTable, mut seat: Seat) -> (Seat, u64)
     requires { IsPinnedSeat table.now seat }
     ensures { IsPinnedSeat table.now result.0 }
@@ -49,7 +49,7 @@ pub(crate) fn read(table: &VersionTable, mut seat: Seat) -> (Seat, u64)
     (seat, word)
 }
 
-/// The same word through a reader of pages.
+/// The same word, read through a page reader.
 pub(crate) fn look_at(table: &VersionTable, seat: Seat) -> (Seat, u64)
     requires { IsPinnedSeat table.now seat }
     ensures { IsPinnedSeat table.now result.0 }
@@ -60,7 +60,7 @@ pub(crate) fn look_at(table: &VersionTable, seat: Seat) -> (Seat, u64)
     (look.into_seat(), word)
 }
 
-/// A node's value at a name, of the pinned version.
+/// A node's value at a name, in the pinned version.
 fn value_of(table: &VersionTable, seat: Seat, node: u64, name: &Name) -> (Seat, Option<Value>)
     requires seat { IsSeatOf table.now seat }
     requires pinned { (x : ℕ) × (n : ℕ) × (seat.knows.phase ≡ Pinned x n) }
@@ -72,8 +72,8 @@ fn value_of(table: &VersionTable, seat: Seat, node: u64, name: &Name) -> (Seat, 
     (look.into_seat(), value)
 }
 
-/// The kind of the index of a name, and a node's value there, of the pinned version as a source of
-/// queries.
+/// The kind of a name's index, and a node's value at the name, in the pinned version as a query's
+/// source.
 fn ask_source(
     table: &VersionTable,
     seat: Seat,
@@ -91,19 +91,19 @@ fn ask_source(
     (source.into_look().into_seat(), kind, value)
 }
 
-/// What the reader of pages and a source of queries tell of a node and a name.
+/// What the page reader and a query's source return for a node and a name.
 #[derive(Drop)]
-pub(crate) struct Told {
+pub(crate) struct Reported {
     pub(crate) value: Option<Value>,
     pub(crate) kind: Option<Kind>,
     pub(crate) asked: Option<Value>,
 }
 
-pub(crate) fn tell(table: &VersionTable, seat: Seat, node: u64, name: &Name) -> (Seat, Told)
+pub(crate) fn report(table: &VersionTable, seat: Seat, node: u64, name: &Name) -> (Seat, Reported)
     requires { IsPinnedSeat table.now seat }
     ensures { IsPinnedSeat table.now result.0 }
 {
     let (seat, value) = value_of(table, seat, node, name);
     let (seat, kind, asked) = ask_source(table, seat, node, name);
-    (seat, Told { value, kind, asked })
+    (seat, Reported { value, kind, asked })
 }

@@ -1,5 +1,5 @@
-//! A table with its seats, which replies to requests. What is known of them is its invariant, so
-//! that no method has a clause.
+//! A table with its seats, which replies to requests. Its invariant says what is known about them,
+//! so no method needs a clause.
 ghost use Rattle.std.specs.Prelude.{◌≡◌, length, IfOk};
 ghost use Rattle.be_table.specs.Works.{AreNew};
 ghost use Rattle.be_table_tests.specs.Resting.{IsResting};
@@ -36,7 +36,7 @@ impl Model for Room {
         × IsResting r.table r.third };
 }
 
-/// A table with these limits and its seats. Version 0 encodes the empty volume.
+/// A table with these limits, and its seats. Version 0 encodes the empty volume.
 pub(crate) fn open(alloc: Global, limits: Limits) -> Result<(VersionTable, Vec<Seat>), Refusal>
     ensures { IfOk result (λ r. (r.0.limits ≡ limits) × (length r.1.items ≡ limits.passes)
         × AreNew r.0 0 r.1.items) }
@@ -44,13 +44,13 @@ pub(crate) fn open(alloc: Global, limits: Limits) -> Result<(VersionTable, Vec<S
     VersionTable::open(alloc, limits, &first_page())
 }
 
-/// How many seats a table with these limits has.
+/// The number of seats of a table with these limits.
 pub(crate) fn count_seats(alloc: Global, limits: Limits) -> Result<usize, Refusal> {
     let (_, seats) = again!(open(alloc, limits))?;
     Ok(seats.len())
 }
 
-/// A room of three passes and these many pages. Errors: those of `open`.
+/// A table with three passes and this many pages. The errors are those of `open`.
 fn open_room(alloc: Global, pages: u64) -> Result<Room, Refusal> {
     let limits = Limits {
         pages,
@@ -70,63 +70,63 @@ fn open_room(alloc: Global, pages: u64) -> Result<Room, Refusal> {
     })
 }
 
-/// A room with so many pages, opened again if memory is refused.
+/// A table with this many pages. If memory runs out, it is opened again.
 pub(crate) fn opened(alloc: Global, pages: u64) -> Result<Room, Refusal> {
     again!(open_room(alloc, pages))
 }
 
-/// The replies to two passes while another one holds the lock. Their requests are before and after
-/// ` | `.
+/// The replies to two passes while a third holds the lock. Their requests are before and after ` |
+/// `.
 fn hold(
     table: &VersionTable,
     alloc: Global,
-    holder: &mut Seat,
+    writer: &mut Seat,
     second: &mut Seat,
     third: &mut Seat,
     requests: &str,
 ) -> Text
-    requires { IsResting table.now holder.old × IsResting table.now second.old
+    requires { IsResting table.now writer.old × IsResting table.now second.old
         × IsResting table.now third.old }
-    ensures { IsResting table.now holder.new × IsResting table.now second.new
+    ensures { IsResting table.now writer.new × IsResting table.now second.new
         × IsResting table.now third.new }
 {
     let (before, beyond) = requests.split_once(" | ").unwrap_or((requests, ""));
-    let writing = match table.lock(holder.move_out()) {
+    let writing = match table.lock(writer.move_out()) {
         Ok(writing) => writing,
         Err((kept, refusal)) => {
-            *holder = kept;
+            *writer = kept;
             return Err(refusal);
         }
     };
     let first = answers(table, alloc, second, before);
     let last = answers(table, alloc, third, beyond);
-    *holder = writing.unlock();
+    *writer = writing.unlock();
     both_texts(alloc, first, last)
 }
 
-/// The replies to a pass before and after another one, which holds the lock, enters a node.
+/// The replies to a pass before and after another one, which holds the lock, makes a node.
 fn write_between(
     table: &VersionTable,
     alloc: Global,
-    holder: &mut Seat,
+    writer: &mut Seat,
     second: &mut Seat,
     requests: &str,
 ) -> Text
-    requires { IsResting table.now holder.old × IsResting table.now second.old }
-    ensures { IsResting table.now holder.new × IsResting table.now second.new }
+    requires { IsResting table.now writer.old × IsResting table.now second.old }
+    ensures { IsResting table.now writer.new × IsResting table.now second.new }
 {
     let (before, beyond) = requests.split_once(" | ").unwrap_or((requests, ""));
-    let mut writing = match table.lock(holder.move_out()) {
+    let mut writing = match table.lock(writer.move_out()) {
         Ok(writing) => writing,
         Err((kept, refusal)) => {
-            *holder = kept;
+            *writer = kept;
             return Err(refusal);
         }
     };
     let first = answers(table, alloc, second, before);
     let entered = act(&mut writing, &[Op::New], "");
     let last = answers(table, alloc, second, beyond);
-    *holder = writing.unlock();
+    *writer = writing.unlock();
     both_texts(
         alloc,
         first,
@@ -134,8 +134,8 @@ fn write_between(
     )
 }
 
-/// A pass looks, another one enters so many nodes, and then the first announces what it saw and
-/// looks again. What it saw at both looks.
+/// A pass looks, another one makes `count` nodes, and then the first announces the number it saw,
+/// and looks again. Returns what it saw at both looks.
 #[tactic(auto, using(crate::proofs::Phases::idle_at_rest))]
 fn pin_late(
     table: &VersionTable,
@@ -168,7 +168,7 @@ fn late_text(alloc: Global, late: Option<(u64, u64)>) -> Text {
 }
 
 impl Room {
-    /// Writes by pass 0, or what it finds under the lock.
+    /// Writes with pass 0, or returns what it finds while it holds the lock.
     pub(crate) fn in_write(&mut self, ops: &[Op], words: &str) -> Result<u64, Refusal> {
         in_write(&self.table, &mut self.first, ops, words)
     }
@@ -222,8 +222,8 @@ impl Room {
         both
     }
 
-    /// The reply to a request, whose first word names a pass or an act of several. BadLimits for
-    /// any other.
+    /// The reply to a request, whose first word names a pass or something that several passes do.
+    /// BadLimits for any other.
     fn answer(&mut self, alloc: Global, request: &str) -> Text {
         let (who, words) = request.split_once(" ").unwrap_or((request, ""));
         match who {

@@ -1,11 +1,12 @@
-//! What a pass does while it holds the lock. Lists of operations go through be_paged over the open
+//! What a pass does while it holds the lock. be_paged applies lists of operations to the open
 //! write.
 ghost use Rattle.std.specs.Prelude.{◌≡◌, ◌≤◌, ◌<◌, ◌+◌, ◌^◌, ℕ, false, length, IfErr, IfOk};
 ghost use Rattle.be_table.specs.declared.pass.Knowledge.{Knowledge};
 ghost use Rattle.be_paged.specs.Changes.{Applies};
 ghost use Rattle.be_paged_reading.specs.Version.{IsVersion};
 ghost use Rattle.be_volume.specs.Volume.{State};
-ghost use Rattle.be_table.specs.Reading.{open_of, standing_among, word_of_page, standing_in_work};
+ghost use Rattle.be_table.specs.Reading.{open_of, page_state_among, word_of_page};
+ghost use Rattle.be_table.specs.Reading.{page_state_in_work};
 ghost use Rattle.be_table.specs.Reading.{words_of};
 ghost use Rattle.be_table.specs.Works.{TakesLock};
 ghost use Rattle.be_table_tests.specs.Resting.{IsResting, StaysSeat};
@@ -17,7 +18,8 @@ use be_test_tools::again;
 use be_value::Refusal;
 use be_volume::{Done, Op};
 
-/// Makes room for so many operations, by a second call if memory is refused at the first.
+/// Reserves memory for this many operations. If memory runs out at the first call, a second one
+/// follows.
 fn make_room(writing: &mut Writing<'_>, count: usize) -> Result<(), Refusal>
     requires open { writing.old.knows.published ≡ false }
     requires count { (1 ≤ count) × (count ≤ 64) }
@@ -35,20 +37,20 @@ fn apply_to(
     ops: &[Op],
 ) -> Result<(u64, ArrayVec<Done, 64>), Refusal>
     ghost volume: { State }
-    requires version { IsVersion (standing_among writing.old.knows.places)
+    requires version { IsVersion (page_state_among writing.old.knows.places)
         (word_of_page writing.old.knows.words) page volume }
     requires count { (1 ≤ length ops.now) × (length ops.now ≤ 64) }
     requires fits { volume.next + 64 < 2 ^ 64 }
     requires open { writing.old.knows.published ≡ false }
-    ensures ok { IfOk result (λ r. Applies open_of standing_in_work words_of page r.0 volume ops.now
-        r.1.items writing.old writing.new) }
+    ensures ok { IfOk result (λ r. Applies open_of page_state_in_work words_of page r.0 volume
+        ops.now r.1.items writing.old writing.new) }
     ensures err { IfErr result (λ e. open_of writing.new ≡ open_of writing.old) }
 {
     apply(writing, page, ops)
 }
 
-/// Applies a list of operations to the current version, and publishes the version that it makes.
-/// Returns the journal's length.
+/// Applies a list of operations to the current version, and publishes the result. Returns the
+/// journal's length.
 fn write(writing: &mut Writing<'_>, ops: &[Op]) -> Result<u64, Refusal>
     requires begun { (a : Knowledge) × TakesLock a writing.old.knows }
     requires count { (1 ≤ length ops.now) × (length ops.now ≤ 64) }
@@ -62,7 +64,7 @@ fn write(writing: &mut Writing<'_>, ops: &[Op]) -> Result<u64, Refusal>
     Ok(writing.publish(page, ops, dones.as_slice()))
 }
 
-/// The least of a scan, whether one is due, or 0, right after the lock.
+/// The minimum that a scan finds, whether a scan is due, or 0, right after taking the lock.
 fn look_round(writing: &mut Writing<'_>, words: &str) -> u64
     requires open { writing.old.knows.published ≡ false }
     requires begun { (a : Knowledge) × TakesLock a writing.old.knows }
@@ -116,7 +118,7 @@ pub(crate) fn in_write(
     answer
 }
 
-/// Enters a node, at a later try while another pass has the lock. Whether it did.
+/// Makes a node, trying again while another pass has the lock. Returns whether it could.
 fn enter_at_last(table: &VersionTable, seat: &mut Seat) -> bool
     requires { IsResting table.now seat.old }
     ensures { StaysSeat table.now seat.old seat.new }
@@ -130,7 +132,7 @@ fn enter_at_last(table: &VersionTable, seat: &mut Seat) -> bool
     false
 }
 
-/// Enters so many nodes. Whether it did.
+/// Makes this many nodes, and returns whether it could.
 pub(crate) fn enter_many(table: &VersionTable, seat: &mut Seat, count: u64) -> bool
     requires { IsResting table.now seat.old }
     ensures { StaysSeat table.now seat.old seat.new }

@@ -1,4 +1,5 @@
--- A branch that was written: its key's whole words were copied, and the rest of the key and the number stand in the words after them.
+-- A branch that was written: its key's whole words were copied, and the rest of the key and the number are in the words after
+-- them.
 use Rattle.std.proofs.Common.{◌≡◌, ℕ, ◌+◌, ◌*◌, ◌/◌, ◌%◌, ◌^◌, ◌<◌, ◌≤◌, List, ◌++◌, length, take, ap, sym, subst, ◌∙◌, arith, append_assoc}
 use Rattle.std.specs.Int.{to_be_bytes, w64}
 use Rattle.std.proofs.lemmas.List.{length-append}

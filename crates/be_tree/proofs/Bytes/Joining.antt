@@ -1,4 +1,4 @@
--- A number written in two words, after the first bytes of another word.
+-- A number written into two words, after the first bytes of another word.
 use Rattle.std.proofs.Common.{◌≡◌, ℕ, zero, suc, ◌+◌, ◌-◌, ◌*◌, ◌/◌, ◌%◌, ◌^◌, ◌<◌, List, All, [], ◌++◌, length, map, take, drop, ap, sym, subst, ◌∙◌, arith, append_assoc, pow-add}
 use Rattle.std.specs.Int.{byte_at, bytes_high_first, to_be_bytes, w64}
 use Rattle.std.specs.List.{flat_map, range_with_len}
@@ -60,7 +60,7 @@ module _ (x n r : ℕ) (some : 0 < r) (lt : r < 8) (lx : x < 2 ^ 64) (ln : n < 2
   bits : 256 ^ (8 - r) ≡ 2 ^ (64 - 8 * r)
   bits = let e : 8 * (8 - r) ≡ 64 - 8 * r = omega (arith, lt) in pow256 (8 - r) ∙ ap (λ (m : ℕ). 2 ^ m) e
 
-  -- nothing is lost where the lowest bits become zeros
+  -- nothing is lost if the lowest bits become zeros
   whole : x / 2 ^ (64 - 8 * r) * 2 ^ (64 - 8 * r) % 2 ^ 64 ≡ x / 2 ^ (64 - 8 * r) * 2 ^ (64 - 8 * r)
   whole =
       let p = 2 ^ (64 - 8 * r) in

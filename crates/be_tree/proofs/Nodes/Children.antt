@@ -1,9 +1,9 @@
--- Two neighbours among the items of an inner node, whose children became others.
+-- Two neighbours among an inner node's items, whose children became others.
 use Rattle.std.proofs.Common.{◌≡◌, ℕ, suc, ◌+◌, ◌<◌, ◌≤◌, List, [], ◌∷◌, ◌++◌, length, take, drop, ap, sym, subst, ◌∙◌, arith}
 use Rattle.std.specs.List.{flat_map}
 use Rattle.std.proofs.lemmas.List.{append-nil, append_assoc, drop_more, take_more, take-append-drop}
 use Rattle.std.proofs.lemmas.List.Concat.{flat_map-append}
-use Rattle.be_pages.specs.declared.room.Standing.{Standing}
+use Rattle.be_pages.specs.declared.room.PageState.{PageState}
 use Rattle.be_tree_reading.specs.Pair.{Pair}
 use Rattle.be_tree_reading.specs.Key.{IsRising}
 use Rattle.be_tree_reading.specs.Page.{item_at, items_of, item_place}
@@ -13,9 +13,9 @@ use Rattle.be_tree_reading.proofs.Shape.Below.{below_left, below_right}
 use Rattle.be_tree_reading.proofs.Items.{item_get, items_count}
 use Rattle.be_tree.proofs.Nodes.Neighbours.{are_neighbours}
 
-module _ (level below least page : ℕ) (standing : ℕ → Standing) (words : ℕ → ℕ → ℕ) (e : level ≡ suc below) (tree : IsTreeAt level least standing words page) where
-  inner : IsBelow (suc below) standing words (items_of (words page))
-  inner = subst (λ (n : ℕ). IsBelow n standing words (items_of (words page))) e tree.below
+module _ (level below least page : ℕ) (page_state : ℕ → PageState) (words : ℕ → ℕ → ℕ) (e : level ≡ suc below) (tree : IsTreeAt level least page_state words page) where
+  inner : IsBelow (suc below) page_state words (items_of (words page))
+  inner = subst (λ (n : ℕ). IsBelow n page_state words (items_of (words page))) e tree.below
 
   pub names_page : (i : ℕ) → i < words page 1 → length (item_at (words page) (item_place i)).payload ≡ 8
   names_page i lt =
@@ -38,20 +38,20 @@ module _ (level below least page : ℕ) (standing : ℕ → Standing) (words : �
         ∙ ap (λ x. x ∷ drop (i + 1 + 1) items) (item_get (words page) (i + 1) n (omega (arith, lt)))
         ∙ ap (λ (m : ℕ). n ∷ drop m items) next))
 
-    pub whole_below : IsBelow level standing words (take i (items_of (words page)) ++ ((item_at (words page) (item_place i) ∷ item_at (words page) (item_place (i + 1)) ∷ []) ++ drop (i + 2) (items_of (words page))))
-    whole_below = subst (IsBelow level standing words) two_in_three tree.below
+    pub whole_below : IsBelow level page_state words (take i (items_of (words page)) ++ ((item_at (words page) (item_place i) ∷ item_at (words page) (item_place (i + 1)) ∷ []) ++ drop (i + 2) (items_of (words page))))
+    whole_below = subst (IsBelow level page_state words) two_in_three tree.below
 
-    two_below : IsBelow (suc below) standing words (item_at (words page) (item_place i) ∷ item_at (words page) (item_place (i + 1)) ∷ [])
+    two_below : IsBelow (suc below) page_state words (item_at (words page) (item_place i) ∷ item_at (words page) (item_place (i + 1)) ∷ [])
     two_below =
         let items = items_of (words page) in
         let two = item_at (words page) (item_place i) ∷ item_at (words page) (item_place (i + 1)) ∷ [] in
-        subst (λ (n : ℕ). IsBelow n standing words two) e
-        (below_left level standing words two (drop (i + 2) items) (below_right level standing words (take i items) (two ++ drop (i + 2) items) whole_below))
+        subst (λ (n : ℕ). IsBelow n page_state words two) e
+        (below_left level page_state words two (drop (i + 2) items) (below_right level page_state words (take i items) (two ++ drop (i + 2) items) whole_below))
 
-    pub two_neighbours : (l r : ℕ) → l ≡ child (item_at (words page) (item_place i)) → r ≡ child (item_at (words page) (item_place (i + 1))) → AreNeighbours below standing words l r
-    two_neighbours l r l_is r_is = are_neighbours below standing words (item_at (words page) (item_place i)) (item_at (words page) (item_place (i + 1))) l r l_is r_is two_below
+    pub two_neighbours : (l r : ℕ) → l ≡ child (item_at (words page) (item_place i)) → r ≡ child (item_at (words page) (item_place (i + 1))) → AreNeighbours below page_state words l r
+    two_neighbours l r l_is r_is = are_neighbours below page_state words (item_at (words page) (item_place i)) (item_at (words page) (item_place (i + 1))) l r l_is r_is two_below
 
-    -- what becomes of all pairs where the second child's pairs become others
+    -- how all pairs change when the second child's pairs do
     module _ (at : ℕ) (is : at ≡ i + 1) (all : List Pair) (f : List Pair → List Pair)
         (one : all ≡ pairs_below (suc below) words (take at (items_of (words page))) ++ (f (pairs_at below words (child (item_at (words page) (item_place at)))) ++ pairs_below (suc below) words (drop (suc at) (items_of (words page))))) where
       pub second_changed : all
@@ -81,7 +81,7 @@ module _ (level below least page : ℕ) (standing : ℕ → Standing) (words : �
           let back = pairs_below level words (drop (i + 2) (items_of (words page))) in
           IsRising_left (b ++ d) back (IsRising_right (pairs_below level words (take i (items_of (words page)))) ((b ++ d) ++ back) (subst IsRising second_changed rising))
 
-    -- and where the first one's do
+    -- and when the first child's pairs do
     pub first_changed : (all : List Pair) (f : List Pair → List Pair)
         → all ≡ pairs_below (suc below) words (take i (items_of (words page))) ++ (f (pairs_at below words (child (item_at (words page) (item_place i)))) ++ pairs_below (suc below) words (drop (suc i) (items_of (words page))))
         → all ≡ pairs_below level words (take i (items_of (words page))) ++ ((f (pairs_at below words (child (item_at (words page) (item_place i)))) ++ pairs_at below words (child (item_at (words page) (item_place (i + 1)))))

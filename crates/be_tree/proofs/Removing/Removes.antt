@@ -1,17 +1,17 @@
--- A key taken out below a page: what a removal stands on.
+-- A key taken out below a page: facts that a removal needs.
 use Rattle.std.proofs.Common.{◌≡◌, ℕ, zero, suc, ◌≤◌, List, [], ◌∷◌, ◌++◌, length, get_or, take, drop, All, if◌then◌else◌, ap, ◌∙◌, refl, arith}
 use Rattle.std.specs.List.{flat_map}
 use Rattle.std.specs.Ordering.{is_eq}
 use Rattle.std.specs.declared.cmp.Ordering.TheVariants.{Less, Equal, Greater}
 use Rattle.std.proofs.lemmas.List.Elements.{All-cons}
-use Rattle.be_pages.specs.declared.room.Standing.{Standing}
+use Rattle.be_pages.specs.declared.room.PageState.{PageState}
 use Rattle.be_tree_reading.specs.Pair.{Pair}
 use Rattle.be_tree_reading.specs.Key.{key_cmp, AllAbove, AllBelow, IsRising, without}
-use Rattle.be_tree_reading.specs.Tree.{least_of_root, IsTreeAt}
+use Rattle.be_tree_reading.specs.Tree.{minimum_of_root, IsTreeAt}
 use Rattle.be_tree_reading.proofs.Order.{AllAbove_left, AllAbove_right}
 use Rattle.be_tree_reading.proofs.TreeFacts.{flat_map_in_three, IsSplit}
 
--- a key out of a list in three parts
+-- removing a key from a list in three parts
 without_above : (k : List ℕ) (xs : List Pair) → AllAbove k xs → without k xs ≡ xs
 without_above k [] h = refl
 without_above k (x ∷ xs) h = rw h.0 (ap (λ ys. x ∷ ys) (without_above k xs h.1))
@@ -48,7 +48,7 @@ rising_without k (x ∷ xs) rising =
       | Greater ↦ (above_without x.key k xs rising.0, rising_without k xs rising.1)
     ]
 
--- a removal from the pairs of items goes to one of them
+-- a removal from the pairs below items goes to one item
 pub without_split : (f : Pair → List Pair) (k : List ℕ) (items : List Pair) (at : ℕ) → IsSplit f k items at → (d : Pair)
     → without k (flat_map f items) ≡ flat_map f (take at items) ++ (without k (f (get_or items at d)) ++ flat_map f (drop (suc at) items))
 without_split f k items at split d =
@@ -90,13 +90,13 @@ keys_without k (x ∷ xs) h =
     rest : All (λ x. length x.key ≤ 264) xs
     rest = λ i d lt. h (suc i) d (omega (arith, lt))
 
-pub least_small : (level : ℕ) → least_of_root level ≤ 6
-least_small zero = omega arith
-least_small (suc level) = omega arith
+pub minimum_small : (level : ℕ) → minimum_of_root level ≤ 6
+minimum_small zero = omega arith
+minimum_small (suc level) = omega arith
 
-pub tree_least : (level : ℕ) (standing : ℕ → Standing) (words : ℕ → ℕ → ℕ) (page : ℕ) → IsTreeAt level 6 standing words page → IsTreeAt level (least_of_root level) standing words page
-tree_least level standing words page tree = record {
-  node = record { is_page = tree.node.is_page; at_level = tree.node.at_level; enough = omega (arith, tree.node.enough, least_small level) };
+pub tree_minimum : (level : ℕ) (page_state : ℕ → PageState) (words : ℕ → ℕ → ℕ) (page : ℕ) → IsTreeAt level 6 page_state words page → IsTreeAt level (minimum_of_root level) page_state words page
+tree_minimum level page_state words page tree = record {
+  node = record { is_page = tree.node.is_page; at_level = tree.node.at_level; enough = omega (arith, tree.node.enough, minimum_small level) };
   below = tree.below;
   page_once = tree.page_once;
   page_in_use = tree.page_in_use;

@@ -1,33 +1,33 @@
--- The pages that a write has in hand, counted.
+-- Counts the pages that a write holds.
 use Rattle.std.proofs.Common.{◌≡◌, ◌≢◌, ℕ, zero, suc, ◌+◌, ◌<◌, ◌≤◌, ◌==◌, List, [], ◌∷◌, length, IsTrue, true, false, Bool, refl, ap, inl, inr, arith, cond}
 use Rattle.std.proofs.lemmas.Bool.{cases_eq}
 use Rattle.std.proofs.lemmas.Bool.Decides.{nat_tests}
 use mathlib.Core.Bool.{false≢true}
-use Rattle.be_pages.specs.declared.room.Standing.{Standing}
-use Rattle.be_pages.specs.declared.room.Standing.TheVariants.{Free, Old, GivenUp, Taken, Filled}
-use Rattle.be_pages.specs.Pages.{is_taken, after_give_up, times, StandsAt, PageStep, untouched, unused, fresh, given_old, given_new, stays_old, stays_new, Swaps}
+use Rattle.be_pages.specs.declared.room.PageState.{PageState}
+use Rattle.be_pages.specs.declared.room.PageState.TheVariants.{Free, Old, GivenUp, Taken, Filled}
+use Rattle.be_pages.specs.Pages.{is_taken, after_give_up, times, SetsStateAt, PageStep, untouched, unused, fresh, given_old, given_new, stays_old, stays_new, Swaps}
 use Rattle.be_tree.specs.Counting.{one_of, in_hand, TakesAtMost, TakesFewer, HasInHand}
 use Rattle.be_tree_reading.proofs.Frame.{times-cons, times_itself}
-use Rattle.be_tree.proofs.Nodes.Stands.{stands_at, stands_else}
+use Rattle.be_tree.proofs.Nodes.PageStates.{changed_state, other_states}
 
--- one change after another
-pub takes_then : (a b : ℕ) (s t u : ℕ → Standing) → TakesAtMost a s t → TakesAtMost b t u → TakesAtMost (a + b) s u
+-- two changes in sequence
+pub takes_then : (a b : ℕ) (s t u : ℕ → PageState) → TakesAtMost a s t → TakesAtMost b t u → TakesAtMost (a + b) s u
 takes_then a b s t u first second n = omega (arith, first n, second n)
 
-pub takes_fewer_then : (a b : ℕ) (s t u : ℕ → Standing) → TakesAtMost a s t → TakesFewer b t u → TakesFewer (a + b) s u
+pub takes_fewer_then : (a b : ℕ) (s t u : ℕ → PageState) → TakesAtMost a s t → TakesFewer b t u → TakesFewer (a + b) s u
 takes_fewer_then a b s t u first second n = omega (arith, first n, second n)
 
 -- nothing is taken
-pub takes_same : (s t : ℕ → Standing) → t ≡ s → TakesAtMost 0 s t
+pub takes_same : (s t : ℕ → PageState) → t ≡ s → TakesAtMost 0 s t
 takes_same s t e n = omega (arith, ap (in_hand n) e)
 
-pub takes_within : (a b : ℕ) (s t : ℕ → Standing) → a ≤ b → TakesAtMost a s t → TakesAtMost b s t
+pub takes_within : (a b : ℕ) (s t : ℕ → PageState) → a ≤ b → TakesAtMost a s t → TakesAtMost b s t
 takes_within a b s t le takes n = omega (arith, le, takes n)
 
-pub fewer_within : (a b : ℕ) (s t : ℕ → Standing) → a ≤ b → TakesFewer a s t → TakesFewer b s t
+pub fewer_within : (a b : ℕ) (s t : ℕ → PageState) → a ≤ b → TakesFewer a s t → TakesFewer b s t
 fewer_within a b s t le takes n = omega (arith, le, takes n)
 
--- how often the first n pages are among some
+-- how often the first n pages are among some pages
 all_times : ℕ → List ℕ → ℕ
 all_times zero ps = 0
 all_times (suc n) ps = times n ps + all_times n ps
@@ -72,21 +72,21 @@ all_times_size : (n : ℕ) (ps : List ℕ) → all_times n ps ≤ length ps
 all_times_size n [] = omega (arith, none_of_none n)
 all_times_size n (p ∷ ps) = omega (arith, all_times_cons n p ps, one_hit n p, all_times_size n ps)
 
--- if each page comes into hand only where it is among these, no more do than these
-by_pages : (n : ℕ) (old new : ℕ → Standing) (ps : List ℕ) → ((q : ℕ) → one_of (is_taken (new q)) ≤ one_of (is_taken (old q)) + times q ps) → in_hand n new ≤ in_hand n old + all_times n ps
+-- if newly held pages are all among these, there are at most as many of them
+by_pages : (n : ℕ) (old new : ℕ → PageState) (ps : List ℕ) → ((q : ℕ) → one_of (is_taken (new q)) ≤ one_of (is_taken (old q)) + times q ps) → in_hand n new ≤ in_hand n old + all_times n ps
 unfolding all_times
 by_pages zero old new ps each = omega arith
 by_pages (suc n) old new ps each = omega (arith, each n, by_pages n old new ps each)
 
-pub takes_by : (old new : ℕ → Standing) (ps : List ℕ) → ((q : ℕ) → one_of (is_taken (new q)) ≤ one_of (is_taken (old q)) + times q ps) → TakesAtMost (length ps) old new
+pub takes_by : (old new : ℕ → PageState) (ps : List ℕ) → ((q : ℕ) → one_of (is_taken (new q)) ≤ one_of (is_taken (old q)) + times q ps) → TakesAtMost (length ps) old new
 takes_by old new ps each n = omega (arith, by_pages n old new ps each, all_times_size n ps)
 
 -- no page changes its state
-pub takes_still : (s t : ℕ → Standing) → ((q : ℕ) → t q ≡ s q) → TakesAtMost 0 s t
+pub takes_still : (s t : ℕ → PageState) → ((q : ℕ) → t q ≡ s q) → TakesAtMost 0 s t
 takes_still s t same = takes_by s t [] (λ q. omega (arith, ap (λ x. one_of (is_taken x)) (same q)))
 
--- no page but this one does
-pub takes_one : (s t : ℕ → Standing) (page : ℕ) → ((q : ℕ) → q ≢ page → t q ≡ s q) → TakesAtMost 1 s t
+-- only this page does
+pub takes_one : (s t : ℕ → PageState) (page : ℕ) → ((q : ℕ) → q ≢ page → t q ≡ s q) → TakesAtMost 1 s t
 takes_one s t page same = takes_by s t (page ∷ []) (λ q. elim (cases_eq q page) [
   | inl e ↦ omega (arith, at_most_one (is_taken (t q)), ap (λ p. times p (page ∷ [])) e, times_itself page)
   | inr ne ↦ omega (arith, ap (λ x. one_of (is_taken x)) (same q ne))
@@ -96,35 +96,35 @@ takes_one s t page same = takes_by s t (page ∷ []) (λ q. elim (cases_eq q pag
     at_most_one true = omega arith
     at_most_one false = omega arith
 
--- a page that is given up is in hand no more
-given_up : (x : Standing) → is_taken (after_give_up x) ≡ false
+-- a page that was given up isn't held any more
+given_up : (x : PageState) → is_taken (after_give_up x) ≡ false
 given_up Free = refl
 given_up Old = refl
 given_up GivenUp = refl
 given_up Taken = refl
 given_up Filled = refl
 
-pub takes_given_up : (s t : ℕ → Standing) (page : ℕ) → StandsAt s t page (after_give_up (s page)) → TakesAtMost 0 s t
-takes_given_up s t page stands = takes_by s t [] (λ q. elim (cases_eq q page) [
-  | inl e ↦ omega (arith, ap (λ p. one_of (is_taken (t p))) e, ap (λ x. one_of (is_taken x)) (stands_at s t page (after_give_up (s page)) stands), ap one_of (given_up (s page)))
-  | inr ne ↦ omega (arith, ap (λ x. one_of (is_taken x)) (stands_else s t page (after_give_up (s page)) stands q ne))
+pub takes_given_up : (s t : ℕ → PageState) (page : ℕ) → SetsStateAt s t page (after_give_up (s page)) → TakesAtMost 0 s t
+takes_given_up s t page states = takes_by s t [] (λ q. elim (cases_eq q page) [
+  | inl e ↦ omega (arith, ap (λ p. one_of (is_taken (t p))) e, ap (λ x. one_of (is_taken x)) (changed_state s t page (after_give_up (s page)) states), ap one_of (given_up (s page)))
+  | inr ne ↦ omega (arith, ap (λ x. one_of (is_taken x)) (other_states s t page (after_give_up (s page)) states q ne))
 ])
 
--- the pages in hand are no more than those among which they are
+-- there are at most as many held pages as pages that they are among
 in_bits : (b : Bool) (n : ℕ) → (IsTrue b → 0 < n) → one_of b ≤ n
 in_bits true n h = h refl
 in_bits false n h = omega arith
 
-hand_by : (n : ℕ) (standing : ℕ → Standing) (ps : List ℕ) → HasInHand standing ps → in_hand n standing ≤ all_times n ps
+hand_by : (n : ℕ) (page_state : ℕ → PageState) (ps : List ℕ) → HasInHand page_state ps → in_hand n page_state ≤ all_times n ps
 unfolding all_times
-hand_by zero standing ps has = omega arith
-hand_by (suc n) standing ps has = omega (arith, in_bits (is_taken (standing n)) (times n ps) (has n), hand_by n standing ps has)
+hand_by zero page_state ps has = omega arith
+hand_by (suc n) page_state ps has = omega (arith, in_bits (is_taken (page_state n)) (times n ps) (has n), hand_by n page_state ps has)
 
-pub hand_size : (standing : ℕ → Standing) (ps : List ℕ) → HasInHand standing ps → (n : ℕ) → in_hand n standing ≤ length ps
-hand_size standing ps has n = omega (arith, hand_by n standing ps has, all_times_size n ps)
+pub hand_size : (page_state : ℕ → PageState) (ps : List ℕ) → HasInHand page_state ps → (n : ℕ) → in_hand n page_state ≤ length ps
+hand_size page_state ps has n = omega (arith, hand_by n page_state ps has, all_times_size n ps)
 
 -- a page that changes while those in use are replaced
-step_hand : {P : Type 0} {b a : ℕ} {s t : Standing} → PageStep P b a s t → one_of (is_taken t) ≤ one_of (is_taken s) + a
+step_hand : {P : Type 0} {b a : ℕ} {s t : PageState} → PageStep P b a s t → one_of (is_taken t) ≤ one_of (is_taken s) + a
 step_hand (untouched p) = omega arith
 step_hand unused = omega arith
 step_hand fresh = omega arith
@@ -133,7 +133,7 @@ step_hand given_new = omega arith
 step_hand (stays_old p) = omega arith
 step_hand stays_new = omega arith
 
-step_has : {P : Type 0} {b a : ℕ} {s t : Standing} → (IsTrue (is_taken s) → 0 < b) → PageStep P b a s t → IsTrue (is_taken t) → 0 < a
+step_has : {P : Type 0} {b a : ℕ} {s t : PageState} → (IsTrue (is_taken s) → 0 < b) → PageStep P b a s t → IsTrue (is_taken t) → 0 < a
 step_has had (untouched p) taken = had taken
 step_has had unused taken = absurd (false≢true taken)
 step_has had (fresh {a}) taken = omega arith
@@ -142,9 +142,9 @@ step_has had given_new taken = absurd (false≢true taken)
 step_has had (stays_old p) taken = absurd (false≢true taken)
 step_has had (stays_new {b} {a}) taken = omega arith
 
-module _ {S K : Type 0} (kept_of : S → K) (standing_of : S → ℕ → Standing) (words_of : S → ℕ → ℕ → ℕ) (before after : List ℕ) (old new : S) (swaps : Swaps kept_of standing_of words_of before after old new) where
-  pub takes_swaps : TakesAtMost (length after) (standing_of old) (standing_of new)
-  takes_swaps = takes_by (standing_of old) (standing_of new) after (λ q. step_hand (swaps.each q))
+module _ {S K : Type 0} (kept_of : S → K) (page_state_of : S → ℕ → PageState) (words_of : S → ℕ → ℕ → ℕ) (before after : List ℕ) (old new : S) (swaps : Swaps kept_of page_state_of words_of before after old new) where
+  pub takes_swaps : TakesAtMost (length after) (page_state_of old) (page_state_of new)
+  takes_swaps = takes_by (page_state_of old) (page_state_of new) after (λ q. step_hand (swaps.each q))
 
-  pub hand_swaps : HasInHand (standing_of old) before → HasInHand (standing_of new) after
+  pub hand_swaps : HasInHand (page_state_of old) before → HasInHand (page_state_of new) after
   hand_swaps has q = step_has (has q) (swaps.each q)

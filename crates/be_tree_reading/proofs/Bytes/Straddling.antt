@@ -1,4 +1,4 @@
--- A number whose eight bytes stand in two words.
+-- A number whose eight bytes are in two words.
 use Rattle.std.proofs.Common.{◌≡◌, ℕ, zero, suc, ◌+◌, ◌-◌, ◌*◌, ◌/◌, ◌%◌, ◌^◌, ◌<◌, ◌≤◌, List, [], ◌∷◌, ◌++◌, length, map, take, drop, get_or, ap, sym, subst, ◌∙◌, refl, arith, pow-add}
 use Rattle.std.specs.Int.{byte_at, bytes_high_first, from_be_bytes, to_be_bytes, w32, w64}
 use Rattle.std.specs.List.{flat_map, range_with_len}
@@ -17,7 +17,7 @@ rejoined n m = ap (λ (k : ℕ). k + n % m) (mul_comm (n / m) m) ∙ div-add-mod
 pub positive : (n : ℕ) → 0 < 256 ^ n
 positive n = subst (λ (m : ℕ). 0 < m) (sym (pow256 n)) (pow_pos (8 * n))
 
--- a number without its lowest bytes, twice
+-- dropping a number's lowest bytes in two steps
 div_twice : (n a b m : ℕ) → a + b ≡ m → n / 256 ^ m ≡ n / 256 ^ b / 256 ^ a
 div_twice n a b m e =
     let turned : m ≡ b + a = omega (arith, e) in
@@ -37,7 +37,7 @@ same_digit j d m u v e =
     regroup : (u p q v : ℕ) → u * (p * 256 * q) + v ≡ v + u * p * 256 * q
     regroup u p q v = omega (arith, sym (mul_assoc u (p * 256) q), ap (λ (n : ℕ). n * q) (sym (mul_assoc u p 256)))
 
--- the lowest bytes don't see what is above them
+-- the lowest bytes don't depend on those above them
 pub low_bytes : (b d m u v : ℕ) → d + b ≡ m → bytes_high_first b (u * 256 ^ m + v) ≡ bytes_high_first b v
 low_bytes zero d m u v e = refl
 low_bytes (suc b) d m u v e =
@@ -47,7 +47,7 @@ low_bytes (suc b) d m u v e =
     ap2 : {x y : ℕ} {xs ys : List ℕ} → x ≡ y → xs ≡ ys → x ∷ xs ≡ y ∷ ys
     ap2 p q = cc
 
--- the bytes of two numbers, the first shifted past the second
+-- the bytes of two numbers, the first shifted up past the second
 pub high_append : (a b m u v : ℕ) → a + b ≡ m → v < 256 ^ b → bytes_high_first m (u * 256 ^ b + v) ≡ bytes_high_first a u ++ bytes_high_first b v
 high_append zero b m u v e lt =
     let same : b ≡ m = omega (arith, e) in
@@ -91,7 +91,7 @@ module _ (x y s t : ℕ) (e : s + t ≡ 8) (ly : y < 2 ^ 64) where
       let low : x % 256 ^ t < 256 ^ t = omega (arith, some) in
       subst (λ (n : ℕ). x % 256 ^ t * 256 ^ s + y / 256 ^ t < n) whole (mul-add-lt (x % 256 ^ t) (256 ^ s) (y / 256 ^ t) (256 ^ t) low second_fits)
 
-  -- shifted as a word, the first loses its highest bytes
+  -- shifted within a word, the first loses its highest bytes
   pub shifted : x * 256 ^ s % 2 ^ 64 ≡ x % 256 ^ t * 256 ^ s
   shifted =
       let p = 256 ^ t in
@@ -138,7 +138,7 @@ module _ (x y r : ℕ) (lt : r < 8) (ly : y < 2 ^ 64) where
   pub straddled_is : take 8 (drop r (to_be_bytes w64 x ++ to_be_bytes w64 y)) ≡ to_be_bytes w64 (x * 2 ^ (8 * r) % 2 ^ 64 + y / 2 ^ (64 - 8 * r))
   straddled_is = two_words x y r (8 - r) in_eight ly ∙ ap (to_be_bytes w64) in_bits
 
--- and as it is read
+-- and as the code reads it
 pub straddling_bytes : (w : ℕ → ℕ) (from r : ℕ) → 0 < r → r < 8 → w (from + 1) < 2 ^ 64
     → drop r (bytes_at w from (r + 8)) ≡ to_be_bytes w64 (w from * 2 ^ (8 * r) % 2 ^ 64 + w (from + 1) / 2 ^ (64 - 8 * r))
 straddling_bytes w from r some lt small =
@@ -159,7 +159,7 @@ straddling w from r some lt small =
     ap (from_be_bytes w64) (straddling_bytes w from r some lt small)
     ∙ from_be_bytes-to_be_bytes_8 (w from * 2 ^ (8 * r) % 2 ^ 64 + w (from + 1) / 2 ^ (64 - 8 * r)) (straddled_fits (w from) (w (from + 1)) r lt small)
 
--- the upper half of a number
+-- a number's upper half
 upper : (n k m : ℕ) → n < 2 ^ 64 → 4 + k ≡ 8 → m ≡ n / 2 ^ 32 → from_be_bytes w32 (take 4 (to_be_bytes w64 n)) ≡ m
 upper n k m small e is =
     let four : k ≡ 4 = omega (arith, e) in
@@ -211,7 +211,7 @@ drop_map_range f a s n =
 past_zeros : (bs : List ℕ) (a n : ℕ) → length bs ≤ a → map (λ (k : ℕ). get_or bs k 0) (range_with_len a n) ≡ map (λ (k : ℕ). 0) (range_with_len a n)
 past_zeros bs a n le = map_same (λ (k : ℕ). get_or bs k 0) (λ (k : ℕ). 0) a n (λ k ge lt. get_or_past bs k 0 (omega (arith, le, ge)))
 
--- the last eight bytes, moved up with zeros after them
+-- the last eight bytes, shifted up with zeros after them
 pub moved_up : (bs : List ℕ) (x from s last : ℕ) → last + 8 ≡ length bs → last + s ≡ from → 0 < s → s < 8 → to_be_bytes w64 x ≡ map (λ (k : ℕ). get_or bs k 0) (range_with_len last 8)
     → to_be_bytes w64 (x * 2 ^ (8 * s) % 2 ^ 64) ≡ map (λ (k : ℕ). get_or bs k 0) (range_with_len from 8)
 moved_up bs x from s last end place some lt bytes =

@@ -1,7 +1,7 @@
--- The path of a cursor that goes back.
+-- The path of a cursor that goes backwards.
 use Rattle.std.proofs.Common.{◌≡◌, ℕ, zero, suc, ◌+◌, ◌-◌, ◌<◌, ◌≤◌, List, [], ◌∷◌, ◌++◌, length, get_or, take, ap, sym, subst, ◌∙◌, refl, arith, Bool, Some, append_assoc}
 use Rattle.std.proofs.lemmas.List.{append-nil, get_or-append-add, length-append, take_all, take_more}
-use Rattle.be_pages.specs.declared.room.Standing.{Standing}
+use Rattle.be_pages.specs.declared.room.PageState.{PageState}
 use Rattle.be_tree_reading.specs.declared.cursor.Place.{Place}
 use Rattle.be_tree_reading.specs.Pair.{Pair}
 use Rattle.be_tree_reading.specs.Key.{IsRank}
@@ -15,7 +15,7 @@ use Rattle.be_tree_reading.proofs.Shape.Below.{pairs_append}
 use Rattle.be_tree_reading.proofs.TreeFacts.{inner_split}
 use Rattle.be_tree_reading.proofs.Untils.{until_split}
 
--- a path with one more place has what is before it last
+-- on a path with one more place, what is before that place comes last
 pub up_push : (words : ℕ → ℕ → ℕ) (path : List Place) (place : Place) → pairs_up_to words (path ++ place ∷ []) ≡ pairs_up_to words path ++ pairs_before words place
 up_push words [] place = append-nil (pairs_before words place)
 up_push words (q ∷ path) place =
@@ -30,7 +30,7 @@ before_start words place start = ap (λ n. pairs_below place.level words (take n
     none zero = refl
     none (suc level) = refl
 
--- before a place at its page's end is all that is below the page
+-- before a place at its page's end is everything below the page
 pub before_end : (words : ℕ → ℕ → ℕ) (level page next : ℕ) → next ≡ words page 1 → pairs_below level words (take next (items_of (words page))) ≡ pairs_at level words page
 before_end words level page next end = ap (pairs_below level words) (take_all next (items_of (words page)) (omega (arith, end, items_count (words page))))
 
@@ -52,35 +52,35 @@ leads_back level below words page at e lt =
     subst (λ l. pairs_below l words (take (at + 1) (items_of (words page))) ≡ pairs_below l words (take at (items_of (words page))) ++ pairs_at below words (child (item_at (words page) (item_place at)))) (sym e)
     (branch_before below words page at lt)
 
--- the way down to the pairs up to a key: all before the branch, and those of the branch
-pub until_branch : (level below : ℕ) (standing : ℕ → Standing) (words : ℕ → ℕ → ℕ) (least page : ℕ) (k : List ℕ) (r at : ℕ) (before : Bool)
-    → level ≡ suc below → IsTreeAt level least standing words page → 0 < least → IsRank k (items_of (words page)) r → at ≡ r - 1 → at < words page 1
+-- on the way down to the pairs up to a key: all before the branch, and those of the branch
+pub until_branch : (level below : ℕ) (page_state : ℕ → PageState) (words : ℕ → ℕ → ℕ) (least page : ℕ) (k : List ℕ) (r at : ℕ) (before : Bool)
+    → level ≡ suc below → IsTreeAt level least page_state words page → 0 < least → IsRank k (items_of (words page)) r → at ≡ r - 1 → at < words page 1
     → pairs_until (pairs_at level words page) (Some k) before ≡ pairs_below level words (take at (items_of (words page))) ++ pairs_until (pairs_at below words (child (item_at (words page) (item_place at)))) (Some k) before
-until_branch level below standing words least page k r at before e tree some rank place lt =
+until_branch level below page_state words least page k r at before e tree some rank place lt =
     subst (λ l. pairs_until (pairs_at l words page) (Some k) before ≡ pairs_below l words (take at (items_of (words page))) ++ pairs_until (pairs_at below words (child (item_at (words page) (item_place at)))) (Some k) before) (sym e)
-    (until_inner (subst (λ l. IsTreeAt l least standing words page) e tree))
+    (until_inner (subst (λ l. IsTreeAt l least page_state words page) e tree))
   where
-    until_inner : IsTreeAt (suc below) least standing words page
+    until_inner : IsTreeAt (suc below) least page_state words page
         → pairs_until (pairs_at (suc below) words page) (Some k) before ≡ pairs_below (suc below) words (take at (items_of (words page))) ++ pairs_until (pairs_at below words (child (item_at (words page) (item_place at)))) (Some k) before
     until_inner inner =
         let branch = item_at (words page) (item_place at) in
         let items = items_of (words page) in
-        let split = inner_split below standing words items inner.below k r rank (omega (arith, inner.node.enough, some)) in
+        let split = inner_split below page_state words items inner.below k r rank (omega (arith, inner.node.enough, some)) in
         let is : get_or items (r - 1) branch ≡ branch = ap (λ i. get_or items i branch) (sym place) ∙ item_get (words page) at branch lt in
         until_split (λ b. pairs_at below words (child b)) k items (r - 1) split before branch
         ∙ ap (λ (x : Pair). pairs_below (suc below) words (take (r - 1) items) ++ pairs_until (pairs_at below words (child x)) (Some k) before) is
         ∙ ap (λ i. pairs_below (suc below) words (take i items) ++ pairs_until (pairs_at below words (child branch)) (Some k) before) (sym place)
 
--- the last place of a path
-module _ (standing : ℕ → Standing) (words : ℕ → ℕ → ℕ) (path : List Place) (place : Place) where
+-- a path's last place
+module _ (page_state : ℕ → PageState) (words : ℕ → ℕ → ℕ) (path : List Place) (place : Place) where
   last_place : (d : Place) → get_or (path ++ place ∷ []) (length path) d ≡ place
   last_place d =
       let e : length path ≡ length path + 0 = omega arith in
       ap (λ n. get_or (path ++ place ∷ []) n d) e ∙ get_or-append-add path (place ∷ []) 0 d
 
-  pub path_last : IsPath standing words (path ++ place ∷ []) → IsPlace standing words place × (place.level + length path ≤ 13)
+  pub path_last : IsPath page_state words (path ++ place ∷ []) → IsPlace page_state words place × (place.level + length path ≤ 13)
   path_last is =
       let lt : length path < length (path ++ place ∷ []) = omega (arith, length-append path (place ∷ [])) in (
-        subst (IsPlace standing words) (last_place place) (is.places (length path) place lt),
+        subst (IsPlace page_state words) (last_place place) (is.places (length path) place lt),
         subst (λ (p : Place). p.level + length path ≤ 13) (last_place place) (is.short (length path) place lt),
       )

@@ -1,4 +1,4 @@
--- The numbers that keys end with.
+-- The numbers at the ends of keys.
 use Rattle.std.proofs.Common.{◌≡◌, ℕ, suc, ◌+◌, ◌-◌, ◌*◌, ◌/◌, ◌%◌, ◌≤◌, true, false, List, [], ◌∷◌, ◌++◌, length, drop, map, Some, ap, sym, subst, ◌∙◌, arith, append_assoc, if◌then◌else◌}
 use Rattle.std.specs.List.{slice_get}
 use Rattle.std.specs.declared.option.Option.{Option}
@@ -10,7 +10,7 @@ use Rattle.be_tree_reading.specs.Range.{AreLong, HasGot, is_past, number_of, num
 use Rattle.be_tree_reading.proofs.Codec.{bytes_at_later, key_at}
 use Rattle.be_tree_reading.proofs.Bytes.Words.{item_key_length}
 
--- where the last eight bytes of a key stand
+-- where a key's last eight bytes are
 pub last_bytes : (w : ℕ → ℕ) (at : ℕ) → 8 ≤ key_len w at
     → drop (length (item_at w at).key - 8) (item_at w at).key ≡ drop (key_len w at % 8) (bytes_at w (at + key_len w at / 8) (key_len w at % 8 + 8))
 last_bytes w at long =
@@ -37,7 +37,7 @@ past_bound (y ∷ ys) high x first h =
     let same : y ≡ x = same_Some y x first in
     ap (λ b. map (λ (z : Pair). number_of z.key) (if b then [] else y ∷ pairs_to ys high)) (ap (λ (z : Pair). is_past high z.key) same ∙ h)
 
--- a number more
+-- one more number
 pub got_one : (before numbers after now : List ℕ) (rest next : List Pair) (high : Option (List ℕ)) (x : Pair) (n : ℕ) → slice_get rest 0 ≡ Some x → next ≡ drop 1 rest
     → is_past high x.key ≡ false → n ≡ number_of x.key → now ≡ after ++ n ∷ [] → HasGot before numbers (numbers_to rest high) after → HasGot before numbers (numbers_to next high) now
 got_one before numbers after now [] next high x n first e h is push has = cc
@@ -54,7 +54,7 @@ got_one before numbers after now (y ∷ ys) next high x n first e h is push has 
       is = push ∙ ap (λ l. l ++ n ∷ []) has.is ∙ append_assoc before has.got (n ∷ []);
     }
 
--- all of them
+-- all of the numbers
 pub got_all : (before numbers left after : List ℕ) → left ≡ [] → HasGot before numbers left after → after ≡ before ++ numbers
 got_all before numbers left after e has = has.is ∙ ap (λ l. before ++ l) (sym (has.parts ∙ ap (λ l. has.got ++ l) e ∙ append-nil has.got))
 

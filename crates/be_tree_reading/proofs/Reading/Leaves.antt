@@ -1,4 +1,4 @@
--- The numbers that the keys of a leaf end with, up to a bound.
+-- The numbers at the ends of a leaf's keys, up to a bound.
 use Rattle.std.proofs.Common.{◌≡◌, ℕ, zero, suc, ◌+◌, ◌-◌, ◌<◌, ◌≤◌, true, false, Bool, ◌||◌, List, [], ◌∷◌, ◌++◌, length, get_or, drop, map, None, Some, ap, sym, subst, ◌∙◌, refl, arith, append_assoc, drop-cons, if◌then◌else◌}
 use Rattle.std.specs.List.{list_any}
 use Rattle.std.specs.Ordering.{is_gt}
@@ -6,7 +6,7 @@ use Rattle.std.specs.declared.option.Option.{Option}
 use Rattle.std.specs.declared.cmp.Ordering.TheVariants.{Greater}
 use Rattle.std.proofs.lemmas.Bool.{false≢true}
 use Rattle.std.proofs.lemmas.List.{append-nil, get_or-drop, length-drop}
-use Rattle.be_pages.specs.declared.room.Standing.{Standing}
+use Rattle.be_pages.specs.declared.room.PageState.{PageState}
 use Rattle.be_tree_reading.specs.Pair.{Pair}
 use Rattle.be_tree_reading.specs.Key.{key_cmp, IsRising}
 use Rattle.be_tree_reading.specs.Page.{item_at, item_place, items_of}
@@ -18,11 +18,11 @@ use Rattle.be_tree_reading.proofs.Reading.Cursors.{nothing_past}
 use Rattle.be_tree_reading.proofs.Searching.{above_get}
 use Rattle.be_tree_reading.proofs.Shape.Below.{all_left, all_right}
 
--- a key is above the bound
+-- some key is above the bound
 abbrev pub any_past : Option (List ℕ) → List Pair → Bool
 any_past high xs = list_any (λ (x : Pair). is_past high x.key) xs
 
--- the items from one on
+-- the items from a number on
 pub rest_at : (words : ℕ → ℕ) (at : ℕ) → at < words 1 → drop at (items_of words) ≡ item_at words (item_place at) ∷ drop (at + 1) (items_of words)
 rest_at words at lt =
     let item = item_at words (item_place at) in
@@ -48,7 +48,7 @@ long_left xs ys long = all_left (λ (x : Pair). 8 ≤ length x.key) xs ys long
 pub long_right : (xs ys : List Pair) → AreLong (xs ++ ys) → AreLong ys
 long_right xs ys long = all_right (λ (x : Pair). 8 ≤ length x.key) xs ys long
 
--- the last key of a rising list is not above the bound, so none is
+-- if the last of some ascending keys isn't above the bound, none is
 before_bound : (high : Option (List ℕ)) (a b : List ℕ) → key_cmp b a ≡ Greater → is_past high b ≡ false → is_past high a ≡ false
 before_bound None a b gt within = refl
 before_bound (Some k) a b gt within = ap is_gt (less_to_at_most a b k (key_cmp_flip b a gt) (λ e. false≢true (sym within ∙ ap is_gt e)))
@@ -62,7 +62,7 @@ none_past (x ∷ (y ∷ ys)) high (suc i) d rising e within =
     let first : is_past high x.key ≡ false = before_bound high x.key (get_or (y ∷ ys) i d).key (above_get x.key (y ∷ ys) i d (omega (arith, e)) rising.0) within in
     ap (λ b. b || any_past high (y ∷ ys)) first ∙ none_past (y ∷ ys) high i d rising.1 (omega (arith, e)) within
 
--- the keys from one on
+-- the keys from a number on
 pub none_past_from : (n : ℕ) (xs : List Pair) (high : Option (List ℕ)) → any_past high xs ≡ false → any_past high (drop n xs) ≡ false
 none_past_from zero xs high none = none
 none_past_from (suc n) [] high none = refl
@@ -110,7 +110,7 @@ first_of_two mid now xs ys high first =
       };
     }
 
--- what a list has got once numbers were pushed
+-- what a list has gained after numbers were pushed
 module _ (before numbers left mid now : List ℕ) (has : HasGot before numbers left mid) where
   pub got_first : HasFirst mid left now → HasFirst before numbers now
   got_first first = record {
@@ -126,7 +126,7 @@ module _ (before numbers left mid now : List ℕ) (has : HasGot before numbers l
   got_rest push = push ∙ ap (λ ns. ns ++ left) has.is ∙ append_assoc before has.got left ∙ ap (λ ns. before ++ ns) (sym has.parts)
 
 module _ (before numbers mid now : List ℕ) (xs ys : List Pair) (high : Option (List ℕ)) (has : HasGot before numbers (numbers_to (xs ++ ys) high) mid) where
-  -- the bound stands further on
+  -- the bound is after this leaf
   pub whole_leaf : false ≡ any_past high xs → now ≡ mid ++ numbers_to xs high → HasGot before numbers (numbers_to ys high) now
   whole_leaf e push = record {
     got = has.got ++ numbers_to xs high;
@@ -136,12 +136,12 @@ module _ (before numbers mid now : List ℕ) (xs ys : List Pair) (high : Option 
     is = push ∙ ap (λ ns. ns ++ numbers_to xs high) has.is ∙ append_assoc before has.got (numbers_to xs high);
   }
 
-  -- the bound stands in this leaf
+  -- the bound is in this leaf
   pub last_leaf : true ≡ any_past high xs → now ≡ mid ++ numbers_to xs high → now ≡ before ++ numbers
   last_leaf e push =
       got_rest before numbers (numbers_to (xs ++ ys) high) mid now has
       (push ∙ sym (ap (λ ns. mid ++ ns) (to_append xs ys high ∙ ap (λ b. numbers_to xs high ++ (if b then [] else numbers_to ys high)) (sym e) ∙ append-nil (numbers_to xs high))))
 
--- a leaf that was read, as it is
-pub leaf_same : (s t : ℕ → Standing) (v w : ℕ → ℕ → ℕ) (page : ℕ) → t ≡ s → w ≡ v → IsTreeAt 0 1 s v page → IsTreeAt 0 1 t w page
-leaf_same s t v w page es ew tree = subst (λ (u : ℕ → ℕ → ℕ). IsTreeAt 0 1 t u page) (sym ew) (subst (λ (r : ℕ → Standing). IsTreeAt 0 1 r v page) (sym es) tree)
+-- a leaf is the same after pages were only read
+pub leaf_same : (s t : ℕ → PageState) (v w : ℕ → ℕ → ℕ) (page : ℕ) → t ≡ s → w ≡ v → IsTreeAt 0 1 s v page → IsTreeAt 0 1 t w page
+leaf_same s t v w page es ew tree = subst (λ (u : ℕ → ℕ → ℕ). IsTreeAt 0 1 t u page) (sym ew) (subst (λ (r : ℕ → PageState). IsTreeAt 0 1 r v page) (sym es) tree)

@@ -1,8 +1,8 @@
--- What is after a leaf, and the branch that has the first key of it.
+-- The pairs after a leaf, and the branch with the first key among them.
 use Rattle.std.proofs.Common.{◌≡◌, ℕ, zero, suc, ◌+◌, ◌-◌, ◌<◌, ◌≤◌, true, false, Bool, List, [], ◌∷◌, ◌++◌, length, take, drop, map, ap, sym, subst, ◌∙◌, arith, if◌then◌else◌}
 use Rattle.std.specs.declared.option.Option.{Option}
 use Rattle.std.proofs.lemmas.List.{append-nil, drop-drop, take-append-drop}
-use Rattle.be_pages.specs.declared.room.Standing.{Standing}
+use Rattle.be_pages.specs.declared.room.PageState.{PageState}
 use Rattle.be_tree_reading.specs.Pair.{Pair}
 use Rattle.be_tree_reading.specs.Key.{IsRising, StartsAt}
 use Rattle.be_tree_reading.specs.Page.{item_at, item_place, items_of}
@@ -15,46 +15,46 @@ use Rattle.be_tree_reading.proofs.Ranges.{next_from}
 use Rattle.be_tree_reading.proofs.Reading.Cursors.{leads_down, past_end}
 use Rattle.be_tree_reading.proofs.Reading.Leaves.{any_past, first_of_two, got_first, last_leaf, none_left, rest_at, whole_leaf}
 
--- the number of a place
+-- the number at a place
 pub number_back : (place n : ℕ) → place ≡ item_place n → number_at_place place ≡ n
 number_back place n e = omega (arith, e)
 
--- more after a list leaves its first key
+-- appending to a list doesn't change its first key
 starts_append : (k : List ℕ) (xs ys : List Pair) → StartsAt k xs → StartsAt k (xs ++ ys)
 starts_append k [] ys none = absurd none
 starts_append k (x ∷ xs) ys is = is
 
-module _ (level below : ℕ) (standing : ℕ → Standing) (words : ℕ → ℕ → ℕ) (least page next : ℕ) where
+module _ (level below : ℕ) (page_state : ℕ → PageState) (words : ℕ → ℕ → ℕ) (least page next : ℕ) where
   -- a branch has the first key below it
-  starts_from : level ≡ suc below → IsTreeAt level least standing words page → next < words page 1
+  starts_from : level ≡ suc below → IsTreeAt level least page_state words page → next < words page 1
       → StartsAt (item_at (words page) (item_place next)).key (pairs_below level words (drop next (items_of (words page))))
   starts_from e tree lt =
       let branch = item_at (words page) (item_place next) in
       let items = items_of (words page) in
-      let inner = subst (λ l. IsTreeAt l least standing words page) e tree in
+      let inner = subst (λ l. IsTreeAt l least page_state words page) e tree in
       let in_items : next < length items = omega (arith, lt, items_count (words page)) in
       let starts = subst (λ (x : Pair). StartsAt x.key (pairs_at below words (child x))) (item_get (words page) next branch lt) (inner.below.shaped next branch in_items).1.starts in
-      let lead = leads_down level below standing words least page next e tree lt in
+      let lead = leads_down level below page_state words least page next e tree lt in
       subst (StartsAt branch.key) (sym lead.parts) (starts_append branch.key (pairs_at below words (child branch)) (pairs_below level words (drop (next + 1) items)) starts)
 
-  -- the branch after the one that was taken
-  pub next_here : (rest : List Pair) → level ≡ suc below → IsTreeAt level least standing words page → next < words page 1
-      → IsNext standing words page (item_place next) (pairs_below level words (drop next (items_of (words page))) ++ rest)
+  -- the branch after the one taken
+  pub next_here : (rest : List Pair) → level ≡ suc below → IsTreeAt level least page_state words page → next < words page 1
+      → IsNext page_state words page (item_place next) (pairs_below level words (drop next (items_of (words page))) ++ rest)
   next_here rest e tree lt = record {
     none = λ z. absurd (omega (arith, z));
     starts = λ _. starts_append (item_at (words page) (item_place next)).key (pairs_below level words (drop next (items_of (words page)))) rest (starts_from e tree lt);
     is_item = λ _. tree.node.is_page.each next lt;
     in_page = omega (arith, lt, tree.node.is_page.few);
-    readable = λ _. readable_kept (standing page) tree.page_in_use;
+    readable = λ _. readable_kept (page_state page) tree.page_in_use;
   }
 
-  -- none is after it on this page
-  pub next_above : (rest : List Pair) (q place : ℕ) → words page 1 ≤ next → IsNext standing words q place rest
-      → IsNext standing words q place (pairs_below level words (drop next (items_of (words page))) ++ rest)
+  -- no branch is after it on this page
+  pub next_above : (rest : List Pair) (q place : ℕ) → words page 1 ≤ next → IsNext page_state words q place rest
+      → IsNext page_state words q place (pairs_below level words (drop next (items_of (words page))) ++ rest)
   next_above rest q place end is =
-      subst (IsNext standing words q place) (sym (ap (λ xs. xs ++ rest) (past_end words (record { page = page; next = next; level = level }) (omega (arith, end, items_count (words page)))))) is
+      subst (IsNext page_state words q place) (sym (ap (λ xs. xs ++ rest) (past_end words (record { page = page; next = next; level = level }) (omega (arith, end, items_count (words page)))))) is
 
--- no key is within the bound if the first isn't
+-- if the first key is above the bound, none is within it
 pub none_within : (k : List ℕ) (rest : List Pair) (high : Option (List ℕ)) → StartsAt k rest → is_past high k ≡ true → numbers_to rest high ≡ []
 none_within k [] high starts past = absurd starts
 none_within k (x ∷ xs) high same past =
@@ -77,12 +77,12 @@ last_of words number last le e =
     ∙ ap (λ zs. take m xs ++ zs)
     (drop-drop m number items ∙ ap (λ n. drop n items) place ∙ rest_at words last (omega (arith, e)) ∙ ap (λ ys. item_at words (item_place last) ∷ ys) (none_left words (last + 1) (omega (arith, e))))
 
--- a tree's pairs rise
-pub root_rising : (root : ℕ) (standing : ℕ → Standing) (words : ℕ → ℕ → ℕ) → IsTree standing words root → IsRising (pairs words root)
-root_rising zero standing words tree = tt
-root_rising (suc page) standing words tree = tree.below.rising
+-- a tree's pairs ascend
+pub root_rising : (root : ℕ) (page_state : ℕ → PageState) (words : ℕ → ℕ → ℕ) → IsTree page_state words root → IsRising (pairs words root)
+root_rising zero page_state words tree = tt
+root_rising (suc page) page_state words tree = tree.below.rising
 
--- what a list has got of all numbers once those of the first leaf were pushed
+-- what a list has gained of all numbers after those of the first leaf were pushed
 module _ (before mid : List ℕ) (all xs rest : List Pair) (high : Option (List ℕ)) (parts : all ≡ xs ++ rest) where
   begun : HasGot before (numbers_to all high) (numbers_to (xs ++ rest) high) before
   begun = record { got = []; parts = ap (λ (ps : List Pair). numbers_to ps high) parts; is = sym (append-nil before) }

@@ -1,21 +1,21 @@
--- What stands below the items of a node, in parts and while other pages change.
+-- What is below a node's items, in parts and while other pages change.
 use Rattle.std.proofs.Common.{◌≡◌, ℕ, zero, suc, ◌+◌, ◌<◌, ◌≤◌, List, [], ◌∷◌, ◌++◌, length, get_or, All, IsTrue, ap, sym, subst, ◌∙◌, refl, arith}
 use mathlib.Core.Bool.{false≢true}
 use Rattle.std.specs.List.{flat_map}
 use Rattle.std.proofs.lemmas.List.{get_or_append_left, get_or-append-add, length-append}
 use Rattle.std.proofs.lemmas.List.Concat.{flat_map-append}
 use Rattle.std.proofs.lemmas.List.Elements.{All-append}
-use Rattle.be_pages.specs.declared.room.Standing.{Standing}
+use Rattle.be_pages.specs.declared.room.PageState.{PageState}
 use Rattle.be_pages.specs.Pages.{is_kept, times, Swaps}
 use Rattle.be_tree_reading.specs.Pair.{Pair}
 use Rattle.be_tree_reading.specs.Key.{IsRising}
 use Rattle.be_tree_reading.specs.Page.{items_of}
 use Rattle.be_tree_reading.specs.Tree.{child, pairs_at, pairs_below, pages_at, pages_below, IsNode, IsBranch, AreShaped, IsBelow}
 use Rattle.be_tree_reading.proofs.Order.{IsRising_left, IsRising_right}
-use Rattle.be_tree_reading.proofs.Frame.{times_append, times-cons, times_tail, same_page, swaps_same, swaps_stands, swaps_fresh, readable_kept}
+use Rattle.be_tree_reading.proofs.Frame.{times_append, times-cons, times_tail, same_page, swaps_same, swaps_stays, swaps_fresh, readable_kept}
 use Rattle.be_tree_reading.proofs.TreeFacts.{times_part}
 
--- what stands below two lists of items
+-- what is below two lists of items
 pub pairs_append : (level : ℕ) (words : ℕ → ℕ → ℕ) (xs ys : List Pair) → pairs_below level words (xs ++ ys) ≡ pairs_below level words xs ++ pairs_below level words ys
 pairs_append zero words xs ys = refl
 pairs_append (suc level) words xs ys = flat_map-append (λ b. pairs_below level words (items_of (words (child b)))) xs ys
@@ -44,7 +44,7 @@ times_both level words left right q =
       times_pages level words (items_of (words (child left))) (items_of (words (child right))) q,
     )
 
--- all of a list of which a part holds it
+-- what holds for all of a list holds for all of a part
 pub all_left : {A : Type 0} (P : A → Type 0) (xs ys : List A) → All P (xs ++ ys) → All P xs
 all_left P xs ys all i d lt = subst P (get_or_append_left xs ys d i lt) (all i d (omega (arith, length-append xs ys, lt)))
 
@@ -63,8 +63,8 @@ shaped_append : (level : ℕ) (words : ℕ → ℕ → ℕ) (xs ys : List Pair) 
 shaped_append zero words xs ys g h = tt
 shaped_append (suc level) words xs ys g h = All-append (λ b. IsNode level 6 (words (child b)) × IsBranch b (pairs_at level words (child b)) × AreShaped level words (items_of (words (child b)))) xs ys g h
 
-module _ (level : ℕ) (standing : ℕ → Standing) (words : ℕ → ℕ → ℕ) (xs ys : List Pair) where
-  pub below_left : IsBelow level standing words (xs ++ ys) → IsBelow level standing words xs
+module _ (level : ℕ) (page_state : ℕ → PageState) (words : ℕ → ℕ → ℕ) (xs ys : List Pair) where
+  pub below_left : IsBelow level page_state words (xs ++ ys) → IsBelow level page_state words xs
   below_left h = record {
     keys_fit = all_left (λ item. length item.key ≤ 264) xs ys h.keys_fit;
     shaped = shaped_left level words xs ys h.shaped;
@@ -73,7 +73,7 @@ module _ (level : ℕ) (standing : ℕ → Standing) (words : ℕ → ℕ → �
     in_use = λ q some. h.in_use q (omega (arith, times_pages level words xs ys q, some));
   }
 
-  pub below_right : IsBelow level standing words (xs ++ ys) → IsBelow level standing words ys
+  pub below_right : IsBelow level page_state words (xs ++ ys) → IsBelow level page_state words ys
   below_right h = record {
     keys_fit = all_right (λ item. length item.key ≤ 264) xs ys h.keys_fit;
     shaped = shaped_right level words xs ys h.shaped;
@@ -82,8 +82,8 @@ module _ (level : ℕ) (standing : ℕ → Standing) (words : ℕ → ℕ → �
     in_use = λ q some. h.in_use q (omega (arith, times_pages level words xs ys q, some));
   }
 
-  pub below_append : IsBelow level standing words xs → IsBelow level standing words ys → IsRising (pairs_below level words xs ++ pairs_below level words ys)
-      → ((q : ℕ) → times q (pages_below level words xs) + times q (pages_below level words ys) ≤ 1) → IsBelow level standing words (xs ++ ys)
+  pub below_append : IsBelow level page_state words xs → IsBelow level page_state words ys → IsRising (pairs_below level words xs ++ pairs_below level words ys)
+      → ((q : ℕ) → times q (pages_below level words xs) + times q (pages_below level words ys) ≤ 1) → IsBelow level page_state words (xs ++ ys)
   below_append f g rising apart = record {
     keys_fit = All-append (λ item. length item.key ≤ 264) xs ys f.keys_fit g.keys_fit;
     shaped = shaped_append level words xs ys f.shaped g.shaped;
@@ -92,7 +92,7 @@ module _ (level : ℕ) (standing : ℕ → Standing) (words : ℕ → ℕ → �
     in_use = λ q some. either q (times q (pages_below level words xs)) refl (omega (arith, times_pages level words xs ys q, some));
   }
     where
-      either : (q n : ℕ) → times q (pages_below level words xs) ≡ n → 0 < n + times q (pages_below level words ys) → IsTrue (is_kept (standing q))
+      either : (q n : ℕ) → times q (pages_below level words xs) ≡ n → 0 < n + times q (pages_below level words ys) → IsTrue (is_kept (page_state q))
       either q zero e some = g.in_use q (omega (arith, some))
       either q (suc n) e some = f.in_use q (omega (arith, e))
 
@@ -144,11 +144,11 @@ shaped_same (suc level) v w items same h = λ i d lt.
       subst (AreShaped level w) (sym read) (shaped_same level v w (items_of (v (child b))) deeper here.2),
     )
 
-module _ {S K : Type 0} (kept_of : S → K) (standing_of : S → ℕ → Standing) (words_of : S → ℕ → ℕ → ℕ) (before after : List ℕ) (old new : S) (swaps : Swaps kept_of standing_of words_of before after old new)
-    (level : ℕ) (items : List Pair) (below : IsBelow level (standing_of old) (words_of old) items) (apart : (q : ℕ) → times q before + times q (pages_below level (words_of old) items) ≤ 1) where
-  -- a page of the part has its words still
+module _ {S K : Type 0} (kept_of : S → K) (page_state_of : S → ℕ → PageState) (words_of : S → ℕ → ℕ → ℕ) (before after : List ℕ) (old new : S) (swaps : Swaps kept_of page_state_of words_of before after old new)
+    (level : ℕ) (items : List Pair) (below : IsBelow level (page_state_of old) (words_of old) items) (apart : (q : ℕ) → times q before + times q (pages_below level (words_of old) items) ≤ 1) where
+  -- a page of the part still has its words
   beside_words : (q : ℕ) → 0 < times q (pages_below level (words_of old) items) → words_of new q ≡ words_of old q
-  beside_words q some = swaps_same kept_of standing_of words_of before after old new swaps q (omega (arith, apart q, some)) (readable_kept (standing_of old q) (below.in_use q some))
+  beside_words q some = swaps_same kept_of page_state_of words_of before after old new swaps q (omega (arith, apart q, some)) (readable_kept (page_state_of old q) (below.in_use q some))
 
   pub beside_pairs : pairs_below level (words_of new) items ≡ pairs_below level (words_of old) items
   beside_pairs = pairs_same level (words_of old) (words_of new) items beside_words
@@ -156,7 +156,7 @@ module _ {S K : Type 0} (kept_of : S → K) (standing_of : S → ℕ → Standin
   pub beside_pages : pages_below level (words_of new) items ≡ pages_below level (words_of old) items
   beside_pages = pages_same level (words_of old) (words_of new) items beside_words
 
-  pub beside_below : IsBelow level (standing_of new) (words_of new) items
+  pub beside_below : IsBelow level (page_state_of new) (words_of new) items
   beside_below = record {
     keys_fit = below.keys_fit;
     shaped = shaped_same level (words_of old) (words_of new) items beside_words below.shaped;
@@ -164,10 +164,10 @@ module _ {S K : Type 0} (kept_of : S → K) (standing_of : S → ℕ → Standin
     once = λ q. omega (arith, ap (times q) beside_pages, below.once q);
     in_use = λ q some.
         let was : 0 < times q (pages_below level (words_of old) items) = omega (arith, ap (times q) beside_pages, some) in
-        subst (λ s. IsTrue (is_kept s)) (sym (swaps_stands kept_of standing_of words_of before after old new swaps q (omega (arith, apart q, was)) (readable_kept (standing_of old q) (below.in_use q was)))) (below.in_use q was);
+        subst (λ s. IsTrue (is_kept s)) (sym (swaps_stays kept_of page_state_of words_of before after old new swaps q (omega (arith, apart q, was)) (readable_kept (page_state_of old q) (below.in_use q was)))) (below.in_use q was);
   }
 
-  -- the pages that come into use are none of the part's
+  -- the pages that newly come into use aren't among the part's
   pub beside_apart : (q : ℕ) → times q after ≤ 1 → times q after + times q (pages_below level (words_of old) items) ≤ 1
   beside_apart q once = split (times q (pages_below level (words_of old) items)) (times q after) refl refl
     where
@@ -175,5 +175,5 @@ module _ {S K : Type 0} (kept_of : S → K) (standing_of : S → ℕ → Standin
       split zero m en em = omega (arith, en, once)
       split (suc n) zero en em = omega (arith, en, em, apart q)
       split (suc n) (suc m) en em =
-          let free = swaps_fresh kept_of standing_of words_of before after old new swaps q (omega (arith, apart q, en)) (omega (arith, em)) in
+          let free = swaps_fresh kept_of page_state_of words_of before after old new swaps q (omega (arith, apart q, en)) (omega (arith, em)) in
           absurd (false≢true (ap is_kept (sym free) ∙ below.in_use q (omega (arith, en))))

@@ -1,11 +1,11 @@
--- A tree is no higher than it has pages, and it has no more pages than there are.
+-- A tree has no more levels than pages, and no more pages than there are.
 use Rattle.std.proofs.Common.{◌≡◌, ℕ, zero, suc, ◌+◌, ◌<◌, ◌≤◌, ◌==◌, List, [], ◌∷◌, ◌⊎◌, length, IsTrue, true, false, cond, ap, sym, subst, ◌∙◌, refl, inl, inr, arith}
 use Rattle.std.proofs.lemmas.Bool.{cases_eq}
 use Rattle.std.proofs.lemmas.Bool.Decides.{nat_tests}
 use Rattle.std.proofs.lemmas.List.{length-append}
-use Rattle.be_pages.specs.declared.room.Standing.{Standing}
+use Rattle.be_pages.specs.declared.room.PageState.{PageState}
 use Rattle.be_pages.specs.Pages.{times, is_kept}
-use Rattle.be_pages.specs.declared.room.Standing.TheVariants.{Free}
+use Rattle.be_pages.specs.declared.room.PageState.TheVariants.{Free}
 use mathlib.Core.Bool.{false≢true}
 use Rattle.be_tree_reading.specs.Pair.{Pair}
 use Rattle.be_tree_reading.specs.Page.{items_of}
@@ -47,7 +47,7 @@ none_dropped n (p ∷ ps) =
       | false ↦ λ e. omega (arith, rest, times-cons n p (drop_page n ps), ap (λ b. cond {A = ℕ} b 1 0) e)
     ] refl
 
--- different numbers below n are at most n
+-- there are at most n different numbers below n
 pub pigeonhole : (n : ℕ) (ps : List ℕ) → ((q : ℕ) → times q ps ≤ 1) → ((q : ℕ) → 0 < times q ps → q < n) → length ps ≤ n
 pigeonhole zero [] once small = omega arith
 pigeonhole zero (p ∷ ps) once small = absurd (omega (arith, small p (omega (arith, times-cons p p ps, same_page p))))
@@ -59,7 +59,7 @@ pigeonhole (suc n) ps once small =
     below q some (inl e) = absurd (omega (arith, ap (λ p. times p (drop_page n ps)) e, none_dropped n ps, some))
     below q some (inr ne) = omega (arith, ne, small q (omega (arith, times_dropped q n ps, some)))
 
--- a node of a level has a page for each level below it
+-- a node has a page for each level below it
 level_below : (level : ℕ) (words : ℕ → ℕ → ℕ) (items : List Pair) → AreShaped level words items → 0 < length items → level ≤ length (pages_below level words items)
 level_below zero words items shaped some = omega arith
 level_below (suc level) words [] shaped some = absurd (omega (arith, some))
@@ -69,9 +69,9 @@ level_below (suc level) words (x ∷ xs) shaped some =
     omega (arith, deeper, length-append (pages_at level words (child x)) (pages_below (suc level) words xs))
 
 -- a tree of pages below n has a level below n
-pub level_bound : (n level : ℕ) (standing : ℕ → Standing) (words : ℕ → ℕ → ℕ) (page : ℕ) → IsTreeAt level 1 standing words page
+pub level_bound : (n level : ℕ) (page_state : ℕ → PageState) (words : ℕ → ℕ → ℕ) (page : ℕ) → IsTreeAt level 1 page_state words page
     → ((q : ℕ) → 0 < times q (pages_at level words page) → q < n) → level < n
-level_bound n level standing words page tree small =
+level_bound n level page_state words page tree small =
     let all = pigeonhole n (pages_at level words page) once small in
     omega (arith, all, level_below level words (items_of (words page)) tree.below.shaped (omega (arith, tree.node.enough)))
   where
@@ -88,14 +88,14 @@ level_bound n level standing words page tree small =
         none_other q p ne = grind (arith, nat_tests)
 
 -- each page of a tree is in use
-pub tree_in_use : (level least : ℕ) (standing : ℕ → Standing) (words : ℕ → ℕ → ℕ) (page : ℕ) → IsTreeAt level least standing words page → (q : ℕ) → 0 < times q (pages_at level words page) → IsTrue (is_kept (standing q))
-tree_in_use level least standing words page tree q some = elim (cases_eq q page) [
-  | inl e ↦ subst (λ p. IsTrue (is_kept (standing p))) (sym e) tree.page_in_use
+pub tree_in_use : (level least : ℕ) (page_state : ℕ → PageState) (words : ℕ → ℕ → ℕ) (page : ℕ) → IsTreeAt level least page_state words page → (q : ℕ) → 0 < times q (pages_at level words page) → IsTrue (is_kept (page_state q))
+tree_in_use level least page_state words page tree q some = elim (cases_eq q page) [
+  | inl e ↦ subst (λ p. IsTrue (is_kept (page_state p))) (sym e) tree.page_in_use
   | inr ne ↦ tree.below.in_use q (omega (arith, some, times-cons q page (pages_below level words (items_of (words page))), none_other q page ne))
 ]
   where
     none_other : (q p : ℕ) → (q ≡ p → ⊥) → cond {A = ℕ} (p == q) 1 0 ≡ 0
     none_other q p ne = grind (arith, nat_tests)
 
-pub kept_not_free : (s : Standing) → IsTrue (is_kept s) → s ≡ Free → ⊥
+pub kept_not_free : (s : PageState) → IsTrue (is_kept s) → s ≡ Free → ⊥
 kept_not_free s used free = false≢true (ap is_kept (sym free) ∙ used)

@@ -1,8 +1,8 @@
 use Rattle.std.proofs.Common.{◌≡◌, Some, inl, inr, refl, subst, sym, true, ◌∙◌}
 use Rattle.be_session.specs.Changes.{IsUnwrittenChange}
-use Rattle.be_session.specs.Operations.{AreMeant, IsMisspelt}
+use Rattle.be_session.specs.Operations.{AreMeant, IsInvalid}
 use Rattle.bestore_c.specs.Calls.{IsClosed}
-use Rattle.bestore_c.specs.Drafts.{WritesSpelledChange}
+use Rattle.bestore_c.specs.Drafts.{WritesEncodedChange}
 use Rattle.std.specs.Prelude.{is_some}
 use Rattle.bestore_c.proofs.Called.{called, stays}
 use Rattle.bestore_c.proofs.bes_apply_change.Goals as goal
@@ -13,11 +13,11 @@ returns-in-Err c =
     let full : is_some c.args.pass.now.owned.value ≡ true = sym open_is ∙ c.if-not-pass.false in
     let number = c.refuse_list.new.number in
     record {
-      pass = stays c.args.pass.now.owned.value (IsClosed number c.refuse_list.result) (λ s t. WritesSpelledChange s t c.args.spelled.now c.args.bytes.now number c.refuse_list.result)
+      pass = stays c.args.pass.now.owned.value (IsClosed number c.refuse_list.result) (λ s t. WritesEncodedChange s t c.args.encoded.now c.args.bytes.now number c.refuse_list.result)
           full (λ s. inl (
-            c.in-Err.misspelt.fault,
+            c.in-Err.invalid.fault,
             c.refuse_list.ensures.code,
-            subst (IsMisspelt c.args.spelled.now c.args.bytes.now c.in-Err.misspelt.fault) (sym c.refuse_list.ensures.place) c.in-Err.ensures.err,
+            subst (IsInvalid c.args.encoded.now c.args.bytes.now c.in-Err.invalid.fault) (sym c.refuse_list.ensures.place) c.in-Err.ensures.err,
             refl,
           ));
     }
@@ -32,7 +32,7 @@ returns c =
           (inr (
             c.in-Ok.ensures.count,
             c.as_slice.result.now,
-            subst (AreMeant c.args.spelled.now c.args.bytes.now) (sym c.as_slice.ensures.value) c.in-Ok.ensures.ok,
+            subst (AreMeant c.args.encoded.now c.args.bytes.now) (sym c.as_slice.ensures.value) c.in-Ok.ensures.ok,
             inr (
               c.in-Err-apply_change.fault.fault,
               c.refuse_list-in-Err-apply_change.ensures.code,

@@ -1,6 +1,6 @@
 use Rattle.std.proofs.Common.{◌≡◌, Some, inl, inr, refl, subst, sym, true, ◌∙◌}
-use Rattle.be_session.specs.Operations.{AreMeant, IsMisspelt}
-use Rattle.bestore_c.specs.Calls.{IsClosed, WritesSpelledIf}
+use Rattle.be_session.specs.Operations.{AreMeant, IsInvalid}
+use Rattle.bestore_c.specs.Calls.{IsClosed, WritesEncodedIf}
 use Rattle.std.specs.Prelude.{is_some}
 use Rattle.bestore_c.proofs.Called.{called, stays}
 use Rattle.bestore_c.proofs.bes_apply_if.Goals as goal
@@ -10,12 +10,12 @@ returns-in-Err-clause-pass c =
     let open_is : c.args.pass.now.live ≡ is_some c.args.pass.now.owned.value = c.args.pass.now.full in
     let full : is_some c.args.pass.now.owned.value ≡ true = sym open_is ∙ c.if-not-pass.false in
     let number = c.refuse_list.new.number in
-    stays c.args.pass.now.owned.value (IsClosed number c.refuse_list.result) (λ s t. WritesSpelledIf s t c.args.expected c.args.spelled.now c.args.bytes.now
+    stays c.args.pass.now.owned.value (IsClosed number c.refuse_list.result) (λ s t. WritesEncodedIf s t c.args.expected c.args.encoded.now c.args.bytes.now
     c.args.made.now c.args.made.now number c.refuse_list.result)
     full (λ s. inl (
-      c.in-Err.misspelt.fault,
+      c.in-Err.invalid.fault,
       c.refuse_list.ensures.code,
-      subst (IsMisspelt c.args.spelled.now c.args.bytes.now c.in-Err.misspelt.fault) (sym c.refuse_list.ensures.place) c.in-Err.ensures.err,
+      subst (IsInvalid c.args.encoded.now c.args.bytes.now c.in-Err.invalid.fault) (sym c.refuse_list.ensures.place) c.in-Err.ensures.err,
       refl,
     ))
 
@@ -27,6 +27,6 @@ returns-clause-pass c =
     (inr (
       c.in-Ok.ensures.count,
       c.as_slice.result.now,
-      subst (AreMeant c.args.spelled.now c.args.bytes.now) (sym c.as_slice.ensures.value) c.in-Ok.ensures.ok,
+      subst (AreMeant c.args.encoded.now c.args.bytes.now) (sym c.as_slice.ensures.value) c.in-Ok.ensures.ok,
       inr (c.in-Err-apply_if.fault, c.refuse.ensures, c.in-Err-apply_if.ensures.err),
     ))

@@ -6,8 +6,8 @@ use Rattle.bestore_c.proofs.bes_change_batch.Goals as goal
 
 pub returns-clause-listed : goal.returns-clause-listed
 returns-clause-listed c =
-    subst (λ d. ListsDraft d c.put_spelled.new.counts c.args.listed.now c.put_spelled.new.operations c.args.bytes.now c.put_spelled.new.bytes c.put_spelled.result)
+    subst (λ d. ListsDraft d c.put_encoded.new.counts c.args.listed.now c.put_encoded.new.operations c.args.bytes.now c.put_encoded.new.bytes c.put_encoded.result)
     (sym c.lent.ensures.value)
-    (subst (λ (ops : List Op). IsPutOut ops c.put_spelled.new.counts c.args.listed.now c.put_spelled.new.operations c.args.bytes.now c.put_spelled.new.bytes c.put_spelled.result)
+    (subst (λ (ops : List Op). IsPutOut ops c.put_encoded.new.counts c.args.listed.now c.put_encoded.new.operations c.args.bytes.now c.put_encoded.new.bytes c.put_encoded.result)
     c.operations.ensures.list
-    (c.put_spelled.ensures.listed c.operations.result.now c.operations_spelled-spelled.ensures.ok c.operations_spelled-spelled.ensures.err))
+    (c.put_encoded.ensures.listed c.operations.result.now c.encoded_operations-encoded.ensures.ok c.encoded_operations-encoded.ensures.err))

@@ -16,13 +16,13 @@ returns-in-Err-clause-pass c =
 pub returns-clause-pass : goal.returns-clause-pass
 returns-clause-pass c =
     let was : c.args.pass.now.owned.value ≡ Some c.lent.result.now = c.lent.ensures.value in
-    called c.args.pass.now.owned.value _ c.lent.result.now c.query-answer.new.self (IsClosed c.tell.new.count c.tell.result)
-    (λ s t. Finds s t c.args.text.now c.args.nodes.now c.tell.new.nodes c.tell.new.count c.tell.result) was refl c.query-answer.ensures.store.0
+    called c.args.pass.now.owned.value _ c.lent.result.now c.query-answer.new.self (IsClosed c.report.new.count c.report.result)
+    (λ s t. Finds s t c.args.text.now c.args.nodes.now c.report.new.nodes c.report.new.count c.report.result) was refl c.query-answer.ensures.store.0
     c.query-answer.ensures.store.1
     (inr (
       c.in-Ok.query,
       c.in-Ok.ensures.query,
       c.query-answer.ensures.read,
-      c.tell.ensures.found (pinned_number c.lent.result.now.knows.phase)
+      c.report.ensures.found (pinned_number c.lent.result.now.knows.phase)
           (scan (volume_pinned c.lent.result.now.knows) c.in-Ok.query) c.query-answer.ensures.nodes,
     ))

@@ -1,9 +1,9 @@
 use Rattle.std.proofs.Common.{◌≡◌, [], Some, ap, refl, subst, sym, true, ◌∙◌}
 use Rattle.std.specs.Prelude.{is_some}
-use Rattle.be_session.specs.States.{untold}
+use Rattle.be_session.specs.States.{unreported}
 use Rattle.be_store.specs.Passes.{volume_pinned}
 use Rattle.be_table.specs.Seats.{pinned_number}
-use Rattle.bestore_c.specs.States.{TellsState, untold_at}
+use Rattle.bestore_c.specs.States.{ReportsState, unreported_at}
 use Rattle.bestore_c.proofs.Called.{called, stays}
 use Rattle.bestore_c.proofs.Stated.{state_spent}
 use Rattle.bestore_c.proofs.bes_state.Goals as goal
@@ -21,10 +21,10 @@ pub returns-clause-pass : goal.returns-clause-pass
 returns-clause-pass c =
     let was : c.args.pass.now.owned.value ≡ Some c.lent.result.now = c.lent.ensures.value in
     let volume = volume_pinned c.lent.result.now.knows in
-    let there : untold volume c.lent-2.result.now ≡ untold_at volume c.args.place.now.owned.value =
-    ap (untold_at volume) (sym c.lent-2.ensures.value) ∙ c.begin.ensures.same volume in
-    called c.args.pass.now.owned.value _ c.lent.result.now c.tell_state.new.session _ _ was refl c.tell_state.ensures.store.0 c.tell_state.ensures.store.1 (
-      c.tell_state.ensures.read,
-      subst (λ before. TellsState (pinned_number c.lent.result.now.knows.phase) before (untold volume c.tell_state.new.place) c.tell_state.new.counts
-          c.args.listed.now c.tell_state.new.operations c.args.bytes.now c.tell_state.new.bytes c.tell_state.result) there c.tell_state.ensures.told,
+    let there : unreported volume c.lent-2.result.now ≡ unreported_at volume c.args.place.now.owned.value =
+    ap (unreported_at volume) (sym c.lent-2.ensures.value) ∙ c.begin.ensures.same volume in
+    called c.args.pass.now.owned.value _ c.lent.result.now c.report_state.new.session _ _ was refl c.report_state.ensures.store.0 c.report_state.ensures.store.1 (
+      c.report_state.ensures.read,
+      subst (λ before. ReportsState (pinned_number c.lent.result.now.knows.phase) before (unreported volume c.report_state.new.place) c.report_state.new.counts
+          c.args.listed.now c.report_state.new.operations c.args.bytes.now c.report_state.new.bytes c.report_state.result) there c.report_state.ensures.reported,
     )

@@ -3,7 +3,7 @@ use Rattle.std.specs.Prelude.{string_bytes}
 use Rattle.std.proofs.lemmas.Grind.{common_steps}
 use Rattle.be_pattern.specs.Match.{Only}
 use Rattle.be_byte_pattern.specs.Runs.{after_stars}
-use Rattle.be_byte_pattern.proofs.Spelling.{leaves_none, leaves_run}
+use Rattle.be_byte_pattern.proofs.CanonicalStarts.{leaves_none, leaves_run}
 use Rattle.be_byte_pattern.proofs.reading.read_runs.Goals as goal
 
 pushed : {X : Type 0} (f : X → List ℕ) (xs : List X) (x : X) → map f (xs ++ x ∷ []) ≡ map f xs ++ f x ∷ []

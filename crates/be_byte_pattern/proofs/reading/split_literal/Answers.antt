@@ -3,7 +3,7 @@ use Rattle.std.specs.Prelude.{IfSome, encode_utf8, encode_utf8_all}
 use Rattle.be_pattern.specs.Match.{Part}
 use Rattle.be_pattern.specs.Canonical.{canonical}
 use Rattle.be_byte_pattern.specs.Runs.{BeginsWith}
-use Rattle.be_byte_pattern.proofs.Spelling.{marked_begins, plain_begins}
+use Rattle.be_byte_pattern.proofs.CanonicalStarts.{marked_begins, plain_begins}
 use Rattle.be_byte_pattern.proofs.reading.split_literal.Goals as goal
 
 marked_some : (text middle : List ℕ) (mark : ℕ) (r : Option (ℕ × Bor (List ℕ))) → mark ≡ 92 → text ≡ encode_utf8 mark ++ middle

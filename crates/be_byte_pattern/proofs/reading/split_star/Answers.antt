@@ -1,4 +1,4 @@
-use Rattle.be_byte_pattern.proofs.Spelling.{star_leaves}
+use Rattle.be_byte_pattern.proofs.CanonicalStarts.{star_leaves}
 use Rattle.be_byte_pattern.proofs.reading.split_star.Goals as goal
 
 pub returns-in-Some-eq42-default-clause-star : goal.returns-in-Some-eq42-default-clause-star

@@ -1,5 +1,5 @@
 use Rattle.std.proofs.Common.{◌≡◌, ◌-◌, ◌≤◌, length, drop, arith, ap, ◌∙◌}
-use Rattle.be_byte_pattern.proofs.Standing.{end_found}
+use Rattle.be_byte_pattern.proofs.LiteralRuns.{end_found}
 use Rattle.be_byte_pattern.proofs.runs.ends_with.Goals as goal
 
 pub returns : goal.returns

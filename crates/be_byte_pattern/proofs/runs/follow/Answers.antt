@@ -1,7 +1,7 @@
 use Rattle.std.proofs.Common.{◌≡◌, ◌∷◌, length, map, ap, arith, rules}
 use Rattle.std.specs.Prelude.{string_bytes}
 use Rattle.std.proofs.lemmas.Grind.{common_steps}
-use Rattle.be_byte_pattern.proofs.Standing.{none_mapped, run_absent, run_ends, run_passed, some_mapped}
+use Rattle.be_byte_pattern.proofs.LiteralRuns.{none_mapped, run_absent, run_ends, run_passed, some_mapped}
 use Rattle.be_byte_pattern.proofs.runs.follow.Goals as goal
 
 pub returns-then-is_empty : goal.returns-then-is_empty

@@ -10,7 +10,7 @@ write_parts-requires-clause-room c =
       few = c.requires.few;
       each = c.requires.each;
       of_ops = c.ops_can_be.ensures;
-      of_dones = c.dones_can_be.ensures;
+      of_outcomes = c.outcomes_can_be.ensures;
     } in
     let short : length (entry_bytes c.args.by c.args.ops.now c.args.dones.now) ≤ most_bytes (length c.args.ops.now) = entry_short c.args.by c.args.ops.now c.args.dones.now can_be in
     omega (arith, short, c.requires.room)
@@ -21,5 +21,5 @@ returns-clause-can_be c = record {
   few = c.requires.few;
   each = c.requires.each;
   of_ops = c.ops_can_be.ensures;
-  of_dones = c.dones_can_be.ensures;
+  of_outcomes = c.outcomes_can_be.ensures;
 }

@@ -16,14 +16,14 @@ returns-then-not-agrees c =
 
 pub loop-entry-preserved : goal.loop-entry-preserved
 loop-entry-preserved c =
-    let told : steps c.loop-entry.reached c.entry-item.result.ops ≡ Ok (c.in_ok-next.next, c.entry-item.result.dones) = c.in_ok-next.ensures.so c.if-not-agrees.false in
+    let reported : steps c.loop-entry.reached c.entry-item.result.ops ≡ Ok (c.in_ok-next.next, c.entry-item.result.dones) = c.in_ok-next.ensures.so c.if-not-agrees.false in
     let old : c.in_ok-next.next.next ≤ c.loop-entry.reached.next + 64 = c.in_ok-next.ensures.grows in
     let bound : c.loop-entry.reached.next ≤ 1 + 64 * c.loop-entry.entry-index = c.loop-entry.invariant.bound in
     record {
       place = ap (λ n. n + 1) c.loop-entry.invariant.place;
-      volume = replay_agreed _ _ _ _ _ c.loop-entry-test.true c.entry-item.is c.loop-entry.invariant.volume told;
+      volume = replay_agreed _ _ _ _ _ c.loop-entry-test.true c.entry-item.is c.loop-entry.invariant.volume reported;
       bound = omega arith;
-      agree = agree_more _ _ c.entry-item.result c.entry-item.is (subst (λ s. Agrees s c.entry-item.result) c.loop-entry.invariant.volume (c.in_ok-next.next, told)) c.loop-entry.invariant.agree c.loop-entry-test.true;
+      agree = agree_more _ _ c.entry-item.result c.entry-item.is (subst (λ s. Agrees s c.entry-item.result) c.loop-entry.invariant.volume (c.in_ok-next.next, reported)) c.loop-entry.invariant.agree c.loop-entry-test.true;
     }
 
 pub returns : goal.returns

@@ -1,7 +1,7 @@
 use Rattle.std.proofs.Common.{ap, ◌∙◌}
 use Rattle.std.specs.Option.{option_map}
 use Rattle.be_journal_text.proofs.PartLemmas.{none_of_length}
-use Rattle.be_journal_text.proofs.TellLemmas.{from_last_j, is_from_last_j, or_else}
+use Rattle.be_journal_text.proofs.ReportLemmas.{from_last_j, is_from_last_j, or_else}
 use Rattle.be_journal_text.proofs.outputs.from_last_j.Goals as goal
 
 pub returns : goal.returns

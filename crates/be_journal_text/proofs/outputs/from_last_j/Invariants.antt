@@ -1,6 +1,6 @@
 use Rattle.std.proofs.Common.{◌≡◌, true, length}
 use Rattle.std.specs.Option.{option_map}
-use Rattle.be_journal_text.proofs.TellLemmas.{from_last_j, or_else}
+use Rattle.be_journal_text.proofs.ReportLemmas.{from_last_j, or_else}
 use Rattle.be_journal_text.proofs.outputs.from_last_j.Given as goal
 
 abbrev pub invariant-loop-byte : goal.invariant-loop-byte

@@ -3,7 +3,7 @@ use Rattle.std.specs.Option.{option_map}
 use Rattle.be_journal.specs.Text.{lines_from}
 use Rattle.be_journal_text.specs.Finding.{head}
 use Rattle.be_journal_text.proofs.ReadLemmas.{inside, never_some}
-use Rattle.be_journal_text.proofs.TellLemmas.{one_front, result_cut, result_made}
+use Rattle.be_journal_text.proofs.ReportLemmas.{one_front, result_cut, result_made}
 use Rattle.be_journal_text.proofs.outputs.read_result.Goals as goal
 
 pub returns-in_default-clause-whole : goal.returns-in_default-clause-whole

@@ -15,9 +15,9 @@ nothing_turned turns.Enters items = refl
 pub returns-in_default-clause-ok : goal.returns-in_default-clause-ok
 returns-in_default-clause-ok g c =
     let words = g.R.Look.words c.args.room.now in
-    rw c.in_default.is (subst (λ (items : List Pair). BecomesTree g.R.Look.kept g.R.Look.standing g.R.Look.words (pages words c.args.root) items c.args.root c.args.room.now c.args.room.now)
+    rw c.in_default.is (subst (λ (items : List Pair). BecomesTree g.R.Look.kept g.R.Look.page_state g.R.Look.words (pages words c.args.root) items c.args.root c.args.room.now c.args.room.now)
     (sym (nothing_turned c.args.turn (pairs words c.args.root)))
-    (tree_stays g.R.Look.kept g.R.Look.standing g.R.Look.words c.args.root c.args.room.now c.requires.tree))
+    (tree_stays g.R.Look.kept g.R.Look.page_state g.R.Look.words c.args.root c.args.room.now c.requires.tree))
 
 pub returns-in-Leaves-clause-none : goal.returns-in-Leaves-clause-none
 returns-in-Leaves-clause-none g c = if_ok c.remove.result _ (λ new none. absurd (key_clash _ _ _ c.in-Some.is none))

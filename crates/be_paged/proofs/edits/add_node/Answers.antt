@@ -9,7 +9,7 @@ use Rattle.be_volume.specs.declared.ops.Done.TheVariants.{Node}
 use Rattle.be_volume.proofs.StepLemmas.{made}
 use Rattle.be_paged_reading.specs.Page.{contents}
 use Rattle.be_paged_reading.specs.Catalog.{IsCatalog, catalog_key}
-use Rattle.be_paged.proofs.Applying.Hand.{catalog_changes, catalog_spells}
+use Rattle.be_paged.proofs.Applying.Hand.{catalog_changes, catalog_encodes}
 use Rattle.be_paged_reading.proofs.CatalogPairs.Items.{catalog_new}
 use Rattle.be_paged_reading.proofs.CatalogPairs.Validity.{none_at_next}
 use Rattle.be_paged.proofs.Sizes.Stopping.{catalog_stops, tree_stops}
@@ -21,22 +21,22 @@ insert-requires-clause-tree g c = c.requires.in_hand.0.trees.each 0 0 (omega ari
 
 pub returns-clause-changes : goal.returns-clause-changes
 returns-clause-changes g c =
-    catalog_changes g.R.Look.kept g.R.Look.standing g.R.Look.words c.args.room.now c.insert.new.room (contents c.args.version.now) c.requires.in_hand.0 c.in_ok-version.field-0
+    catalog_changes g.R.Look.kept g.R.Look.page_state g.R.Look.words c.args.room.now c.insert.new.room (contents c.args.version.now) c.requires.in_hand.0 c.in_ok-version.field-0
     c.in_ok-version.ensures.ok.tree c.in_ok-version.ensures.ok.swaps (c.args.version.now.next + 1) c.requires.in_hand.1
 
 pub returns-clause-steps : goal.returns-clause-steps
-returns-clause-steps g c = λ volume spells sound.
+returns-clause-steps g c = λ volume encodes sound.
     let next = c.args.version.now.next in
     let pair : Pair = record { key = c.to_be_bytes.result; payload = [] } in
     let items = pairs (g.R.Look.words c.args.room.now) c.args.version.now.catalog in
-    let fits : volume.next < 2 ^ 64 = omega (arith, c.requires.in_hand.1, spells.next) in
+    let fits : volume.next < 2 ^ 64 = omega (arith, c.requires.in_hand.1, encodes.next) in
     let catalog = catalog_new items volume.nodes volume.next pair fits (none_at_next volume sound)
-    (c.to_be_bytes.ensures ∙ sym (append-nil (to_be_bytes w64 next)) ∙ ap (λ (n : ℕ). catalog_key n []) spells.next) refl spells.catalog in
+    (c.to_be_bytes.ensures ∙ sym (append-nil (to_be_bytes w64 next)) ∙ ap (λ (n : ℕ). catalog_key n []) encodes.next) refl encodes.catalog in
     record {
       made = made volume New;
-      stepped = ap (λ (n : ℕ). Ok (made volume New, Node n)) (sym spells.next);
-      spells = catalog_spells g.R.Look.kept g.R.Look.standing g.R.Look.words c.args.room.now c.insert.new.room (contents c.args.version.now) c.requires.in_hand.0 c.in_ok-version.field-0
-          c.in_ok-version.ensures.ok.tree c.in_ok-version.ensures.ok.swaps volume (next + 1) (volume.next + 1) (fin.insert volume.nodes volume.next fin.empty) (ap (λ (n : ℕ). n + 1) spells.next) spells
+      stepped = ap (λ (n : ℕ). Ok (made volume New, Node n)) (sym encodes.next);
+      encodes = catalog_encodes g.R.Look.kept g.R.Look.page_state g.R.Look.words c.args.room.now c.insert.new.room (contents c.args.version.now) c.requires.in_hand.0 c.in_ok-version.field-0
+          c.in_ok-version.ensures.ok.tree c.in_ok-version.ensures.ok.swaps volume (next + 1) (volume.next + 1) (fin.insert volume.nodes volume.next fin.empty) (ap (λ (n : ℕ). n + 1) encodes.next) encodes
           (subst (λ xs. IsCatalog xs (fin.insert volume.nodes volume.next fin.empty)) (sym c.in_ok-version.ensures.ok.has_pairs) catalog);
     }
 
@@ -44,6 +44,6 @@ pub returns-in_err-version-clause-refused : goal.returns-in_err-version-clause-r
 returns-in_err-version-clause-refused g c =
     let before = contents c.args.version.now in
     let h = c.requires.in_hand.0 in
-    let k = catalog_stops g.R.Look.kept g.R.Look.standing g.R.Look.words c.args.room.now c.insert.new.room before h
-    (tree_stops g.R.Look.kept g.R.Look.standing g.R.Look.words before.catalog c.args.room.now c.insert.new.room (h.trees.each 0 0 (omega arith)) c.in_err-version.ensures.takes.1) in
+    let k = catalog_stops g.R.Look.kept g.R.Look.page_state g.R.Look.words c.args.room.now c.insert.new.room before h
+    (tree_stops g.R.Look.kept g.R.Look.page_state g.R.Look.words before.catalog c.args.room.now c.insert.new.room (h.trees.each 0 0 (omega arith)) c.in_err-version.ensures.takes.1) in
     (search rules, search rules, on_err _ k)

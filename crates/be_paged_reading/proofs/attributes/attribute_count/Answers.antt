@@ -12,7 +12,7 @@ use Rattle.be_paged_reading.proofs.attributes.attribute_count.Goals as goal
 pub returns-in_err-page-clause-count : goal.returns-in_err-page-clause-count
 returns-in_err-page-clause-count g c = λ nodes catalog valid few.
     let v = g.L.Look.words c.args.look.now in
-    let rising = tree_rising (g.L.Look.standing c.args.look.now) v c.args.catalog c.requires.tree in
+    let rising = tree_rising (g.L.Look.page_state c.args.look.now) v c.args.catalog c.requires.tree in
     let now = remaining (g.L.Look.words c.seek.new.look) c.seek.new.self in
     let start = ap (λ (w : ℕ → ℕ → ℕ). remaining w c.seek.new.self) c.seek.ensures.unchanged.words ∙ c.seek.ensures.remaining in
     c.from_residual.ensures
@@ -21,7 +21,7 @@ returns-in_err-page-clause-count g c = λ nodes catalog valid few.
 pub returns-then-not-is_key_at-clause-count : goal.returns-then-not-is_key_at-clause-count
 returns-then-not-is_key_at-clause-count g c = λ nodes catalog valid few.
     let v = g.L.Look.words c.args.look.now in
-    let rising = tree_rising (g.L.Look.standing c.args.look.now) v c.args.catalog c.requires.tree in
+    let rising = tree_rising (g.L.Look.page_state c.args.look.now) v c.args.catalog c.requires.tree in
     let seen = g.L.Look.words c.seek.new.look in
     let item = item_at (seen c.in_ok-page.page) c.in_ok-page.at in
     let start = ap (λ (w : ℕ → ℕ → ℕ). remaining w c.seek.new.self) c.seek.ensures.unchanged.words ∙ c.seek.ensures.remaining in
@@ -34,14 +34,14 @@ count_rest-requires g c =
     let first = c.in_ok-page.ensures.unchanged in
     let last = c.is_key_at.ensures.unchanged in
     record {
-      cursor = cursor_since (g.L.Look.standing c.seek.new.look) (g.L.Look.standing c.is_key_at.new.look) (g.L.Look.words c.seek.new.look) (g.L.Look.words c.is_key_at.new.look) c.step.new.self
-          (last.standing ∙ first.standing) (last.words ∙ first.words) c.in_ok-page.ensures.cursor;
+      cursor = cursor_since (g.L.Look.page_state c.seek.new.look) (g.L.Look.page_state c.is_key_at.new.look) (g.L.Look.words c.seek.new.look) (g.L.Look.words c.is_key_at.new.look) c.step.new.self
+          (last.page_state ∙ first.page_state) (last.words ∙ first.words) c.in_ok-page.ensures.cursor;
     }
 
 pub returns-clause-count : goal.returns-clause-count
 returns-clause-count g c = λ nodes catalog valid few.
     let v = g.L.Look.words c.args.look.now in
-    let rising = tree_rising (g.L.Look.standing c.args.look.now) v c.args.catalog c.requires.tree in
+    let rising = tree_rising (g.L.Look.page_state c.args.look.now) v c.args.catalog c.requires.tree in
     let seen = g.L.Look.words c.seek.new.look in
     let item = item_at (seen c.in_ok-page.page) c.in_ok-page.at in
     let start = ap (λ (w : ℕ → ℕ → ℕ). remaining w c.seek.new.self) c.seek.ensures.unchanged.words ∙ c.seek.ensures.remaining in

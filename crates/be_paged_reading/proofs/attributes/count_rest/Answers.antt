@@ -15,10 +15,10 @@ loop-count-preserved g c =
     let step = c.pass_attribute.ensures.unchanged in
     let some : is_some (slice_get (drop c.loop-count.count all) 0) ≡ true = ap (λ (xs : List Pair). is_some (slice_get xs 0)) (sym c.loop-count.invariant.rest) ∙ sym c.pass_attribute.ensures.found ∙ c.if-not-pass_attribute.false in
     record {
-      cursor = cursor_since (g.L.Look.standing c.loop-count.look) (g.L.Look.standing c.pass_attribute.new.look) mid (g.L.Look.words c.pass_attribute.new.look) c.pass_attribute.new.cursor step.standing step.words c.pass_attribute.ensures.cursor;
+      cursor = cursor_since (g.L.Look.page_state c.loop-count.look) (g.L.Look.page_state c.pass_attribute.new.look) mid (g.L.Look.words c.pass_attribute.new.look) c.pass_attribute.new.cursor step.page_state step.words c.pass_attribute.ensures.cursor;
       rest = ap (λ (w : ℕ → ℕ → ℕ). front_of_node node (remaining w c.pass_attribute.new.cursor)) step.words ∙ c.pass_attribute.ensures.rest c.if-not-pass_attribute.false ∙ ap (λ (xs : List Pair). drop 1 xs) c.loop-count.invariant.rest ∙ drop_next all c.loop-count.count;
       passed = omega (arith, one_left all c.loop-count.count some);
-      unchanged = unchanged_trans g.L.Look.kept g.L.Look.standing g.L.Look.words c.args.look.now c.loop-count.look c.pass_attribute.new.look c.loop-count.invariant.unchanged step;
+      unchanged = unchanged_trans g.L.Look.kept g.L.Look.page_state g.L.Look.words c.args.look.now c.loop-count.look c.pass_attribute.new.look c.loop-count.invariant.unchanged step;
     }
 
 pub returns-then-not-pass_attribute-clause-count : goal.returns-then-not-pass_attribute-clause-count

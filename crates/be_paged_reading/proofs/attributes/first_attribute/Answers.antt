@@ -13,7 +13,7 @@ pub returns-clause-name : goal.returns-clause-name
 returns-clause-name g c = λ nodes catalog valid.
     let v = g.L.Look.words c.args.look.now in
     let node = c.args.node in
-    let rising = tree_rising (g.L.Look.standing c.args.look.now) v c.args.catalog c.requires.tree in
+    let rising = tree_rising (g.L.Look.page_state c.args.look.now) v c.args.catalog c.requires.tree in
     let now = front_of_node node (remaining (g.L.Look.words c.seek.new.look) c.seek.new.self) in
     let start = ap (λ (w : ℕ → ℕ → ℕ). front_of_node node (remaining w c.seek.new.self)) c.seek.ensures.unchanged.words ∙ ap (front_of_node node) c.seek.ensures.remaining
     ∙ ap (λ (k : List ℕ). front_of_node node (pairs_from (pairs v c.args.catalog) k true)) c.to_be_bytes.ensures in
@@ -21,9 +21,9 @@ returns-clause-name g c = λ nodes catalog valid.
 
 pub returns-clause-place : goal.returns-clause-place
 returns-clause-place g c =
-    let s = g.L.Look.standing c.seek.new.look in
+    let s = g.L.Look.page_state c.seek.new.look in
     let v = g.L.Look.words c.seek.new.look in
     let start = ap (λ (w : ℕ → ℕ → ℕ). remaining w c.seek.new.self) c.seek.ensures.unchanged.words ∙ c.seek.ensures.remaining
     ∙ ap (λ (w : ℕ → ℕ → ℕ). pairs_from (pairs w c.args.catalog) c.to_be_bytes.result true) (sym c.seek.ensures.unchanged.words) in
-    place_walked s (g.L.Look.standing c.next_name.new.look) v (g.L.Look.words c.next_name.new.look) c.args.catalog c.args.node c.to_be_bytes.result true (remaining v c.seek.new.self) c.next_name.result
-    c.next_name.ensures.unchanged.standing c.next_name.ensures.unchanged.words start c.next_name.ensures.item c.next_name.ensures.beyond c.next_name.ensures.fits
+    place_walked s (g.L.Look.page_state c.next_name.new.look) v (g.L.Look.words c.next_name.new.look) c.args.catalog c.args.node c.to_be_bytes.result true (remaining v c.seek.new.self) c.next_name.result
+    c.next_name.ensures.unchanged.page_state c.next_name.ensures.unchanged.words start c.next_name.ensures.item c.next_name.ensures.beyond c.next_name.ensures.fits

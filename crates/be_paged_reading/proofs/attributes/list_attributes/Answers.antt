@@ -19,16 +19,16 @@ loop-preserved g c =
     let node = c.args.node in
     let items = pairs v c.args.catalog in
     let all = front_of_node node (pairs_from items (to_be_bytes w64 node) true) in
-    let rising = tree_rising (g.L.Look.standing c.args.look.now) v c.args.catalog c.requires.tree in
+    let rising = tree_rising (g.L.Look.page_state c.args.look.now) v c.args.catalog c.requires.tree in
     let step = c.next_value.ensures.unchanged in
     record {
-      cursor = cursor_since (g.L.Look.standing c.loop.look) (g.L.Look.standing c.next_value.new.look) mid (g.L.Look.words c.next_value.new.look) c.next_value.new.cursor step.standing step.words c.next_value.ensures.cursor;
+      cursor = cursor_since (g.L.Look.page_state c.loop.look) (g.L.Look.page_state c.next_value.new.look) mid (g.L.Look.words c.next_value.new.look) c.next_value.new.cursor step.page_state step.words c.next_value.ensures.cursor;
       rest = ap (λ (w : ℕ → ℕ → ℕ). front_of_node node (remaining w c.next_value.new.cursor)) step.words ∙ c.in-Some.ensures.rest ∙ ap (λ (xs : List Pair). drop 1 xs) c.loop.invariant.rest ∙ drop_next all c.loop.counter;
       passed = omega (arith, more_left all c.loop.counter (omega (arith, c.in-Some.ensures.more, ap length c.loop.invariant.rest)));
       listed = λ nodes catalog valid.
           c.in_ok-push.ensures.items ∙ one_listed (fin.entries (attributes_of nodes node)) c.loop.list.items c.loop.counter c.in-Some.attribute (c.loop.invariant.listed nodes catalog valid)
           (next_is items nodes node c.ranges.node.fits rising catalog valid c.loop.counter (Some c.in-Some.attribute) (front_of_node node (remaining mid c.loop.cursor)) c.loop.invariant.rest c.in-Some.ensures.value c.in-Some.ensures.none);
-      unchanged = unchanged_trans g.L.Look.kept g.L.Look.standing g.L.Look.words c.args.look.now c.loop.look c.next_value.new.look c.loop.invariant.unchanged step;
+      unchanged = unchanged_trans g.L.Look.kept g.L.Look.page_state g.L.Look.words c.args.look.now c.loop.look c.next_value.new.look c.loop.invariant.unchanged step;
     }
 
 pub returns-in_default-clause-list : goal.returns-in_default-clause-list
@@ -36,7 +36,7 @@ returns-in_default-clause-list g c = λ nodes catalog valid few.
     let v = g.L.Look.words c.args.look.now in
     let node = c.args.node in
     let items = pairs v c.args.catalog in
-    let rising = tree_rising (g.L.Look.standing c.args.look.now) v c.args.catalog c.requires.tree in
+    let rising = tree_rising (g.L.Look.page_state c.args.look.now) v c.args.catalog c.requires.tree in
     let count = counted items nodes node c.ranges.node.fits rising catalog valid in
     let le : c.loop.counter ≤ length (fin.entries (attributes_of nodes node)) = omega (arith, count, c.loop.invariant.passed) in
     all_listed (fin.entries (attributes_of nodes node)) c.loop.list.items c.loop.counter (c.loop.invariant.listed nodes catalog valid) le
@@ -47,7 +47,7 @@ returns-clause-list g c = λ nodes catalog valid few.
     let v = g.L.Look.words c.args.look.now in
     let node = c.args.node in
     let items = pairs v c.args.catalog in
-    let rising = tree_rising (g.L.Look.standing c.args.look.now) v c.args.catalog c.requires.tree in
+    let rising = tree_rising (g.L.Look.page_state c.args.look.now) v c.args.catalog c.requires.tree in
     let count = counted items nodes node c.ranges.node.fits rising catalog valid in
     all_passed (fin.entries (attributes_of nodes node)) c.loop.list.items c.loop.counter (c.loop.invariant.listed nodes catalog valid)
     (omega (arith, few, count, fin.len-entries (attributes_of nodes node), c.loop.invariant.passed, c.loop-test.false))

@@ -10,12 +10,12 @@ use Rattle.be_paged_reading.specs.Catalog.{IsCatalog}
 use Rattle.be_paged_reading.specs.Reading.{AreValid, front_of_node}
 use Rattle.be_paged_reading.proofs.attributes.list_attributes.Given as goal
 
--- so many of the node's pairs were passed, and their attributes are listed
+-- the cursor has passed as many of the node's pairs as there are attributes in the list
 abbrev pub invariant-loop : goal.invariant-loop
 invariant-loop g l = record {
-  cursor : IsCursor (g.L.Look.standing l.look) (g.L.Look.words l.look) l.cursor;
+  cursor : IsCursor (g.L.Look.page_state l.look) (g.L.Look.words l.look) l.cursor;
   rest : front_of_node l.node (remaining (g.L.Look.words l.look) l.cursor) ≡ drop l.counter (front_of_node l.node (pairs_from (pairs (g.L.Look.words l.fn.look) l.catalog) (to_be_bytes w64 l.node) true));
   passed : l.counter ≤ length (front_of_node l.node (pairs_from (pairs (g.L.Look.words l.fn.look) l.catalog) (to_be_bytes w64 l.node) true));
   listed : (nodes : Nodes) → IsCatalog (pairs (g.L.Look.words l.fn.look) l.catalog) nodes → AreValid nodes → l.list.items ≡ take l.counter (map.entries (attributes_of nodes l.node));
-  unchanged : IsUnchanged g.L.Look.kept g.L.Look.standing g.L.Look.words l.fn.look l.look;
+  unchanged : IsUnchanged g.L.Look.kept g.L.Look.page_state g.L.Look.words l.fn.look l.look;
 }

@@ -1,6 +1,6 @@
 use Rattle.std.proofs.Common.{ℕ, ◌<◌, length, ap, sym, subst, ◌∙◌, get_or, arith}
 use Rattle.be_tree_reading.specs.Page.{item_at}
-use Rattle.be_paged_reading.proofs.CatalogPairs.Payloads.{kind_told, some_of}
+use Rattle.be_paged_reading.proofs.CatalogPairs.Payloads.{kind_reported, some_of}
 use Rattle.be_paged_reading.proofs.catalog.kind_at.Goals as goal
 
 pub payload_byte_at-number-requires-clause-within : goal.payload_byte_at-number-requires-clause-within
@@ -13,5 +13,5 @@ returns-then-len-eq0-clause-kind g c = λ v e. absurd (omega (arith, c.if-len-eq
 
 pub returns-clause-kind : goal.returns-clause-kind
 returns-clause-kind g c = λ v e.
-    kind_told c.numbered.result _ c.payload_byte_at-number.result v c.numbered.ensures.found c.numbered.ensures.none
+    kind_reported c.numbered.result _ c.payload_byte_at-number.result v c.numbered.ensures.found c.numbered.ensures.none
     (c.payload_byte_at-number.ensures.byte ∙ ap (λ (w : ℕ → ℕ → ℕ). get_or (item_at (w c.args.page) c.args.at).payload 0 0) c.payload_len_at-len.ensures.unchanged.words) e

@@ -1,5 +1,5 @@
 use Rattle.std.proofs.Common.{arith}
-use Rattle.be_paged_reading.proofs.Told.{over_cut}
+use Rattle.be_paged_reading.proofs.Reported.{over_cut}
 use Rattle.be_paged_reading.proofs.cells.put_at.Goals as goal
 
 pub returns-else-items-room : goal.returns-else-items-room

@@ -1,6 +1,6 @@
 use Rattle.std.proofs.Common.{[], List, ℕ, ap, drop, refl, ◌∙◌}
 use Rattle.be_paged_reading.specs.Cells.{over}
-use Rattle.be_paged_reading.proofs.Told.{over_none}
+use Rattle.be_paged_reading.proofs.Reported.{over_none}
 use Rattle.be_paged_reading.proofs.cells.put_payload.Goals as goal
 
 pub returns-clause-bytes : goal.returns-clause-bytes

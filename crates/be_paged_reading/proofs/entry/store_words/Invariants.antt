@@ -6,5 +6,5 @@ use Rattle.be_paged_reading.proofs.entry.store_words.Given as goal
 abbrev pub invariant-loop-j : goal.invariant-loop-j
 invariant-loop-j g l = record {
   stored : (k : ℕ) → k < l.j → g.R.Look.words l.room l.page (l.at + k) ≡ slice_index l.words k;
-  only : OnlyWrites g.R.Look.kept g.R.Look.standing g.R.Look.words l.page l.at (l.at + 8) l.fn.room l.room;
+  only : OnlyWrites g.R.Look.kept g.R.Look.page_state g.R.Look.words l.page l.at (l.at + 8) l.fn.room l.room;
 }

@@ -15,7 +15,7 @@ loop-preserved g c =
     let cursor = c.next_mark.new.cursor in
     let step = c.next_mark.ensures.unchanged in
     record {
-      cursor = cursor_since (g.L.Look.standing c.loop.look) (g.L.Look.standing c.next_mark.new.look) mid (g.L.Look.words c.next_mark.new.look) cursor step.standing step.words c.next_mark.ensures.cursor;
+      cursor = cursor_since (g.L.Look.page_state c.loop.look) (g.L.Look.page_state c.next_mark.new.look) mid (g.L.Look.words c.next_mark.new.look) cursor step.page_state step.words c.next_mark.ensures.cursor;
       parts = ap (λ (w : ℕ → ℕ → ℕ). c.push.new.self.items ++ marked (remaining w cursor)) step.words
           ∙ ap (λ (ns : List ℕ). ns ++ marked (remaining mid cursor)) c.in_ok-push.ensures.items
           ∙ append_assoc list (node ∷ []) (marked (remaining mid cursor))
@@ -23,7 +23,7 @@ loop-preserved g c =
           ∙ c.loop.invariant.parts;
       count = omega (arith, ap length c.in_ok-push.ensures.items, length-append list (node ∷ []), c.loop.invariant.count);
       within = omega (arith, c.loop-test.true);
-      unchanged = unchanged_trans g.L.Look.kept g.L.Look.standing g.L.Look.words c.args.look.now c.loop.look c.next_mark.new.look c.loop.invariant.unchanged step;
+      unchanged = unchanged_trans g.L.Look.kept g.L.Look.page_state g.L.Look.words c.args.look.now c.loop.look c.next_mark.new.look c.loop.invariant.unchanged step;
     }
 
 pub returns-in_default-clause-list : goal.returns-in_default-clause-list

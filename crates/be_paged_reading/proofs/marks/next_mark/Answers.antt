@@ -3,7 +3,7 @@ use Rattle.std.specs.Int.{from_be_bytes, w64}
 use Rattle.std.specs.List.{slice_get}
 use Rattle.be_tree_reading.specs.Cursor.{IsCursor, remaining}
 use Rattle.be_tree_reading.specs.Page.{item_at}
-use Rattle.be_pages.specs.declared.room.Standing.{Standing}
+use Rattle.be_pages.specs.declared.room.PageState.{PageState}
 use Rattle.be_tree_reading.specs.Pair.{Pair}
 use Rattle.be_tree_reading.proofs.Frame.{unchanged_trans}
 use Rattle.be_paged_reading.specs.Nodes.{is_mark, marked}
@@ -12,7 +12,7 @@ use Rattle.be_paged_reading.proofs.marks.next_mark.Given.{Over}
 use Rattle.be_paged_reading.proofs.marks.next_mark.Goals as goal
 use Rattle.be_paged_reading.proofs.marks.next_mark.Goals.{After-step}
 
--- what the step told, by the words of the call
+-- what the step leaves ahead, by the words at the call
 left : (g : Over) (c : After-step g) → remaining (g.L.Look.words c.args.look.now) c.step.new.self ≡ drop 1 (remaining (g.L.Look.words c.args.look.now) c.steps.cursor)
 left g c = subst (λ (w : ℕ → ℕ → ℕ). remaining w c.step.new.self ≡ drop 1 (remaining w c.steps.cursor)) c.steps.invariant.unchanged.words c.step.ensures.remaining
 
@@ -25,11 +25,11 @@ steps-preserved g c =
     let item : slice_get (remaining words c.steps.cursor) 0 ≡ Some x = subst (λ (w : ℕ → ℕ → ℕ). slice_get (remaining w c.steps.cursor) 0 ≡ Some (item_at (w c.in-Some.page) c.in-Some.at)) same c.in-Some.ensures.item in
     let no : is_mark x.key ≡ false = subst (λ (w : ℕ → ℕ → ℕ). is_mark (item_at (w c.in-Some.page) c.in-Some.at).key ≡ false) (c.step.ensures.unchanged.words ∙ same) c.in_default-mark_at.ensures.none in
     record {
-      cursor = subst (λ (w : ℕ → ℕ → ℕ). IsCursor (g.L.Look.standing c.args.look.now) w c.step.new.self) same
-          (subst (λ (s : ℕ → Standing). IsCursor s (g.L.Look.words c.steps.look) c.step.new.self) c.steps.invariant.unchanged.standing c.step.ensures.cursor);
+      cursor = subst (λ (w : ℕ → ℕ → ℕ). IsCursor (g.L.Look.page_state c.args.look.now) w c.step.new.self) same
+          (subst (λ (s : ℕ → PageState). IsCursor s (g.L.Look.words c.steps.look) c.step.new.self) c.steps.invariant.unchanged.page_state c.step.ensures.cursor);
       same = ap marked (left g at) ∙ passed (remaining words c.steps.cursor) x item no ∙ c.steps.invariant.same;
-      unchanged = unchanged_trans g.L.Look.kept g.L.Look.standing g.L.Look.words c.args.look.now c.step.new.look c.mark_at.new.look
-          (unchanged_trans g.L.Look.kept g.L.Look.standing g.L.Look.words c.args.look.now c.steps.look c.step.new.look c.steps.invariant.unchanged c.step.ensures.unchanged)
+      unchanged = unchanged_trans g.L.Look.kept g.L.Look.page_state g.L.Look.words c.args.look.now c.step.new.look c.mark_at.new.look
+          (unchanged_trans g.L.Look.kept g.L.Look.page_state g.L.Look.words c.args.look.now c.steps.look c.step.new.look c.steps.invariant.unchanged c.step.ensures.unchanged)
           c.mark_at.ensures.unchanged;
     }
 

@@ -4,12 +4,12 @@ use Rattle.be_tree_reading.specs.Cursor.{IsCursor, remaining}
 use Rattle.be_paged_reading.specs.Nodes.{marked}
 use Rattle.be_paged_reading.proofs.marks.next_mark.Given as goal
 
--- no mark was passed
+-- the cursor has passed no mark
 abbrev pub invariant-steps : goal.invariant-steps
 invariant-steps g l = record {
-  cursor : IsCursor (g.L.Look.standing l.fn.look) (g.L.Look.words l.fn.look) l.cursor;
+  cursor : IsCursor (g.L.Look.page_state l.fn.look) (g.L.Look.words l.fn.look) l.cursor;
   same : marked (remaining (g.L.Look.words l.fn.look) l.cursor) ≡ marked (remaining (g.L.Look.words l.fn.look) l.fn.cursor);
-  unchanged : IsUnchanged g.L.Look.kept g.L.Look.standing g.L.Look.words l.fn.look l.look;
+  unchanged : IsUnchanged g.L.Look.kept g.L.Look.page_state g.L.Look.words l.fn.look l.look;
 }
 
 abbrev pub decreases-steps : goal.decreases-steps

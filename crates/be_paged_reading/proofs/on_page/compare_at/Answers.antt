@@ -31,10 +31,10 @@ loop-j-init g c =
     record {
       alike = alike_next name ys 0 c.word-mine.result c.args.first (omega arith) (omega arith) (omega arith)
           (mine_is g (goal.at.loop-j-init g c).After-word-mine) c.requires.first (alike_first name ys) c.if-mine-first.false;
-      unchanged = record { kept = c.word-mine.ensures.kept; standing = c.word-mine.ensures.standing; words = c.word-mine.ensures.words };
+      unchanged = record { kept = c.word-mine.ensures.kept; page_state = c.word-mine.ensures.page_state; words = c.word-mine.ensures.words };
     }
 
--- a further word of it
+-- one of its later words
 next_is : (g : Over) (c : After-word_from-other g) → to_be_bytes w64 c.word-next.result ≡ padded (entry_at (g.L.Look.words c.args.look.now c.args.page) c.args.at).name (8 * c.loop-j.j) 8
 next_is g c =
     let words = g.L.Look.words c.args.look.now c.args.page in
@@ -55,7 +55,7 @@ loop-j-preserved g c =
           (next_is g (goal.at.loop-j-preserved g c).After-word_from-other) c.word_from-other.ensures c.loop-j.invariant.alike c.if-next-other.false;
       unchanged = record {
         kept = c.word-next.ensures.kept ∙ c.loop-j.invariant.unchanged.kept;
-        standing = c.word-next.ensures.standing ∙ c.loop-j.invariant.unchanged.standing;
+        page_state = c.word-next.ensures.page_state ∙ c.loop-j.invariant.unchanged.page_state;
         words = c.word-next.ensures.words ∙ c.loop-j.invariant.unchanged.words;
       };
     }

@@ -11,7 +11,7 @@ use Rattle.be_paged_reading.proofs.on_page.find_index.Given.{Over}
 use Rattle.be_paged_reading.proofs.on_page.find_index.Goals as goal
 use Rattle.be_paged_reading.proofs.on_page.find_index.Goals.{After-middle-at, After-compare_at}
 
--- the place is that of an index
+-- the place is an index's
 in_range : (g : Over) (c : After-middle-at g) → c.middle-at.result < g.L.Look.words c.args.look.now c.args.page 1
 in_range g c = omega (arith, c.middle-at.ensures.1, c.halves.invariant.in_range)
 
@@ -19,7 +19,7 @@ few : (g : Over) (c : After-middle-at g) → c.middle-at.result < 32
 few g c = omega (arith, in_range g c, c.requires.version.1.is_page.few)
 
 rise : (g : Over) (c : After-middle-at g) → NamesRise (contents_of (g.L.Look.words c.args.look.now c.args.page)).entries
-rise g c = names_rise (g.L.Look.words c.args.look.now) _ _ c.requires.version.1.spells.indices (fin.entries_sorted c.requires.version.0.indices)
+rise g c = names_rise (g.L.Look.words c.args.look.now) _ _ c.requires.version.1.encodes.indices (fin.entries_sorted c.requires.version.0.indices)
 
 pub overflow_mul-at : goal.overflow_mul-at
 overflow_mul-at g c = omega (arith, few g (goal.at.overflow_mul-at g c).After-middle-at)
@@ -48,12 +48,12 @@ compared g c =
     ∙ ap (λ (h : ℕ → ℕ → ℕ). name_cmp (entry_at (h c.args.page) (entry_place at)).name c.as_bytes-text.result.now) c.halves.invariant.unchanged.words
     ∙ ap (name_cmp (entry_at (g.L.Look.words c.args.look.now c.args.page) (entry_place at)).name) (c.as_bytes-text.ensures.value ∙ c.as_str.ensures.text))
 
--- what one comparison leaves
-same_since : (g : Over) (c : After-compare_at g) → IsUnchanged g.L.Look.kept g.L.Look.standing g.L.Look.words c.args.look.now c.compare_at.new.look
+-- a comparison only reads
+same_since : (g : Over) (c : After-compare_at g) → IsUnchanged g.L.Look.kept g.L.Look.page_state g.L.Look.words c.args.look.now c.compare_at.new.look
 same_since g c =
     let known = c.halves.invariant.unchanged in
     let now = c.compare_at.ensures.unchanged in
-    record { kept = now.kept ∙ known.kept; standing = now.standing ∙ known.standing; words = now.words ∙ known.words }
+    record { kept = now.kept ∙ known.kept; page_state = now.page_state ∙ known.page_state; words = now.words ∙ known.words }
 
 pub halves-preserved-in-Less : goal.halves-preserved-in-Less
 halves-preserved-in-Less g c =

@@ -33,6 +33,6 @@ returns-in-Equal-clause-named g c = λ _.
     let name = c.args.name.now in
     let mine = (entry_at words (entry_place c.args.i)).name in
     let there : c.args.i < words 1 = omega (arith, c.requires.in_range, how_many words name) in
-    let rise : NamesRise (contents_of words).entries = names_rise (g.L.Look.words c.args.look.now) _ _ c.requires.version.1.spells.indices (fin.entries_sorted c.requires.version.0.indices) in
+    let rise : NamesRise (contents_of words).entries = names_rise (g.L.Look.words c.args.look.now) _ _ c.requires.version.1.encodes.indices (fin.entries_sorted c.requires.version.0.indices) in
     let same : name_cmp mine name ≡ Equal = sym (c.compare_at.ensures.order ∙ ap (name_cmp mine) (c.as_bytes-text.ensures.value ∙ c.as_str.ensures.text)) ∙ c.in-Equal.is in
     named_here words name rise c.args.i there same

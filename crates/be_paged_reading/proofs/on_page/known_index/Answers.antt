@@ -1,5 +1,5 @@
 use Rattle.std.proofs.Common.{ℕ, Some, sym, subst}
-use Rattle.be_pages.specs.declared.room.Standing.{Standing}
+use Rattle.be_pages.specs.declared.room.PageState.{PageState}
 use Rattle.be_paged_reading.specs.Page.{contents_of}
 use Rattle.be_paged_reading.specs.Source.{IsFound, IsKnown, IsIndexOf}
 use Rattle.be_paged_reading.specs.Version.{IsVersion}
@@ -27,6 +27,6 @@ pub find_to_know-requires-2 : goal.find_to_know-requires-2
 find_to_know-requires-2 g c =
     let volume = c.requires.version.0 in
     let page = c.args.page in
-    let words : IsVersion (g.L.Look.standing c.args.look.now) (g.L.Look.words c.is_named.new.look) page volume =
-    subst (λ (u : ℕ → ℕ → ℕ). IsVersion (g.L.Look.standing c.args.look.now) u page volume) (sym c.is_named.ensures.unchanged.words) c.requires.version.1 in
-    record { version = (volume, subst (λ (s : ℕ → Standing). IsVersion s (g.L.Look.words c.is_named.new.look) page volume) (sym c.is_named.ensures.unchanged.standing) words) }
+    let words : IsVersion (g.L.Look.page_state c.args.look.now) (g.L.Look.words c.is_named.new.look) page volume =
+    subst (λ (u : ℕ → ℕ → ℕ). IsVersion (g.L.Look.page_state c.args.look.now) u page volume) (sym c.is_named.ensures.unchanged.words) c.requires.version.1 in
+    record { version = (volume, subst (λ (s : ℕ → PageState). IsVersion s (g.L.Look.words c.is_named.new.look) page volume) (sym c.is_named.ensures.unchanged.page_state) words) }

@@ -19,7 +19,7 @@ listed None list e = cc
 listed (Some a) list e = cc
 
 unlisted : (found : Option Attributes) (refusal : Refusal) → refusal ≡ NoNode → (refusal ≡ OutOfMemory) ⊎ (answer found ≡ Err refusal) → None ≡ option_map fin.entries found
-unlisted None refusal is told = refl
+unlisted None refusal is reported = refl
 unlisted (Some a) refusal is (inl wanted) = let never : NoNode ≡ OutOfMemory = sym is ∙ wanted in cc
 unlisted (Some a) refusal is (inr same) = cc
 

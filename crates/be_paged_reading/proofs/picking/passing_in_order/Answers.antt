@@ -13,8 +13,8 @@ use Rattle.be_paged_reading.proofs.picking.passing_in_order.Goals as goal
 
 pub pick_all-requires-clause-walk : goal.pick_all-requires-clause-walk
 pick_all-requires-clause-walk g c =
-    walk_read (g.L.Look.standing c.args.look.now) (g.L.Look.standing c.begin-walk.new.look) (g.L.Look.words c.args.look.now) (g.L.Look.words c.begin-walk.new.look) c.begin-walk.result
-    c.begin-walk.ensures.unchanged.standing c.begin-walk.ensures.unchanged.words c.begin-walk.ensures.walk
+    walk_read (g.L.Look.page_state c.args.look.now) (g.L.Look.page_state c.begin-walk.new.look) (g.L.Look.words c.args.look.now) (g.L.Look.words c.begin-walk.new.look) c.begin-walk.result
+    c.begin-walk.ensures.unchanged.page_state c.begin-walk.ensures.unchanged.words c.begin-walk.ensures.walk
 
 pub pick_all-requires-clause-testable : goal.pick_all-requires-clause-testable
 pick_all-requires-clause-testable g c =
@@ -29,7 +29,7 @@ pick_all-requires-clause-ends g c =
     let way = c.args.way in
     subst (λ (w : ℕ → ℕ → ℕ). StaysFalse (is_on_way way) (ahead w c.begin-walk.result)) (sym c.begin-walk.ensures.unchanged.words)
     (subst (StaysFalse (is_on_way way)) (sym c.begin-walk.ensures.ahead)
-    (begun_stays way.back way.strict way.low.now (option_copied way.high) (pairs words c.args.root) (root_rising c.args.root (g.L.Look.standing c.args.look.now) words c.requires.tree)))
+    (begun_stays way.back way.strict way.low.now (option_copied way.high) (pairs words c.args.root) (root_rising c.args.root (g.L.Look.page_state c.args.look.now) words c.requires.tree)))
 
 pub returns-clause-found : goal.returns-clause-found
 returns-clause-found g c =

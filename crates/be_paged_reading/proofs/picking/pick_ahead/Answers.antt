@@ -22,13 +22,13 @@ in_leaf g c = omega (arith, c.loop-i-test.true, c.count-ahead.ensures.count)
 
 pub place-at-requires : goal.place-at-requires
 place-at-requires g c =
-    ahead_is (g.L.Look.standing c.args.look.now) (g.L.Look.words c.args.look.now) c.args.leaf c.loop-i.i c.requires.leaf (omega (arith, c.loop-i-test.true, c.count-ahead.ensures.count))
+    ahead_is (g.L.Look.page_state c.args.look.now) (g.L.Look.words c.args.look.now) c.args.leaf c.loop-i.i c.requires.leaf (omega (arith, c.loop-i-test.true, c.count-ahead.ensures.count))
 
-here : (g : Over) (c : After-place-at g) → IsPlaceAhead (g.L.Look.standing c.loop-i.look) (g.L.Look.words c.loop-i.look) (g.L.Look.words c.args.look.now) c.args.leaf c.loop-i.i c.place-at.result
+here : (g : Over) (c : After-place-at g) → IsPlaceAhead (g.L.Look.page_state c.loop-i.look) (g.L.Look.words c.loop-i.look) (g.L.Look.words c.args.look.now) c.args.leaf c.loop-i.i c.place-at.result
 here g c =
     let i = c.loop-i.invariant in
-    place_ahead (g.L.Look.standing c.args.look.now) (g.L.Look.standing c.loop-i.look) (g.L.Look.words c.args.look.now) (g.L.Look.words c.loop-i.look) c.args.leaf c.loop-i.i c.place-at.result
-    i.unchanged.standing i.unchanged.words c.place-at.ensures c.requires.leaf (in_leaf g c)
+    place_ahead (g.L.Look.page_state c.args.look.now) (g.L.Look.page_state c.loop-i.look) (g.L.Look.words c.args.look.now) (g.L.Look.words c.loop-i.look) c.args.leaf c.loop-i.i c.place-at.result
+    i.unchanged.page_state i.unchanged.words c.place-at.ensures c.requires.leaf (in_leaf g c)
 
 pub is_ahead-requires-clause-readable : goal.is_ahead-requires-clause-readable
 is_ahead-requires-clause-readable g c = (here g (goal.at.is_ahead-requires-clause-readable g c).After-place-at).readable.0
@@ -39,17 +39,17 @@ is_ahead-requires-clause-in_page g c = (here g (goal.at.is_ahead-requires-clause
 pub is_ahead-requires-clause-item : goal.is_ahead-requires-clause-item
 is_ahead-requires-clause-item g c = (here g (goal.at.is_ahead-requires-clause-item g c).After-place-at).readable.1.1
 
--- the item, once it was compared with the end of the way
-compared : (g : Over) (c : After-is_ahead g) → IsPlaceAhead (g.L.Look.standing c.is_ahead.new.look) (g.L.Look.words c.is_ahead.new.look) (g.L.Look.words c.args.look.now) c.args.leaf c.loop-i.i c.place-at.result
+-- the item, after its comparison with the end of the way
+compared : (g : Over) (c : After-is_ahead g) → IsPlaceAhead (g.L.Look.page_state c.is_ahead.new.look) (g.L.Look.words c.is_ahead.new.look) (g.L.Look.words c.args.look.now) c.args.leaf c.loop-i.i c.place-at.result
 compared g c =
     let i = c.loop-i.invariant in
-    place_ahead (g.L.Look.standing c.args.look.now) (g.L.Look.standing c.is_ahead.new.look) (g.L.Look.words c.args.look.now) (g.L.Look.words c.is_ahead.new.look) c.args.leaf c.loop-i.i c.place-at.result
-    (c.is_ahead.ensures.unchanged.standing ∙ i.unchanged.standing) (c.is_ahead.ensures.unchanged.words ∙ i.unchanged.words) c.place-at.ensures c.requires.leaf
+    place_ahead (g.L.Look.page_state c.args.look.now) (g.L.Look.page_state c.is_ahead.new.look) (g.L.Look.words c.args.look.now) (g.L.Look.words c.is_ahead.new.look) c.args.leaf c.loop-i.i c.place-at.result
+    (c.is_ahead.ensures.unchanged.page_state ∙ i.unchanged.page_state) (c.is_ahead.ensures.unchanged.words ∙ i.unchanged.words) c.place-at.ensures c.requires.leaf
     (omega (arith, c.loop-i-test.true, c.count-ahead.ensures.count))
 
 -- whether it is on the way
-told : (g : Over) (c : After-is_ahead g) → c.is_ahead.result ≡ is_on_way c.args.way (get_or (items_ahead (g.L.Look.words c.args.look.now) c.args.leaf) c.loop-i.i none).key
-told g c =
+reported : (g : Over) (c : After-is_ahead g) → c.is_ahead.result ≡ is_on_way c.args.way (get_or (items_ahead (g.L.Look.words c.args.look.now) c.args.leaf) c.loop-i.i none).key
+reported g c =
     c.is_ahead.ensures.within
     ∙ ap (λ (w : ℕ → ℕ → ℕ). is_on_way c.args.way (item_at (w c.args.leaf.page) c.place-at.result).key) (sym c.is_ahead.ensures.unchanged.words)
     ∙ ap (λ (x : Pair). is_on_way c.args.way x.key) ((compared g c).same none)
@@ -79,10 +79,10 @@ loop-i-preserved g c =
     let added : c.pick_item.new.found.items ≡ before ++ node_if c.args.test x =
     c.in_ok-pick_item.ensures.added ∙ ap (λ (y : Pair). before ++ node_if c.args.test y) ((compared g b).same none) in
     record {
-      parts = one_tested c.args.test c.args.way c.args.found.now.items before zs c.loop-i.i i.parts none c.pick_item.new.found.items lt (sym (told g b) ∙ c.if-not-is_ahead.false) added;
+      parts = one_tested c.args.test c.args.way c.args.found.now.items before zs c.loop-i.i i.parts none c.pick_item.new.found.items lt (sym (reported g b) ∙ c.if-not-is_ahead.false) added;
       few = omega (arith, ap length added, length-append before (node_if c.args.test x), one_at_most c.args.test c.args.way x, c.if-len-most.false, c.len.ensures, c.loop-i.found.ok.0);
-      unchanged = unchanged_trans g.L.Look.kept g.L.Look.standing g.L.Look.words c.args.look.now c.is_ahead.new.look c.pick_item.new.look
-          (unchanged_trans g.L.Look.kept g.L.Look.standing g.L.Look.words c.args.look.now c.loop-i.look c.is_ahead.new.look i.unchanged c.is_ahead.ensures.unchanged)
+      unchanged = unchanged_trans g.L.Look.kept g.L.Look.page_state g.L.Look.words c.args.look.now c.is_ahead.new.look c.pick_item.new.look
+          (unchanged_trans g.L.Look.kept g.L.Look.page_state g.L.Look.words c.args.look.now c.loop-i.look c.is_ahead.new.look i.unchanged c.is_ahead.ensures.unchanged)
           c.pick_item.ensures.unchanged;
     }
 
@@ -102,12 +102,12 @@ returns-then-not-is_ahead-clause-ended g c = λ _ rest stays.
     let b = (goal.at.returns-then-not-is_ahead-clause-ended g c).After-is_ahead in
     let zs = items_ahead (g.L.Look.words c.args.look.now) c.args.leaf in
     is_past c.args.test c.args.way c.args.found.now.items c.loop-i.found.items zs c.loop-i.i c.loop-i.invariant.parts c.args.most c.loop-i.invariant.few rest none
-    (omega (arith, c.loop-i-test.true, c.count-ahead.ensures.count)) (sym (told g b) ∙ c.if-not-is_ahead.true) stays
+    (omega (arith, c.loop-i-test.true, c.count-ahead.ensures.count)) (sym (reported g b) ∙ c.if-not-is_ahead.true) stays
 
 pub returns-then-not-is_ahead-clause-goes_on : goal.returns-then-not-is_ahead-clause-goes_on
 returns-then-not-is_ahead-clause-goes_on g c = λ e. absurd (cc e)
 
--- all were tested
+-- all items were tested
 pub returns-clause-ended : goal.returns-clause-ended
 returns-clause-ended g c = λ e. absurd (cc e)
 

@@ -20,20 +20,20 @@ leaves-init g c = record {
   size = refl;
   few = omega (arith, ap length c.requires.empty);
   parts = sym (ap (λ (ns : List ℕ). ns ++ passing_on c.args.test c.args.way (ahead (g.L.Look.words c.args.look.now) c.args.walk.now)) c.requires.empty);
-  unchanged = record { kept = refl; standing = refl; words = refl };
+  unchanged = record { kept = refl; page_state = refl; words = refl };
 }
 
 pub step_leaf-requires : goal.step_leaf-requires
 step_leaf-requires g c =
     let i = c.leaves.invariant in
     record {
-      walk = walk_read (g.L.Look.standing c.args.look.now) (g.L.Look.standing c.leaves.look) (g.L.Look.words c.args.look.now) (g.L.Look.words c.leaves.look) c.leaves.walk i.unchanged.standing i.unchanged.words i.walk;
+      walk = walk_read (g.L.Look.page_state c.args.look.now) (g.L.Look.page_state c.leaves.look) (g.L.Look.words c.args.look.now) (g.L.Look.words c.leaves.look) c.leaves.walk i.unchanged.page_state i.unchanged.words i.walk;
     }
 
 read : (g : Over) (c : After-pick_ahead g) → g.L.Look.words c.step_leaf.new.look ≡ g.L.Look.words c.args.look.now
 read g c = c.step_leaf.ensures.unchanged.words ∙ c.leaves.invariant.unchanged.words
 
--- the items of the leaf, and what is ahead of it
+-- the leaf's items that the walk has ahead
 abbrev here : (g : Over) (c : After-pick_ahead g) → List Pair
 here g c = items_ahead (g.L.Look.words c.args.look.now) c.in-Some.leaf
 
@@ -46,8 +46,8 @@ parts g c =
 
 pub pick_ahead-requires-clause-leaf : goal.pick_ahead-requires-clause-leaf
 pick_ahead-requires-clause-leaf g c =
-    leaf_read (g.L.Look.standing c.leaves.look) (g.L.Look.standing c.step_leaf.new.look) (g.L.Look.words c.leaves.look) (g.L.Look.words c.step_leaf.new.look) c.in-Some.leaf
-    c.step_leaf.ensures.unchanged.standing c.step_leaf.ensures.unchanged.words c.in-Some.ensures.leaf
+    leaf_read (g.L.Look.page_state c.leaves.look) (g.L.Look.page_state c.step_leaf.new.look) (g.L.Look.words c.leaves.look) (g.L.Look.words c.step_leaf.new.look) c.in-Some.leaf
+    c.step_leaf.ensures.unchanged.page_state c.step_leaf.ensures.unchanged.words c.in-Some.ensures.leaf
 
 pub pick_ahead-requires-clause-back : goal.pick_ahead-requires-clause-back
 pick_ahead-requires-clause-back g c = c.in-Some.ensures.turned ∙ c.leaves.invariant.back
@@ -95,7 +95,7 @@ leaves-preserved g c =
     let later = rest g at in
     let pushed = subst (λ (w : ℕ → ℕ → ℕ). c.pick_ahead.new.found.items ≡ before ++ nodes (items_ahead w c.in-Some.leaf)) (read g at) (c.in_ok-is_last.ensures.goes_on c.if-is_last.false) in
     record {
-      walk = walk_read (g.L.Look.standing c.leaves.look) (g.L.Look.standing c.args.look.now) (g.L.Look.words c.leaves.look) (g.L.Look.words c.args.look.now) c.step_leaf.new.self (sym i.unchanged.standing)
+      walk = walk_read (g.L.Look.page_state c.leaves.look) (g.L.Look.page_state c.args.look.now) (g.L.Look.words c.leaves.look) (g.L.Look.words c.args.look.now) c.step_leaf.new.self (sym i.unchanged.page_state)
           (sym i.unchanged.words) c.step_leaf.ensures.walk;
       back = c.step_leaf.ensures.back ∙ i.back;
       testable = all_right (λ (x : Pair). IsTestable c.args.test x.key) zs later (subst (AreTestable c.args.test) (parts g at) i.testable);
@@ -107,12 +107,12 @@ leaves-preserved g c =
           ∙ ap (λ (ns : List ℕ). before ++ ns) (two_parts c.args.test way zs later)
           ∙ sym (append_assoc before (nodes zs) (nodes later))
           ∙ ap (λ (ns : List ℕ). ns ++ nodes later) (sym pushed);
-      unchanged = unchanged_trans g.L.Look.kept g.L.Look.standing g.L.Look.words c.args.look.now c.step_leaf.new.look c.pick_ahead.new.look
-          (unchanged_trans g.L.Look.kept g.L.Look.standing g.L.Look.words c.args.look.now c.leaves.look c.step_leaf.new.look i.unchanged c.step_leaf.ensures.unchanged)
+      unchanged = unchanged_trans g.L.Look.kept g.L.Look.page_state g.L.Look.words c.args.look.now c.step_leaf.new.look c.pick_ahead.new.look
+          (unchanged_trans g.L.Look.kept g.L.Look.page_state g.L.Look.words c.args.look.now c.leaves.look c.step_leaf.new.look i.unchanged c.step_leaf.ensures.unchanged)
           c.pick_ahead.ensures.unchanged;
     }
 
--- nothing is ahead
+-- the walk has nothing ahead
 pub returns-clause-found : goal.returns-clause-found
 returns-clause-found g c =
     let words = g.L.Look.words c.args.look.now in

@@ -19,15 +19,15 @@ pub nodes_of-requires-clause-version : goal.nodes_of-requires-clause-version
 nodes_of-requires-clause-version g c =
     let since = c.meet_index.ensures.unchanged in (
       c.requires.version.0,
-      version_since (g.L.Look.standing c.args.look.now) (g.L.Look.standing c.meet_index.new.look) (g.L.Look.words c.args.look.now) (g.L.Look.words c.meet_index.new.look)
-          c.args.version_page c.requires.version.0 since.standing since.words c.requires.version.1,
+      version_since (g.L.Look.page_state c.args.look.now) (g.L.Look.page_state c.meet_index.new.look) (g.L.Look.words c.args.look.now) (g.L.Look.words c.meet_index.new.look)
+          c.args.version_page c.requires.version.0 since.page_state since.words c.requires.version.1,
     )
 
 pub returns-clause-answer : goal.returns-clause-answer
 returns-clause-answer g c = λ _ volume of.
     let w = g.L.Look.words c.meet_index.new.look in
     let since = c.meet_index.ensures.unchanged in
-    let version = version_since (g.L.Look.standing c.args.look.now) (g.L.Look.standing c.meet_index.new.look) (g.L.Look.words c.args.look.now) w c.args.version_page volume since.standing since.words of in
+    let version = version_since (g.L.Look.page_state c.args.look.now) (g.L.Look.page_state c.meet_index.new.look) (g.L.Look.words c.args.look.now) w c.args.version_page volume since.page_state since.words of in
     let f = c.args.prepared.now in
     let keys = c.in-Some-keys_for.keys in
     let name = keys.name.now in
@@ -39,7 +39,7 @@ returns-clause-answer g c = λ _ volume of.
     let decides : Decides f index.kind low high = subst (λ (q : Formula). Decides q index.kind low high) c.meet_index.ensures.same c.in-Some-keys_for.ensures.decides in
     let there = c.in-Some.ensures.found name on in
     let is_kind = ap (λ (k : Kind). Some k) (there.kind nowhere)
-    ∙ kind_found w (contents_of (w c.args.version_page)).entries volume.indices name index.place nowhere version.spells.indices there.named in
+    ∙ kind_found w (contents_of (w c.args.version_page)).entries volume.indices name index.place nowhere version.encodes.indices there.named in
     let only : HasOnly volume name low high [] found = subst (λ (l : List ℕ). HasOnly volume name low high l found) c.clear.ensures.items (c.in_ok-nodes_of.ensures.only volume version) in
     decided_scan volume f name index.kind low high found c.put_in_order.new.numbers.items version.sound on (sym is_kind) decides only
     (c.in_ok-nodes_of.ensures.has volume version) c.in_ok-put_in_order.ensures.rising c.in_ok-put_in_order.ensures.keeps c.in_ok-put_in_order.ensures.only

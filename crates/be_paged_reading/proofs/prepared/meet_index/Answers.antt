@@ -7,11 +7,11 @@ use Rattle.be_paged_reading.proofs.prepared.meet_index.Goals as goal
 
 pub known_index-requires : goal.known_index-requires
 known_index-requires g c =
-    let s = g.L.Look.standing c.args.look.now in
+    let s = g.L.Look.page_state c.args.look.now in
     let w = g.L.Look.words c.args.look.now in
     let since = c.index_there-known.ensures.unchanged in
     record {
-      version = (c.requires.version.0, version_since s (g.L.Look.standing c.index_there-known.new.look) w (g.L.Look.words c.index_there-known.new.look) c.args.version_page c.requires.version.0 since.standing since.words c.requires.version.1);
+      version = (c.requires.version.0, version_since s (g.L.Look.page_state c.index_there-known.new.look) w (g.L.Look.words c.index_there-known.new.look) c.args.version_page c.requires.version.0 since.page_state since.words c.requires.version.1);
       known = c.index_there-known.ensures.known;
     }
 

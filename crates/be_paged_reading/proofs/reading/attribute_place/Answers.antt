@@ -16,8 +16,8 @@ returns-clause-there g c = λ nodes catalog.
 
 pub returns-clause-found : goal.returns-clause-found
 returns-clause-found g c =
-    let s = g.L.Look.standing c.find_place.new.look in
+    let s = g.L.Look.page_state c.find_place.new.look in
     let w = g.L.Look.words c.find_place.new.look in
     subst (λ (k : List ℕ). IsFoundAt s w c.args.catalog k c.find_place.result) (c.deref.ensures.0 ∙ c.catalog_key.ensures.key)
-    (place_found (g.L.Look.standing c.args.look.now) s (g.L.Look.words c.args.look.now) w c.args.catalog c.deref.result.now c.find_place.result
-    c.find_place.ensures.unchanged.standing c.find_place.ensures.unchanged.words c.find_place.ensures.none c.find_place.ensures.some c.find_place.ensures.readable c.find_place.ensures.in_page c.find_place.ensures.fits)
+    (place_found (g.L.Look.page_state c.args.look.now) s (g.L.Look.words c.args.look.now) w c.args.catalog c.deref.result.now c.find_place.result
+    c.find_place.ensures.unchanged.page_state c.find_place.ensures.unchanged.words c.find_place.ensures.none c.find_place.ensures.some c.find_place.ensures.readable c.find_place.ensures.in_page c.find_place.ensures.fits)

@@ -18,4 +18,4 @@ pub returns-clause-answer : goal.returns-clause-answer
 returns-clause-answer g c = λ volume version.
     let w = g.L.Look.words c.args.look.now in
     ap Ok (sym (c.in_ok-kinds.ensures ∙ ap (map listed_entry) (c.deref.ensures.0 ∙ ap entries_of c.fill_version.ensures.contents)
-    ∙ kinds_are w (contents_of (w c.args.version_page)).entries (fin.entries volume.indices) version.spells.indices))
+    ∙ kinds_are w (contents_of (w c.args.version_page)).entries (fin.entries volume.indices) version.encodes.indices))

@@ -13,4 +13,4 @@ returns-clause-answer g c = λ volume version.
     ap Ok (sym (c.in_ok-list_nodes.ensures.list
     ∙ ap (λ (w : ℕ → ℕ → ℕ). take c.args.most (marked (pairs_from (pairs w c.word-catalog.result) (to_be_bytes w64 low) false))) c.word-catalog.ensures.words
     ∙ ap (λ (r : ℕ). take c.args.most (marked (pairs_from (pairs words r) (to_be_bytes w64 low) false))) c.word-catalog.ensures.value
-    ∙ nodes_marked (g.L.Look.standing c.args.look.now) words c.args.version_page volume low c.args.most version c.ranges.from.fits))
+    ∙ nodes_marked (g.L.Look.page_state c.args.look.now) words c.args.version_page volume low c.args.most version c.ranges.from.fits))

@@ -9,7 +9,7 @@ use Rattle.be_paged_reading.proofs.reading.value_in.Goals as goal
 
 pub place_of-requires-clause-known : goal.place_of-requires-clause-known
 place_of-requires-clause-known g c =
-    subst (λ (k : List ℕ). IfSome c.args.known (IsFoundAt (g.L.Look.standing c.args.look.now) (g.L.Look.words c.args.look.now) c.args.catalog k)) (sym (c.deref.ensures.0 ∙ c.catalog_key-key.ensures.key)) c.requires.known
+    subst (λ (k : List ℕ). IfSome c.args.known (IsFoundAt (g.L.Look.page_state c.args.look.now) (g.L.Look.words c.args.look.now) c.args.catalog k)) (sym (c.deref.ensures.0 ∙ c.catalog_key-key.ensures.key)) c.requires.known
 
 pub value_at-requires-clause-readable : goal.value_at-requires-clause-readable
 value_at-requires-clause-readable g c = c.in_ok-page.ensures.found.item.0

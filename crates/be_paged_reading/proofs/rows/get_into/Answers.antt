@@ -10,7 +10,7 @@ use Rattle.be_paged_reading.proofs.rows.get_into.Goals as goal
 pub returns-clause-value : goal.returns-clause-value
 returns-clause-value g c = λ volume version.
     let words = g.L.Look.words c.args.look.now in
-    let root = subst (λ (r : ℕ). IsCatalog (pairs words r) volume.nodes) (sym c.word-catalog.ensures.value) version.spells.catalog in
+    let root = subst (λ (r : ℕ). IsCatalog (pairs words r) volume.nodes) (sym c.word-catalog.ensures.value) version.encodes.catalog in
     let catalog = subst (λ (w : ℕ → ℕ → ℕ). IsCatalog (pairs w c.word-catalog.result) volume.nodes) (sym c.word-catalog.ensures.words) root in
     let has = c.in_ok-page.ensures.some volume.nodes catalog (values_valid volume version.sound) in
     subst (λ (a : Option Value). IsReadInto a c.read_into.result c.args.bytes.now c.read_into.new.bytes) (sym has.there)

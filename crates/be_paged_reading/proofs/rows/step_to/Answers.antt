@@ -4,7 +4,7 @@ use Rattle.be_tree_reading.specs.Cursor.{remaining}
 use Rattle.be_tree_reading.specs.Key.{key_cmp}
 use Rattle.be_tree_reading.specs.Page.{item_at}
 use Rattle.be_tree_reading.proofs.Order.{key_same}
-use Rattle.be_paged_reading.proofs.Told.{elsewhere}
+use Rattle.be_paged_reading.proofs.Reported.{elsewhere}
 use Rattle.be_paged_reading.proofs.rows.step_to.Goals as goal
 
 pub returns-then-not-is_key_at-clause-none : goal.returns-then-not-is_key_at-clause-none

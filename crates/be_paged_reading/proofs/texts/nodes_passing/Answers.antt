@@ -2,7 +2,7 @@ use Rattle.std.proofs.Common.{◌≡◌, ◌∙◌, ◌++◌, ℕ, List, false, 
 use Rattle.std.specs.Option.{option_copied}
 use Rattle.std.proofs.lemmas.List.Elements.{All-filter}
 use Rattle.std.proofs.lemmas.Result.{IfOk-weaker}
-use Rattle.be_pages.specs.declared.room.Standing.{Standing}
+use Rattle.be_pages.specs.declared.room.PageState.{PageState}
 use Rattle.be_tree_reading.specs.Cursor.{IsCursor, remaining}
 use Rattle.be_tree_reading.specs.Pair.{Pair}
 use Rattle.be_tree_reading.specs.Range.{HasFirst, is_from, pairs_from}
@@ -12,8 +12,8 @@ use Rattle.be_paged_reading.proofs.texts.nodes_passing.Goals as goal
 
 pub test_rest-requires-clause-cursor : goal.test_rest-requires-clause-cursor
 test_rest-requires-clause-cursor g c =
-    subst (λ (w : ℕ → ℕ → ℕ). IsCursor (g.L.Look.standing c.seek.new.look) w c.seek.new.self) (sym c.seek.ensures.unchanged.words)
-    (subst (λ (s : ℕ → Standing). IsCursor s (g.L.Look.words c.args.look.now) c.seek.new.self) (sym c.seek.ensures.unchanged.standing) c.seek.ensures.cursor)
+    subst (λ (w : ℕ → ℕ → ℕ). IsCursor (g.L.Look.page_state c.seek.new.look) w c.seek.new.self) (sym c.seek.ensures.unchanged.words)
+    (subst (λ (s : ℕ → PageState). IsCursor s (g.L.Look.words c.args.look.now) c.seek.new.self) (sym c.seek.ensures.unchanged.page_state) c.seek.ensures.cursor)
 
 pub test_rest-requires-clause-texts : goal.test_rest-requires-clause-texts
 test_rest-requires-clause-texts g c =

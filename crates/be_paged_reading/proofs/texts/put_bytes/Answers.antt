@@ -26,7 +26,7 @@ loop-i-preserved g c =
           ∙ sym (flat_map_more (to_be_bytes w64) word_at c.loop-i.i);
       unchanged = record {
         kept = c.word-word.ensures.kept ∙ i.unchanged.kept;
-        standing = c.word-word.ensures.standing ∙ i.unchanged.standing;
+        page_state = c.word-word.ensures.page_state ∙ i.unchanged.page_state;
         words = c.word-word.ensures.words ∙ i.unchanged.words;
       };
     }

@@ -16,9 +16,9 @@ pub number_at-number-requires-clause-long : goal.number_at-number-requires-claus
 number_at-number-requires-clause-long g c =
     subst (λ (w : ℕ → ℕ → ℕ). 8 ≤ length (item_at (w c.args.page) c.args.at).key) (sym c.put_text-length.ensures.unchanged.words) c.requires.is_text.long
 
--- what the test has said is what is asked of the key
-told : (g : Over) (c : After-passes-passes g) → c.passes-passes.result ≡ passes c.args.test.now.0 c.args.test.now.1 (item_at (g.L.Look.words c.args.look.now c.args.page) c.args.at).key
-told g c =
+-- the test's result is whether the key passes
+reported : (g : Over) (c : After-passes-passes g) → c.passes-passes.result ≡ passes c.args.test.now.0 c.args.test.now.1 (item_at (g.L.Look.words c.args.look.now c.args.page) c.args.at).key
+reported g c =
     let key = (item_at (g.L.Look.words c.args.look.now c.args.page) c.args.at).key in
     let text : c.front.result.now ≡ text_in key = c.front.ensures ∙ c.put_text-length.ensures.text in
     c.passes-passes.ensures (subst IsUtf8 (sym text) c.requires.is_text.is_text) ∙ ap (λ (t : List ℕ). holds_of_text c.args.test.now.0 t c.args.test.now.1) text
@@ -31,11 +31,11 @@ returns-in_ok-push-clause-added g c =
     let number : c.number_at-number.result ≡ number_of key =
     c.number_at-number.ensures.number ∙ ap (λ (w : ℕ → ℕ → ℕ). number_of (item_at (w c.args.page) c.args.at).key) c.put_text-length.ensures.unchanged.words in
     c.in_ok-push.ensures.items ∙ ap (λ (n : ℕ). before ++ n ∷ []) number
-    ∙ ap (λ (p : Bool). before ++ (if p then number_of key ∷ [] else [])) (sym (sym (told g b) ∙ c.if-passes.true))
+    ∙ ap (λ (p : Bool). before ++ (if p then number_of key ∷ [] else [])) (sym (sym (reported g b) ∙ c.if-passes.true))
 
 pub returns-else-passes-clause-added : goal.returns-else-passes-clause-added
 returns-else-passes-clause-added g c =
     let b = (goal.at.returns-else-passes-clause-added g c).After-passes-passes in
     let key = (item_at (g.L.Look.words c.args.look.now c.args.page) c.args.at).key in
     let before = c.args.found.now.items in
-    sym (append-nil before) ∙ ap (λ (p : Bool). before ++ (if p then number_of key ∷ [] else [])) (sym (sym (told g b) ∙ c.if-passes.false))
+    sym (append-nil before) ∙ ap (λ (p : Bool). before ++ (if p then number_of key ∷ [] else [])) (sym (sym (reported g b) ∙ c.if-passes.false))

@@ -16,7 +16,7 @@ pub loop-i-init : goal.loop-i-init
 loop-i-init g c = record {
   has = record { got = []; parts = refl; is = sym (append-nil c.args.found.now.items) };
   same = refl;
-  unchanged = record { kept = c.word-count.ensures.kept; standing = c.word-count.ensures.standing; words = c.word-count.ensures.words };
+  unchanged = record { kept = c.word-count.ensures.kept; page_state = c.word-count.ensures.page_state; words = c.word-count.ensures.words };
 }
 
 pub is_past_at-is_past-requires-clause-in_page : goal.is_past_at-is_past-requires-clause-in_page
@@ -36,7 +36,7 @@ asked g c =
     sym (ap (λ (w : ℕ → ℕ → ℕ). is_past (option_copied c.args.high) (item_at (w c.args.leaf.0) (2 + 42 * c.loop-i.i)).key) c.loop-i.invariant.unchanged.words)
     ∙ sym c.is_past_at-is_past.ensures.past
 
--- the words are as at first
+-- the words are those at the call
 read : (g : Over) (c : After-is_past_at-is_past g) → g.L.Look.words c.is_past_at-is_past.new.look ≡ g.L.Look.words c.args.look.now
 read g c = c.is_past_at-is_past.ensures.unchanged.words ∙ c.loop-i.invariant.unchanged.words
 
@@ -72,12 +72,12 @@ loop-i-preserved g c =
           (ap to parts ∙ opened t x (drop (i + 1) items) high within)
           (c.in_ok-test_item.ensures.added ∙ ap (λ (w : ℕ → ℕ → ℕ). c.loop-i.found.items ++ t (item_at (w c.args.leaf.0) (2 + 42 * i))) (read g b));
       same = c.loop-i.invariant.same ∙ ap (any_past high) parts ∙ ap (λ q. q || any_past high (drop (i + 1) items)) within;
-      unchanged = unchanged_trans g.L.Look.kept g.L.Look.standing g.L.Look.words c.args.look.now c.is_past_at-is_past.new.look c.test_item.new.look
-          (unchanged_trans g.L.Look.kept g.L.Look.standing g.L.Look.words c.args.look.now c.loop-i.look c.is_past_at-is_past.new.look c.loop-i.invariant.unchanged c.is_past_at-is_past.ensures.unchanged)
+      unchanged = unchanged_trans g.L.Look.kept g.L.Look.page_state g.L.Look.words c.args.look.now c.is_past_at-is_past.new.look c.test_item.new.look
+          (unchanged_trans g.L.Look.kept g.L.Look.page_state g.L.Look.words c.args.look.now c.loop-i.look c.is_past_at-is_past.new.look c.loop-i.invariant.unchanged c.is_past_at-is_past.ensures.unchanged)
           c.test_item.ensures.unchanged;
     }
 
--- the bound is here
+-- the bound is in this leaf
 pub returns-then-is_past-clause-first : goal.returns-then-is_past-clause-first
 returns-then-is_past-clause-first g c = record {
   left = nodes_passing_to c.args.test.now.0 c.args.test.now.1 (drop c.loop-i.i (items_of (g.L.Look.words c.args.look.now c.args.leaf.0))) (option_copied c.args.high);
@@ -114,7 +114,7 @@ returns-in_err-test_item-clause-first g c =
       has = record { got = has.got; parts = has.parts; is = c.in_err-test_item.ensures.kept ∙ has.is };
     }
 
--- no key is above it
+-- no key of this leaf is above the bound
 pub returns-clause-first : goal.returns-clause-first
 returns-clause-first g c = record {
   left = nodes_passing_to c.args.test.now.0 c.args.test.now.1 (drop c.loop-i.i (items_of (g.L.Look.words c.args.look.now c.args.leaf.0))) (option_copied c.args.high);

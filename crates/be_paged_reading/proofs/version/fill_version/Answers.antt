@@ -18,7 +18,7 @@ loop-i-preserved g c =
       catalog = c.loop-i.invariant.catalog;
       unchanged = record {
         kept = c.load.ensures.unchanged.kept ∙ c.loop-i.invariant.unchanged.kept;
-        standing = c.load.ensures.unchanged.standing ∙ c.loop-i.invariant.unchanged.standing;
+        page_state = c.load.ensures.unchanged.page_state ∙ c.loop-i.invariant.unchanged.page_state;
         words = c.load.ensures.unchanged.words ∙ c.loop-i.invariant.unchanged.words;
       };
     }

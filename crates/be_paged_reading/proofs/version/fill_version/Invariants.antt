@@ -10,5 +10,5 @@ invariant-loop-i g l = record {
   len : length l.version.entries.items ≡ l.i;
   next : l.version.next ≡ g.L.Look.words l.fn.look l.page 2;
   catalog : l.version.catalog ≡ g.L.Look.words l.fn.look l.page 3;
-  unchanged : IsUnchanged g.L.Look.kept g.L.Look.standing g.L.Look.words l.fn.look l.look;
+  unchanged : IsUnchanged g.L.Look.kept g.L.Look.page_state g.L.Look.words l.fn.look l.look;
 }

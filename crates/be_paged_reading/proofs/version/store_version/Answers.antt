@@ -33,7 +33,7 @@ loop-i-preserved g c =
             let e : i ≡ k = omega arith in
             subst (λ n. IsEntry w (entry_place n)) e c.store.ensures.entry
       ];
-      standing = λ q. only.standing q ∙ c.loop-i.invariant.standing q;
+      page_state = λ q. only.page_state q ∙ c.loop-i.invariant.page_state q;
       others = λ q ne. only.others q ne ∙ c.loop-i.invariant.others q ne;
       kept = only.kept ∙ c.loop-i.invariant.kept;
     }

@@ -48,12 +48,12 @@ returns-in_err-collect_side-clause-refused g c =
     let a = formula c.in-Or.a.value in
     let b = formula c.in-Or.b.value in
     let one : rest ≡ Or a b = ap formula c.in-Or.is in
-    let told : (c.in_err-collect_side.field-0.0 ≡ OutOfMemory) ⊎ ((c.in_err-collect_side.field-0.0 ≡ NotCovered) × (covered g.volume (formula c.args.tree.now) ≡ false)) =
+    let reported : (c.in_err-collect_side.field-0.0 ≡ OutOfMemory) ⊎ ((c.in_err-collect_side.field-0.0 ≡ NotCovered) × (covered g.volume (formula c.args.tree.now) ≡ false)) =
     elim c.in_err-collect_side.ensures.refused [
       | inl memory ↦ inl memory
       | inr lacks ↦ inr (lacks.0, c.sides.invariant.rests ∙ right_lacks g.volume rest a b one (ap (λ (t : Tree). covered g.volume (formula t)) (sym c.deref.ensures) ∙ lacks.1))
     ] in
-    passed_up c.from_residual.result c.in_err-collect_side.field-0.0 (λ e. (e ≡ OutOfMemory) ⊎ ((e ≡ NotCovered) × (covered g.volume (formula c.args.tree.now) ≡ false))) c.from_residual.ensures.1 told
+    passed_up c.from_residual.result c.in_err-collect_side.field-0.0 (λ e. (e ≡ OutOfMemory) ⊎ ((e ≡ NotCovered) × (covered g.volume (formula c.args.tree.now) ≡ false))) c.from_residual.ensures.1 reported
 
 pub sides-smaller : goal.sides-smaller
 sides-smaller g c =

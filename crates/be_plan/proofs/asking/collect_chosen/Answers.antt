@@ -3,27 +3,27 @@ use Rattle.be_value.specs.declared.refusals.Refusal.TheVariants.{NotCovered}
 use Rattle.be_query.specs.View.{formula}
 use Rattle.be_volume.specs.Query.{has_index}
 use Rattle.be_plan.specs.Cover.{covers, or_not_covered}
-use Rattle.be_plan.proofs.Choice.{choice_told}
+use Rattle.be_plan.proofs.Choice.{choice_reported}
 use Rattle.be_plan.proofs.Reaching.{on_ok}
 use Rattle.be_plan.proofs.Sides.{by_memory}
 use Rattle.be_plan.proofs.asking.collect_chosen.Goals as goal
 
 pub returns-in_default-clause-refused : goal.returns-in_default-clause-refused
 returns-in_default-clause-refused g c =
-    (choice_told (has_index g.volume) (formula c.args.tree.now) (Err NotCovered)
+    (choice_reported (has_index g.volume) (formula c.args.tree.now) (Err NotCovered)
     (inr (ap or_not_covered (sym c.in_ok-cover.ensures.choice ∙ c.in_default.is)))).1
 
 pub walk_picks-requires : goal.walk_picks-requires
 walk_picks-requires g c κs within =
     let f = formula c.args.tree.now in
-    let told = choice_told (has_index g.volume) f (Ok c.in-Some.cover) (ap or_not_covered (sym c.in_ok-cover.ensures.choice ∙ c.in-Some.is)) in
+    let reported = choice_reported (has_index g.volume) f (Ok c.in-Some.cover) (ap or_not_covered (sym c.in_ok-cover.ensures.choice ∙ c.in-Some.is)) in
     let P : List ℕ → Type 0 = λ picks. covers (has_index g.volume) picks f ≡ true in
-    (within, (c.requires.1.1, (c.choose_by_source.ensures.answers, subst P (sym c.as_slice.ensures) told.0.0)))
+    (within, (c.requires.1.1, (c.choose_by_source.ensures.answers, subst P (sym c.as_slice.ensures) reported.0.0)))
 
 pub returns-clause-covered : goal.returns-clause-covered
 returns-clause-covered g c =
-    let told = choice_told (has_index g.volume) (formula c.args.tree.now) (Ok c.in-Some.cover) (ap or_not_covered (sym c.in_ok-cover.ensures.choice ∙ c.in-Some.is)) in
-    on_ok c.walk_picks.result (λ has. told.0.1) c.walk_picks.ensures.has
+    let reported = choice_reported (has_index g.volume) (formula c.args.tree.now) (Ok c.in-Some.cover) (ap or_not_covered (sym c.in_ok-cover.ensures.choice ∙ c.in-Some.is)) in
+    on_ok c.walk_picks.result (λ has. reported.0.1) c.walk_picks.ensures.has
 
 pub returns-clause-refused : goal.returns-clause-refused
 returns-clause-refused g c = by_memory _ _ c.walk_picks.result c.walk_picks.ensures.memory

@@ -3,7 +3,7 @@ use borrow.Author.Count.{below_more}
 use Rattle.be_query.specs.View.{formula}
 use Rattle.be_volume.specs.Query.{has_index}
 use Rattle.be_plan.specs.Cover.{rests_on}
-use Rattle.be_plan.specs.Spine.{StandsIn}
+use Rattle.be_plan.specs.Spine.{LiesIn}
 use Rattle.be_plan.specs.Walk.{HasReached}
 use Rattle.be_plan.proofs.Answering.{all_reached, at_place, pick_place, covers_parts}
 use Rattle.be_plan.proofs.Choice.{pick_below}
@@ -44,14 +44,14 @@ walk_pick-requires g c κs within =
     let place : length picks - 1 - c.loop-i.i < length picks = omega (arith, c.loop-i-test.true) in
     let rests : rests_on (has_index g.volume) f pick ≡ true =
     subst R (sym c.from_last-pick.ensures) (at_place (rests_on (has_index g.volume) f) picks (length picks - 1 - c.loop-i.i) parts.0 place) in
-    let stands : StandsIn f pick from part = c.front_for-front.ensures.stands in (
+    let lies : LiesIn f pick from part = c.front_for-front.ensures.lies in (
       within,
       (
         inv.answers,
         record {
           few = omega (arith, c.front_for-front.ensures.side, c.front_for-front.ensures.front.few);
-          rests = rests_in (has_index g.volume) f part pick from stands rests;
-          stands = stands;
+          rests = rests_in (has_index g.volume) f part pick from lies rests;
+          lies = lies;
         },
       ),
     )

@@ -10,13 +10,13 @@ returns-then-pick-before-clause-front c =
     let cut = c.cut_after.ensures in
     record { end = cut.end; few = cut.few; under = cut.under (formula c.args.whole.now) c.requires.front.under }
 
-pub returns-then-pick-before-clause-stands : goal.returns-then-pick-before-clause-stands
-returns-then-pick-before-clause-stands c = c.cut_after.ensures.stands (formula c.args.whole.now) c.requires.front.under
+pub returns-then-pick-before-clause-lies : goal.returns-then-pick-before-clause-lies
+returns-then-pick-before-clause-lies c = c.cut_after.ensures.lies (formula c.args.whole.now) c.requires.front.under
 
 pub returns-else-pick-before-clause-front : goal.returns-else-pick-before-clause-front
 returns-else-pick-before-clause-front c =
     let cut = c.cut_after-else-pick-before.ensures in
     record { end = cut.end; few = cut.few; under = cut.under (formula c.args.whole.now) (whole_under (formula c.args.whole.now)) }
 
-pub returns-else-pick-before-clause-stands : goal.returns-else-pick-before-clause-stands
-returns-else-pick-before-clause-stands c = c.cut_after-else-pick-before.ensures.stands (formula c.args.whole.now) (whole_under (formula c.args.whole.now))
+pub returns-else-pick-before-clause-lies : goal.returns-else-pick-before-clause-lies
+returns-else-pick-before-clause-lies c = c.cut_after-else-pick-before.ensures.lies (formula c.args.whole.now) (whole_under (formula c.args.whole.now))

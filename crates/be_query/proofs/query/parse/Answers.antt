@@ -3,8 +3,8 @@ use Rattle.be_query.specs.Building.{build_from}
 use Rattle.be_query.specs.Lexing.{lexemes, whole, tokens, Whole}
 use Rattle.be_query.specs.View.{stage_of, state_of, fault_in, token_of, formula}
 use Rattle.be_query.proofs.Loop.{separated, separated_shorter, taken, taken_shorter, no_lexemes, fault_within}
-use Rattle.be_query.proofs.Sentences.{built_spells}
-use Rattle.be_query.proofs.Few.{few_spelt, whole_text}
+use Rattle.be_query.proofs.Sentences.{built_parses}
+use Rattle.be_query.proofs.Few.{few_parsed, whole_text}
 use Rattle.be_query.proofs.Held.{step_kept, end_kept}
 use Rattle.be_query.proofs.query.parse.Goals as goal
 
@@ -42,9 +42,9 @@ invariant_of-result c =
     let fin = c.in_ok-tree.ensures in
     let empty : length c.lexemes.rest.now ≡ 0 = grind (arith, c.lexemes-test.ensures) in
     let none = no_lexemes (length c.args.text.now - length c.lexemes.rest.now) c.lexemes.rest.now empty in (
-      few_spelt c.args.text.now (formula c.in_ok-tree.tree.value)
+      few_parsed c.args.text.now (formula c.in_ok-tree.tree.value)
           (fault_within c.args.text.now (omega arith) ∙ sym i.faults ∙ ap (fault_in (stage_of c.lexemes.stage) c.lexemes.context (length c.args.text.now)) none ∙ fin.ends)
-          (built_spells (tokens c.args.text.now) (state_of (stage_of c.lexemes.stage) c.lexemes.context) (formula c.in_ok-tree.tree.value) (sym i.built ∙ ap (λ l. build_from (Some (state_of (stage_of c.lexemes.stage) c.lexemes.context)) (whole l)) none) fin.ok),
+          (built_parses (tokens c.args.text.now) (state_of (stage_of c.lexemes.stage) c.lexemes.context) (formula c.in_ok-tree.tree.value) (sym i.built ∙ ap (λ l. build_from (Some (state_of (stage_of c.lexemes.stage) c.lexemes.context)) (whole l)) none) fin.ok),
       end_kept (state_of (stage_of c.lexemes.stage) c.lexemes.context) (formula c.in_ok-tree.tree.value) i.kept fin.ok,
     )
 
@@ -56,5 +56,5 @@ returns-clause-ok c =
     let none = no_lexemes (length c.args.text.now - length c.lexemes.rest.now) c.lexemes.rest.now empty in
     let good = fault_within c.args.text.now (omega arith) ∙ sym i.faults ∙ ap (fault_in (stage_of c.lexemes.stage) c.lexemes.context (length c.args.text.now)) none ∙ fin.ends in (
       good,
-      (whole_text c.args.text.now good, built_spells (tokens c.args.text.now) (state_of (stage_of c.lexemes.stage) c.lexemes.context) (formula c.in_ok-tree.tree.value) (sym i.built ∙ ap (λ l. build_from (Some (state_of (stage_of c.lexemes.stage) c.lexemes.context)) (whole l)) none) fin.ok),
+      (whole_text c.args.text.now good, built_parses (tokens c.args.text.now) (state_of (stage_of c.lexemes.stage) c.lexemes.context) (formula c.in_ok-tree.tree.value) (sym i.built ∙ ap (λ l. build_from (Some (state_of (stage_of c.lexemes.stage) c.lexemes.context)) (whole l)) none) fin.ok),
     )

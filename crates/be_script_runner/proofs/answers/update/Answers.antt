@@ -18,6 +18,6 @@ returns-in-Ok-update-clause-replies g c = λ batch.
     let store = g.S.Server.shows c.query-2.new.self in
     let old = c.args.live.now in
     let answer : scan (viewed store) old.query ≡ Ok c.in-Ok.nodes.items = ap (λ (f : Formula). scan (viewed store) f) (sym c.query.ensures) ∙ c.in-Ok.ensures.answers in
-    let told = c.in-Ok-update.ensures.ok in
+    let reported = c.in-Ok-update.ensures.ok in
     inl (ap (updating (watched store batch old) old) answer
-    ∙ (λ i. (updates (sym told.1 i) (sym told.2 i), watched store batch (sym told.0 i))))
+    ∙ (λ i. (updates (sym reported.1 i) (sym reported.2 i), watched store batch (sym reported.0 i))))

@@ -12,7 +12,7 @@ invariant-loop-line g l = record {
   counted : l.number + length l.rest ≤ 1 + length l.script;
   numbered : l.number + line_count l.rest ≡ line_count l.script + 1;
   next : IsNext (g.G.Gate.ended l.gate l.place) l.number;
-  told : (line : ℕ) → 1 ≤ line → line < l.number → g.G.Gate.begun l.gate l.place line × g.G.Gate.ended l.gate l.place line;
+  reported : (line : ℕ) → 1 ≤ line → line < l.number → g.G.Gate.begun l.gate l.place line × g.G.Gate.ended l.gate l.place line;
   few : length (queued_ops l.client) ≤ 64;
   of : IsPassOf l.store l.current;
   same : l.current.knows.number ≡ l.fn.pass.knows.number;

@@ -74,5 +74,5 @@ returns-in-Err-clause-fault g c =
     let scripts = map (λ s. s.items) c.args.scripts.items in
     subst (λ e. RaceLeaves c.args.limits scripts e held held) (sym c.in-Err.ensures.fault) (nothing_raced c.args.limits scripts held)
 
-pub returns-in-Ok-clause-told : goal.returns-in-Ok-clause-told
-returns-in-Ok-clause-told g c = always_ok c.put_race.result c.in-Ok.ensures.told
+pub returns-in-Ok-clause-reported : goal.returns-in-Ok-clause-reported
+returns-in-Ok-clause-reported g c = always_ok c.put_race.result c.in-Ok.ensures.reported

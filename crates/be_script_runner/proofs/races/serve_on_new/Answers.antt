@@ -3,7 +3,7 @@ use Rattle.std.proofs.lemmas.List.{length-map}
 use Rattle.be_journal.specs.Journal.{by_pass}
 use Rattle.be_table.specs.History.{AreOfPasses}
 use Rattle.be_table.specs.Steps.{Has}
-use Rattle.be_table.specs.Versions.{CanSpellEach}
+use Rattle.be_table.specs.Versions.{CanEncodeEach}
 use Rattle.be_table.specs.Works.{knows_of}
 use Rattle.be_table.specs.declared.limits.Limits.{Limits}
 use Rattle.be_script_runner.specs.Own.{IsPartOf, operations, write_ops}
@@ -41,7 +41,7 @@ returns-clause-raced g c =
         by = subst (λ n. AreOfPasses n journal) passes c.close.ensures.by;
         own = λ k below. subst (λ n. IsPartOf (operations (by_pass n journal)) (write_ops (slice_index_or scripts k []))) (zero-add k)
             (own_of c.in-Ok.store 0 scripts c.in_ok-passes.passes.items journal c.in_ok-passes.ensures.served.0 c.close.ensures.passes k below);
-        volumes = subst (λ (l : Limits). CanSpellEach l.pages journal) c.in-Ok.ensures.0 c.close.ensures.volumes;
+        volumes = subst (λ (l : Limits). CanEncodeEach l.pages journal) c.in-Ok.ensures.0 c.close.ensures.volumes;
         passes = map knows_of c.in_ok-passes.passes.items;
         served = subst (λ (l : Limits). AreServedBy l 0 scripts (map knows_of c.in_ok-passes.passes.items) replies) c.in-Ok.ensures.0 c.in_ok-passes.ensures.served.2;
         order = record {

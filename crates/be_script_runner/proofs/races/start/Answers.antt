@@ -1,7 +1,7 @@
 use Rattle.std.proofs.Common.{◌≡◌, ◌+◌, ◌<◌, ◌++◌, ◌∷◌, [], true, get_or, length, length-append, ap, sym, ◌∙◌, subst, arith, is_ok, not, if◌then◌else◌, rules}
 use Rattle.std.proofs.lemmas.List.{get_or_read}
 use Rattle.be_table.specs.Works.{AreNewAt}
-use Rattle.be_script_runner.specs.Gates.{AreTold, line_count}
+use Rattle.be_script_runner.specs.Gates.{AreReported, line_count}
 use Rattle.be_script_runner.proofs.RaceLemmas.{each_promised, same_end}
 use Rattle.be_script_runner.proofs.races.start.Goals as goal
 
@@ -43,6 +43,6 @@ pub returns-clause-each : goal.returns-clause-each
 returns-clause-each g c k t s below = c.loop-pass.invariant.each k t s (omega (arith, c.loop-pass.invariant.count, c.in-None.ensures.steps.0))
 
 pub spawn_with-thread-requires-clause-keeps : goal.spawn_with-thread-requires-clause-keeps
-spawn_with-thread-requires-clause-keeps g c κs within = λ r told. same_end (λ v. v.items) (λ gate n script. AreTold (g.G.Gate.begun gate n) (g.G.Gate.ended gate n) (line_count script))
+spawn_with-thread-requires-clause-keeps g c κs within = λ r reported. same_end (λ v. v.items) (λ gate n script. AreReported (g.G.Gate.begun gate n) (g.G.Gate.ended gate n) (line_count script))
     c.args.store.now c.of.result.value c.in-Some.pass.knows.number c.number-number.result c.index-script.result.now c.of-in-loop-pass.result.value c.args.gate.now c.of-in-loop-pass-2.result.value
     r (sym c.of.ensures) (sym c.number-number.ensures) (sym c.of-in-loop-pass.ensures) (sym c.of-in-loop-pass-2.ensures) (search rules)

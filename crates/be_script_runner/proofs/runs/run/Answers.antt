@@ -4,7 +4,7 @@ use Rattle.be_script_runner.specs.Run.{IsNotLimits, RunLeaves}
 use Rattle.be_script_runner.specs.Served.{known}
 use Rattle.be_script_runner.specs.Store.{Store, start}
 use Rattle.be_script_runner.specs.declared.faults.RunFault.TheVariants.{Limits, Memory}
-use Rattle.be_script_runner.proofs.LimitLemmas.{no_fault, not_by, served_spelt}
+use Rattle.be_script_runner.proofs.LimitLemmas.{no_fault, not_by, served_encoded}
 use Rattle.be_script_runner.proofs.ReadLemmas.{no_reads, none_read}
 use Rattle.be_script_runner.proofs.RunLemmas.{none_answered_if, on_ok, run_output}
 use Rattle.be_script_runner.proofs.runs.run.Goals as goal
@@ -23,7 +23,7 @@ returns-clause-output g c =
     on_ok c.serve-ran.result
     (run_output c.args.limits (g.R.ScriptReader.remaining c.args.reader.now) (g.W.Write.contents c.args.writer.now) (g.W.Write.contents c.serve-ran.new.writer)
     (known c.new-server.result.knows) (known c.serve-ran.new.server.knows) (ap known c.new-server.ensures.1 ∙ c.in-Ok.ensures.opened.1)
-    (served_spelt c.args.limits.pages c.in-Ok.store c.serve-ran.new.server.store c.into_pass-pass.result c.serve-ran.new.server.knows
+    (served_encoded c.args.limits.pages c.in-Ok.store c.serve-ran.new.server.store c.into_pass-pass.result c.serve-ran.new.server.knows
     (ap (λ s. s.0) c.serve-ran.ensures.stays ∙ c.new-server.ensures.0) c.into_pass-pass.ensures.0 c.in-Ok.ensures.pages c.into_pass-pass.ensures.1 c.is_pass.ensures))
     c.serve-ran.ensures.output
 

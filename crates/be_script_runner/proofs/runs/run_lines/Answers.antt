@@ -4,7 +4,7 @@ use Rattle.be_script_language.specs.Request.{lines_of}
 use Rattle.be_script_runner.specs.View.{session}
 use Rattle.be_script_runner.specs.Gates.{line_count}
 use Rattle.be_script_runner.proofs.EndLemmas.{finish_empty}
-use Rattle.be_script_runner.proofs.GateLemmas.{last_is_none, last_is_one, line_counted, told_more}
+use Rattle.be_script_runner.proofs.GateLemmas.{last_is_none, last_is_one, line_counted, reported_more}
 use Rattle.be_script_runner.proofs.RunLemmas.{advance, always_ok, each_err, finish, none_further, nothing_yet, passed_up, stop, on_ok, on_err, always_err}
 use Rattle.be_script_runner.proofs.runs.run_lines.Goals as goal
 
@@ -13,7 +13,7 @@ loop-line-init g c = record {
   counted = omega arith;
   numbered = omega arith;
   next = inl refl;
-  told = λ line first below. absurd (omega (arith, first, below));
+  reported = λ line first below. absurd (omega (arith, first, below));
   few = c.new-client.ensures.few;
   stays = refl;
   so_far = nothing_yet (g.S.Server.shows c.args.server.now) c.args.script.now (session (g.S.Server.shows c.args.server.now) c.new-client.result)
@@ -32,7 +32,7 @@ loop-line-preserved g c = record {
   counted = omega (arith, c.in-Some.ensures.shorter, c.loop-line.invariant.counted);
   numbered = omega (arith, line_counted c.loop-line.rest.now c.in-Some.line.now c.in-Some.beyond.now c.in-Some.ensures.first, c.loop-line.invariant.numbered);
   next = inr (c.loop-line.number, refl, c.after.ensures);
-  told = told_more (g.G.Gate.begun c.args.gate.now c.args.pass) (g.G.Gate.ended c.args.gate.now c.args.pass) c.loop-line.number c.loop-line.invariant.told
+  reported = reported_more (g.G.Gate.begun c.args.gate.now c.args.pass) (g.G.Gate.ended c.args.gate.now c.args.pass) c.loop-line.number c.loop-line.invariant.reported
       c.before-in-Some.ensures c.after.ensures;
   few = c.run_line-ran.ensures.few;
   stays = c.run_line-ran.ensures.stays ∙ c.loop-line.invariant.stays;
@@ -48,19 +48,19 @@ returns-then-is_empty-clause-ok g c =
     finish_empty (g.S.Server.shows c.args.server.now) c.args.script.now c.loop-line.rest.now (session (g.S.Server.shows c.loop-line.server) c.loop-line.client)
     (g.W.Write.contents c.args.writer.now) (g.W.Write.contents c.loop-line.writer) none c.loop-line.invariant.so_far
 
-pub returns-then-is_empty-clause-told : goal.returns-then-is_empty-clause-told
-returns-then-is_empty-clause-told g c =
+pub returns-then-is_empty-clause-reported : goal.returns-then-is_empty-clause-reported
+returns-then-is_empty-clause-reported g c =
     let empty : length c.loop-line.rest.now ≡ 0 = grind (arith, nat_tests, c.if-is_empty.ensures) in
     let none : line_count c.loop-line.rest.now ≡ 0 = last_is_none c.loop-line.rest.now c.in_default.ensures.last empty in
-    λ line first last. c.loop-line.invariant.told line first (omega (arith, last, none, c.loop-line.invariant.numbered))
+    λ line first last. c.loop-line.invariant.reported line first (omega (arith, last, none, c.loop-line.invariant.numbered))
 
-pub returns-clause-told : goal.returns-clause-told
-returns-clause-told g c =
+pub returns-clause-reported : goal.returns-clause-reported
+returns-clause-reported g c =
     let some : 1 ≤ length c.loop-line.rest.now = grind (arith, nat_tests, c.if-is_empty.ensures) in
     let one : line_count c.loop-line.rest.now ≡ 1 = last_is_one c.loop-line.rest.now c.in_default.ensures.last some in
-    let told = told_more (g.G.Gate.begun c.args.gate.now c.args.pass) (g.G.Gate.ended c.args.gate.now c.args.pass) c.loop-line.number c.loop-line.invariant.told
+    let reported = reported_more (g.G.Gate.begun c.args.gate.now c.args.pass) (g.G.Gate.ended c.args.gate.now c.args.pass) c.loop-line.number c.loop-line.invariant.reported
     c.before-2.ensures c.after-2.ensures in
-    always_ok c.run_line-ran-2.result (λ line first last. told line first (omega (arith, last, one, c.loop-line.invariant.numbered)))
+    always_ok c.run_line-ran-2.result (λ line first last. reported line first (omega (arith, last, one, c.loop-line.invariant.numbered)))
 
 pub returns-clause-ok : goal.returns-clause-ok
 returns-clause-ok g c = on_ok c.run_line-ran-2.result (λ w.

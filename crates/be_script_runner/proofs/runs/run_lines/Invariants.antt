@@ -9,7 +9,7 @@ invariant-loop-line g l = record {
   counted : l.number + length l.rest ≤ 1 + length l.script;
   numbered : l.number + line_count l.rest ≡ line_count l.script + 1;
   next : IsNext (g.G.Gate.ended l.gate l.pass) l.number;
-  told : (line : ℕ) → 1 ≤ line → line < l.number → g.G.Gate.begun l.gate l.pass line × g.G.Gate.ended l.gate l.pass line;
+  reported : (line : ℕ) → 1 ≤ line → line < l.number → g.G.Gate.begun l.gate l.pass line × g.G.Gate.ended l.gate l.pass line;
   few : length (queued_ops l.client) ≤ 64;
   stays : g.S.Server.kept l.server ≡ g.S.Server.kept l.fn.server;
   so_far : Wrote (g.W.Write.contents l.fn.writer) (g.W.Write.contents l.writer)

@@ -15,5 +15,5 @@ returns-in-Ok-clause-replies g c =
 pub returns-in-Ok-clause-mine : goal.returns-in-Ok-clause-mine
 returns-in-Ok-clause-mine g c = c.is_pass.ensures.mine
 
-pub returns-in-Ok-clause-told : goal.returns-in-Ok-clause-told
-returns-in-Ok-clause-told g c = on_at_ok _ c.in-Ok.is c.serve_lines-pass.ensures.told
+pub returns-in-Ok-clause-reported : goal.returns-in-Ok-clause-reported
+returns-in-Ok-clause-reported g c = on_at_ok _ c.in-Ok.is c.serve_lines-pass.ensures.reported

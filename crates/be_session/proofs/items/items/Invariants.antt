@@ -5,6 +5,6 @@ use Rattle.be_session.proofs.items.items.Given as goal
 
 abbrev pub invariant-loop-next : goal.invariant-loop-next
 invariant-loop-next l = record {
-  meant : AreItemsMeant (take l.next-index l.spelled) l.bytes (map item_of l.items.items);
+  meant : AreItemsMeant (take l.next-index l.encoded) l.bytes (map item_of l.items.items);
   count : vec_len l.items ≡ l.next-index;
 }

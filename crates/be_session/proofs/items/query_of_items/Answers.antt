@@ -9,5 +9,5 @@ passed_up (Err y) e P is p = subst P (sym is) p
 
 pub returns-in_err-items-clause-err : goal.returns-in_err-items-clause-err
 returns-in_err-items-clause-err c =
-    passed_up c.from_residual.result c.in_err-items.field-0.0 (λ e. IsUnbuilt c.args.spelled.now c.args.bytes.now e.fault e.place) c.from_residual.ensures.1
+    passed_up c.from_residual.result c.in_err-items.field-0.0 (λ e. IsUnbuilt c.args.encoded.now c.args.bytes.now e.fault e.place) c.from_residual.ensures.1
     (inl c.in_err-items.ensures.err)

@@ -4,8 +4,8 @@ use Rattle.be_session.proofs.lists.operations.Given as goal
 
 abbrev pub invariant-loop-next : goal.invariant-loop-next
 invariant-loop-next l = record {
-  meant : AreMeant (take l.next-index l.spelled) l.bytes l.ops.items;
+  meant : AreMeant (take l.next-index l.encoded) l.bytes l.ops.items;
   count : vec_len l.ops ≡ l.next-index;
-  room : length l.spelled ≤ vec_capacity l.ops;
-  fits : IsWriteCount (length l.spelled);
+  room : length l.encoded ≤ vec_capacity l.ops;
+  fits : IsWriteCount (length l.encoded);
 }

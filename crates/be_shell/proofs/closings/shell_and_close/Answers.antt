@@ -2,7 +2,7 @@ use Rattle.std.proofs.Common.{ap, ◌∙◌, subst, inl, inr, refl, rules, sym}
 use Rattle.std.specs.Prelude.{Err, IfErr}
 use Rattle.be_table.specs.Place.{Opened}
 use Rattle.be_table.specs.Rule.{entries}
-use Rattle.be_table.specs.Versions.{CanSpellEach}
+use Rattle.be_table.specs.Versions.{CanEncodeEach}
 use Rattle.be_table.specs.declared.pass.Knowledge.{Knowledge}
 use Rattle.be_store.specs.Passes.{IsPassOf}
 use Rattle.be_script_runner.specs.Output.{Session, opening}

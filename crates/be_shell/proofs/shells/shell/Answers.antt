@@ -3,7 +3,7 @@ use Rattle.be_script_runner.specs.Output.{Session, opening}
 use Rattle.be_script_runner.specs.Served.{known}
 use Rattle.be_script_runner.specs.Store.{start}
 use Rattle.be_script_runner.specs.View.{session}
-use Rattle.be_script_runner.proofs.LimitLemmas.{served_spelt}
+use Rattle.be_script_runner.proofs.LimitLemmas.{served_encoded}
 use Rattle.be_script_runner.specs.declared.faults.RunFault.{RunFault}
 use Rattle.be_shell.specs.Conversation.{BrokeOff, ShellLeaves, TalkedTo}
 use Rattle.be_shell.proofs.TalkLemmas.{passed_up}
@@ -24,7 +24,7 @@ returns-clause-talked g c =
       last,
       subst (λ (s : Session). TalkedTo g.F.Peer.does s c.args.first.now mid c.converse.new.peer) opened c.in_ok-converse.ensures.talked,
       c.in_ok-converse-2.ensures.talked,
-      served_spelt c.args.limits.pages c.in-Ok.store c.converse-2.new.server.store c.into_pass-pass.result c.converse-2.new.server.knows
+      served_encoded c.args.limits.pages c.in-Ok.store c.converse-2.new.server.store c.into_pass-pass.result c.converse-2.new.server.knows
           (ap (λ s. s.0) c.converse-2.ensures.stays ∙ (ap (λ s. s.0) c.converse.ensures.stays ∙ c.new-server.ensures.0)) c.into_pass-pass.ensures.0
           c.in-Ok.ensures.pages c.into_pass-pass.ensures.1 c.is_pass.ensures,
     )

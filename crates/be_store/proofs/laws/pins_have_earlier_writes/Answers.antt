@@ -1,5 +1,5 @@
 use Rattle.std.proofs.Common.{arith}
-use Rattle.be_store.proofs.Told.{current_later}
+use Rattle.be_store.proofs.Learned.{current_later}
 use Rattle.be_store.proofs.laws.pins_have_earlier_writes.Goals as goal
 
 pub returns-clause-writes : goal.returns-clause-writes

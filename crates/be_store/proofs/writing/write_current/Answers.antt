@@ -8,18 +8,18 @@ use Rattle.be_volume.specs.Ahead.{state_after, reached}
 use Rattle.be_volume.specs.Volume.{State, steps}
 use Rattle.be_table.specs.declared.pass.Knowledge.{Knowledge}
 use Rattle.be_table.specs.Place.{Work}
-use Rattle.be_table.specs.Reading.{standing_among, word_of_page, StaysOpen}
+use Rattle.be_table.specs.Reading.{page_state_among, word_of_page, StaysOpen}
 use Rattle.be_table.specs.Rule.{entries}
 use Rattle.be_table.specs.Works.{IsFull}
 use Rattle.be_table.proofs.Keeping.{begun_version, keeps_exactly}
 use Rattle.be_store.proofs.Capacity.{full_held_back}
-use Rattle.be_store.proofs.Writes.{current_spelt, full_unroomed, passed_up, published, unroomed_passed_up}
+use Rattle.be_store.proofs.Writes.{current_encoded, full_unroomed, passed_up, published, unroomed_passed_up}
 use Rattle.be_store.proofs.writing.write_current.Goals as goal
 
 pub apply_to-requires : goal.apply_to-requires
 apply_to-requires c =
     let t = c.requires.begins in let k = c.args.writing.now.knows in (
-      begun_version k t.begun c.current-version_page.result.1 (replay (entries k.seen)) (current_spelt k c.current-version_page.result.1 t c.current-version_page.ensures.version.1),
+      begun_version k t.begun c.current-version_page.result.1 (replay (entries k.seen)) (current_encoded k c.current-version_page.result.1 t c.current-version_page.ensures.version.1),
       (c.requires.count, (c.current-version_page.ensures.next, (t.unpublished, c.requires.empty))),
     )
 
@@ -32,8 +32,8 @@ publish-number-requires-clause-entry c =
 pub publish-number-requires-clause-filled : goal.publish-number-requires-clause-filled
 publish-number-requires-clause-filled c =
     let t = c.requires.begins in let ok = c.in-Ok.ensures.ok in let old = c.args.writing.now in
-    let first = current_spelt old.knows c.current-version_page.result.1 t c.current-version_page.ensures.version.1 in
-    λ q e. (keeps_exactly old c.apply_to.new.writing c.current-version_page.result.1 c.in-Ok.page _ ok.made t.begun first ok.version ok.swaps q).1 (ap (λ (w : Work). standing_among w.knows.places q) (sym c.in_ok-reserve-in-Ok.ensures.0) ∙ e)
+    let first = current_encoded old.knows c.current-version_page.result.1 t c.current-version_page.ensures.version.1 in
+    λ q e. (keeps_exactly old c.apply_to.new.writing c.current-version_page.result.1 c.in-Ok.page _ ok.made t.begun first ok.version ok.swaps q).1 (ap (λ (w : Work). page_state_among w.knows.places q) (sym c.in_ok-reserve-in-Ok.ensures.0) ∙ e)
 
 pub publish-number-requires-clause-volume : goal.publish-number-requires-clause-volume
 publish-number-requires-clause-volume c =
@@ -42,13 +42,13 @@ publish-number-requires-clause-volume c =
     ap (λ (k : Knowledge). state_after (replay (entries k.seen)) c.args.ops.now) same
     ∙ ap (λ (o : StaysOpen). state_after (replay (entries o.seen)) c.args.ops.now) ok.swaps.kept
     ∙ ap (reached (replay (entries old.knows.seen))) ok.stepped in
-    subst (λ (x : Knowledge × State). IsVersion (standing_among x.0.places) (word_of_page x.0.words) c.in-Ok.page x.1) (λ i. (sym same i, sym made i)) ok.version
+    subst (λ (x : Knowledge × State). IsVersion (page_state_among x.0.places) (word_of_page x.0.words) c.in-Ok.page x.1) (λ i. (sym same i, sym made i)) ok.version
 
 pub publish-number-requires-clause-exact : goal.publish-number-requires-clause-exact
 publish-number-requires-clause-exact c =
     let t = c.requires.begins in let ok = c.in-Ok.ensures.ok in let old = c.args.writing.now in
-    let first = current_spelt old.knows c.current-version_page.result.1 t c.current-version_page.ensures.version.1 in
-    subst (λ (w : Work). (q : ℕ) → times q (reach (word_of_page w.knows.words) c.in-Ok.page) ≡ bit (is_kept (standing_among w.knows.places q))) (sym c.in_ok-reserve-in-Ok.ensures.0)
+    let first = current_encoded old.knows c.current-version_page.result.1 t c.current-version_page.ensures.version.1 in
+    subst (λ (w : Work). (q : ℕ) → times q (reach (word_of_page w.knows.words) c.in-Ok.page) ≡ bit (is_kept (page_state_among w.knows.places q))) (sym c.in_ok-reserve-in-Ok.ensures.0)
     (λ q. (keeps_exactly old c.apply_to.new.writing c.current-version_page.result.1 c.in-Ok.page _ ok.made t.begun first ok.version ok.swaps q).0)
 
 pub returns-in_ok-reserve-in-Ok-clause-answer : goal.returns-in_ok-reserve-in-Ok-clause-answer

@@ -1,9 +1,9 @@
 use Rattle.std.proofs.Common.{◌≡◌, [], ◌∷◌, length, suc, ◌+◌, ◌-◌, sym, ap, ◌∙◌, subst, arith, length-append, refl, None}
 use Rattle.be_table.specs.declared.pass.View.{View}
 use Rattle.be_table.specs.Rule.{alone, newcomer, undealt, pass_of}
-use Rattle.be_table.specs.Seats.{IsTold, pin_of}
+use Rattle.be_table.specs.Seats.{IsReported, pin_of}
 use Rattle.be_table.specs.Works.{AreNewAt}
-use Rattle.be_table.proofs.Deals.{Me2, newcomers-deal, newcomer_told, AreNewAt-push, dealt, left_over, newcomers-none}
+use Rattle.be_table.proofs.Deals.{Me2, newcomers-deal, newcomer_reported, AreNewAt-push, dealt, left_over, newcomers-none}
 use Rattle.be_table.proofs.deal.deal.Goals as goal
 
 pub split_seat-base-requires : goal.split_seat-base-requires
@@ -19,12 +19,12 @@ of-requires-clause-pass c =
     let d = dealt c.args.limits k (c.args.limits.passes - suc k) _ _ (i.rest ∙ ap (λ n. (undealt c.args.limits k k n, [])) more) c.split_seat-base.ensures.4 in
     d ∙ ap (λ (m : Me2). (alone (pass_of m.0), [])) (sym d)
 
-pub of-requires-clause-told : goal.of-requires-clause-told
-of-requires-clause-told c =
+pub of-requires-clause-reported : goal.of-requires-clause-reported
+of-requires-clause-reported c =
     let i = c.loop-number.invariant in let k = c.loop-number.number in
     let more : c.args.limits.passes - k ≡ suc (c.args.limits.passes - suc k) = omega arith in
     let d = dealt c.args.limits k (c.args.limits.passes - suc k) _ _ (i.rest ∙ ap (λ n. (undealt c.args.limits k k n, [])) more) c.split_seat-base.ensures.4 in
-    subst (λ (m : Me2). IsTold (pass_of m.0) k 0) (sym d) (newcomer_told c.args.limits (k + 1) k c.requires.table.2 (omega arith))
+    subst (λ (m : Me2). IsReported (pass_of m.0) k 0) (sym d) (newcomer_reported c.args.limits (k + 1) k c.requires.table.2 (omega arith))
 
 pub of-requires-clause-pin : goal.of-requires-clause-pin
 of-requires-clause-pin c =

@@ -29,6 +29,6 @@ loop-seat-preserved c =
       passes = (
         s ∷ taken,
         sym (append_assoc c.pop.new.self.items (s ∷ []) taken) ∙ ap (λ l. l ++ taken) (sym c.in-Some.ensures.items) ∙ i.passes.1,
-        subst (λ (m : Me2). Gathered (map knows_of (s ∷ taken)) m.0.passes) (sym me) (gathered_more (map knows_of taken) c.loop-seat.rest.me.0.passes s.knows p.told.1.writes i.passes.2),
+        subst (λ (m : Me2). Gathered (map knows_of (s ∷ taken)) m.0.passes) (sym me) (gathered_more (map knows_of taken) c.loop-seat.rest.me.0.passes s.knows p.reported.1.writes i.passes.2),
       );
     }

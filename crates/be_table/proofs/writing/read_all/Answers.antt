@@ -1,7 +1,7 @@
 use Rattle.std.proofs.Common.{◌≡◌, ◌≢◌, ℕ, List, suc, true, ◌+◌, [], ◌∷◌, ◌++◌, refl, sym, ap, ◌∙◌, subst, arith, length-append}
 use Rattle.be_table.specs.declared.pass.Move.TheVariants.{Scan}
 use Rattle.be_table.specs.Rule.{Reaches, announce_word, pass_of}
-use Rattle.be_table.specs.Steps.{IsLeastAnnounced, IsPart, scans, scans_of, with_history}
+use Rattle.be_table.specs.Steps.{IsLowestAnnounced, IsPart, scans, scans_of, with_history}
 use Rattle.be_table.specs.Trace.{Makes}
 use Rattle.be_pages.specs.Place.{place_of}
 use Rattle.be_pages.specs.declared.page_pool.Place.{Place}
@@ -9,7 +9,7 @@ use Rattle.be_pages.specs.declared.page_pool.Place.TheVariants.{Free}
 use Rattle.be_table.specs.Working.{MakesForReason}
 use Rattle.be_table.proofs.Traces.{makes_more}
 use Rattle.be_table.proofs.Worked.{reasons_more}
-use Rattle.be_table.proofs.Scans.{Me3, scans_history, scans_limits, found_more, found_now, makes_starts, IsOwnPart, me_next, part_none, part_step, least_none, least_more, own_none, own_step, own_all, found_own}
+use Rattle.be_table.proofs.Scans.{Me3, scans_history, scans_limits, found_more, found_now, makes_starts, IsOwnPart, me_next, part_none, part_step, lowest_none, lowest_more, own_none, own_step, own_all, found_own}
 use Rattle.be_table.specs.declared.limits.Limits.{Limits}
 use Rattle.be_table.specs.Statuses.{LieAt}
 use Rattle.be_table.proofs.Statuses.{oldest_none, lies_at, scans_writes}
@@ -20,7 +20,7 @@ loop-pass-init c =
     let r = c.requires.pass in let m = c.args.base.now.me in let a = pass_of m.0 in record {
       table = refl;
       id = refl;
-      me = ([], refl, (λ k. (r.0 k, m.1)), least_none c.args.current, (λ j lt. absurd (omega (arith, lt))), oldest_none);
+      me = ([], refl, (λ k. (r.0 k, m.1)), lowest_none c.args.current, (λ j lt. absurd (omega (arith, lt))), oldest_none);
       moves = refl;
       reasons = λ none. refl;
       part = part_none c.args.table.now.limits.passes a c.args.current (omega (arith, r.4)) r.3 c.requires.current.1;
@@ -49,7 +49,7 @@ loop-pass-preserved c =
         i.me.0 ++ r.result ∷ [],
         length-append i.me.0 (r.result ∷ []) ∙ ap (λ n. n + 1) i.me.1,
         me_next a i.me.0 r.result c.loop-pass.base.me r.new.base.me c.args.base.now.me i.me.2 r.ensures.me,
-        subst (IsLeastAnnounced c.args.current (i.me.0 ++ r.result ∷ [])) (sym c.lower-least.ensures) (least_more c.args.current i.me.0 c.loop-pass.least r.result i.me.3),
+        subst (IsLowestAnnounced c.args.current (i.me.0 ++ r.result ∷ [])) (sym c.lower-least.ensures) (lowest_more c.args.current i.me.0 c.loop-pass.least r.result i.me.3),
         found_more a.limits a.number c.loop-pass.pass a.history s.history q.history i.me.0 r.result i.me.1 i.me.4 (makes_starts a.number s.history (Scan a.number c.loop-pass.pass ∷ []) q.history one)
             (found_now a.limits a.number c.loop-pass.pass r.result a.history s.history q limits i.moves one found),
         c.older-oldest.ensures i.me.0 i.me.1 i.me.5,

@@ -14,20 +14,20 @@ store-requires g c =
       c.requires.seat ∙ sym (ap (λ t. t.id) t),
       omega (arith, i.0),
       publishes_as _ _ _ (pass_of m.0) m.1 m (λ k. (r.0 k, m.1)) g.E.NextVersion.entry g.E.NextVersion.page c.args.word
-          (subst (λ (p : Limits × ℕ). MayPublish p.0 (pass_of m.0) g.E.NextVersion.entry p.1) (λ k. (sym (ap (λ t. t.limits) t) k, c.requires.told.1 k)) r.1)
-          (c.requires.word ∙ ap (current_word (length (pass_of m.0).seen + 1)) c.requires.told.1),
+          (subst (λ (p : Limits × ℕ). MayPublish p.0 (pass_of m.0) g.E.NextVersion.entry p.1) (λ k. (sym (ap (λ t. t.limits) t) k, c.requires.reported.1 k)) r.1)
+          (c.requires.word ∙ ap (current_word (length (pass_of m.0).seen + 1)) c.requires.reported.1),
     )
 
 pub returns-clause-me : goal.returns-clause-me
 returns-clause-me g c =
     let m = c.args.base.now.me in let r = c.store.new.seat.me in
     (publish_makes g.E.NextVersion.entry g.E.NextVersion.page m r c.store.ensures.2).0
-    ∙ ap (λ p. (alone (publishes (with_history (pass_of m.0) (pass_of r.0).history) g.E.NextVersion.entry p), m.1)) (sym c.requires.told.1)
+    ∙ ap (λ p. (alone (publishes (with_history (pass_of m.0) (pass_of r.0).history) g.E.NextVersion.entry p), m.1)) (sym c.requires.reported.1)
 
 pub returns-clause-moves : goal.returns-clause-moves
 returns-clause-moves g c =
     let m = c.args.base.now.me in let r = c.store.new.seat.me in
-    subst (λ p. Moves (pass_of m.0) (Publish (pass_of m.0).number p (given_of (pass_of m.0)) ∷ []) (pass_of r.0)) (sym c.requires.told.1)
+    subst (λ p. Moves (pass_of m.0) (Publish (pass_of m.0).number p (given_of (pass_of m.0)) ∷ []) (pass_of r.0)) (sym c.requires.reported.1)
     (publish_makes g.E.NextVersion.entry g.E.NextVersion.page m r c.store.ensures.2).1
 
 pub returns-clause-pass : goal.returns-clause-pass

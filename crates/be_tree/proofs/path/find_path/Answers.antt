@@ -7,7 +7,7 @@ use Rattle.be_tree_reading.specs.Key.{IsBranchFor, IsGap, key_cmp}
 use Rattle.be_tree_reading.specs.Page.{items_of, item_at, item_place, IsItem}
 use Rattle.be_tree.specs.Path.{IsStep, IsWay}
 use Rattle.be_tree_reading.specs.Places.{IsBranchAt}
-use Rattle.be_tree_reading.specs.Tree.{IsTreeAt, child, least_of_root}
+use Rattle.be_tree_reading.specs.Tree.{IsTreeAt, child, minimum_of_root}
 use Rattle.be_tree_reading.proofs.Frame.{unchanged_trans}
 use Rattle.be_tree_reading.proofs.Items.{items_count}
 use Rattle.be_tree_reading.proofs.Reading.Starts.{number_back}
@@ -21,23 +21,23 @@ use Rattle.be_tree.proofs.path.find_path.Goals.{After-branch_in-place}
 
 pub loop-level-init : goal.loop-level-init
 loop-level-init g c =
-    let standing = g.L.Look.standing c.args.look.now in
+    let page_state = g.L.Look.page_state c.args.look.now in
     let words = g.L.Look.words c.args.look.now in
     let page = c.args.root - 1 in
     let level = c.word-level.result in
     let e : c.args.root ≡ suc page = omega (arith, c.requires.some) in
-    let tree = root_tree c.args.root page level standing words e c.word-level.ensures.value c.requires.tree in
+    let tree = root_tree c.args.root page level page_state words e c.word-level.ensures.value c.requires.tree in
     record {
-      least = least_of_root level;
+      least = minimum_of_root level;
       some = root_some level;
       tree = tree;
       way = subst (λ steps. IsWay words page steps page) (sym c.requires.empty) refl;
       branches = subst (All (λ step. IsBranchFor c.args.key.now (items_of (words step.page)) step.at)) (sym c.requires.empty) (λ i d lt. absurd (omega (arith, lt)));
-      short = omega (arith, ap length c.requires.empty, height level (least_of_root level) standing words page (root_some level) tree (g.met.L.Look.pages_small c.args.look.now));
-      unchanged = record { kept = c.word-level.ensures.kept; standing = c.word-level.ensures.standing; words = c.word-level.ensures.words };
+      short = omega (arith, ap length c.requires.empty, height level (minimum_of_root level) page_state words page (root_some level) tree (g.met.L.Look.pages_small c.args.look.now));
+      unchanged = record { kept = c.word-level.ensures.kept; page_state = c.word-level.ensures.page_state; words = c.word-level.ensures.words };
     }
 
--- the room after the search in a page is as at first
+-- after the search on a page, the words are those at the call
 words_same : (g : Over) (c : After-branch_in-place g) → g.L.Look.words c.branch_in-place.new.look ≡ g.L.Look.words c.args.look.now
 words_same g c = c.branch_in-place.ensures.unchanged.words ∙ c.loop-level.invariant.unchanged.words
 
@@ -51,10 +51,10 @@ at_item g c =
     let branch = (found g c).is_branch in
     omega (arith, branch.before, branch.is_rank.in_range, c.loop-level.invariant.tree.node.enough, c.loop-level.invariant.some, items_count (g.L.Look.words c.args.look.now c.loop-level.page))
 
-inner : (g : Over) (c : After-branch_in-place g) → IsTreeAt (suc (c.loop-level.level - 1)) c.loop-level.invariant.least (g.L.Look.standing c.args.look.now) (g.L.Look.words c.args.look.now) c.loop-level.page
+inner : (g : Over) (c : After-branch_in-place g) → IsTreeAt (suc (c.loop-level.level - 1)) c.loop-level.invariant.least (g.L.Look.page_state c.args.look.now) (g.L.Look.words c.args.look.now) c.loop-level.page
 inner g c =
     let e : c.loop-level.level ≡ suc (c.loop-level.level - 1) = omega (arith, c.loop-level-test.true) in
-    subst (λ n. IsTreeAt n c.loop-level.invariant.least (g.L.Look.standing c.args.look.now) (g.L.Look.words c.args.look.now) c.loop-level.page) e c.loop-level.invariant.tree
+    subst (λ n. IsTreeAt n c.loop-level.invariant.least (g.L.Look.page_state c.args.look.now) (g.L.Look.words c.args.look.now) c.loop-level.page) e c.loop-level.invariant.tree
 
 -- a page of a tree has an item
 pub branch_in-place-requires-clause-some : goal.branch_in-place-requires-clause-some
@@ -81,13 +81,13 @@ child_at-page-requires-clause-names_page g c =
     let at = (goal.at.child_at-page-requires-clause-names_page g c).After-branch_in-place in
     subst (λ (w : ℕ → ℕ → ℕ). length (item_at (w c.loop-level.page) c.branch_in-place.result).payload ≡ 8) (sym (words_same g at))
     (subst (λ (p : ℕ). length (item_at (g.L.Look.words c.args.look.now c.loop-level.page) p).payload ≡ 8) (sym (found g at).is_place)
-    (branch_names (c.loop-level.level - 1) c.loop-level.invariant.least (g.L.Look.standing c.args.look.now) (g.L.Look.words c.args.look.now) c.loop-level.page (found g at).number (inner g at) (at_item g at)).names_page)
+    (branch_names (c.loop-level.level - 1) c.loop-level.invariant.least (g.L.Look.page_state c.args.look.now) (g.L.Look.words c.args.look.now) c.loop-level.page (found g at).number (inner g at) (at_item g at)).names_page)
 
 pub loop-level-preserved : goal.loop-level-preserved
 loop-level-preserved g c =
     let at = (goal.at.loop-level-preserved g c).After-branch_in-place in
     let of = found g at in
-    let standing = g.L.Look.standing c.args.look.now in
+    let page_state = g.L.Look.page_state c.args.look.now in
     let words = g.L.Look.words c.args.look.now in
     let page = c.loop-level.page in
     let down = c.loop-level.level - 1 in
@@ -105,12 +105,12 @@ loop-level-preserved g c =
     record {
       least = 6;
       some = omega arith;
-      tree = subst (λ p. IsTreeAt down 6 standing words p) (sym is) (branch_child down i.least standing words page next (inner g at) lt);
+      tree = subst (λ p. IsTreeAt down 6 page_state words p) (sym is) (branch_child down i.least page_state words page next (inner g at) lt);
       way = subst (λ xs. IsWay words (c.args.root - 1) xs c.child_at-page.result) (sym c.push.ensures.items) (subst (λ p. IsWay words (c.args.root - 1) (steps ++ step ∷ []) p) (sym is) (way_push words (c.args.root - 1) steps page step i.way here));
       branches = subst (All for) (sym c.push.ensures.items) (All-append for steps (step ∷ []) i.branches (all_one for step is_for));
       short = omega (arith, i.short, c.loop-level-test.true, ap length c.push.ensures.items, length-append steps (step ∷ []));
-      unchanged = unchanged_trans g.L.Look.kept g.L.Look.standing g.L.Look.words c.args.look.now c.branch_in-place.new.look c.child_at-page.new.look
-          (unchanged_trans g.L.Look.kept g.L.Look.standing g.L.Look.words c.args.look.now c.loop-level.look c.branch_in-place.new.look i.unchanged c.branch_in-place.ensures.unchanged) c.child_at-page.ensures.unchanged;
+      unchanged = unchanged_trans g.L.Look.kept g.L.Look.page_state g.L.Look.words c.args.look.now c.branch_in-place.new.look c.child_at-page.new.look
+          (unchanged_trans g.L.Look.kept g.L.Look.page_state g.L.Look.words c.args.look.now c.loop-level.look c.branch_in-place.new.look i.unchanged c.branch_in-place.ensures.unchanged) c.child_at-page.ensures.unchanged;
     }
 
 both_ok : {T E : Type 0} (P Q : T → Type 0) (r : Result T E) → IfOk r P → IfOk r Q → IfOk r (λ a. P a × Q a)

@@ -27,38 +27,38 @@ overflow_add-step-2 g c = omega (arith, c.requires.child.1.in_range, c.requires.
 
 pub child_at-right-requires-clause-readable : goal.child_at-right-requires-clause-readable
 child_at-right-requires-clause-readable g c =
-    readable_kept (g.R.Look.standing c.args.room.now c.args.step.page) (above_kept g.R.Look.kept g.R.Look.standing g.R.Look.words c.args.step c.args.was c.args.node.level c.args.node.pair.now c.args.node.slots.now c.requires.child.0 c.args.room.now c.requires.child.1)
+    readable_kept (g.R.Look.page_state c.args.room.now c.args.step.page) (above_kept g.R.Look.kept g.R.Look.page_state g.R.Look.words c.args.step c.args.was c.args.node.level c.args.node.pair.now c.args.node.slots.now c.requires.child.0 c.args.room.now c.requires.child.1)
 
 pub child_at-right-requires-clause-in_page : goal.child_at-right-requires-clause-in_page
 child_at-right-requires-clause-in_page g c =
-    omega (arith, c.requires.before, (above_page g.R.Look.kept g.R.Look.standing g.R.Look.words c.args.step c.args.was c.args.node.level c.args.node.pair.now c.args.node.slots.now c.requires.child.0 c.args.room.now c.requires.child.1).few)
+    omega (arith, c.requires.before, (above_page g.R.Look.kept g.R.Look.page_state g.R.Look.words c.args.step c.args.was c.args.node.level c.args.node.pair.now c.args.node.slots.now c.requires.child.0 c.args.room.now c.requires.child.1).few)
 
 pub child_at-right-requires-clause-item : goal.child_at-right-requires-clause-item
 child_at-right-requires-clause-item g c =
-    (above_page g.R.Look.kept g.R.Look.standing g.R.Look.words c.args.step c.args.was c.args.node.level c.args.node.pair.now c.args.node.slots.now c.requires.child.0 c.args.room.now c.requires.child.1).each (c.args.step.at + 1) c.requires.before
+    (above_page g.R.Look.kept g.R.Look.page_state g.R.Look.words c.args.step c.args.was c.args.node.level c.args.node.pair.now c.args.node.slots.now c.requires.child.0 c.args.room.now c.requires.child.1).each (c.args.step.at + 1) c.requires.before
 
 pub child_at-right-requires-clause-names_page : goal.child_at-right-requires-clause-names_page
 child_at-right-requires-clause-names_page g c =
-    above_names g.R.Look.kept g.R.Look.standing g.R.Look.words c.args.step c.args.was c.args.node.level c.args.node.pair.now c.args.node.slots.now c.requires.child.0 c.args.room.now c.requires.child.1 (c.args.step.at + 1) c.requires.before
+    above_names g.R.Look.kept g.R.Look.page_state g.R.Look.words c.args.step c.args.was c.args.node.level c.args.node.pair.now c.args.node.slots.now c.requires.child.0 c.args.room.now c.requires.child.1 (c.args.step.at + 1) c.requires.before
 
 pub fill_slots-requires-clause-readable : goal.fill_slots-requires-clause-readable
 fill_slots-requires-clause-readable g c =
-    subst (λ s. IsTrue (is_readable (s c.child_at-right.result))) (sym c.child_at-right.ensures.unchanged.standing)
-    (after_readable g.R.Look.kept g.R.Look.standing g.R.Look.words c.args.step c.args.was c.args.node.level c.args.node.pair.now c.args.node.slots.now c.requires.child.0 c.args.room.now c.requires.child.1
+    subst (λ s. IsTrue (is_readable (s c.child_at-right.result))) (sym c.child_at-right.ensures.unchanged.page_state)
+    (after_readable g.R.Look.kept g.R.Look.page_state g.R.Look.words c.args.step c.args.was c.args.node.level c.args.node.pair.now c.args.node.slots.now c.requires.child.0 c.args.room.now c.requires.child.1
     c.args.node.slots.now c.args.node.slots.now c.child_at-right.new.look c.child_at-right.ensures.unchanged c.child_at-right.result (omega (arith, c.requires.before)) c.child_at-right.ensures.child)
 
 pub fill_slots-requires-clause-page : goal.fill_slots-requires-clause-page
 fill_slots-requires-clause-page g c =
     subst (λ (w : ℕ → ℕ → ℕ). IsPage (w c.child_at-right.result)) (sym c.child_at-right.ensures.unchanged.words)
-    (after_page g.R.Look.kept g.R.Look.standing g.R.Look.words c.args.step c.args.was c.args.node.level c.args.node.pair.now c.args.node.slots.now c.requires.child.0 c.args.room.now c.requires.child.1
+    (after_page g.R.Look.kept g.R.Look.page_state g.R.Look.words c.args.step c.args.was c.args.node.level c.args.node.pair.now c.args.node.slots.now c.requires.child.0 c.args.room.now c.requires.child.1
     c.args.node.slots.now c.args.node.slots.now c.child_at-right.new.look c.child_at-right.ensures.unchanged c.child_at-right.result (omega (arith, c.requires.before)) c.child_at-right.ensures.child)
 
 pub append-requires-2 : goal.append-requires-2
 append-requires-2 g c =
     omega (arith, ap length (c.append.ensures ∙ ap (λ (xs : List Slot). xs ++ c.args.node.slots.now) c.new-slots.ensures), c.requires.few, ap length c.deref.ensures.0, c.fill_slots.ensures.few)
 
-same : (g : Over) (c : After-deref-2 g) → IsUnchanged g.R.Look.kept g.R.Look.standing g.R.Look.words c.args.room.now c.fill_slots.new.look
-same g c = unchanged_trans g.R.Look.kept g.R.Look.standing g.R.Look.words c.args.room.now c.child_at-right.new.look c.fill_slots.new.look c.child_at-right.ensures.unchanged c.fill_slots.ensures.unchanged
+same : (g : Over) (c : After-deref-2 g) → IsUnchanged g.R.Look.kept g.R.Look.page_state g.R.Look.words c.args.room.now c.fill_slots.new.look
+same g c = unchanged_trans g.R.Look.kept g.R.Look.page_state g.R.Look.words c.args.room.now c.child_at-right.new.look c.fill_slots.new.look c.child_at-right.ensures.unchanged c.fill_slots.ensures.unchanged
 
 loaded : (g : Over) (c : After-deref-2 g) → c.fill_slots.new.slots.items ≡ map (λ j. At (item_place j) c.child_at-right.result) (range_with_len 0 (g.R.Look.words c.args.room.now c.child_at-right.result 1))
 loaded g c = subst (λ (w : ℕ → ℕ → ℕ). c.fill_slots.new.slots.items ≡ map (λ j. At (item_place j) c.child_at-right.result) (range_with_len 0 (w c.child_at-right.result 1))) c.child_at-right.ensures.unchanged.words c.fill_slots.ensures.slots
@@ -69,11 +69,11 @@ whole g c =
     ∙ ap (λ (xs : List Slot). xs ++ c.deref.result.now) (c.append.ensures ∙ ap (λ (xs : List Slot). xs ++ c.args.node.slots.now) c.new-slots.ensures)
     ∙ ap (λ (ys : List Slot). c.args.node.slots.now ++ ys) c.deref.ensures.0
 
-two : (g : Over) (c : After-deref-2 g) (start : g.row.R.Denot) → IsChildInHand g.R.Look.kept g.R.Look.standing g.R.Look.words c.args.step c.args.was c.args.node.level c.args.node.pair.now c.args.node.slots.now start c.args.room.now
-    → TwoInHand g.R.Look.kept g.R.Look.standing g.R.Look.words c.args.step.page c.args.node.level c.args.step.at c.args.was c.child_at-right.result c.args.node.pair.now
+two : (g : Over) (c : After-deref-2 g) (start : g.row.R.Denot) → IsChildInHand g.R.Look.kept g.R.Look.page_state g.R.Look.words c.args.step c.args.was c.args.node.level c.args.node.pair.now c.args.node.slots.now start c.args.room.now
+    → TwoInHand g.R.Look.kept g.R.Look.page_state g.R.Look.words c.args.step.page c.args.node.level c.args.step.at c.args.was c.child_at-right.result c.args.node.pair.now
     (beside (suc c.args.node.level) (g.R.Look.words start) c.args.step (pairs_below c.args.node.level (g.R.Look.words c.args.room.now) (pairs_of (g.R.Look.words c.args.room.now) c.args.node.pair.now c.args.node.slots.now))) c.deref-2.result.now start c.fill_slots.new.look
 two g c start h =
-    after_in_hand g.R.Look.kept g.R.Look.standing g.R.Look.words c.args.step c.args.was c.args.node.level c.args.node.pair.now c.args.node.slots.now start c.args.room.now h
+    after_in_hand g.R.Look.kept g.R.Look.page_state g.R.Look.words c.args.step c.args.was c.args.node.level c.args.node.pair.now c.args.node.slots.now start c.args.room.now h
     c.fill_slots.new.slots.items c.deref-2.result.now c.fill_slots.new.look (same g c) c.child_at-right.result (omega (arith, c.requires.before)) c.child_at-right.ensures.child (loaded g c) (whole g c)
 
 pub pack_two-requires-clause-node : goal.pack_two-requires-clause-node
@@ -83,7 +83,7 @@ pub pack_two-requires-clause-size : goal.pack_two-requires-clause-size
 pack_two-requires-clause-size g c =
     let at = (goal.at.pack_two-requires-clause-size g c).After-deref-2 in
     let h = c.requires.child.1 in
-    let least = after_count g.R.Look.kept g.R.Look.standing g.R.Look.words c.args.step c.args.was c.args.node.level c.args.node.pair.now c.args.node.slots.now c.requires.child.0 c.args.room.now h
+    let least = after_count g.R.Look.kept g.R.Look.page_state g.R.Look.words c.args.step c.args.was c.args.node.level c.args.node.pair.now c.args.node.slots.now c.requires.child.0 c.args.room.now h
     c.fill_slots.new.slots.items c.deref-2.result.now c.fill_slots.new.look (same g at) c.child_at-right.result (omega (arith, c.requires.before)) c.child_at-right.ensures.child (loaded g at) (whole g at) in
     (omega (arith, least), c.deref-2.ensures.1)
 
@@ -100,7 +100,7 @@ returns-clause-ok g c = λ start h.
     let given = c.args.node.pair.now in
     let branches = c.in_ok-branches.branches.items in
     record {
-      in_range = omega (arith, c.requires.before, ap (λ (w : ℕ → ℕ). w 1) (above_same g.R.Look.kept g.R.Look.standing g.R.Look.words c.args.step c.args.was c.args.node.level given c.args.node.slots.now start c.args.room.now h));
+      in_range = omega (arith, c.requires.before, ap (λ (w : ℕ → ℕ). w 1) (above_same g.R.Look.kept g.R.Look.page_state g.R.Look.words c.args.step c.args.was c.args.node.level given c.args.node.slots.now start c.args.room.now h));
       gone = (omega arith, omega arith);
       some = c.in_ok-branches.ensures.some;
       before = omega arith;
@@ -111,9 +111,9 @@ returns-clause-ok g c = λ start h.
 pub returns-in_err-branches-clause-refused : goal.returns-in_err-branches-clause-refused
 returns-in_err-branches-clause-refused g c =
     let at = (goal.at.returns-in_err-branches-clause-refused g c).After-deref-2 in
-    (on_err _ (start_trans g.R.Look.kept g.R.Look.standing g.R.Look.words c.args.room.now c.fill_slots.new.look c.pack_two.new.room (unchanged_start g.R.Look.kept g.R.Look.standing g.R.Look.words c.args.room.now c.fill_slots.new.look (same g at)) c.in_err-branches.ensures.refused.0), search rules, takes_on 2 _ (g.R.Look.standing c.args.room.now) (g.R.Look.standing c.pack_two.new.room) (takes_fewer_then 0 2 (g.R.Look.standing c.args.room.now) (g.R.Look.standing c.fill_slots.new.look) (g.R.Look.standing c.pack_two.new.room) (takes_same (g.R.Look.standing c.args.room.now) (g.R.Look.standing c.fill_slots.new.look) (same g at).standing) c.in_err-branches.ensures.refused.2.1))
+    (on_err _ (start_trans g.R.Look.kept g.R.Look.page_state g.R.Look.words c.args.room.now c.fill_slots.new.look c.pack_two.new.room (unchanged_start g.R.Look.kept g.R.Look.page_state g.R.Look.words c.args.room.now c.fill_slots.new.look (same g at)) c.in_err-branches.ensures.refused.0), search rules, takes_on 2 _ (g.R.Look.page_state c.args.room.now) (g.R.Look.page_state c.pack_two.new.room) (takes_fewer_then 0 2 (g.R.Look.page_state c.args.room.now) (g.R.Look.page_state c.fill_slots.new.look) (g.R.Look.page_state c.pack_two.new.room) (takes_same (g.R.Look.page_state c.args.room.now) (g.R.Look.page_state c.fill_slots.new.look) (same g at).page_state) c.in_err-branches.ensures.refused.2.1))
 
 pub returns-clause-refused : goal.returns-clause-refused
 returns-clause-refused g c =
     let at = (goal.at.returns-clause-refused g c).After-deref-2 in
-    (tt, tt, (takes_then 0 2 (g.R.Look.standing c.args.room.now) (g.R.Look.standing c.fill_slots.new.look) (g.R.Look.standing c.pack_two.new.room) (takes_same (g.R.Look.standing c.args.room.now) (g.R.Look.standing c.fill_slots.new.look) (same g at).standing) c.in_ok-branches.ensures.refused.2.0, tt))
+    (tt, tt, (takes_then 0 2 (g.R.Look.page_state c.args.room.now) (g.R.Look.page_state c.fill_slots.new.look) (g.R.Look.page_state c.pack_two.new.room) (takes_same (g.R.Look.page_state c.args.room.now) (g.R.Look.page_state c.fill_slots.new.look) (same g at).page_state) c.in_ok-branches.ensures.refused.2.0, tt))

@@ -5,7 +5,7 @@ use Rattle.be_tree.proofs.settling.settle_split.Goals as goal
 
 pub pack-requires-clause-old : goal.pack-requires-clause-old
 pack-requires-clause-old g c =
-    alone_apart g.R.Look.kept g.R.Look.standing g.R.Look.words c.args.step c.args.was c.args.node.level c.args.node.pair.now c.args.node.slots.now c.requires.child.0 c.args.room.now c.requires.child.1
+    alone_apart g.R.Look.kept g.R.Look.page_state g.R.Look.words c.args.step c.args.was c.args.node.level c.args.node.pair.now c.args.node.slots.now c.requires.child.0 c.args.room.now c.requires.child.1
 
 pub returns-clause-ok : goal.returns-clause-ok
 returns-clause-ok g c = λ start h.
@@ -18,5 +18,5 @@ returns-clause-ok g c = λ start h.
       some = c.in_ok-branches.ensures.some;
       before = omega arith;
       branches = c.in_ok-branches.ensures.branches;
-      becomes = alone_settled g.R.Look.kept g.R.Look.standing g.R.Look.words c.args.step c.args.was c.args.node.level given c.args.node.slots.now start c.args.room.now h (pairs_of (g.R.Look.words new) given branches) new c.in_ok-branches.ensures.ok;
+      becomes = alone_settled g.R.Look.kept g.R.Look.page_state g.R.Look.words c.args.step c.args.was c.args.node.level given c.args.node.slots.now start c.args.room.now h (pairs_of (g.R.Look.words new) given branches) new c.in_ok-branches.ensures.ok;
     }

@@ -4,7 +4,7 @@ use Rattle.std.proofs.lemmas.List.{drop-drop, length-take-le}
 use Rattle.be_tree.specs.declared.slot.Slot.{Slot}
 use Rattle.be_tree.proofs.settling.slots_with.Goals as goal
 
--- one of a cut is left out, and then others take the place of what is left of it
+-- one element of a cut is removed, and then others replace what is left of it
 both_steps : {A : Type 0} (xs more : List A) (at gone : ℕ) → at + gone ≤ length xs → 0 < gone
     → take at (take at xs ++ drop (at + gone - 1) xs) ++ (more ++ drop (suc at) (take at xs ++ drop (at + gone - 1) xs)) ≡ take at xs ++ (more ++ drop (at + gone) xs)
 both_steps xs more at gone in_range some =

@@ -2,17 +2,17 @@ use Rattle.std.proofs.Common.{◌≡◌, ◌≢◌, ◌+◌, ◌-◌, ◌∙◌,
 use Rattle.be_tree_reading.specs.Page.{item_place}
 use Rattle.be_tree.specs.Splicing.{AreCopies, IsCopy}
 use Rattle.be_tree.proofs.Nodes.Writes.{free_other}
-use Rattle.be_tree.proofs.Nodes.Stands.{stands_else}
+use Rattle.be_tree.proofs.Nodes.PageStates.{other_states}
 use Rattle.be_tree.proofs.Splices.{filled_word, gap_of, other_word, there}
 use Rattle.be_tree.proofs.Sizes.InHand.{takes_one}
-use Rattle.be_pages.specs.declared.room.Standing.TheVariants.{Filled, Taken}
+use Rattle.be_pages.specs.declared.room.PageState.TheVariants.{Filled, Taken}
 use Rattle.be_tree.proofs.splicing.open_copy.Given.{Over}
 use Rattle.be_tree.proofs.splicing.open_copy.Goals as goal
 use Rattle.be_tree.proofs.splicing.open_copy.Goals.{After-copy_down-2}
 
--- the page is not its copy, and keeps its words
+-- the page isn't its own copy, and keeps its words
 apart : (g : Over) (c : After-copy_down-2 g) → c.args.page ≢ c.in_ok-copy.copy
-apart g c = λ e. free_other (g.R.Look.standing c.args.room.now) c.in_ok-copy.copy c.args.page (sym (ap (λ s. s c.in_ok-copy.copy) c.word-level.ensures.standing) ∙ c.in_ok-copy.ensures.page.1) c.requires.in_use (sym e)
+apart g c = λ e. free_other (g.R.Look.page_state c.args.room.now) c.in_ok-copy.copy c.args.page (sym (ap (λ s. s c.in_ok-copy.copy) c.word-level.ensures.page_state) ∙ c.in_ok-copy.ensures.page.1) c.requires.in_use (sym e)
 
 headed : (g : Over) (c : After-copy_down-2 g) → g.R.Look.words c.fill-2.new.self c.args.page ≡ g.R.Look.words c.args.room.now c.args.page
 headed g c =
@@ -32,7 +32,7 @@ returns-clause-gap g c =
     let rest = c.word-count.result - (cut.at + cut.gone) in
     let front : AreCopies u v 0 0 cut.at = λ k lt.
     let was = subst (λ x. IsCopy x (g.R.Look.words c.copy_down.new.room copy) (0 + k) (0 + k)) (headed g c) (c.copy_down.ensures.copied k lt) in
-    let now = there g.R.Look.kept g.R.Look.standing g.R.Look.words copy here (item_place (cut.at + c.args.more + rest)) c.copy_down.new.room c.copy_down-2.new.room last
+    let now = there g.R.Look.kept g.R.Look.page_state g.R.Look.words copy here (item_place (cut.at + c.args.more + rest)) c.copy_down.new.room c.copy_down-2.new.room last
     copy (item_place (0 + k)) (λ e. inr (omega (arith, lt))) was.1 in
     (now.0 ∙ was.0, now.1) in
     let back : AreCopies u v (cut.at + cut.gone) (cut.at + c.args.more) rest = λ k lt.
@@ -46,13 +46,13 @@ returns-clause-refused g c = (
   tt,
   tt,
   (
-    takes_one (g.R.Look.standing c.args.room.now) (g.R.Look.standing c.copy_down-2.new.room) c.in_ok-copy.copy (λ q ne.
-        c.copy_down-2.ensures.only.standing q ∙ c.copy_down.ensures.only.standing q
-        ∙ stands_else (g.R.Look.standing c.fill.new.self) (g.R.Look.standing c.fill-2.new.self) c.in_ok-copy.copy Filled c.fill-2.ensures.standing q ne
-        ∙ stands_else (g.R.Look.standing c.word-count.new.self) (g.R.Look.standing c.fill.new.self) c.in_ok-copy.copy Filled c.fill.ensures.standing q ne
-        ∙ ap (λ s. s q) c.word-count.ensures.standing
-        ∙ stands_else (g.R.Look.standing c.word-level.new.self) (g.R.Look.standing c.take_copy.new.room) c.in_ok-copy.copy Taken c.in_ok-copy.ensures.ok q ne
-        ∙ ap (λ s. s q) c.word-level.ensures.standing),
+    takes_one (g.R.Look.page_state c.args.room.now) (g.R.Look.page_state c.copy_down-2.new.room) c.in_ok-copy.copy (λ q ne.
+        c.copy_down-2.ensures.only.page_state q ∙ c.copy_down.ensures.only.page_state q
+        ∙ other_states (g.R.Look.page_state c.fill.new.self) (g.R.Look.page_state c.fill-2.new.self) c.in_ok-copy.copy Filled c.fill-2.ensures.page_state q ne
+        ∙ other_states (g.R.Look.page_state c.word-count.new.self) (g.R.Look.page_state c.fill.new.self) c.in_ok-copy.copy Filled c.fill.ensures.page_state q ne
+        ∙ ap (λ s. s q) c.word-count.ensures.page_state
+        ∙ other_states (g.R.Look.page_state c.word-level.new.self) (g.R.Look.page_state c.take_copy.new.room) c.in_ok-copy.copy Taken c.in_ok-copy.ensures.ok q ne
+        ∙ ap (λ s. s q) c.word-level.ensures.page_state),
     tt,
   ),
 )

@@ -7,18 +7,18 @@ use Rattle.be_tree.proofs.splicing.open_here.Given.{Over}
 use Rattle.be_tree.proofs.splicing.open_here.Goals as goal
 use Rattle.be_tree.proofs.splicing.open_here.Goals.{After-fill}
 
--- the header has the new count, and the items are as they were
-header : (g : Over) (c : After-fill g) → OnlyWrites g.R.Look.kept g.R.Look.standing g.R.Look.words c.args.page 1 2 c.args.room.now c.fill.new.self
+-- the header has the new count, and the items are unchanged
+header : (g : Over) (c : After-fill g) → OnlyWrites g.R.Look.kept g.R.Look.page_state g.R.Look.words c.args.page 1 2 c.args.room.now c.fill.new.self
 header g c =
     let read = c.word-count.new.self in
-    only_since g.R.Look.kept g.R.Look.standing g.R.Look.words c.args.page 1 2 c.args.room.now read c.fill.new.self c.word-count.ensures.kept c.word-count.ensures.standing c.word-count.ensures.words
-    (fill_only g.R.Look.kept g.R.Look.standing g.R.Look.words c.args.page 1 _ read c.fill.new.self c.fill.ensures.kept c.fill.ensures.standing
-    (ap (λ s. s c.args.page) c.word-count.ensures.standing ∙ c.requires.filled) c.fill.ensures.place c.fill.ensures.others)
+    only_since g.R.Look.kept g.R.Look.page_state g.R.Look.words c.args.page 1 2 c.args.room.now read c.fill.new.self c.word-count.ensures.kept c.word-count.ensures.page_state c.word-count.ensures.words
+    (fill_only g.R.Look.kept g.R.Look.page_state g.R.Look.words c.args.page 1 _ read c.fill.new.self c.fill.ensures.kept c.fill.ensures.page_state
+    (ap (λ s. s c.args.page) c.word-count.ensures.page_state ∙ c.requires.filled) c.fill.ensures.place c.fill.ensures.others)
 
 still : (g : Over) (c : After-fill g) (j : ℕ) → j < g.R.Look.words c.args.room.now c.args.page 1
     → (item_at (g.R.Look.words c.fill.new.self c.args.page) (item_place j) ≡ item_at (g.R.Look.words c.args.room.now c.args.page) (item_place j)) × IsItem (g.R.Look.words c.fill.new.self c.args.page) (item_place j)
 still g c j lt =
-    there g.R.Look.kept g.R.Look.standing g.R.Look.words c.args.page 1 2 c.args.room.now c.fill.new.self (header g c) c.args.page (item_place j) (λ e. inl (omega arith)) (c.requires.page.each j lt)
+    there g.R.Look.kept g.R.Look.page_state g.R.Look.words c.args.page 1 2 c.args.room.now c.fill.new.self (header g c) c.args.page (item_place j) (λ e. inl (omega arith)) (c.requires.page.each j lt)
 
 pub move_items-requires-clause-items : goal.move_items-requires-clause-items
 move_items-requires-clause-items g c = λ k lt.
@@ -35,7 +35,7 @@ returns-clause-gap g c =
     let value = c.word-count.ensures.value in
     let front : AreCopies u v 0 0 cut.at = λ k lt.
     let was = still g at (0 + k) (omega (arith, lt, c.requires.in_range)) in
-    let now = there g.R.Look.kept g.R.Look.standing g.R.Look.words c.args.page (item_place (cut.at + c.args.more)) (item_place (cut.at + c.args.more + rest)) c.fill.new.self c.move_items.new.room only
+    let now = there g.R.Look.kept g.R.Look.page_state g.R.Look.words c.args.page (item_place (cut.at + c.args.more)) (item_place (cut.at + c.args.more + rest)) c.fill.new.self c.move_items.new.room only
     c.args.page (item_place (0 + k)) (λ e. inr (omega (arith, lt))) was.1 in
     (now.0 ∙ was.0, now.1) in
     let back : AreCopies u v (cut.at + cut.gone) (cut.at + c.args.more) rest = λ k lt.

@@ -10,8 +10,8 @@ use Rattle.be_tree.proofs.splicing.store_slots.Goals as goal
 
 pub store_slot-requires-clause-ready : goal.store_slot-requires-clause-ready
 store_slot-requires-clause-ready g c =
-    off_ready c.args.page (g.R.Look.standing c.args.room.now) (g.R.Look.standing c.loop-i.room) (g.R.Look.words c.args.room.now) (g.R.Look.words c.loop-i.room)
-    (λ q ne. c.loop-i.invariant.only.standing q) c.loop-i.invariant.only.others _ (c.requires.off c.loop-i.i _ (omega (arith, c.loop-i-test.true))) (c.requires.ready c.loop-i.i _ (omega (arith, c.loop-i-test.true)))
+    off_ready c.args.page (g.R.Look.page_state c.args.room.now) (g.R.Look.page_state c.loop-i.room) (g.R.Look.words c.args.room.now) (g.R.Look.words c.loop-i.room)
+    (λ q ne. c.loop-i.invariant.only.page_state q) c.loop-i.invariant.only.others _ (c.requires.off c.loop-i.i _ (omega (arith, c.loop-i-test.true))) (c.requires.ready c.loop-i.i _ (omega (arith, c.loop-i-test.true)))
 
 pub store_slot-requires-clause-off : goal.store_slot-requires-clause-off
 store_slot-requires-clause-off g c = c.requires.off c.loop-i.i _ (omega (arith, c.loop-i-test.true))
@@ -24,13 +24,13 @@ loop-i-preserved g c =
     let old = g.R.Look.words c.args.room.now in
     let only = c.loop-i.invariant.only in
     let this = λ (d : Slot). c.store_slot.ensures.stored.0
-    ∙ off_pair c.args.page (g.R.Look.standing c.args.room.now) (g.R.Look.standing c.loop-i.room) old (g.R.Look.words c.loop-i.room) (λ q ne. only.standing q) only.others c.args.pair.now _ (c.requires.off i _ lt)
+    ∙ off_pair c.args.page (g.R.Look.page_state c.args.room.now) (g.R.Look.page_state c.loop-i.room) old (g.R.Look.words c.loop-i.room) (λ q ne. only.page_state q) only.others c.args.pair.now _ (c.requires.off i _ lt)
     ∙ ap (pair_of old c.args.pair.now) (get_or_default c.args.slots.now i _ d lt) in
     record {
       stored = λ k d less. elim (cases_lt k i) [
         | inl below ↦
             let was = c.loop-i.invariant.stored k d below in
-            let still = there g.R.Look.kept g.R.Look.standing g.R.Look.words c.args.page here (here + 42) c.loop-i.room c.store_slot.new.room c.store_slot.ensures.only
+            let still = there g.R.Look.kept g.R.Look.page_state g.R.Look.words c.args.page here (here + 42) c.loop-i.room c.store_slot.new.room c.store_slot.ensures.only
             c.args.page (item_place (c.args.at + k)) (λ e. inr (omega (arith, below))) was.1 in
             (still.0 ∙ was.0, still.1)
         | inr past ↦
@@ -38,7 +38,7 @@ loop-i-preserved g c =
             subst (λ n. IsStored (g.R.Look.words c.store_slot.new.room c.args.page) (c.args.at + n) (pair_of old c.args.pair.now (get_or c.args.slots.now n d))) e
             (this d, c.store_slot.ensures.stored.1)
       ];
-      only = only_then g.R.Look.kept g.R.Look.standing g.R.Look.words c.args.page (item_place c.args.at) here c.args.room.now c.loop-i.room only
+      only = only_then g.R.Look.kept g.R.Look.page_state g.R.Look.words c.args.page (item_place c.args.at) here c.args.room.now c.loop-i.room only
           here (here + 42) (item_place c.args.at) (item_place (c.args.at + (i + 1))) c.store_slot.new.room c.store_slot.ensures.only (omega arith) (omega arith) (omega arith) (omega arith);
     }
 

@@ -9,5 +9,5 @@ use Rattle.be_tree.proofs.splicing.store_slots.Given as goal
 abbrev pub invariant-loop-i : goal.invariant-loop-i
 invariant-loop-i g l = record {
   stored : (k : ℕ) (d : Slot) → k < l.i → IsStored (g.R.Look.words l.room l.page) (l.at + k) (pair_of (g.R.Look.words l.fn.room) l.pair (get_or l.slots k d));
-  only : OnlyWrites g.R.Look.kept g.R.Look.standing g.R.Look.words l.page (item_place l.at) (item_place (l.at + l.i)) l.fn.room l.room;
+  only : OnlyWrites g.R.Look.kept g.R.Look.page_state g.R.Look.words l.page (item_place l.at) (item_place (l.at + l.i)) l.fn.room l.room;
 }

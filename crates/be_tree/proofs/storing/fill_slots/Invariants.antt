@@ -10,5 +10,5 @@ abbrev pub invariant-loop-j : goal.invariant-loop-j
 invariant-loop-j g l = record {
   slots : l.slots.items ≡ map (λ k. At (item_place k) l.page) (range_with_len 0 l.j);
   len : length l.slots.items ≡ l.j;
-  unchanged : IsUnchanged g.L.Look.kept g.L.Look.standing g.L.Look.words l.fn.look l.look;
+  unchanged : IsUnchanged g.L.Look.kept g.L.Look.page_state g.L.Look.words l.fn.look l.look;
 }

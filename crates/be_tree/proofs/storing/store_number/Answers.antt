@@ -3,7 +3,7 @@ use Rattle.std.proofs.lemmas.Bool.Decides.{nat_tests}
 use Rattle.be_tree.proofs.Bytes.Joining.{alone_bytes, alone_padded, joined_bytes, joined_padded}
 use Rattle.be_tree.proofs.storing.store_number.Goals as goal
 
--- in two words
+-- the number is in two words
 pub returns-clause-bytes : goal.returns-clause-bytes
 returns-clause-bytes g c =
     let w = g.R.Look.words c.refill-3.new.self c.args.page in
@@ -24,7 +24,7 @@ returns-clause-padded g c =
     joined_padded c.args.first c.args.number c.args.skip (omega (arith, c.if-skip-eq0.false)) c.requires.skips c.ranges.first.fits c.ranges.number.fits w at
     (grind (arith, nat_tests, one, still, c.joined.ensures)) (grind (arith, nat_tests, two))
 
--- in one
+-- the number is in one word
 pub returns-then-skip-eq0-clause-bytes : goal.returns-then-skip-eq0-clause-bytes
 returns-then-skip-eq0-clause-bytes g c =
     let placed = c.refill.ensures.place c.args.at in

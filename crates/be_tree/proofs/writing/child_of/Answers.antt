@@ -8,5 +8,5 @@ use Rattle.be_tree.proofs.writing.child_of.Goals as goal
 pub returns-in-Branch-clause-child : goal.returns-in-Branch-clause-child
 returns-in-Branch-clause-child g c =
     let words = g.L.Look.words c.args.look.now in
-    let ready = subst (IsReady (g.L.Look.standing c.args.look.now) words) c.in-Branch.is c.requires.ready in
+    let ready = subst (IsReady (g.L.Look.page_state c.args.look.now) words) c.in-Branch.is c.requires.ready in
     sym (ap (λ (s : Slot). child (pair_of words c.args.pair.now s)) c.in-Branch.is ∙ child_branch words c.in-Branch.page ready.1.0)

@@ -4,12 +4,12 @@ use Rattle.be_tree.specs.Slot.{pairs_of}
 use Rattle.be_tree_reading.specs.Tree.{Becomes, pages_below, pairs_below}
 use Rattle.be_tree_reading.proofs.Frame.{times_append, times_other}
 use Rattle.be_tree.proofs.Nodes.Neighbours.{becomes_times}
-use Rattle.be_tree.proofs.Nodes.Stands.{stands_at, stands_else}
+use Rattle.be_tree.proofs.Nodes.PageStates.{changed_state, other_states}
 use Rattle.be_tree_reading.proofs.Putting.Puts.{becomes_given_up, held_after}
 use Rattle.be_tree.proofs.Sizes.InHand.{takes_given_up, takes_then}
 use Rattle.be_tree.proofs.writing.pack_two.Goals as goal
 
--- the second page is none of those that were replaced
+-- the second page isn't among those that were replaced
 other : (l r : ℕ) (ps : List ℕ) → (l ≡ r → ⊥) → times r ps ≡ 0 → times r (l ∷ ps) ≡ 0
 other l r ps ne none = omega (arith, times_append r (l ∷ []) ps, times_other r l (λ e. ne (sym e)), none)
 
@@ -23,7 +23,7 @@ give_up-requires-clause-held g c =
     let words = g.R.Look.words c.args.room.now in
     let before = pages_below level words (pairs_of words given c.args.node.slots.now) in
     let mid = g.R.Look.words c.pack.new.room in
-    held_after g.R.Look.kept g.R.Look.standing g.R.Look.words (c.args.left ∷ before) (pages_below (suc level) mid (pairs_of mid given c.in_ok-branches.branches.items)) c.args.right
+    held_after g.R.Look.kept g.R.Look.page_state g.R.Look.words (c.args.left ∷ before) (pages_below (suc level) mid (pairs_of mid given c.in_ok-branches.branches.items)) c.args.right
     c.args.room.now c.pack.new.room c.in_ok-branches.ensures.ok.swaps (other c.args.left c.args.right before c.requires.two.1.1 c.requires.two.1.0.1) c.requires.two.1.0.0
 
 pub returns-clause-ok : goal.returns-clause-ok
@@ -38,13 +38,13 @@ returns-clause-ok g c =
     let all = pairs_below level words items in
     let mid = g.R.Look.words c.pack.new.room in
     let branches = c.in_ok-branches.branches.items in
-    let s = g.R.Look.standing c.pack.new.room in
-    let t = g.R.Look.standing c.give_up.new.self in
-    let gone = becomes_given_up g.R.Look.kept g.R.Look.standing g.R.Look.words (l ∷ before) all (suc level) (pairs_of mid given branches) r c.args.room.now c.pack.new.room c.give_up.new.self
+    let s = g.R.Look.page_state c.pack.new.room in
+    let t = g.R.Look.page_state c.give_up.new.self in
+    let gone = becomes_given_up g.R.Look.kept g.R.Look.page_state g.R.Look.words (l ∷ before) all (suc level) (pairs_of mid given branches) r c.args.room.now c.pack.new.room c.give_up.new.self
     c.in_ok-branches.ensures.ok (other l r before c.requires.two.1.1 c.requires.two.1.0.1) c.requires.two.1.0.0 c.give_up.ensures.kept c.give_up.ensures.words
-    (stands_at s t r (after_give_up (s r)) c.give_up.ensures.standing) (stands_else s t r (after_give_up (s r)) c.give_up.ensures.standing) in
-    subst (λ (w : ℕ → ℕ → ℕ). Becomes g.R.Look.kept g.R.Look.standing g.R.Look.words (l ∷ r ∷ before) all (suc level) (pairs_of w given branches) c.args.room.now c.give_up.new.self) (sym c.give_up.ensures.words)
-    (becomes_times g.R.Look.kept g.R.Look.standing g.R.Look.words (r ∷ l ∷ before) (l ∷ r ∷ before) all (suc level) (pairs_of mid given branches) c.args.room.now c.give_up.new.self
+    (changed_state s t r (after_give_up (s r)) c.give_up.ensures.page_state) (other_states s t r (after_give_up (s r)) c.give_up.ensures.page_state) in
+    subst (λ (w : ℕ → ℕ → ℕ). Becomes g.R.Look.kept g.R.Look.page_state g.R.Look.words (l ∷ r ∷ before) all (suc level) (pairs_of w given branches) c.args.room.now c.give_up.new.self) (sym c.give_up.ensures.words)
+    (becomes_times g.R.Look.kept g.R.Look.page_state g.R.Look.words (r ∷ l ∷ before) (l ∷ r ∷ before) all (suc level) (pairs_of mid given branches) c.args.room.now c.give_up.new.self
     (λ q. swapped q l r before) gone)
 
 pub returns-clause-refused : goal.returns-clause-refused
@@ -52,8 +52,8 @@ returns-clause-refused g c = (
   tt,
   tt,
   (
-    takes_then 2 0 (g.R.Look.standing c.args.room.now) (g.R.Look.standing c.pack.new.room) (g.R.Look.standing c.give_up.new.self) c.in_ok-branches.ensures.refused.2.0
-        (takes_given_up (g.R.Look.standing c.pack.new.room) (g.R.Look.standing c.give_up.new.self) c.args.right c.give_up.ensures.standing),
+    takes_then 2 0 (g.R.Look.page_state c.args.room.now) (g.R.Look.page_state c.pack.new.room) (g.R.Look.page_state c.give_up.new.self) c.in_ok-branches.ensures.refused.2.0
+        (takes_given_up (g.R.Look.page_state c.pack.new.room) (g.R.Look.page_state c.give_up.new.self) c.args.right c.give_up.ensures.page_state),
     tt,
   ),
 )

@@ -1,6 +1,6 @@
 use Rattle.std.proofs.Common.{◌≡◌, ◌≢◌, ℕ, ◌<◌, IsTrue, get_or, length, ap, sym, subst, ◌∙◌, arith, zero-add}
 use Rattle.std.proofs.lemmas.List.{length-map}
-use Rattle.be_pages.specs.declared.room.Standing.TheVariants.{Filled, Taken}
+use Rattle.be_pages.specs.declared.room.PageState.TheVariants.{Filled, Taken}
 use Rattle.be_tree.specs.declared.slot.Slot.{Slot}
 use Rattle.be_tree.specs.declared.slot.Slot.TheVariants.{New}
 use Rattle.be_tree_reading.specs.Page.{IsPage, item_at, item_place}
@@ -8,7 +8,7 @@ use Rattle.be_tree.specs.Slot.{pair_of, pairs_of}
 use Rattle.be_tree.specs.Splicing.{IsStored}
 use Rattle.be_tree_reading.proofs.Frame.{written_swaps}
 use Rattle.be_tree.proofs.Nodes.Slots.{stored_map, written_at}
-use Rattle.be_tree.proofs.Nodes.Stands.{stands_at, stands_else}
+use Rattle.be_tree.proofs.Nodes.PageStates.{changed_state, other_states}
 use Rattle.be_tree.proofs.Splices.{filled_word, off_free, off_pair, off_ready, other_word}
 use Rattle.be_tree.proofs.Sizes.InHand.{takes_one}
 use Rattle.be_tree.proofs.writing.write_node.Given.{Over}
@@ -17,11 +17,11 @@ use Rattle.be_tree.proofs.writing.write_node.Goals.{After-fill-2}
 
 -- the page with its header: it was free, and no other page has changed
 module _ (g : Over) (c : After-fill-2 g) where
-  stands : (q : ℕ) → q ≢ c.in_ok-page.page → g.R.Look.standing c.fill-2.new.self q ≡ g.R.Look.standing c.args.room.now q
-  stands q ne =
-      stands_else (g.R.Look.standing c.fill.new.self) (g.R.Look.standing c.fill-2.new.self) c.in_ok-page.page Filled c.fill-2.ensures.standing q ne
-      ∙ stands_else (g.R.Look.standing c.take.new.self) (g.R.Look.standing c.fill.new.self) c.in_ok-page.page Filled c.fill.ensures.standing q ne
-      ∙ stands_else (g.R.Look.standing c.args.room.now) (g.R.Look.standing c.take.new.self) c.in_ok-page.page Taken c.in_ok-page.ensures.ok q ne
+  states : (q : ℕ) → q ≢ c.in_ok-page.page → g.R.Look.page_state c.fill-2.new.self q ≡ g.R.Look.page_state c.args.room.now q
+  states q ne =
+      other_states (g.R.Look.page_state c.fill.new.self) (g.R.Look.page_state c.fill-2.new.self) c.in_ok-page.page Filled c.fill-2.ensures.page_state q ne
+      ∙ other_states (g.R.Look.page_state c.take.new.self) (g.R.Look.page_state c.fill.new.self) c.in_ok-page.page Filled c.fill.ensures.page_state q ne
+      ∙ other_states (g.R.Look.page_state c.args.room.now) (g.R.Look.page_state c.take.new.self) c.in_ok-page.page Taken c.in_ok-page.ensures.ok q ne
 
   others : (q : ℕ) → q ≢ c.in_ok-page.page → g.R.Look.words c.fill-2.new.self q ≡ g.R.Look.words c.args.room.now q
   others q ne = c.fill-2.ensures.others q ne ∙ c.fill.ensures.others q ne ∙ ap (λ w. w q) c.in_ok-page.ensures.words
@@ -35,21 +35,21 @@ module _ (g : Over) (c : After-fill-2 g) where
   count = c.fill-2.ensures.place 1 ∙ filled_word 1 (length c.args.node.slots.now) (g.R.Look.words c.fill.new.self c.in_ok-page.page 1)
 
 pub store_slots-requires-clause-filled : goal.store_slots-requires-clause-filled
-store_slots-requires-clause-filled g c = stands_at (g.R.Look.standing c.fill.new.self) (g.R.Look.standing c.fill-2.new.self) c.in_ok-page.page Filled c.fill-2.ensures.standing
+store_slots-requires-clause-filled g c = changed_state (g.R.Look.page_state c.fill.new.self) (g.R.Look.page_state c.fill-2.new.self) c.in_ok-page.page Filled c.fill-2.ensures.page_state
 
 pub store_slots-requires-clause-ready : goal.store_slots-requires-clause-ready
 store_slots-requires-clause-ready g c = λ i d lt.
     let at = (goal.at.store_slots-requires-clause-ready g c).After-fill-2 in
     let page = c.in_ok-page.page in
-    let s = g.R.Look.standing c.args.room.now in
+    let s = g.R.Look.page_state c.args.room.now in
     let v = g.R.Look.words c.args.room.now in
     let slot = get_or c.args.node.slots.now i d in
     let ready = c.requires.ready.0 i d lt in
-    off_ready page s (g.R.Look.standing c.fill-2.new.self) v (g.R.Look.words c.fill-2.new.self) (stands g at) (others g at) slot (off_free page s v slot c.in_ok-page.ensures.page.1 ready) ready
+    off_ready page s (g.R.Look.page_state c.fill-2.new.self) v (g.R.Look.words c.fill-2.new.self) (states g at) (others g at) slot (off_free page s v slot c.in_ok-page.ensures.page.1 ready) ready
 
 pub store_slots-requires-clause-off : goal.store_slots-requires-clause-off
 store_slots-requires-clause-off g c = λ i d lt.
-    off_free c.in_ok-page.page (g.R.Look.standing c.args.room.now) (g.R.Look.words c.args.room.now) (get_or c.args.node.slots.now i d) c.in_ok-page.ensures.page.1 (c.requires.ready.0 i d lt)
+    off_free c.in_ok-page.page (g.R.Look.page_state c.args.room.now) (g.R.Look.words c.args.room.now) (get_or c.args.node.slots.now i d) c.in_ok-page.ensures.page.1 (c.requires.ready.0 i d lt)
 
 pub store_slots-requires-clause-open : goal.store_slots-requires-clause-open
 store_slots-requires-clause-open g c =
@@ -61,7 +61,7 @@ returns-clause-ok g c =
     let page = c.in_ok-page.page in
     let slots = c.args.node.slots.now in
     let given = c.args.node.pair.now in
-    let s = g.R.Look.standing c.args.room.now in
+    let s = g.R.Look.page_state c.args.room.now in
     let v = g.R.Look.words c.args.room.now in
     let w = g.R.Look.words c.store_slots.new.room page in
     let only = c.store_slots.ensures.only in
@@ -70,7 +70,7 @@ returns-clause-ok g c =
     let stored : (k : ℕ) (d : Slot) → k < w 1 → IsStored w k (f (get_or slots k d)) = λ k d lt.
     let less : k < length slots = omega (arith, lt, counted) in
     let this = subst (λ (n : ℕ). IsStored w n (pair_of (g.R.Look.words c.fill-2.new.self) given (get_or slots k d))) (zero-add k) (c.store_slots.ensures.items k d less) in (
-      this.0 ∙ off_pair page s (g.R.Look.standing c.fill-2.new.self) v (g.R.Look.words c.fill-2.new.self) (stands g at) (others g at) given (get_or slots k d)
+      this.0 ∙ off_pair page s (g.R.Look.page_state c.fill-2.new.self) v (g.R.Look.words c.fill-2.new.self) (states g at) (others g at) given (get_or slots k d)
           (off_free page s v (get_or slots k d) c.in_ok-page.ensures.page.1 (c.requires.ready.0 k d less)),
       this.1,
     ) in
@@ -83,14 +83,14 @@ returns-clause-swaps g c =
     let at = (goal.at.returns-clause-swaps g c).After-fill-2 in
     let page = c.in_ok-page.page in
     let only = c.store_slots.ensures.only in
-    written_swaps g.R.Look.kept g.R.Look.standing g.R.Look.words page c.args.room.now c.store_slots.new.room
+    written_swaps g.R.Look.kept g.R.Look.page_state g.R.Look.words page c.args.room.now c.store_slots.new.room
     (only.kept ∙ c.fill-2.ensures.kept ∙ c.fill.ensures.kept ∙ c.in_ok-page.ensures.kept)
     c.in_ok-page.ensures.page.1
-    (only.standing page ∙ stands_at (g.R.Look.standing c.fill.new.self) (g.R.Look.standing c.fill-2.new.self) page Filled c.fill-2.ensures.standing)
-    (λ q ne. only.standing q ∙ stands g at q ne)
+    (only.page_state page ∙ changed_state (g.R.Look.page_state c.fill.new.self) (g.R.Look.page_state c.fill-2.new.self) page Filled c.fill-2.ensures.page_state)
+    (λ q ne. only.page_state q ∙ states g at q ne)
     (λ q ne. only.others q ne ∙ others g at q ne)
 
 pub returns-clause-refused : goal.returns-clause-refused
 returns-clause-refused g c =
     let at = (goal.at.returns-clause-refused g c).After-fill-2 in
-    (tt, tt, (takes_one (g.R.Look.standing c.args.room.now) (g.R.Look.standing c.store_slots.new.room) c.in_ok-page.page (λ q ne. c.store_slots.ensures.only.standing q ∙ stands g at q ne), tt))
+    (tt, tt, (takes_one (g.R.Look.page_state c.args.room.now) (g.R.Look.page_state c.store_slots.new.room) c.in_ok-page.page (λ q ne. c.store_slots.ensures.only.page_state q ∙ states g at q ne), tt))

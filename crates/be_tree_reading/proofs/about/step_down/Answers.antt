@@ -9,9 +9,9 @@ use Rattle.be_tree_reading.proofs.about.step_down.Goals as goal
 use Rattle.be_tree_reading.proofs.about.step_down.Goals.{After-branch_to-number}
 
 pub word-count-requires-clause-readable : goal.word-count-requires-clause-readable
-word-count-requires-clause-readable g c = readable_kept (g.L.Look.standing c.args.look.now c.args.page) c.requires.inner.1.1.1.1.page_in_use
+word-count-requires-clause-readable g c = readable_kept (g.L.Look.page_state c.args.look.now c.args.page) c.requires.inner.1.1.1.1.page_in_use
 
--- the words are as at first
+-- the words are those at the call
 read : (g : Over) (c : After-branch_to-number g) → g.L.Look.words c.branch_to-number.new.look ≡ g.L.Look.words c.args.look.now
 read g c = c.branch_to-number.ensures.unchanged.words ∙ c.word-count.ensures.words
 
@@ -40,15 +40,15 @@ child_at-child-requires-clause-names_page g c =
     let at = (goal.at.child_at-child-requires-clause-names_page g c).After-branch_to-number in
     let level = c.requires.inner.0 in
     let least = c.requires.inner.1.0 in
-    let lead = leads_down level (level - 1) (g.L.Look.standing c.args.look.now) (g.L.Look.words c.args.look.now) least c.args.page c.branch_to-number.result (omega (arith, c.requires.inner.1.1.0)) c.requires.inner.1.1.1.1 (in_range g at) in
+    let lead = leads_down level (level - 1) (g.L.Look.page_state c.args.look.now) (g.L.Look.words c.args.look.now) least c.args.page c.branch_to-number.result (omega (arith, c.requires.inner.1.1.0)) c.requires.inner.1.1.1.1 (in_range g at) in
     subst (λ (w : ℕ → ℕ → ℕ). length (item_at (w c.args.page) (2 + 42 * c.branch_to-number.result)).payload ≡ 8) (sym (read g at)) lead.names_page
 
 pub returns-clause-below : goal.returns-clause-below
 returns-clause-below g c = λ level least inner some tree.
     let at = (goal.at.returns-clause-below g c).After-branch_to-number in
-    let standing = g.L.Look.standing c.args.look.now in
+    let page_state = g.L.Look.page_state c.args.look.now in
     let words = g.L.Look.words c.args.look.now in
-    let lead = leads_down level (level - 1) standing words least c.args.page c.branch_to-number.result (omega (arith, inner)) tree (in_range g at) in
+    let lead = leads_down level (level - 1) page_state words least c.args.page c.branch_to-number.result (omega (arith, inner)) tree (in_range g at) in
     let is : c.child_at-child.result ≡ child (item_at (words c.args.page) (2 + 42 * c.branch_to-number.result)) =
     c.child_at-child.ensures.child ∙ ap (λ (w : ℕ → ℕ → ℕ). child (item_at (w c.args.page) (2 + 42 * c.branch_to-number.result))) (read g at) in
-    subst (λ (p : ℕ). IsTreeAt (level - 1) 1 standing words p) (sym is) lead.tree
+    subst (λ (p : ℕ). IsTreeAt (level - 1) 1 page_state words p) (sym is) lead.tree

@@ -9,14 +9,14 @@ use Rattle.be_tree_reading.proofs.back.after_items.Goals as goal
 pub overflow_cast-result-3 : goal.overflow_cast-result-3
 overflow_cast-result-3 g c =
     let tree = c.requires.tree in
-    omega (arith, height c.args.level tree.0 (g.L.Look.standing c.args.look.now) (g.L.Look.words c.args.look.now) c.args.page tree.1 tree.2 (g.met.L.Look.pages_small c.args.look.now))
+    omega (arith, height c.args.level tree.0 (g.L.Look.page_state c.args.look.now) (g.L.Look.words c.args.look.now) c.args.page tree.1 tree.2 (g.met.L.Look.pages_small c.args.look.now))
 
 pub returns-clause-place : goal.returns-clause-place
 returns-clause-place g c =
     let words = g.L.Look.words c.args.look.now in
     let tree = c.requires.tree in
     record {
-      tree = tree_weaker c.args.level tree.0 (g.L.Look.standing c.args.look.now) words c.args.page tree.1 tree.2;
+      tree = tree_weaker c.args.level tree.0 (g.L.Look.page_state c.args.look.now) words c.args.page tree.1 tree.2;
       in_range = omega (arith, c.word-count.ensures.value, items_count (words c.args.page));
     }
 

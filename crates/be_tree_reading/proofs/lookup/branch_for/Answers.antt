@@ -19,10 +19,10 @@ loop-at-init g c = record {
   some = omega arith;
   in_range = c.requires.some;
   not_above = λ j d e some gt. absurd (omega (arith, e, some));
-  unchanged = record { kept = refl; standing = refl; words = refl };
+  unchanged = record { kept = refl; page_state = refl; words = refl };
 }
 
--- the place is that of an item
+-- the place is an item's
 pub is_above-requires-clause-in_page : goal.is_above-requires-clause-in_page
 is_above-requires-clause-in_page g c = omega (arith, c.loop-at.invariant.is_place, c.loop-at-test.true, c.requires.end, c.requires.page.few)
 
@@ -32,7 +32,7 @@ is_above-requires-clause-item g c =
     subst (λ (w : ℕ → ℕ → ℕ). IsItem (w c.args.page) c.loop-at.at) (sym i.unchanged.words)
     (subst (λ (p : ℕ). IsItem (g.L.Look.words c.args.look.now c.args.page) p) (sym i.is_place) (c.requires.page.each i.number (omega (arith, i.is_place, c.loop-at-test.true, c.requires.end))))
 
--- how the item that is asked compares
+-- how the current item compares
 asked : (g : Over) (c : After-is_above g) (d : Pair) → c.loop-at.invariant.number < g.L.Look.words c.args.look.now c.args.page 1
     → is_gt (key_cmp (get_or (items_of (g.L.Look.words c.args.look.now c.args.page)) c.loop-at.invariant.number d).key c.args.key.now) ≡ c.is_above.result
 asked g c d lt =
@@ -69,7 +69,7 @@ loop-at-preserved g c =
           let words = g.L.Look.words c.args.look.now c.args.page in
           not_greater _ (asked g at d (here g at) ∙ c.if-is_above.false)
           (sym (ap (λ (n : ℕ). key_cmp (get_or (items_of words) n d).key c.args.key.now) same) ∙ gt);
-      unchanged = unchanged_trans g.L.Look.kept g.L.Look.standing g.L.Look.words c.args.look.now c.loop-at.look c.is_above.new.look i.unchanged c.is_above.ensures.unchanged;
+      unchanged = unchanged_trans g.L.Look.kept g.L.Look.page_state g.L.Look.words c.args.look.now c.loop-at.look c.is_above.new.look i.unchanged c.is_above.ensures.unchanged;
     }
 
 pub returns-then-is_above-clause-branch : goal.returns-then-is_above-clause-branch

@@ -6,7 +6,7 @@ use Rattle.be_tree_reading.specs.Key.{key_cmp}
 use Rattle.be_tree_reading.specs.Page.{item_place, items_of}
 use Rattle.be_tree_reading.proofs.lookup.branch_for.Given as goal
 
--- the item that was asked last is not above the key
+-- the last item compared isn't above the key
 abbrev pub invariant-loop-at : goal.invariant-loop-at
 invariant-loop-at g l = record {
   number : ℕ;
@@ -14,7 +14,7 @@ invariant-loop-at g l = record {
   some : 0 < number;
   in_range : number ≤ g.L.Look.words l.fn.look l.page 1;
   not_above : (j : ℕ) (d : Pair) → suc j ≡ number → 0 < j → key_cmp (slice_index_or (items_of (g.L.Look.words l.fn.look l.page)) j d).key l.key ≢ Greater;
-  unchanged : IsUnchanged g.L.Look.kept g.L.Look.standing g.L.Look.words l.fn.look l.look;
+  unchanged : IsUnchanged g.L.Look.kept g.L.Look.page_state g.L.Look.words l.fn.look l.look;
 }
 
 abbrev pub decreases-loop-at : goal.decreases-loop-at

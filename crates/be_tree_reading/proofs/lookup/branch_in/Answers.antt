@@ -15,4 +15,4 @@ returns-clause-branch g c = subst (λ (w : ℕ → ℕ → ℕ). IsBranchAt c.ar
 
 pub returns-clause-unchanged : goal.returns-clause-unchanged
 returns-clause-unchanged g c =
-    unchanged_trans g.L.Look.kept g.L.Look.standing g.L.Look.words c.args.look.now c.end_of-end.new.look c.branch_for.new.look c.end_of-end.ensures.unchanged c.branch_for.ensures.unchanged
+    unchanged_trans g.L.Look.kept g.L.Look.page_state g.L.Look.words c.args.look.now c.end_of-end.new.look c.branch_for.new.look c.end_of-end.ensures.unchanged c.branch_for.ensures.unchanged

@@ -11,7 +11,7 @@ use Rattle.be_tree_reading.proofs.lookup.find_place.Given.{Over}
 use Rattle.be_tree_reading.proofs.lookup.find_place.Goals as goal
 use Rattle.be_tree_reading.proofs.lookup.find_place.Goals.{After-branch_in-at, In-Ok}
 
--- the room after the search is as at first
+-- after the search, the words are those at the call
 words_same : (g : Over) (c : After-branch_in-at g) → g.L.Look.words c.branch_in-at.new.look ≡ g.L.Look.words c.args.look.now
 words_same g c = c.branch_in-at.ensures.unchanged.words ∙ c.loop-level.invariant.unchanged.words
 
@@ -22,12 +22,12 @@ at_item : (g : Over) (c : After-branch_in-at g) → (found g c).number < g.L.Loo
 at_item g c = omega (arith, (found g c).is_branch.before, (found g c).is_branch.is_rank.in_range, c.loop-level.invariant.tree.node.enough, c.loop-level.invariant.some, items_count (g.L.Look.words c.args.look.now c.loop-level.page))
 
 -- the branch that was found leads down
-steps : (g : Over) (c : After-branch_in-at g) → StepsDown c.loop-level.level (c.loop-level.level - 1) (g.L.Look.standing c.args.look.now) (g.L.Look.words c.args.look.now) c.loop-level.page c.args.key.now (item_at (g.L.Look.words c.args.look.now c.loop-level.page) c.branch_in-at.result)
+steps : (g : Over) (c : After-branch_in-at g) → StepsDown c.loop-level.level (c.loop-level.level - 1) (g.L.Look.page_state c.args.look.now) (g.L.Look.words c.args.look.now) c.loop-level.page c.args.key.now (item_at (g.L.Look.words c.args.look.now c.loop-level.page) c.branch_in-at.result)
 steps g c =
     let words = g.L.Look.words c.args.look.now c.loop-level.page in
     let of = found g c in
     let branch = item_at words c.branch_in-at.result in
-    steps_down c.loop-level.level (c.loop-level.level - 1) c.loop-level.invariant.least (g.L.Look.standing c.args.look.now) (g.L.Look.words c.args.look.now) c.loop-level.page c.args.key.now
+    steps_down c.loop-level.level (c.loop-level.level - 1) c.loop-level.invariant.least (g.L.Look.page_state c.args.look.now) (g.L.Look.words c.args.look.now) c.loop-level.page c.args.key.now
     (items_of words) of.is_branch.rank of.number branch
     (omega (arith, c.loop-level-test.true)) c.loop-level.invariant.tree c.loop-level.invariant.some refl of.is_branch.is_rank of.is_branch.before
     (sym (item_get words of.number branch (at_item g c) ∙ ap (item_at words) (sym of.is_place)))
@@ -62,13 +62,13 @@ loop-level-preserved g c =
     record {
       least = 6;
       some = omega arith;
-      tree = subst (λ p. IsTreeAt (c.loop-level.level - 1) 6 (g.L.Look.standing c.args.look.now) (g.L.Look.words c.args.look.now) p) (sym is) s.tree;
+      tree = subst (λ p. IsTreeAt (c.loop-level.level - 1) 6 (g.L.Look.page_state c.args.look.now) (g.L.Look.words c.args.look.now) p) (sym is) s.tree;
       same = ap (λ p. payload_at (pairs_at (c.loop-level.level - 1) (g.L.Look.words c.args.look.now) p) c.args.key.now) is ∙ sym s.same ∙ c.loop-level.invariant.same;
-      unchanged = unchanged_trans g.L.Look.kept g.L.Look.standing g.L.Look.words c.args.look.now c.branch_in-at.new.look c.child_at-page.new.look
-          (unchanged_trans g.L.Look.kept g.L.Look.standing g.L.Look.words c.args.look.now c.loop-level.look c.branch_in-at.new.look c.loop-level.invariant.unchanged c.branch_in-at.ensures.unchanged) c.child_at-page.ensures.unchanged;
+      unchanged = unchanged_trans g.L.Look.kept g.L.Look.page_state g.L.Look.words c.args.look.now c.branch_in-at.new.look c.child_at-page.new.look
+          (unchanged_trans g.L.Look.kept g.L.Look.page_state g.L.Look.words c.args.look.now c.loop-level.look c.branch_in-at.new.look c.loop-level.invariant.unchanged c.branch_in-at.ensures.unchanged) c.child_at-page.ensures.unchanged;
     }
 
--- the item that was found
+-- the item with the key
 there : (g : Over) (c : In-Ok g) → IsFoundAt c.args.key.now (g.L.Look.words c.args.look.now c.loop-level.page) c.in-Ok.at
 there g c = subst (λ (w : ℕ → ℕ → ℕ). IsFoundAt c.args.key.now (w c.loop-level.page) c.in-Ok.at) c.loop-level.invariant.unchanged.words c.in-Ok.ensures.found
 
@@ -89,7 +89,7 @@ returns-in-Ok-clause-some g c =
     let words = g.L.Look.words c.args.look.now in
     let page = c.loop-level.page in
     sym i.same
-    ∙ found_equal c.loop-level.level i.least (g.L.Look.standing c.args.look.now) words page c.args.key.now of.number (omega (arith, c.loop-level-test.false)) i.tree i.some of.in_range
+    ∙ found_equal c.loop-level.level i.least (g.L.Look.page_state c.args.look.now) words page c.args.key.now of.number (omega (arith, c.loop-level-test.false)) i.tree i.some of.in_range
     (ap (λ (p : ℕ). key_cmp (item_at (words page) p).key c.args.key.now) (sym of.is_place) ∙ of.same)
     ∙ ap (λ (p : ℕ). Some (item_at (words page) p).payload) (sym of.is_place)
 
@@ -99,4 +99,4 @@ returns-in-Err-clause-none g c =
     let words = g.L.Look.words c.args.look.now in
     let of = subst (λ (w : ℕ → ℕ → ℕ). IsGapAt c.args.key.now (w c.loop-level.page) c.in-Err.field-0) i.unchanged.words c.in-Err.ensures.absent in
     sym i.same
-    ∙ found_gap c.loop-level.level i.least (g.L.Look.standing c.args.look.now) words c.loop-level.page c.args.key.now of.number (omega (arith, c.loop-level-test.false)) i.tree i.some of.is_gap
+    ∙ found_gap c.loop-level.level i.least (g.L.Look.page_state c.args.look.now) words c.loop-level.page c.args.key.now of.number (omega (arith, c.loop-level-test.false)) i.tree i.some of.is_gap

@@ -7,17 +7,17 @@ use Rattle.be_tree_reading.proofs.lookup.order_at.Given.{Over}
 use Rattle.be_tree_reading.proofs.lookup.order_at.Goals as goal
 use Rattle.be_tree_reading.proofs.lookup.order_at.Goals.{After-word}
 
--- a lesser word decides
+-- a lower word decides
 pub returns-then-mine-first-clause-order : goal.returns-then-mine-first-clause-order
 returns-then-mine-first-clause-order g c =
     let words = g.L.Look.words c.args.look.now c.args.page in
     sym (key_below words c.args.at c.args.key.now c.word-mine.result c.args.first c.word-mine.ensures.value c.if-mine-first.true (omega arith) c.requires.first)
 
--- the length of the item's key is read
+-- the length of the item's key
 read : (g : Over) (c : After-word g) → c.word.result / 2 ^ 32 ≡ key_len (g.L.Look.words c.args.look.now c.args.page) c.args.at
 read g c = ap (λ (h : ℕ). h / 2 ^ 32) (c.word.ensures.value ∙ ap (λ (w : ℕ → ℕ → ℕ). w c.args.page c.args.at) c.word-mine.ensures.words)
 
--- a greater word does where the item's key has all of it
+-- a higher word decides if the item's key fills it
 pub returns-then-len-ge8-clause-order : goal.returns-then-len-ge8-clause-order
 returns-then-len-ge8-clause-order g c =
     let words = g.L.Look.words c.args.look.now c.args.page in
@@ -26,7 +26,7 @@ returns-then-len-ge8-clause-order g c =
     sym (key_differs words c.args.at c.args.key.now mine c.args.first long c.word-mine.ensures.value (omega arith) (omega arith) c.requires.first (λ e. absurd (omega (arith, e, c.if-mine-first-2.true)))
     ∙ more_cmp mine c.args.first c.if-mine-first-2.true)
 
--- the same first words: the keys after them decide
+-- the first words are equal: the bytes after them decide
 pub cmp_from-requires-clause-so_far : goal.cmp_from-requires-clause-so_far
 cmp_from-requires-clause-so_far g c =
     let words = g.L.Look.words c.args.look.now in

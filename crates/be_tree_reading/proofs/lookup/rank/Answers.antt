@@ -11,7 +11,7 @@ use Rattle.be_tree_reading.proofs.lookup.rank.Given.{Over}
 use Rattle.be_tree_reading.proofs.lookup.rank.Goals as goal
 use Rattle.be_tree_reading.proofs.lookup.rank.Goals.{After-is_above}
 
--- how the item that is asked compares
+-- how the current item compares
 asked : (g : Over) (c : After-is_above g) (d : Pair) → c.loop-at.at < g.L.Look.words c.args.look.now c.args.page 1
     → is_gt (key_cmp (get_or (items_of (g.L.Look.words c.args.look.now c.args.page)) c.loop-at.at d).key c.args.key.now) ≡ c.is_above.result
 asked g c d lt =
@@ -36,7 +36,7 @@ loop-at-preserved g c = record {
       let words = g.L.Look.words c.args.look.now c.args.page in
       not_greater _ (asked g (goal.at.loop-at-preserved g c).After-is_above d (omega (arith, c.loop-at-test.true, c.word-count.ensures.value)) ∙ c.if-is_above.false)
       (sym (ap (λ (i : ℕ). key_cmp (get_or (items_of words) i d).key c.args.key.now) here) ∙ gt);
-  unchanged = unchanged_trans g.L.Look.kept g.L.Look.standing g.L.Look.words c.args.look.now c.loop-at.look c.is_above.new.look c.loop-at.invariant.unchanged c.is_above.ensures.unchanged;
+  unchanged = unchanged_trans g.L.Look.kept g.L.Look.page_state g.L.Look.words c.args.look.now c.loop-at.look c.is_above.new.look c.loop-at.invariant.unchanged c.is_above.ensures.unchanged;
 }
 
 pub returns-then-is_above-clause-rank : goal.returns-then-is_above-clause-rank

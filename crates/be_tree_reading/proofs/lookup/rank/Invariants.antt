@@ -6,9 +6,9 @@ use Rattle.be_tree_reading.specs.Key.{key_cmp}
 use Rattle.be_tree_reading.specs.Page.{items_of}
 use Rattle.be_tree_reading.proofs.lookup.rank.Given as goal
 
--- the item that was asked last is not above the key
+-- the last item compared isn't above the key
 abbrev pub invariant-loop-at : goal.invariant-loop-at
 invariant-loop-at g l = record {
   not_above : (j : ℕ) (d : Pair) → suc j ≡ l.at → key_cmp (slice_index_or (items_of (g.L.Look.words l.fn.look l.page)) j d).key l.key ≢ Greater;
-  unchanged : IsUnchanged g.L.Look.kept g.L.Look.standing g.L.Look.words l.fn.look l.look;
+  unchanged : IsUnchanged g.L.Look.kept g.L.Look.page_state g.L.Look.words l.fn.look l.look;
 }

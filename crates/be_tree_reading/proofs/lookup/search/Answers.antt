@@ -20,7 +20,7 @@ loop-at-init g c = record {
   unchanged = c.end_of-end.ensures.unchanged;
 }
 
--- the place is that of an item
+-- the place is an item's
 pub order_at-order-requires-clause-in_page : goal.order_at-order-requires-clause-in_page
 order_at-order-requires-clause-in_page g c = omega (arith, c.loop-at.invariant.is_place, c.loop-at-test.true, c.end_of-end.ensures.end, c.requires.page.few)
 
@@ -33,7 +33,7 @@ order_at-order-requires-clause-item g c =
 here : (g : Over) (c : After-order_at-order g) → c.loop-at.invariant.number < g.L.Look.words c.args.look.now c.args.page 1
 here g c = omega (arith, c.loop-at.invariant.is_place, c.loop-at-test.true, c.end_of-end.ensures.end)
 
--- how the item that is asked compares
+-- how the current item compares
 asked : (g : Over) (c : After-order_at-order g) → key_cmp (item_at (g.L.Look.words c.args.look.now c.args.page) c.loop-at.at).key c.args.key.now ≡ c.order_at-order.result
 asked g c = sym (c.order_at-order.ensures.order ∙ ap (λ (w : ℕ → ℕ → ℕ). key_cmp (item_at (w c.args.page) c.loop-at.at).key c.args.key.now) c.loop-at.invariant.unchanged.words)
 
@@ -75,7 +75,7 @@ loop-at-preserved g c =
           let same : j ≡ i.number = omega (arith, e) in
           ap (λ (n : ℕ). key_cmp (get_or items n d).key c.args.key.now) same ∙ asked_item g at d
           ∙ less c.order_at-order.result (sym c.is_eq.ensures ∙ c.if-is_eq.false) (sym c.is_gt.ensures ∙ c.if-is_gt.false);
-      unchanged = unchanged_trans g.L.Look.kept g.L.Look.standing g.L.Look.words c.args.look.now c.loop-at.look c.order_at-order.new.look i.unchanged c.order_at-order.ensures.unchanged;
+      unchanged = unchanged_trans g.L.Look.kept g.L.Look.page_state g.L.Look.words c.args.look.now c.loop-at.look c.order_at-order.new.look i.unchanged c.order_at-order.ensures.unchanged;
     }
 
 pub returns-then-is_eq-clause-found : goal.returns-then-is_eq-clause-found

@@ -1,13 +1,13 @@
 use Rattle.std.proofs.Common.{◌≡◌, ℕ, suc, List, [], ◌++◌, ◌+◌, ◌-◌, ◌*◌, ◌<◌, ◌≤◌, ◌⊎◌, inl, inr, false, length, drop, refl, ap, sym, subst, ◌∙◌, arith, append_assoc}
 use Rattle.std.proofs.lemmas.Bool.{cases_lt}
 use Rattle.std.proofs.lemmas.List.{append-nil}
-use Rattle.be_pages.specs.declared.room.Standing.{Standing}
+use Rattle.be_pages.specs.declared.room.PageState.{PageState}
 use Rattle.be_tree_reading.specs.declared.numbers.NextBranch.{NextBranch}
 use Rattle.be_tree_reading.specs.Pair.{Pair}
 use Rattle.be_tree_reading.specs.Page.{items_of, item_at, item_place, IsItem}
 use Rattle.be_tree_reading.specs.Places.{AreFrom, IsBranchAt, IsNext}
 use Rattle.be_tree_reading.specs.Range.{pairs_from}
-use Rattle.be_tree_reading.specs.Tree.{IsTreeAt, child, pairs_at, pairs_below, least_of_root}
+use Rattle.be_tree_reading.specs.Tree.{IsTreeAt, child, pairs_at, pairs_below, minimum_of_root}
 use Rattle.be_tree_reading.proofs.Reading.Cursors.{from_branch, leads_down, LeadsDown, root_pairs}
 use Rattle.be_tree_reading.proofs.Reading.Starts.{next_above, next_here}
 use Rattle.be_tree_reading.proofs.Frame.{unchanged_trans}
@@ -20,15 +20,15 @@ use Rattle.be_tree_reading.proofs.numbers.first_leaf.Goals.{After-branch_for-at,
 
 pub loop-level-init : goal.loop-level-init
 loop-level-init g c =
-    let standing = g.L.Look.standing c.args.look.now in
+    let page_state = g.L.Look.page_state c.args.look.now in
     let words = g.L.Look.words c.args.look.now in
     let page = c.args.root - 1 in
     let level = c.word-level.result in
     let e : c.args.root ≡ suc page = omega (arith, c.requires.some) in
     record {
-      least = least_of_root level;
+      least = minimum_of_root level;
       some = root_some level;
-      tree = root_tree c.args.root page level standing words e c.word-level.ensures.value c.requires.tree;
+      tree = root_tree c.args.root page level page_state words e c.word-level.ensures.value c.requires.tree;
       rest = [];
       same = append-nil (pairs_from (pairs_at level words page) c.args.low.now false)
           ∙ ap (λ xs. pairs_from xs c.args.low.now false) (sym (root_pairs c.args.root page level words e c.word-level.ensures.value));
@@ -39,10 +39,10 @@ loop-level-init g c =
         in_page = omega arith;
         readable = λ lt. absurd (omega (arith, lt));
       };
-      unchanged = record { kept = c.word-level.ensures.kept; standing = c.word-level.ensures.standing; words = c.word-level.ensures.words };
+      unchanged = record { kept = c.word-level.ensures.kept; page_state = c.word-level.ensures.page_state; words = c.word-level.ensures.words };
     }
 
--- the room after the search in a page is as at first
+-- after the search on a page, the words are those at the call
 words_same : (g : Over) (c : After-branch_for-at g) → g.L.Look.words c.branch_for-at.new.look ≡ g.L.Look.words c.args.look.now
 words_same g c = c.branch_for-at.ensures.unchanged.words ∙ c.end_of-end.ensures.unchanged.words ∙ c.loop-level.invariant.unchanged.words
 
@@ -52,8 +52,8 @@ found g c = subst (λ (w : ℕ → ℕ → ℕ). IsBranchAt c.args.low.now (item
 at_item : (g : Over) (c : After-branch_for-at g) → (found g c).number < g.L.Look.words c.args.look.now c.loop-level.page 1
 at_item g c = omega (arith, (found g c).is_branch.before, (found g c).is_branch.is_rank.in_range, c.loop-level.invariant.tree.node.enough, c.loop-level.invariant.some, items_count (g.L.Look.words c.args.look.now c.loop-level.page))
 
-leads : (g : Over) (c : After-branch_for-at g) → LeadsDown c.loop-level.level (c.loop-level.level - 1) (g.L.Look.standing c.args.look.now) (g.L.Look.words c.args.look.now) c.loop-level.page (found g c).number (item_at (g.L.Look.words c.args.look.now c.loop-level.page) (2 + 42 * (found g c).number))
-leads g c = leads_down c.loop-level.level (c.loop-level.level - 1) (g.L.Look.standing c.args.look.now) (g.L.Look.words c.args.look.now) c.loop-level.invariant.least c.loop-level.page (found g c).number
+leads : (g : Over) (c : After-branch_for-at g) → LeadsDown c.loop-level.level (c.loop-level.level - 1) (g.L.Look.page_state c.args.look.now) (g.L.Look.words c.args.look.now) c.loop-level.page (found g c).number (item_at (g.L.Look.words c.args.look.now c.loop-level.page) (2 + 42 * (found g c).number))
+leads g c = leads_down c.loop-level.level (c.loop-level.level - 1) (g.L.Look.page_state c.args.look.now) (g.L.Look.words c.args.look.now) c.loop-level.invariant.least c.loop-level.page (found g c).number
     (omega (arith, c.loop-level-test.true)) c.loop-level.invariant.tree (at_item g c)
 
 -- a page of a tree has an item
@@ -87,7 +87,7 @@ overflow_add-at g c =
     let at = (goal.at.overflow_add-at g c).After-branch_for-at in
     omega (arith, at_item g at, (found g at).is_place, c.loop-level.invariant.tree.node.is_page.few)
 
--- the branch after the one that is taken, or the one from above
+-- the pairs below the branches after the one that the descent takes
 after : (g : Over) (c : After-branch_for-at g) → List Pair
 after g c = pairs_below c.loop-level.level (g.L.Look.words c.args.look.now) (drop ((found g c).number + 1) (items_of (g.L.Look.words c.args.look.now c.loop-level.page)))
 
@@ -97,12 +97,12 @@ ends g c = c.end_of-end.ensures.end ∙ ap (λ (w : ℕ → ℕ → ℕ). 2 + 42
 next_is : (g : Over) (b : After-branch_for-at g) (next : NextBranch)
     → (b.branch_for-at.result + 42 < b.end_of-end.result → next ≡ record { page = b.loop-level.page; place = b.branch_for-at.result + 42 })
     → (b.end_of-end.result ≤ b.branch_for-at.result + 42 → next ≡ b.loop-level.next)
-    → IsNext (g.L.Look.standing b.args.look.now) (g.L.Look.words b.args.look.now) next.page next.place (after g b ++ b.loop-level.invariant.rest)
+    → IsNext (g.L.Look.page_state b.args.look.now) (g.L.Look.words b.args.look.now) next.page next.place (after g b ++ b.loop-level.invariant.rest)
 unfolding after
 next_is g b next here above = by (cases_lt ((found g b).number + 1) (g.L.Look.words b.args.look.now b.loop-level.page 1))
   where
-    standing : ℕ → Standing
-    standing = g.L.Look.standing b.args.look.now
+    page_state : ℕ → PageState
+    page_state = g.L.Look.page_state b.args.look.now
 
     words : ℕ → ℕ → ℕ
     words = g.L.Look.words b.args.look.now
@@ -111,22 +111,22 @@ next_is g b next here above = by (cases_lt ((found g b).number + 1) (g.L.Look.wo
     down = omega (arith, b.loop-level-test.true)
 
     by : ((found g b).number + 1 < words b.loop-level.page 1) ⊎ (words b.loop-level.page 1 ≤ (found g b).number + 1)
-        → IsNext standing words next.page next.place (after g b ++ b.loop-level.invariant.rest)
+        → IsNext page_state words next.page next.place (after g b ++ b.loop-level.invariant.rest)
     by (inl lt) =
         let place : b.branch_for-at.result + 42 ≡ item_place ((found g b).number + 1) = omega (arith, (found g b).is_place) in
-        subst (λ (n : NextBranch). IsNext standing words n.page n.place (after g b ++ b.loop-level.invariant.rest))
+        subst (λ (n : NextBranch). IsNext page_state words n.page n.place (after g b ++ b.loop-level.invariant.rest))
         (sym (here (omega (arith, lt, ends g b, (found g b).is_place)) ∙ ap (λ (p : ℕ). record { page = b.loop-level.page; place = p }) place))
-        (next_here b.loop-level.level (b.loop-level.level - 1) standing words b.loop-level.invariant.least b.loop-level.page ((found g b).number + 1) b.loop-level.invariant.rest down b.loop-level.invariant.tree lt)
+        (next_here b.loop-level.level (b.loop-level.level - 1) page_state words b.loop-level.invariant.least b.loop-level.page ((found g b).number + 1) b.loop-level.invariant.rest down b.loop-level.invariant.tree lt)
     by (inr ge) =
-        subst (λ (n : NextBranch). IsNext standing words n.page n.place (after g b ++ b.loop-level.invariant.rest))
+        subst (λ (n : NextBranch). IsNext page_state words n.page n.place (after g b ++ b.loop-level.invariant.rest))
         (sym (above (omega (arith, ge, ends g b, (found g b).is_place))))
-        (next_above b.loop-level.level (b.loop-level.level - 1) standing words b.loop-level.invariant.least b.loop-level.page ((found g b).number + 1) b.loop-level.invariant.rest b.loop-level.next.page b.loop-level.next.place ge b.loop-level.invariant.next)
+        (next_above b.loop-level.level (b.loop-level.level - 1) page_state words b.loop-level.invariant.least b.loop-level.page ((found g b).number + 1) b.loop-level.invariant.rest b.loop-level.next.page b.loop-level.next.place ge b.loop-level.invariant.next)
 
 pub loop-level-preserved : goal.loop-level-preserved
 unfolding found after
 loop-level-preserved g c =
     let at = (goal.at.loop-level-preserved g c).After-branch_for-at in
-    let standing = g.L.Look.standing c.args.look.now in
+    let page_state = g.L.Look.page_state c.args.look.now in
     let words = g.L.Look.words c.args.look.now in
     let i = c.loop-level.invariant in
     let page = c.loop-level.page in
@@ -140,36 +140,36 @@ loop-level-preserved g c =
     record {
       least = 1;
       some = omega arith;
-      tree = subst (λ p. IsTreeAt down 1 standing words p) (sym is) lead.tree;
+      tree = subst (λ p. IsTreeAt down 1 page_state words p) (sym is) lead.tree;
       rest = after g at ++ i.rest;
       same = ap (λ p. pairs_from (pairs_at down words p) c.args.low.now false ++ (after g at ++ i.rest)) is
           ∙ sym (append_assoc here (after g at) i.rest)
-          ∙ ap (λ xs. xs ++ i.rest) (sym (from_branch level down standing words i.least page c.args.low.now (found g at).is_branch.rank number false
+          ∙ ap (λ xs. xs ++ i.rest) (sym (from_branch level down page_state words i.least page c.args.low.now (found g at).is_branch.rank number false
           (omega (arith, c.loop-level-test.true)) i.tree i.some (found g at).is_branch.is_rank (found g at).is_branch.before (at_item g at)))
           ∙ i.same;
       next = next_is g at c.next_of-next.result c.next_of-next.ensures.here c.next_of-next.ensures.above;
-      unchanged = unchanged_trans g.L.Look.kept g.L.Look.standing g.L.Look.words c.args.look.now c.branch_for-at.new.look c.child_at-page.new.look
-          (unchanged_trans g.L.Look.kept g.L.Look.standing g.L.Look.words c.args.look.now c.end_of-end.new.look c.branch_for-at.new.look
-          (unchanged_trans g.L.Look.kept g.L.Look.standing g.L.Look.words c.args.look.now c.loop-level.look c.end_of-end.new.look i.unchanged c.end_of-end.ensures.unchanged) c.branch_for-at.ensures.unchanged) c.child_at-page.ensures.unchanged;
+      unchanged = unchanged_trans g.L.Look.kept g.L.Look.page_state g.L.Look.words c.args.look.now c.branch_for-at.new.look c.child_at-page.new.look
+          (unchanged_trans g.L.Look.kept g.L.Look.page_state g.L.Look.words c.args.look.now c.end_of-end.new.look c.branch_for-at.new.look
+          (unchanged_trans g.L.Look.kept g.L.Look.page_state g.L.Look.words c.args.look.now c.loop-level.look c.end_of-end.new.look i.unchanged c.end_of-end.ensures.unchanged) c.branch_for-at.ensures.unchanged) c.child_at-page.ensures.unchanged;
     }
 
--- the leaf that was come to
+-- the leaf that the descent reached
 pub first_from-at-requires-clause-leaf : goal.first_from-at-requires-clause-leaf
 first_from-at-requires-clause-leaf g c =
     let i = c.loop-level.invariant in
     let leaf : c.loop-level.level ≡ 0 = omega (arith, c.loop-level-test.false) in
-    subst (λ (w : ℕ → ℕ → ℕ). IsTreeAt 0 1 (g.L.Look.standing c.loop-level.look) w c.loop-level.page) (sym i.unchanged.words)
-    (subst (λ (s : ℕ → Standing). IsTreeAt 0 1 s (g.L.Look.words c.args.look.now) c.loop-level.page) (sym i.unchanged.standing)
-    (subst (λ l. IsTreeAt l 1 (g.L.Look.standing c.args.look.now) (g.L.Look.words c.args.look.now) c.loop-level.page) leaf
-    (tree_weaker c.loop-level.level i.least (g.L.Look.standing c.args.look.now) (g.L.Look.words c.args.look.now) c.loop-level.page i.some i.tree)))
+    subst (λ (w : ℕ → ℕ → ℕ). IsTreeAt 0 1 (g.L.Look.page_state c.loop-level.look) w c.loop-level.page) (sym i.unchanged.words)
+    (subst (λ (s : ℕ → PageState). IsTreeAt 0 1 s (g.L.Look.words c.args.look.now) c.loop-level.page) (sym i.unchanged.page_state)
+    (subst (λ l. IsTreeAt l 1 (g.L.Look.page_state c.args.look.now) (g.L.Look.words c.args.look.now) c.loop-level.page) leaf
+    (tree_weaker c.loop-level.level i.least (g.L.Look.page_state c.args.look.now) (g.L.Look.words c.args.look.now) c.loop-level.page i.some i.tree)))
 
 pub returns-clause-leaf : goal.returns-clause-leaf
 returns-clause-leaf g c =
-    let standing = g.L.Look.standing c.args.look.now in
+    let page_state = g.L.Look.page_state c.args.look.now in
     let words = g.L.Look.words c.args.look.now in
     let i = c.loop-level.invariant in
     let leaf : c.loop-level.level ≡ 0 = omega (arith, c.loop-level-test.false) in
-    subst (λ l. IsTreeAt l 1 standing words c.loop-level.page) leaf (tree_weaker c.loop-level.level i.least standing words c.loop-level.page i.some i.tree)
+    subst (λ l. IsTreeAt l 1 page_state words c.loop-level.page) leaf (tree_weaker c.loop-level.level i.least page_state words c.loop-level.page i.some i.tree)
 
 pub returns-clause-from : goal.returns-clause-from
 returns-clause-from g c =

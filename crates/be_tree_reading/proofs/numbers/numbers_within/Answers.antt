@@ -3,7 +3,7 @@ use Rattle.std.specs.Option.{option_copied}
 use Rattle.std.proofs.lemmas.List.{append-nil}
 use Rattle.std.proofs.lemmas.List.Elements.{All-filter}
 use Rattle.std.proofs.lemmas.Result.{IfOk-weaker}
-use Rattle.be_pages.specs.declared.room.Standing.{Standing}
+use Rattle.be_pages.specs.declared.room.PageState.{PageState}
 use Rattle.be_tree_reading.specs.Pair.{Pair}
 use Rattle.be_tree_reading.specs.Page.{items_of}
 use Rattle.be_tree_reading.specs.Places.{AreFrom, IsNext, number_at_place}
@@ -15,7 +15,7 @@ use Rattle.be_tree_reading.proofs.numbers.numbers_within.Given.{Over}
 use Rattle.be_tree_reading.proofs.numbers.numbers_within.Goals as goal
 use Rattle.be_tree_reading.proofs.numbers.numbers_within.Goals.{After-first_leaf-leaf, After-push_to}
 
--- what is from the low key on: that in the leaf, and the rest
+-- what is from `low` on: what the leaf has of it, and the rest
 abbrev rest : (g : Over) (c : After-first_leaf-leaf g) → List Pair
 rest g c = c.first_leaf-leaf.ensures.from.0
 
@@ -23,10 +23,10 @@ from : (g : Over) (c : After-first_leaf-leaf g) → AreFrom (g.L.Look.words c.ar
     (pairs_from (pairs (g.L.Look.words c.args.look.now) c.args.root) c.args.low.now false) (rest g c)
 from g c = c.first_leaf-leaf.ensures.from.1.0
 
-next : (g : Over) (c : After-first_leaf-leaf g) → IsNext (g.L.Look.standing c.args.look.now) (g.L.Look.words c.args.look.now) c.first_leaf-leaf.result.next.page c.first_leaf-leaf.result.next.place (rest g c)
+next : (g : Over) (c : After-first_leaf-leaf g) → IsNext (g.L.Look.page_state c.args.look.now) (g.L.Look.words c.args.look.now) c.first_leaf-leaf.result.next.page c.first_leaf-leaf.result.next.place (rest g c)
 next g c = c.first_leaf-leaf.ensures.from.1.1
 
--- the items of the leaf that are from it on
+-- the leaf's items from `low` on
 abbrev here : (g : Over) (c : After-first_leaf-leaf g) → List Pair
 here g c = drop (number_at_place c.first_leaf-leaf.result.at) (items_of (g.L.Look.words c.args.look.now c.first_leaf-leaf.result.page))
 
@@ -34,7 +34,7 @@ parts : (g : Over) (c : After-first_leaf-leaf g) → pairs_from (pairs (g.L.Look
 parts g c =
     (from g c).parts ∙ ap (λ (n : ℕ). drop n (items_of (g.L.Look.words c.args.look.now c.first_leaf-leaf.result.page)) ++ rest g c) (sym (number_back c.first_leaf-leaf.result.at (from g c).number (from g c).is_place))
 
--- no tree
+-- the tree is empty
 pub returns-then-root-eq0-clause-first : goal.returns-then-root-eq0-clause-first
 returns-then-root-eq0-clause-first g c = record {
   left = numbers_to (pairs_from (pairs (g.L.Look.words c.args.look.now) c.args.root) c.args.low.now false) (option_copied c.args.high);
@@ -51,8 +51,8 @@ first_leaf-leaf-requires-clause-some g c = omega (arith, c.if-root-eq0.false)
 
 pub push_to-requires-clause-leaf : goal.push_to-requires-clause-leaf
 push_to-requires-clause-leaf g c =
-    leaf_same (g.L.Look.standing c.args.look.now) (g.L.Look.standing c.first_leaf-leaf.new.look) (g.L.Look.words c.args.look.now) (g.L.Look.words c.first_leaf-leaf.new.look) c.first_leaf-leaf.result.page
-    c.first_leaf-leaf.ensures.unchanged.standing c.first_leaf-leaf.ensures.unchanged.words c.first_leaf-leaf.ensures.leaf
+    leaf_same (g.L.Look.page_state c.args.look.now) (g.L.Look.page_state c.first_leaf-leaf.new.look) (g.L.Look.words c.args.look.now) (g.L.Look.words c.first_leaf-leaf.new.look) c.first_leaf-leaf.result.page
+    c.first_leaf-leaf.ensures.unchanged.page_state c.first_leaf-leaf.ensures.unchanged.words c.first_leaf-leaf.ensures.leaf
 
 pub push_to-requires-clause-place : goal.push_to-requires-clause-place
 push_to-requires-clause-place g c =
@@ -73,7 +73,7 @@ push_to-requires-clause-long g c =
     (long_left (here g at) (rest g at)
     (subst AreLong (parts g at) (All-filter (λ (x : Pair). is_from c.args.low.now false x.key) (λ (x : Pair). 8 ≤ length x.key) all c.requires.long)))
 
--- what was pushed of the leaf
+-- what was pushed from the leaf
 pushed : (g : Over) (c : After-push_to g) → HasFirst c.args.found.now.items
     (numbers_to (drop (number_at_place c.first_leaf-leaf.result.at) (items_of (g.L.Look.words c.args.look.now c.first_leaf-leaf.result.page))) (option_copied c.args.high)) c.push_to.new.found.items
 pushed g c =
@@ -104,15 +104,15 @@ returns-then-is_last-clause-found g c =
     (sym c.if-is_last.true ∙ c.in_ok-is_last.ensures.past ∙ ap (λ (w : ℕ → ℕ → ℕ). any_past high (drop from (items_of (w page)))) same)
     (c.in_ok-is_last.ensures.found ∙ ap (λ (w : ℕ → ℕ → ℕ). before ++ numbers_to (drop from (items_of (w page))) high) same)
 
--- the words are read only
+-- the words were only read
 read : (g : Over) (c : After-push_to g) → g.L.Look.words c.push_to.new.look ≡ g.L.Look.words c.args.look.now
 read g c = c.push_to.ensures.unchanged.words ∙ c.first_leaf-leaf.ensures.unchanged.words
 
-next_now : (g : Over) (b : After-first_leaf-leaf g) (standing : ℕ → Standing) (words : ℕ → ℕ → ℕ) → standing ≡ g.L.Look.standing b.args.look.now → words ≡ g.L.Look.words b.args.look.now
-    → IsNext standing words b.first_leaf-leaf.result.next.page b.first_leaf-leaf.result.next.place (rest g b)
-next_now g b standing words es ew =
-    subst (λ (w : ℕ → ℕ → ℕ). IsNext standing w b.first_leaf-leaf.result.next.page b.first_leaf-leaf.result.next.place (rest g b)) (sym ew)
-    (subst (λ (s : ℕ → Standing). IsNext s (g.L.Look.words b.args.look.now) b.first_leaf-leaf.result.next.page b.first_leaf-leaf.result.next.place (rest g b)) (sym es) (next g b))
+next_now : (g : Over) (b : After-first_leaf-leaf g) (page_state : ℕ → PageState) (words : ℕ → ℕ → ℕ) → page_state ≡ g.L.Look.page_state b.args.look.now → words ≡ g.L.Look.words b.args.look.now
+    → IsNext page_state words b.first_leaf-leaf.result.next.page b.first_leaf-leaf.result.next.place (rest g b)
+next_now g b page_state words es ew =
+    subst (λ (w : ℕ → ℕ → ℕ). IsNext page_state w b.first_leaf-leaf.result.next.page b.first_leaf-leaf.result.next.place (rest g b)) (sym ew)
+    (subst (λ (s : ℕ → PageState). IsNext s (g.L.Look.words b.args.look.now) b.first_leaf-leaf.result.next.page b.first_leaf-leaf.result.next.place (rest g b)) (sym es) (next g b))
 
 pub ends_before-is_end-requires : goal.ends_before-is_end-requires
 ends_before-is_end-requires g c =
@@ -120,8 +120,8 @@ ends_before-is_end-requires g c =
     record {
       next = (
         rest g b,
-        next_now g b (g.L.Look.standing c.push_to.new.look) (g.L.Look.words c.push_to.new.look)
-            (c.push_to.ensures.unchanged.standing ∙ c.first_leaf-leaf.ensures.unchanged.standing) (read g (goal.at.ends_before-is_end-requires g c).After-push_to),
+        next_now g b (g.L.Look.page_state c.push_to.new.look) (g.L.Look.words c.push_to.new.look)
+            (c.push_to.ensures.unchanged.page_state ∙ c.first_leaf-leaf.ensures.unchanged.page_state) (read g (goal.at.ends_before-is_end-requires g c).After-push_to),
       );
     }
 
@@ -153,17 +153,17 @@ returns-then-is_end-clause-found g c =
     let has = leaf_whole before mid all (here g b) (rest g b) high (parts g b)
     (sym c.if-is_last.false ∙ c.in_ok-is_last.ensures.past ∙ ap (λ (w : ℕ → ℕ → ℕ). any_past high (drop from (items_of (w page)))) same)
     (c.in_ok-is_last.ensures.found ∙ ap (λ (w : ℕ → ℕ → ℕ). before ++ numbers_to (drop from (items_of (w page))) high) same) in
-    let none = c.ends_before-is_end.ensures.none c.if-is_end.true (rest g b) (next_now g b (g.L.Look.standing c.push_to.new.look) (g.L.Look.words c.push_to.new.look)
-    (c.push_to.ensures.unchanged.standing ∙ c.first_leaf-leaf.ensures.unchanged.standing) (read g (goal.at.returns-then-is_end-clause-found g c).After-push_to)) in
+    let none = c.ends_before-is_end.ensures.none c.if-is_end.true (rest g b) (next_now g b (g.L.Look.page_state c.push_to.new.look) (g.L.Look.words c.push_to.new.look)
+    (c.push_to.ensures.unchanged.page_state ∙ c.first_leaf-leaf.ensures.unchanged.page_state) (read g (goal.at.returns-then-is_end-clause-found g c).After-push_to)) in
     got_rest before (numbers_to all high) (numbers_to (rest g b) high) mid mid has (sym (ap (λ (ns : List ℕ). mid ++ ns) none ∙ append-nil mid))
 
--- what is asked further on is as at first
+-- what later calls require holds as at the call
 pub push_past-requires-clause-tree : goal.push_past-requires-clause-tree
 push_past-requires-clause-tree g c =
-    subst (λ (w : ℕ → ℕ → ℕ). IsTree (g.L.Look.standing c.ends_before-is_end.new.look) w c.args.root)
+    subst (λ (w : ℕ → ℕ → ℕ). IsTree (g.L.Look.page_state c.ends_before-is_end.new.look) w c.args.root)
     (sym (c.ends_before-is_end.ensures.unchanged.words ∙ read g (goal.at.push_past-requires-clause-tree g c).After-push_to))
-    (subst (λ (s : ℕ → Standing). IsTree s (g.L.Look.words c.args.look.now) c.args.root)
-    (sym (c.ends_before-is_end.ensures.unchanged.standing ∙ c.push_to.ensures.unchanged.standing ∙ c.first_leaf-leaf.ensures.unchanged.standing)) c.requires.tree)
+    (subst (λ (s : ℕ → PageState). IsTree s (g.L.Look.words c.args.look.now) c.args.root)
+    (sym (c.ends_before-is_end.ensures.unchanged.page_state ∙ c.push_to.ensures.unchanged.page_state ∙ c.first_leaf-leaf.ensures.unchanged.page_state)) c.requires.tree)
 
 pub push_past-requires-clause-long : goal.push_past-requires-clause-long
 push_past-requires-clause-long g c =
@@ -172,8 +172,8 @@ push_past-requires-clause-long g c =
 
 pub push_past-requires-clause-leaf : goal.push_past-requires-clause-leaf
 push_past-requires-clause-leaf g c =
-    leaf_same (g.L.Look.standing c.args.look.now) (g.L.Look.standing c.ends_before-is_end.new.look) (g.L.Look.words c.args.look.now) (g.L.Look.words c.ends_before-is_end.new.look) c.first_leaf-leaf.result.page
-    (c.ends_before-is_end.ensures.unchanged.standing ∙ c.push_to.ensures.unchanged.standing ∙ c.first_leaf-leaf.ensures.unchanged.standing)
+    leaf_same (g.L.Look.page_state c.args.look.now) (g.L.Look.page_state c.ends_before-is_end.new.look) (g.L.Look.words c.args.look.now) (g.L.Look.words c.ends_before-is_end.new.look) c.first_leaf-leaf.result.page
+    (c.ends_before-is_end.ensures.unchanged.page_state ∙ c.push_to.ensures.unchanged.page_state ∙ c.first_leaf-leaf.ensures.unchanged.page_state)
     (c.ends_before-is_end.ensures.unchanged.words ∙ read g (goal.at.push_past-requires-clause-leaf g c).After-push_to) c.first_leaf-leaf.ensures.leaf
 
 from_now : (g : Over) (b : After-first_leaf-leaf g) (words : ℕ → ℕ → ℕ) → words ≡ g.L.Look.words b.args.look.now

@@ -21,11 +21,11 @@ is_past_at-requires-clause-item g c =
     subst (λ (w : ℕ → ℕ → ℕ). IsItem (w c.args.page) (2 + 42 * (c.word-count.result - 1))) (sym c.word-count.ensures.words)
     (c.requires.leaf.node.is_page.each (c.word-count.result - 1) (omega (arith, c.word-count.ensures.value, c.requires.left)))
 
--- the words are as at first
+-- the words are those at the call
 words_same : (g : Over) (c : After-is_past_at g) → g.L.Look.words c.is_past_at.new.look ≡ g.L.Look.words c.args.look.now
 words_same g c = c.is_past_at.ensures.unchanged.words ∙ c.word-count.ensures.words
 
--- no key is above the bound if the last isn't
+-- if the last key isn't above the bound, none is
 within : (g : Over) (c : After-is_past_at g) → c.is_past_at.result ≡ false → any_past (option_copied c.args.high) (drop c.args.from (items_of (g.L.Look.words c.args.look.now c.args.page))) ≡ false
 within g c is =
     let words = g.L.Look.words c.args.look.now in
@@ -39,7 +39,7 @@ within g c is =
     (none_past items high last x c.requires.leaf.below.rising (omega (arith, c.word-count.ensures.value, c.requires.left, items_count (words c.args.page)))
     (ap (λ (y : Pair). is_past high y.key) (item_get (words c.args.page) last x (omega (arith, c.word-count.ensures.value, c.requires.left))) ∙ asked))
 
--- the number of the place
+-- the number at a place
 number : (n : ℕ) → number_at_place (2 + 42 * n) ≡ n
 number n = number_back (2 + 42 * n) n refl
 
@@ -91,7 +91,7 @@ returns-then-is_past_at-clause-past g c =
     let at = (goal.at.returns-then-is_past_at-clause-past g c).After-is_past_at in
     subst (λ (xs : List Pair). IfOk c.push_to.result (λ (past : Bool). past ≡ any_past (option_copied c.args.high) xs)) (same_items g at) c.push_to.ensures.past
 
--- what is pushed without the bound
+-- what is pushed without a bound
 unbounded : (g : Over) (c : After-is_past_at g) → c.is_past_at.result ≡ false → numbers_to (drop (number_at_place (2 + 42 * c.args.from)) (items_of (g.L.Look.words c.is_past_at.new.look c.args.page))) None
     ≡ numbers_to (drop c.args.from (items_of (g.L.Look.words c.args.look.now c.args.page))) (option_copied c.args.high)
 unbounded g c is =

@@ -2,7 +2,7 @@ use Rattle.std.proofs.Common.{◌≡◌, ◌∙◌, ◌++◌, ◌≤◌, ℕ, Li
 use Rattle.std.specs.Option.{option_copied}
 use Rattle.std.proofs.lemmas.List.Elements.{All-filter}
 use Rattle.std.proofs.lemmas.Result.{IfOk-weaker}
-use Rattle.be_pages.specs.declared.room.Standing.{Standing}
+use Rattle.be_pages.specs.declared.room.PageState.{PageState}
 use Rattle.be_tree_reading.specs.Cursor.{IsCursor, remaining}
 use Rattle.be_tree_reading.specs.Pair.{Pair}
 use Rattle.be_tree_reading.specs.Page.{items_of}
@@ -14,8 +14,8 @@ use Rattle.be_tree_reading.proofs.numbers.push_past.Goals as goal
 
 pub push_rest-requires-clause-cursor : goal.push_rest-requires-clause-cursor
 push_rest-requires-clause-cursor g c =
-    subst (λ (w : ℕ → ℕ → ℕ). IsCursor (g.L.Look.standing c.seek_past.new.look) w c.seek_past.new.cursor) (sym c.seek_past.ensures.unchanged.words)
-    (subst (λ (s : ℕ → Standing). IsCursor s (g.L.Look.words c.args.look.now) c.seek_past.new.cursor) (sym c.seek_past.ensures.unchanged.standing) c.seek_past.ensures.cursor)
+    subst (λ (w : ℕ → ℕ → ℕ). IsCursor (g.L.Look.page_state c.seek_past.new.look) w c.seek_past.new.cursor) (sym c.seek_past.ensures.unchanged.words)
+    (subst (λ (s : ℕ → PageState). IsCursor s (g.L.Look.words c.args.look.now) c.seek_past.new.cursor) (sym c.seek_past.ensures.unchanged.page_state) c.seek_past.ensures.cursor)
 
 pub push_rest-requires-clause-long : goal.push_rest-requires-clause-long
 push_rest-requires-clause-long g c =

@@ -1,7 +1,7 @@
 use Rattle.std.proofs.Common.{◌≡◌, ◌∙◌, ◌<◌, ◌++◌, ℕ, List, [], length, drop, refl, ap, sym, subst, arith}
 use Rattle.std.specs.Option.{option_copied}
 use Rattle.std.proofs.lemmas.List.{append-nil, length-append, length-drop}
-use Rattle.be_pages.specs.declared.room.Standing.{Standing}
+use Rattle.be_pages.specs.declared.room.PageState.{PageState}
 use Rattle.be_tree_reading.specs.Cursor.{IsCursor, remaining}
 use Rattle.be_tree_reading.specs.Pair.{Pair}
 use Rattle.be_tree_reading.specs.Page.{items_of}
@@ -18,13 +18,13 @@ leaves-init g c = record {
   cursor = c.requires.cursor;
   long = c.requires.long;
   has = record { got = []; parts = refl; is = sym (append-nil c.args.found.now.items) };
-  unchanged = record { kept = refl; standing = refl; words = refl };
+  unchanged = record { kept = refl; page_state = refl; words = refl };
 }
 
 pub push_leaf-requires-clause-leaf : goal.push_leaf-requires-clause-leaf
 push_leaf-requires-clause-leaf g c =
-    leaf_same (g.L.Look.standing c.leaves.look) (g.L.Look.standing c.step_leaf.new.look) (g.L.Look.words c.leaves.look) (g.L.Look.words c.step_leaf.new.look) c.in-Some.page
-    c.step_leaf.ensures.unchanged.standing c.step_leaf.ensures.unchanged.words c.in-Some.ensures.leaf
+    leaf_same (g.L.Look.page_state c.leaves.look) (g.L.Look.page_state c.step_leaf.new.look) (g.L.Look.words c.leaves.look) (g.L.Look.words c.step_leaf.new.look) c.in-Some.page
+    c.step_leaf.ensures.unchanged.page_state c.step_leaf.ensures.unchanged.words c.in-Some.ensures.leaf
 
 pub push_leaf-requires-clause-left : goal.push_leaf-requires-clause-left
 push_leaf-requires-clause-left g c = subst (λ (w : ℕ → ℕ → ℕ). c.in-Some.from < w c.in-Some.page 1) (sym c.step_leaf.ensures.unchanged.words) c.in-Some.ensures.left
@@ -37,7 +37,7 @@ push_leaf-requires-clause-long g c =
     subst (λ (w : ℕ → ℕ → ℕ). AreLong (drop c.in-Some.from (items_of (w c.in-Some.page)))) (sym (c.step_leaf.ensures.unchanged.words ∙ same))
     (long_left (drop c.in-Some.from (items_of (words c.in-Some.page))) (remaining words c.step_leaf.new.self) (subst AreLong parts c.leaves.invariant.long))
 
--- the pairs of the leaf, and those past it
+-- the leaf's pairs, and those after it
 parts : (g : Over) (c : After-push_leaf g) → remaining (g.L.Look.words c.args.look.now) c.leaves.cursor
     ≡ drop c.in-Some.from (items_of (g.L.Look.words c.args.look.now c.in-Some.page)) ++ remaining (g.L.Look.words c.args.look.now) c.step_leaf.new.self
 parts g c =
@@ -97,13 +97,13 @@ leaves-preserved g c =
     let xs = drop c.in-Some.from (items_of (words c.in-Some.page)) in
     let ys = remaining words c.step_leaf.new.self in
     record {
-      cursor = subst (λ (w : ℕ → ℕ → ℕ). IsCursor (g.L.Look.standing c.args.look.now) w c.step_leaf.new.self) c.leaves.invariant.unchanged.words
-          (subst (λ (s : ℕ → Standing). IsCursor s (g.L.Look.words c.leaves.look) c.step_leaf.new.self) c.leaves.invariant.unchanged.standing c.step_leaf.ensures.cursor);
+      cursor = subst (λ (w : ℕ → ℕ → ℕ). IsCursor (g.L.Look.page_state c.args.look.now) w c.step_leaf.new.self) c.leaves.invariant.unchanged.words
+          (subst (λ (s : ℕ → PageState). IsCursor s (g.L.Look.words c.leaves.look) c.step_leaf.new.self) c.leaves.invariant.unchanged.page_state c.step_leaf.ensures.cursor);
       long = long_right xs ys (subst AreLong (parts g at) c.leaves.invariant.long);
       has = whole_leaf c.args.found.now.items (numbers_to (remaining words c.args.cursor.now) high) c.leaves.found.items c.push_leaf.new.found.items xs ys high (has g at)
           (sym c.if-is_last.false ∙ c.in_ok-is_last.ensures.past ∙ ap (λ (w : ℕ → ℕ → ℕ). any_past high (drop c.in-Some.from (items_of (w c.in-Some.page)))) same)
           (c.in_ok-is_last.ensures.found ∙ ap (λ (w : ℕ → ℕ → ℕ). c.leaves.found.items ++ numbers_to (drop c.in-Some.from (items_of (w c.in-Some.page))) high) same);
-      unchanged = unchanged_trans g.L.Look.kept g.L.Look.standing g.L.Look.words c.args.look.now c.step_leaf.new.look c.push_leaf.new.look
-          (unchanged_trans g.L.Look.kept g.L.Look.standing g.L.Look.words c.args.look.now c.leaves.look c.step_leaf.new.look c.leaves.invariant.unchanged c.step_leaf.ensures.unchanged)
+      unchanged = unchanged_trans g.L.Look.kept g.L.Look.page_state g.L.Look.words c.args.look.now c.step_leaf.new.look c.push_leaf.new.look
+          (unchanged_trans g.L.Look.kept g.L.Look.page_state g.L.Look.words c.args.look.now c.leaves.look c.step_leaf.new.look c.leaves.invariant.unchanged c.step_leaf.ensures.unchanged)
           c.push_leaf.ensures.unchanged;
     }

@@ -7,11 +7,11 @@ use Rattle.be_tree_reading.proofs.numbers.push_rest.Given as goal
 
 abbrev pub invariant-leaves : goal.invariant-leaves
 invariant-leaves g l = record {
-  cursor : IsCursor (g.L.Look.standing l.fn.look) (g.L.Look.words l.fn.look) l.cursor;
+  cursor : IsCursor (g.L.Look.page_state l.fn.look) (g.L.Look.words l.fn.look) l.cursor;
   long : AreLong (remaining (g.L.Look.words l.fn.look) l.cursor);
   has : HasGot l.fn.found.items (numbers_to (remaining (g.L.Look.words l.fn.look) l.fn.cursor) (option_copied l.high))
       (numbers_to (remaining (g.L.Look.words l.fn.look) l.cursor) (option_copied l.high)) l.found.items;
-  unchanged : IsUnchanged g.L.Look.kept g.L.Look.standing g.L.Look.words l.fn.look l.look;
+  unchanged : IsUnchanged g.L.Look.kept g.L.Look.page_state g.L.Look.words l.fn.look l.look;
 }
 
 abbrev pub decreases-leaves : goal.decreases-leaves

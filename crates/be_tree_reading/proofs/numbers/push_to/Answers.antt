@@ -24,7 +24,7 @@ loop-at-init g c = record {
   unchanged = c.end_of-end.ensures.unchanged;
 }
 
--- the place is that of an item
+-- the place is an item's
 pub is_past_at-requires-clause-in_page : goal.is_past_at-requires-clause-in_page
 is_past_at-requires-clause-in_page g c = omega (arith, c.loop-at.invariant.is_place, c.loop-at-test.true, c.end_of-end.ensures.end, c.requires.leaf.node.is_page.few)
 
@@ -82,12 +82,12 @@ loop-at-preserved g c =
       has = got_one c.args.found.now.items (numbers_to (drop (number_at_place c.args.from) items) high) c.loop-at.found.items c.push.new.self.items (drop place items) (drop (place + 1) items) high x c.number_at-number.result
           (ap (λ (xs : List Pair). slice_get xs 0) parts) (sym (ap (λ (xs : List Pair). drop 1 xs) parts)) within number c.in_ok-push.ensures.items c.loop-at.invariant.has;
       same = c.loop-at.invariant.same ∙ ap (any_past high) parts ∙ ap (λ b. b || any_past high (drop (place + 1) items)) within;
-      unchanged = unchanged_trans g.L.Look.kept g.L.Look.standing g.L.Look.words c.args.look.now c.is_past_at.new.look c.number_at-number.new.look
-          (unchanged_trans g.L.Look.kept g.L.Look.standing g.L.Look.words c.args.look.now c.loop-at.look c.is_past_at.new.look c.loop-at.invariant.unchanged c.is_past_at.ensures.unchanged)
+      unchanged = unchanged_trans g.L.Look.kept g.L.Look.page_state g.L.Look.words c.args.look.now c.is_past_at.new.look c.number_at-number.new.look
+          (unchanged_trans g.L.Look.kept g.L.Look.page_state g.L.Look.words c.args.look.now c.loop-at.look c.is_past_at.new.look c.loop-at.invariant.unchanged c.is_past_at.ensures.unchanged)
           c.number_at-number.ensures.unchanged;
     }
 
--- the bound stands here
+-- the bound is at this item
 pub returns-then-is_past_at-clause-found : goal.returns-then-is_past_at-clause-found
 returns-then-is_past_at-clause-found g c =
     let at = (goal.at.returns-then-is_past_at-clause-found g c).After-is_past_at in

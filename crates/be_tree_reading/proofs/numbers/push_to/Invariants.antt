@@ -7,7 +7,7 @@ use Rattle.be_tree_reading.specs.Range.{HasGot, numbers_to}
 use Rattle.be_tree_reading.proofs.Reading.Leaves.{any_past}
 use Rattle.be_tree_reading.proofs.numbers.push_to.Given as goal
 
--- the items before this one are within the bound, and their numbers are there
+-- the items before this one are within the bound, and the list has their numbers
 abbrev pub invariant-loop-at : goal.invariant-loop-at
 invariant-loop-at g l = record {
   number : ℕ;
@@ -17,7 +17,7 @@ invariant-loop-at g l = record {
   has : HasGot l.fn.found.items (numbers_to (drop (number_at_place l.from) (items_of (g.L.Look.words l.fn.look l.page))) (option_copied l.high))
       (numbers_to (drop number (items_of (g.L.Look.words l.fn.look l.page))) (option_copied l.high)) l.found.items;
   same : any_past (option_copied l.high) (drop (number_at_place l.from) (items_of (g.L.Look.words l.fn.look l.page))) ≡ any_past (option_copied l.high) (drop number (items_of (g.L.Look.words l.fn.look l.page)));
-  unchanged : IsUnchanged g.L.Look.kept g.L.Look.standing g.L.Look.words l.fn.look l.look;
+  unchanged : IsUnchanged g.L.Look.kept g.L.Look.page_state g.L.Look.words l.fn.look l.look;
 }
 
 abbrev pub decreases-loop-at : goal.decreases-loop-at

@@ -25,9 +25,9 @@ returns-then-leaf-end-clause-remaining g c = λ rest from.
     ∙ ap (λ (p : ℕ). (item_at (words page) p).key) place in
     subst (λ (w : ℕ → ℕ → ℕ). remaining w c.seek.new.self ≡ pairs_from (pairs w c.args.root) c.as_slice.result.now true) (c.key_at-last.ensures.unchanged.words ∙ c.end_of-end.ensures.unchanged.words) c.seek.ensures.remaining
     ∙ ap (λ (k : List ℕ). pairs_from all k true) key
-    ∙ after_pair front all c.args.low.now false y rest (root_rising c.args.root (g.L.Look.standing c.args.look.now) words c.requires.tree) parts
+    ∙ after_pair front all c.args.low.now false y rest (root_rising c.args.root (g.L.Look.page_state c.args.look.now) words c.requires.tree) parts
 
--- the leaf has none of them
+-- the leaf has none of the keys
 pub returns-else-leaf-end-clause-remaining : goal.returns-else-leaf-end-clause-remaining
 returns-else-leaf-end-clause-remaining g c = λ rest from.
     let words = g.L.Look.words c.args.look.now in

@@ -8,22 +8,22 @@ use Rattle.be_tree_reading.proofs.ordered.count_within.Goals as goal
 use Rattle.be_tree_reading.proofs.ordered.count_within.Goals.{After-place-at}
 
 pub loop-count-init : goal.loop-count-init
-loop-count-init g c = record { at_most = omega arith; past = λ d lt. absurd (omega (arith, lt)); unchanged = record { kept = refl; standing = refl; words = refl } }
+loop-count-init g c = record { at_most = omega arith; past = λ d lt. absurd (omega (arith, lt)); unchanged = record { kept = refl; page_state = refl; words = refl } }
 
--- the last of the items that are left
+-- the last of the items left
 within_leaf : (g : Over) (c : After-place-at g) → c.loop-count.count - 1 < length (items_ahead (g.L.Look.words c.args.look.now) c.args.leaf)
 within_leaf g c = omega (arith, c.loop-count-test.true, c.loop-count.invariant.at_most, c.requires.in_range)
 
 pub place-at-requires : goal.place-at-requires
 place-at-requires g c =
-    ahead_is (g.L.Look.standing c.args.look.now) (g.L.Look.words c.args.look.now) c.args.leaf (c.loop-count.count - 1) c.requires.leaf
+    ahead_is (g.L.Look.page_state c.args.look.now) (g.L.Look.words c.args.look.now) c.args.leaf (c.loop-count.count - 1) c.requires.leaf
     (omega (arith, c.loop-count-test.true, c.loop-count.invariant.at_most, c.requires.in_range))
 
-here : (g : Over) (c : After-place-at g) → IsPlaceAhead (g.L.Look.standing c.loop-count.look) (g.L.Look.words c.loop-count.look) (g.L.Look.words c.args.look.now) c.args.leaf (c.loop-count.count - 1) c.place-at.result
+here : (g : Over) (c : After-place-at g) → IsPlaceAhead (g.L.Look.page_state c.loop-count.look) (g.L.Look.words c.loop-count.look) (g.L.Look.words c.args.look.now) c.args.leaf (c.loop-count.count - 1) c.place-at.result
 here g c =
     let i = c.loop-count.invariant in
-    place_ahead (g.L.Look.standing c.args.look.now) (g.L.Look.standing c.loop-count.look) (g.L.Look.words c.args.look.now) (g.L.Look.words c.loop-count.look) c.args.leaf (c.loop-count.count - 1) c.place-at.result
-    i.unchanged.standing i.unchanged.words c.place-at.ensures c.requires.leaf (within_leaf g c)
+    place_ahead (g.L.Look.page_state c.args.look.now) (g.L.Look.page_state c.loop-count.look) (g.L.Look.words c.args.look.now) (g.L.Look.words c.loop-count.look) c.args.leaf (c.loop-count.count - 1) c.place-at.result
+    i.unchanged.page_state i.unchanged.words c.place-at.ensures c.requires.leaf (within_leaf g c)
 
 pub is_within-requires-clause-readable : goal.is_within-requires-clause-readable
 is_within-requires-clause-readable g c = (here g (goal.at.is_within-requires-clause-readable g c).After-place-at).readable.0
@@ -43,7 +43,7 @@ loop-count-preserved g c = record {
   at_most = omega (arith, c.loop-count.invariant.at_most);
   past = λ d lt.
       ap (λ (x : Pair). is_on_way c.args.way x.key) (sym ((here g (goal.at.loop-count-preserved g c).After-place-at).same d)) ∙ sym c.is_within.ensures.within ∙ c.if-is_within.false;
-  unchanged = unchanged_trans g.L.Look.kept g.L.Look.standing g.L.Look.words c.args.look.now c.loop-count.look c.is_within.new.look c.loop-count.invariant.unchanged c.is_within.ensures.unchanged;
+  unchanged = unchanged_trans g.L.Look.kept g.L.Look.page_state g.L.Look.words c.args.look.now c.loop-count.look c.is_within.new.look c.loop-count.invariant.unchanged c.is_within.ensures.unchanged;
 }
 
 pub returns-clause-within : goal.returns-clause-within

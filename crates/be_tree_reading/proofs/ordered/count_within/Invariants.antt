@@ -9,7 +9,7 @@ abbrev pub invariant-loop-count : goal.invariant-loop-count
 invariant-loop-count g l = record {
   at_most : l.count ≤ l.most;
   past : (d : Pair) → l.count < l.most → is_on_way l.way (get_or (items_ahead (g.L.Look.words l.fn.look) l.leaf) l.count d).key ≡ false;
-  unchanged : IsUnchanged g.L.Look.kept g.L.Look.standing g.L.Look.words l.fn.look l.look;
+  unchanged : IsUnchanged g.L.Look.kept g.L.Look.page_state g.L.Look.words l.fn.look l.look;
 }
 
 abbrev pub decreases-loop-count : goal.decreases-loop-count

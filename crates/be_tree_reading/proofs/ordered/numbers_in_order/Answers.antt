@@ -1,7 +1,7 @@
 use Rattle.std.proofs.Common.{◌≡◌, ◌∙◌, ◌++◌, ℕ, List, take, ap, sym, subst}
 use Rattle.std.specs.Option.{option_copied}
 use Rattle.std.proofs.lemmas.Result.{IfOk-weaker}
-use Rattle.be_pages.specs.declared.room.Standing.{Standing}
+use Rattle.be_pages.specs.declared.room.PageState.{PageState}
 use Rattle.be_tree_reading.specs.Pair.{Pair}
 use Rattle.be_tree_reading.specs.Range.{AreLong, HasFirst}
 use Rattle.be_tree_reading.specs.Tree.{pairs}
@@ -15,8 +15,8 @@ use Rattle.be_tree_reading.proofs.ordered.numbers_in_order.Goals.{After-begin-wa
 
 pub push_ahead-requires-clause-walk : goal.push_ahead-requires-clause-walk
 push_ahead-requires-clause-walk g c =
-    walk_read (g.L.Look.standing c.args.look.now) (g.L.Look.standing c.begin-walk.new.look) (g.L.Look.words c.args.look.now) (g.L.Look.words c.begin-walk.new.look) c.begin-walk.result
-    c.begin-walk.ensures.unchanged.standing c.begin-walk.ensures.unchanged.words c.begin-walk.ensures.walk
+    walk_read (g.L.Look.page_state c.args.look.now) (g.L.Look.page_state c.begin-walk.new.look) (g.L.Look.words c.args.look.now) (g.L.Look.words c.begin-walk.new.look) c.begin-walk.result
+    c.begin-walk.ensures.unchanged.page_state c.begin-walk.ensures.unchanged.words c.begin-walk.ensures.walk
 
 pub push_ahead-requires-clause-long : goal.push_ahead-requires-clause-long
 push_ahead-requires-clause-long g c =
@@ -31,9 +31,9 @@ push_ahead-requires-clause-ends g c =
     let way = c.args.way in
     subst (λ (w : ℕ → ℕ → ℕ). StaysFalse (is_on_way way) (ahead w c.begin-walk.result)) (sym c.begin-walk.ensures.unchanged.words)
     (subst (StaysFalse (is_on_way way)) (sym c.begin-walk.ensures.ahead)
-    (begun_stays way.back way.strict way.low.now (option_copied way.high) (pairs words c.args.root) (root_rising c.args.root (g.L.Look.standing c.args.look.now) words c.requires.tree)))
+    (begun_stays way.back way.strict way.low.now (option_copied way.high) (pairs words c.args.root) (root_rising c.args.root (g.L.Look.page_state c.args.look.now) words c.requires.tree)))
 
--- what is ahead at first, up to the end of the way, is the walk
+-- what is ahead at the beginning, up to the end of the way, is the whole walk
 same : (g : Over) (c : After-begin-walk g) → on_way c.args.way (ahead (g.L.Look.words c.begin-walk.new.look) c.begin-walk.result) ≡ walk_of c.args.way (pairs (g.L.Look.words c.args.look.now) c.args.root)
 same g c =
     let words = g.L.Look.words c.args.look.now in
@@ -60,12 +60,12 @@ returns-clause-found g c =
 pub returns-clause-last : goal.returns-clause-last
 returns-clause-last g c =
     let at = (goal.at.returns-clause-last g c).After-begin-walk in
-    let standing = g.L.Look.standing c.args.look.now in
+    let page_state = g.L.Look.page_state c.args.look.now in
     let words = g.L.Look.words c.args.look.now in
     IfOk-weaker c.push_ahead.result
-    (λ place. IsLastOf (g.L.Look.standing c.begin-walk.new.look) (g.L.Look.words c.begin-walk.new.look) place (take c.args.most (on_way c.args.way (ahead (g.L.Look.words c.begin-walk.new.look) c.begin-walk.result))))
-    (λ place. IsLastOf standing words place (take c.args.most (walk_of c.args.way (pairs words c.args.root))))
-    (λ place h. subst (λ (w : ℕ → ℕ → ℕ). IsLastOf standing w place (take c.args.most (walk_of c.args.way (pairs words c.args.root)))) c.begin-walk.ensures.unchanged.words
-    (subst (λ (s : ℕ → Standing). IsLastOf s (g.L.Look.words c.begin-walk.new.look) place (take c.args.most (walk_of c.args.way (pairs words c.args.root)))) c.begin-walk.ensures.unchanged.standing
-    (subst (λ (xs : List Pair). IsLastOf (g.L.Look.standing c.begin-walk.new.look) (g.L.Look.words c.begin-walk.new.look) place (take c.args.most xs)) (same g at) h)))
+    (λ place. IsLastOf (g.L.Look.page_state c.begin-walk.new.look) (g.L.Look.words c.begin-walk.new.look) place (take c.args.most (on_way c.args.way (ahead (g.L.Look.words c.begin-walk.new.look) c.begin-walk.result))))
+    (λ place. IsLastOf page_state words place (take c.args.most (walk_of c.args.way (pairs words c.args.root))))
+    (λ place h. subst (λ (w : ℕ → ℕ → ℕ). IsLastOf page_state w place (take c.args.most (walk_of c.args.way (pairs words c.args.root)))) c.begin-walk.ensures.unchanged.words
+    (subst (λ (s : ℕ → PageState). IsLastOf s (g.L.Look.words c.begin-walk.new.look) place (take c.args.most (walk_of c.args.way (pairs words c.args.root)))) c.begin-walk.ensures.unchanged.page_state
+    (subst (λ (xs : List Pair). IsLastOf (g.L.Look.page_state c.begin-walk.new.look) (g.L.Look.words c.begin-walk.new.look) place (take c.args.most xs)) (same g at) h)))
     c.push_ahead.ensures.last

@@ -22,17 +22,17 @@ leaves-init g c = record {
   parts = refl;
   last = refl;
   has = record { got = []; parts = refl; is = sym (append-nil c.args.found.now.items) };
-  unchanged = record { kept = refl; standing = refl; words = refl };
+  unchanged = record { kept = refl; page_state = refl; words = refl };
 }
 
 pub step_leaf-requires : goal.step_leaf-requires
 step_leaf-requires g c =
     let i = c.leaves.invariant in
     record {
-      walk = walk_read (g.L.Look.standing c.args.look.now) (g.L.Look.standing c.leaves.look) (g.L.Look.words c.args.look.now) (g.L.Look.words c.leaves.look) c.leaves.walk i.unchanged.standing i.unchanged.words i.walk;
+      walk = walk_read (g.L.Look.page_state c.args.look.now) (g.L.Look.page_state c.leaves.look) (g.L.Look.words c.args.look.now) (g.L.Look.words c.leaves.look) c.leaves.walk i.unchanged.page_state i.unchanged.words i.walk;
     }
 
--- nothing is ahead
+-- the walk has nothing ahead
 pub returns-in_default-clause-found : goal.returns-in_default-clause-found
 returns-in_default-clause-found g c =
     let words = g.L.Look.words c.args.look.now in
@@ -48,14 +48,14 @@ returns-in_default-clause-last g c =
     let i = c.leaves.invariant in
     let way = c.args.way in
     let none : ahead words c.leaves.walk ≡ [] = subst (λ (w : ℕ → ℕ → ℕ). ahead w c.leaves.walk ≡ []) i.unchanged.words c.in_default.ensures.none in
-    subst (λ (xs : List Pair). IsLastOf (g.L.Look.standing c.args.look.now) words c.leaves.last xs)
+    subst (λ (xs : List Pair). IsLastOf (g.L.Look.page_state c.args.look.now) words c.leaves.last xs)
     (sym (i.parts ∙ ap (λ (xs : List Pair). i.passed ++ xs) (ap (λ (xs : List Pair). take c.leaves.want (on_way way xs)) none ∙ take_nothing c.leaves.want) ∙ append-nil i.passed)) i.last
 
--- the leaf that was come to, and what is ahead of it
+-- the leaf that the walk reached, and what it has ahead
 pub run_in-run-requires-clause-leaf : goal.run_in-run-requires-clause-leaf
 run_in-run-requires-clause-leaf g c =
-    leaf_read (g.L.Look.standing c.leaves.look) (g.L.Look.standing c.step_leaf.new.look) (g.L.Look.words c.leaves.look) (g.L.Look.words c.step_leaf.new.look) c.in-Some.leaf
-    c.step_leaf.ensures.unchanged.standing c.step_leaf.ensures.unchanged.words c.in-Some.ensures.leaf
+    leaf_read (g.L.Look.page_state c.leaves.look) (g.L.Look.page_state c.step_leaf.new.look) (g.L.Look.words c.leaves.look) (g.L.Look.words c.step_leaf.new.look) c.in-Some.leaf
+    c.step_leaf.ensures.unchanged.page_state c.step_leaf.ensures.unchanged.words c.in-Some.ensures.leaf
 
 pub run_in-run-requires-clause-back : goal.run_in-run-requires-clause-back
 run_in-run-requires-clause-back g c = c.in-Some.ensures.turned ∙ c.leaves.invariant.back
@@ -66,15 +66,15 @@ run_in-run-requires-clause-some g c = subst (λ (w : ℕ → ℕ → ℕ). 0 < l
 read : (g : Over) (c : After-run_in-run g) → g.L.Look.words c.step_leaf.new.look ≡ g.L.Look.words c.args.look.now
 read g c = c.step_leaf.ensures.unchanged.words ∙ c.leaves.invariant.unchanged.words
 
-stands : (g : Over) (c : After-run_in-run g) → g.L.Look.standing c.step_leaf.new.look ≡ g.L.Look.standing c.args.look.now
-stands g c = c.step_leaf.ensures.unchanged.standing ∙ c.leaves.invariant.unchanged.standing
+states : (g : Over) (c : After-run_in-run g) → g.L.Look.page_state c.step_leaf.new.look ≡ g.L.Look.page_state c.args.look.now
+states g c = c.step_leaf.ensures.unchanged.page_state ∙ c.leaves.invariant.unchanged.page_state
 
-leaf_is : (g : Over) (c : After-run_in-run g) → IsLeaf (g.L.Look.standing c.args.look.now) (g.L.Look.words c.args.look.now) c.in-Some.leaf
+leaf_is : (g : Over) (c : After-run_in-run g) → IsLeaf (g.L.Look.page_state c.args.look.now) (g.L.Look.words c.args.look.now) c.in-Some.leaf
 leaf_is g c =
-    leaf_read (g.L.Look.standing c.leaves.look) (g.L.Look.standing c.args.look.now) (g.L.Look.words c.leaves.look) (g.L.Look.words c.args.look.now) c.in-Some.leaf
-    (sym c.leaves.invariant.unchanged.standing) (sym c.leaves.invariant.unchanged.words) c.in-Some.ensures.leaf
+    leaf_read (g.L.Look.page_state c.leaves.look) (g.L.Look.page_state c.args.look.now) (g.L.Look.words c.leaves.look) (g.L.Look.words c.args.look.now) c.in-Some.leaf
+    (sym c.leaves.invariant.unchanged.page_state) (sym c.leaves.invariant.unchanged.words) c.in-Some.ensures.leaf
 
--- the items of the leaf, and what is ahead of it
+-- the leaf's items that the walk has ahead
 abbrev here : (g : Over) (c : After-run_in-run g) → List Pair
 here g c = items_ahead (g.L.Look.words c.args.look.now) c.in-Some.leaf
 
@@ -88,7 +88,7 @@ parts g c =
 in_range : (g : Over) (c : After-run_in-run g) → c.run_in-run.result.count ≤ length (here g c)
 in_range g c = subst (λ (w : ℕ → ℕ → ℕ). c.run_in-run.result.count ≤ length (items_ahead w c.in-Some.leaf)) (read g c) c.run_in-run.ensures.in_range
 
--- of what was wanted the run is the first part
+-- the run is the first part of what was wanted
 step : (g : Over) (c : After-run_in-run g) → take c.leaves.want (on_way c.args.way (ahead (g.L.Look.words c.args.look.now) c.leaves.walk))
     ≡ take c.run_in-run.result.count (here g c) ++ take c.run_in-run.result.want (on_way c.args.way (rest g c))
 step g c =
@@ -117,15 +117,15 @@ pub returns-then-run-eq0-clause-last : goal.returns-then-run-eq0-clause-last
 returns-then-run-eq0-clause-last g c =
     let at = (goal.at.returns-then-run-eq0-clause-last g c).After-run_in-run in
     let i = c.leaves.invariant in
-    subst (λ (xs : List Pair). IsLastOf (g.L.Look.standing c.args.look.now) (g.L.Look.words c.args.look.now) c.leaves.last xs)
+    subst (λ (xs : List Pair). IsLastOf (g.L.Look.page_state c.args.look.now) (g.L.Look.words c.args.look.now) c.leaves.last xs)
     (sym (i.parts ∙ ap (λ (xs : List Pair). i.passed ++ xs) (ended g at c.if-run-eq0.true) ∙ append-nil i.passed)) i.last
 
 -- the leaf's numbers are added
 pub push_run-requires-clause-leaf : goal.push_run-requires-clause-leaf
 push_run-requires-clause-leaf g c =
     let at = (goal.at.push_run-requires-clause-leaf g c).After-run_in-run in
-    leaf_read (g.L.Look.standing c.args.look.now) (g.L.Look.standing c.run_in-run.new.look) (g.L.Look.words c.args.look.now) (g.L.Look.words c.run_in-run.new.look) c.in-Some.leaf
-    (c.run_in-run.ensures.unchanged.standing ∙ stands g at) (c.run_in-run.ensures.unchanged.words ∙ read g at) (leaf_is g at)
+    leaf_read (g.L.Look.page_state c.args.look.now) (g.L.Look.page_state c.run_in-run.new.look) (g.L.Look.words c.args.look.now) (g.L.Look.words c.run_in-run.new.look) c.in-Some.leaf
+    (c.run_in-run.ensures.unchanged.page_state ∙ states g at) (c.run_in-run.ensures.unchanged.words ∙ read g at) (leaf_is g at)
 
 pub push_run-requires-clause-in_range : goal.push_run-requires-clause-in_range
 push_run-requires-clause-in_range g c =
@@ -155,7 +155,7 @@ overflow_sub-run g c = omega (arith, c.if-run-eq0.false)
 pub place-at-requires : goal.place-at-requires
 place-at-requires g c =
     let at = (goal.at.place-at-requires g c).After-run_in-run in
-    ahead_is (g.L.Look.standing c.args.look.now) (g.L.Look.words c.args.look.now) c.in-Some.leaf (c.run_in-run.result.count - 1) (leaf_is g at) (omega (arith, in_range g at, c.if-run-eq0.false))
+    ahead_is (g.L.Look.page_state c.args.look.now) (g.L.Look.words c.args.look.now) c.in-Some.leaf (c.run_in-run.result.count - 1) (leaf_is g at) (omega (arith, in_range g at, c.if-run-eq0.false))
 
 pub leaves-smaller : goal.leaves-smaller
 leaves-smaller g c = c.run_in-run.ensures.less
@@ -163,7 +163,7 @@ leaves-smaller g c = c.run_in-run.ensures.less
 pub leaves-preserved : goal.leaves-preserved
 leaves-preserved g c =
     let at = (goal.at.leaves-preserved g c).After-run_in-run in
-    let standing = g.L.Look.standing c.args.look.now in
+    let page_state = g.L.Look.page_state c.args.look.now in
     let words = g.L.Look.words c.args.look.now in
     let way = c.args.way in
     let i = c.leaves.invariant in
@@ -172,25 +172,25 @@ leaves-preserved g c =
     let zs = here g at in
     let more = take c.run_in-run.result.want (on_way way (rest g at)) in
     let lt : count - 1 < length zs = omega (arith, in_range g at, c.if-run-eq0.false) in
-    let place = place_ahead standing standing words words leaf (count - 1) c.place-at.result refl refl c.place-at.ensures (leaf_is g at) lt in
+    let place = place_ahead page_state page_state words words leaf (count - 1) c.place-at.result refl refl c.place-at.ensures (leaf_is g at) lt in
     let pushed = subst (λ (w : ℕ → ℕ → ℕ). c.push_run.new.found.items ≡ c.leaves.found.items ++ numbers_in (take count (items_ahead w leaf))) (c.run_in-run.ensures.unchanged.words ∙ read g at) c.in_ok-push_run.ensures.found in
     record {
-      walk = walk_read (g.L.Look.standing c.leaves.look) standing (g.L.Look.words c.leaves.look) words c.step_leaf.new.self (sym i.unchanged.standing) (sym i.unchanged.words) c.step_leaf.ensures.walk;
+      walk = walk_read (g.L.Look.page_state c.leaves.look) page_state (g.L.Look.words c.leaves.look) words c.step_leaf.new.self (sym i.unchanged.page_state) (sym i.unchanged.words) c.step_leaf.ensures.walk;
       back = c.step_leaf.ensures.back ∙ i.back;
       long = long_right zs (rest g at) (subst AreLong (parts g at) i.long);
       ends = stays_right (is_on_way way) zs (rest g at) (subst (StaysFalse (is_on_way way)) (parts g at) i.ends);
       passed = i.passed ++ take count zs;
       parts = i.parts ∙ ap (λ (xs : List Pair). i.passed ++ xs) (step g at) ∙ sym (append_assoc i.passed (take count zs) more);
-      last = last_of_run standing words leaf.page c.place-at.result count i.passed zs place.readable (omega (arith, c.if-run-eq0.false)) (in_range g at) (λ d. sym (place.same d));
+      last = last_of_run page_state words leaf.page c.place-at.result count i.passed zs place.readable (omega (arith, c.if-run-eq0.false)) (in_range g at) (λ d. sym (place.same d));
       has = got_run c.args.found.now.items (numbers_in (take c.args.most (on_way way (ahead words c.args.walk.now)))) c.leaves.found.items c.push_run.new.found.items
           (take c.leaves.want (on_way way (ahead words c.leaves.walk))) (take count zs) more i.has (step g at) pushed;
-      unchanged = unchanged_trans g.L.Look.kept g.L.Look.standing g.L.Look.words c.args.look.now c.run_in-run.new.look c.push_run.new.look
-          (unchanged_trans g.L.Look.kept g.L.Look.standing g.L.Look.words c.args.look.now c.step_leaf.new.look c.run_in-run.new.look
-          (unchanged_trans g.L.Look.kept g.L.Look.standing g.L.Look.words c.args.look.now c.leaves.look c.step_leaf.new.look i.unchanged c.step_leaf.ensures.unchanged) c.run_in-run.ensures.unchanged)
+      unchanged = unchanged_trans g.L.Look.kept g.L.Look.page_state g.L.Look.words c.args.look.now c.run_in-run.new.look c.push_run.new.look
+          (unchanged_trans g.L.Look.kept g.L.Look.page_state g.L.Look.words c.args.look.now c.step_leaf.new.look c.run_in-run.new.look
+          (unchanged_trans g.L.Look.kept g.L.Look.page_state g.L.Look.words c.args.look.now c.leaves.look c.step_leaf.new.look i.unchanged c.step_leaf.ensures.unchanged) c.run_in-run.ensures.unchanged)
           c.push_run.ensures.unchanged;
     }
 
--- no more is wanted
+-- nothing more is wanted
 pub returns-clause-found : goal.returns-clause-found
 returns-clause-found g c =
     let words = g.L.Look.words c.args.look.now in
@@ -204,5 +204,5 @@ returns-clause-last g c =
     let words = g.L.Look.words c.args.look.now in
     let i = c.leaves.invariant in
     let none : c.leaves.want ≡ 0 = omega (arith, c.leaves-test.false) in
-    subst (λ (xs : List Pair). IsLastOf (g.L.Look.standing c.args.look.now) words c.leaves.last xs)
+    subst (λ (xs : List Pair). IsLastOf (g.L.Look.page_state c.args.look.now) words c.leaves.last xs)
     (sym (i.parts ∙ ap (λ (n : ℕ). i.passed ++ take n (on_way c.args.way (ahead words c.leaves.walk))) none ∙ append-nil i.passed)) i.last

@@ -12,17 +12,17 @@ use Rattle.be_tree_reading.proofs.ordered.push_run.Goals as goal
 use Rattle.be_tree_reading.proofs.ordered.push_run.Goals.{After-place-at}
 
 pub loop-i-init : goal.loop-i-init
-loop-i-init g c = record { has = record { got = []; parts = refl; is = sym (append-nil c.args.found.now.items) }; unchanged = record { kept = refl; standing = refl; words = refl } }
+loop-i-init g c = record { has = record { got = []; parts = refl; is = sym (append-nil c.args.found.now.items) }; unchanged = record { kept = refl; page_state = refl; words = refl } }
 
 pub place-at-requires : goal.place-at-requires
 place-at-requires g c =
-    ahead_is (g.L.Look.standing c.args.look.now) (g.L.Look.words c.args.look.now) c.args.leaf c.loop-i.i c.requires.leaf (omega (arith, c.loop-i-test.true, c.requires.in_range))
+    ahead_is (g.L.Look.page_state c.args.look.now) (g.L.Look.words c.args.look.now) c.args.leaf c.loop-i.i c.requires.leaf (omega (arith, c.loop-i-test.true, c.requires.in_range))
 
-here : (g : Over) (c : After-place-at g) → IsPlaceAhead (g.L.Look.standing c.loop-i.look) (g.L.Look.words c.loop-i.look) (g.L.Look.words c.args.look.now) c.args.leaf c.loop-i.i c.place-at.result
+here : (g : Over) (c : After-place-at g) → IsPlaceAhead (g.L.Look.page_state c.loop-i.look) (g.L.Look.words c.loop-i.look) (g.L.Look.words c.args.look.now) c.args.leaf c.loop-i.i c.place-at.result
 here g c =
     let i = c.loop-i.invariant in
-    place_ahead (g.L.Look.standing c.args.look.now) (g.L.Look.standing c.loop-i.look) (g.L.Look.words c.args.look.now) (g.L.Look.words c.loop-i.look) c.args.leaf c.loop-i.i c.place-at.result
-    i.unchanged.standing i.unchanged.words c.place-at.ensures c.requires.leaf (omega (arith, c.loop-i-test.true, c.requires.in_range))
+    place_ahead (g.L.Look.page_state c.args.look.now) (g.L.Look.page_state c.loop-i.look) (g.L.Look.words c.args.look.now) (g.L.Look.words c.loop-i.look) c.args.leaf c.loop-i.i c.place-at.result
+    i.unchanged.page_state i.unchanged.words c.place-at.ensures c.requires.leaf (omega (arith, c.loop-i-test.true, c.requires.in_range))
 
 pub number_at-number-requires-clause-readable : goal.number_at-number-requires-clause-readable
 number_at-number-requires-clause-readable g c = (here g (goal.at.number_at-number-requires-clause-readable g c).After-place-at).readable.0
@@ -51,7 +51,7 @@ loop-i-preserved g c =
     ∙ ap (λ (x : Pair). number_of x.key) ((here g (goal.at.loop-i-preserved g c).After-place-at).same d ∙ sym (get_or-take c.args.count zs c.loop-i.i d (omega (arith, c.loop-i-test.true)))) in
     record {
       has = got_item c.args.found.now.items (numbers_in run) c.loop-i.found.items c.push.new.self.items run c.loop-i.i c.number_at-number.result d c.loop-i.invariant.has lt number c.in_ok-push.ensures.items;
-      unchanged = unchanged_trans g.L.Look.kept g.L.Look.standing g.L.Look.words c.args.look.now c.loop-i.look c.number_at-number.new.look c.loop-i.invariant.unchanged c.number_at-number.ensures.unchanged;
+      unchanged = unchanged_trans g.L.Look.kept g.L.Look.page_state g.L.Look.words c.args.look.now c.loop-i.look c.number_at-number.new.look c.loop-i.invariant.unchanged c.number_at-number.ensures.unchanged;
     }
 
 pub returns-clause-found : goal.returns-clause-found

@@ -24,7 +24,7 @@ loop-i-preserved g c =
       len = omega (arith, c.extend-in-loop-i.ensures.len, i.len, ap length c.to_be_bytes-word.ensures);
       unchanged = record {
         kept = c.word-in-loop-i.ensures.kept ∙ i.unchanged.kept;
-        standing = c.word-in-loop-i.ensures.standing ∙ i.unchanged.standing;
+        page_state = c.word-in-loop-i.ensures.page_state ∙ i.unchanged.page_state;
         words = c.word-in-loop-i.ensures.words ∙ i.unchanged.words;
       };
     }

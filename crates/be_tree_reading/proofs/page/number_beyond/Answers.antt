@@ -6,7 +6,7 @@ use Rattle.be_tree_reading.proofs.Codec.{word_bytes}
 use Rattle.be_tree_reading.proofs.Bytes.Straddling.{straddling}
 use Rattle.be_tree_reading.proofs.page.number_beyond.Goals as goal
 
--- in two words
+-- the number is in two words
 pub returns-clause-number : goal.returns-clause-number
 returns-clause-number g c =
     let words = g.L.Look.words c.args.look.now c.args.page in
@@ -19,7 +19,7 @@ returns-clause-number g c =
     ∙ ap (λ (n : ℕ). words at * 2 ^ (8 * r) % 2 ^ 64 + n / 2 ^ (64 - 8 * r)) second
     ∙ sym all
 
--- in one
+-- the number is in one word
 pub returns-then-skip-eq0-clause-number : goal.returns-then-skip-eq0-clause-number
 returns-then-skip-eq0-clause-number g c =
     let words = g.L.Look.words c.args.look.now c.args.page in

@@ -2,7 +2,7 @@ use Rattle.std.proofs.Common.{◌≡◌, ℕ, ◌+◌, ◌-◌, ◌*◌, ◌/◌
 use Rattle.be_tree_reading.proofs.Bytes.Straddling.{four_of_one, four_of_two}
 use Rattle.be_tree_reading.proofs.payload.number32_after.Goals as goal
 
--- in two words
+-- the number is in two words
 pub returns-clause-number : goal.returns-clause-number
 returns-clause-number g c =
     let words = g.L.Look.words c.args.look.now c.args.page in
@@ -16,7 +16,7 @@ returns-clause-number g c =
     ∙ ap (λ (n : ℕ). words at * 2 ^ (8 * r) % 2 ^ 64 + n / 2 ^ (64 - 8 * r)) second)
     ∙ sym all
 
--- in one
+-- the number is in one word
 pub returns-then-skip-le4-clause-number : goal.returns-then-skip-le4-clause-number
 returns-then-skip-le4-clause-number g c =
     let words = g.L.Look.words c.args.look.now c.args.page in

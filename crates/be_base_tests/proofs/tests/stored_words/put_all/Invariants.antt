@@ -4,6 +4,6 @@ use Rattle.be_base_tests.proofs.tests.stored_words.put_all.Given as goal
 
 abbrev pub invariant-loop-i : goal.invariant-loop-i
 invariant-loop-i g l = record {
-  tree : IsTree (g.R.Look.standing l.room) (g.R.Look.words l.room) l.root;
+  tree : IsTree (g.R.Look.page_state l.room) (g.R.Look.words l.room) l.root;
   kept : g.R.Look.kept l.room ≡ g.R.Look.kept l.fn.room;
 }

@@ -2,7 +2,7 @@ use Rattle.std.proofs.Common.{◌++◌, map, sym, ap, ◌∙◌}
 use Rattle.std.specs.Prelude.{string_bytes}
 use Rattle.be_pattern.specs.Match.{Only, matches}
 use Rattle.be_byte_pattern.specs.Runs.{after_stars}
-use Rattle.be_byte_pattern.proofs.Standing.{run_missing, run_taken}
+use Rattle.be_byte_pattern.proofs.LiteralRuns.{run_missing, run_taken}
 use Rattle.be_byte_pattern.proofs.runs.Runs.are_in.Goals as goal
 
 pub returns-in-Some : goal.returns-in-Some

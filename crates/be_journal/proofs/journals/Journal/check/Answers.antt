@@ -16,14 +16,14 @@ returns-then-not-agrees-clause-ok c =
 pub loop-preserved : goal.loop-preserved
 loop-preserved c =
     let p = pulled c.args.self.now.entries c.loop.counter c.in_ok-entry.entry c.next.new.self (sym c.loop.invariant.left ∙ c.in_ok-entry.ensures.next) in
-    let told : steps c.loop.reached c.in_ok-entry.entry.ops ≡ Ok (c.in_ok-next.next, c.in_ok-entry.entry.dones) = c.in_ok-next.ensures.so c.if-not-agrees.false in
+    let reported : steps c.loop.reached c.in_ok-entry.entry.ops ≡ Ok (c.in_ok-next.next, c.in_ok-entry.entry.dones) = c.in_ok-next.ensures.so c.if-not-agrees.false in
     let old : c.in_ok-next.next.next ≤ c.loop.reached.next + 64 = c.in_ok-next.ensures.grows in
     let bound : c.loop.reached.next ≤ 1 + 64 * c.loop.counter = c.loop.invariant.bound in
     record {
       left = p.left;
-      volume = replay_agreed _ _ _ _ _ p.short p.is c.loop.invariant.volume told;
+      volume = replay_agreed _ _ _ _ _ p.short p.is c.loop.invariant.volume reported;
       bound = omega arith;
-      agree = agree_more _ _ c.in_ok-entry.entry p.is (subst (λ s. Agrees s c.in_ok-entry.entry) c.loop.invariant.volume (c.in_ok-next.next, told)) c.loop.invariant.agree p.short;
+      agree = agree_more _ _ c.in_ok-entry.entry p.is (subst (λ s. Agrees s c.in_ok-entry.entry) c.loop.invariant.volume (c.in_ok-next.next, reported)) c.loop.invariant.agree p.short;
     }
 
 pub returns-clause-ok : goal.returns-clause-ok

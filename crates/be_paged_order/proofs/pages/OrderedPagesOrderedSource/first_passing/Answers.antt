@@ -12,7 +12,7 @@ use Rattle.be_paged_order.proofs.pages.OrderedPagesOrderedSource.first_passing.G
 pub returns-clause-tested : goal.returns-clause-tested
 returns-clause-tested g c =
     let reader = c.args.self.now.reader in
-    let standing = g.L.Look.standing reader.look in
+    let page_state = g.L.Look.page_state reader.look in
     let words = g.L.Look.words reader.look in
     let keys = c.args.keys in
     let name = keys.keys.name.now in
@@ -23,7 +23,7 @@ returns-clause-tested g c =
     let nodes = c.passing_in_order.new.found.items in
     IfOk-weaker c.passing_in_order.result
     (λ tested. tested ≡ true → HasPassing words (contents_of (words reader.page)).entries name c.way_of-way.result test c.args.most nodes)
-    (λ tested. tested ≡ true → (volume : State) → SourceOf standing words reader.page reader.known reader.cursor reader.place reader.last.0 reader.last.1 volume
+    (λ tested. tested ≡ true → (volume : State) → SourceOf page_state words reader.page reader.known reader.cursor reader.place reader.last.0 reader.last.1 volume
     → HasWalked (IsPassing volume name low high test) keys.descending cursor c.args.most [] nodes)
-    (λ tested has e volume of. passing_walked standing words reader.page volume of.version name low high test keys.descending cursor c.way_of-way.result c.way_of-way.ensures c.args.most nodes (has e))
+    (λ tested has e volume of. passing_walked page_state words reader.page volume of.version name low high test keys.descending cursor c.way_of-way.result c.way_of-way.ensures c.args.most nodes (has e))
     c.passing_in_order.ensures.passing

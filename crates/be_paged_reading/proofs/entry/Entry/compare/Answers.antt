@@ -5,7 +5,7 @@ use Rattle.be_tree_reading.proofs.Padded.{alike_differ, alike_end, alike_first, 
 use Rattle.be_volume.specs.Maps.{name_cmp}
 use Rattle.be_paged_reading.specs.Entry.{Entry}
 use Rattle.be_paged_reading.proofs.Stored.Codec.{name_short}
-use Rattle.be_paged_reading.proofs.Stored.UsedWords.{length_told}
+use Rattle.be_paged_reading.proofs.Stored.UsedWords.{length_reported}
 use Rattle.be_paged_reading.proofs.entry.Entry.compare.Goals as goal
 
 pub loop-j-init : goal.loop-j-init
@@ -41,6 +41,6 @@ returns c =
     let name = bytes_at words 0 c.self.inside.len in
     let text = c.as_bytes-text.result.now in
     let is : text ≡ c.args.name.now = c.as_bytes-text.ensures.value ∙ c.as_str.ensures.text in
-    c.cmp-2.ensures ∙ ap (λ (n : ℕ). nat_cmp n (length text)) (sym (length_told words 0 c.self.inside.len))
+    c.cmp-2.ensures ∙ ap (λ (n : ℕ). nat_cmp n (length text)) (sym (length_reported words 0 c.self.inside.len))
     ∙ sym (alike_end name text c.loop-j.j (omega (arith, c.loop-j-test.false)) c.loop-j.invariant)
     ∙ ap (λ (e : Entry). name_cmp e.name text) c.self.view_is ∙ ap (name_cmp c.args.self.now.name) is

@@ -6,12 +6,12 @@ use Rattle.be_paged_reading.proofs.CatalogPairs.FactValues.{facts_since}
 use Rattle.be_paged_reading.proofs.facts.PageFactsFacts.attribute_count.Goals as goal
 
 pub returns-clause-answer : goal.returns-clause-answer
-returns-clause-answer g c = λ volume of. c.unwrap_or.ensures ∙ ap (λ (n : Option ℕ). unwrap_or n 0) (c.count_of.ensures.count volume of.told of.counted_is) ∙ count_all volume.nodes c.args.node
+returns-clause-answer g c = λ volume of. c.unwrap_or.ensures ∙ ap (λ (n : Option ℕ). unwrap_or n 0) (c.count_of.ensures.count volume of.reported of.counted_is) ∙ count_all volume.nodes c.args.node
 
 pub returns-clause-answers : goal.returns-clause-answers
 returns-clause-answers g c = λ volume of.
     let self = c.args.self.now in
     let look = c.count_of.new.look in
     let same = c.count_of.ensures.unchanged in
-    facts_since (g.L.Look.standing self.look.now) (g.L.Look.standing look) (g.L.Look.words self.look.now) (g.L.Look.words look) (contents self.version.now) self.counted c.count_of.new.counted self.asked.now volume
-    same.standing same.words of (c.count_of.ensures.counted volume of.told of.counted_is)
+    facts_since (g.L.Look.page_state self.look.now) (g.L.Look.page_state look) (g.L.Look.words self.look.now) (g.L.Look.words look) (contents self.version.now) self.counted c.count_of.new.counted self.asked.now volume
+    same.page_state same.words of (c.count_of.ensures.counted volume of.reported of.counted_is)

@@ -20,21 +20,21 @@ known_index-requires g c = record { version = (c.requires.0, c.requires.1.versio
 pub numbers_in_order-requires-clause-tree : goal.numbers_in_order-requires-clause-tree
 numbers_in_order-requires-clause-tree g c =
     let self = c.args.self.now in
-    let s = g.L.Look.standing c.known_index.new.look in
+    let s = g.L.Look.page_state c.known_index.new.look in
     let w = g.L.Look.words c.known_index.new.look in
     let since = c.in-Some.ensures.unchanged in
-    let version = version_since (g.L.Look.standing self.look) s (g.L.Look.words self.look) w self.page c.requires.0 since.standing since.words c.requires.1.version in
+    let version = version_since (g.L.Look.page_state self.look) s (g.L.Look.words self.look) w self.page c.requires.0 since.page_state since.words c.requires.1.version in
     subst (IsTree s w) (sym (c.in-Some.ensures.found.root nowhere)) (entry_tree s w (contents_of (w self.page)) c.in-Some.index.place nowhere version.in_hand c.in-Some.ensures.found.named.in_range)
 
 pub numbers_in_order-requires-clause-long : goal.numbers_in_order-requires-clause-long
 numbers_in_order-requires-clause-long g c =
     let self = c.args.self.now in
-    let s = g.L.Look.standing c.known_index.new.look in
+    let s = g.L.Look.page_state c.known_index.new.look in
     let w = g.L.Look.words c.known_index.new.look in
     let since = c.in-Some.ensures.unchanged in
-    let version = version_since (g.L.Look.standing self.look) s (g.L.Look.words self.look) w self.page c.requires.0 since.standing since.words c.requires.1.version in
+    let version = version_since (g.L.Look.page_state self.look) s (g.L.Look.words self.look) w self.page c.requires.0 since.page_state since.words c.requires.1.version in
     subst (λ (r : ℕ). AreLong (pairs w r)) (sym (c.in-Some.ensures.found.root nowhere))
-    (keys_long w (contents_of (w self.page)) c.requires.0 c.args.name.now c.in-Some.index.place nowhere version.spells c.in-Some.ensures.found.named)
+    (keys_long w (contents_of (w self.page)) c.requires.0 c.args.name.now c.in-Some.index.place nowhere version.encodes c.in-Some.ensures.found.named)
 
 pub returns-in_default-clause-added : goal.returns-in_default-clause-added
 returns-in_default-clause-added g c =
@@ -52,20 +52,20 @@ pub returns-in_default-clause-answers : goal.returns-in_default-clause-answers
 returns-in_default-clause-answers g c = λ volume of.
     let self = c.args.self.now in
     let since = c.in_default.ensures.unchanged in
-    source_since (g.L.Look.standing self.look) (g.L.Look.standing c.known_index.new.look) (g.L.Look.words self.look) (g.L.Look.words c.known_index.new.look) self.page self.known c.known_index.new.known self.cursor self.place self.last.0 self.last.1 volume since.standing since.words c.in_default.ensures.known of
+    source_since (g.L.Look.page_state self.look) (g.L.Look.page_state c.known_index.new.look) (g.L.Look.words self.look) (g.L.Look.words c.known_index.new.look) self.page self.known c.known_index.new.known self.cursor self.place self.last.0 self.last.1 volume since.page_state since.words c.in_default.ensures.known of
 
 pub returns-in_err-numbers_in_order-clause-answers : goal.returns-in_err-numbers_in_order-clause-answers
 returns-in_err-numbers_in_order-clause-answers g c = λ volume of.
     let self = c.args.self.now in
     let first = c.in-Some.ensures.unchanged in
     let last = c.numbers_in_order.ensures.unchanged in
-    source_since (g.L.Look.standing self.look) (g.L.Look.standing c.numbers_in_order.new.look) (g.L.Look.words self.look) (g.L.Look.words c.numbers_in_order.new.look) self.page self.known c.known_index.new.known self.cursor self.place self.last.0 self.last.1 volume
-    (last.standing ∙ first.standing) (last.words ∙ first.words) (subst (λ (u : ℕ → ℕ → ℕ). IsKnown (contents_of (u self.page)).entries c.known_index.new.known) (sym last.words) c.in-Some.ensures.known) of
+    source_since (g.L.Look.page_state self.look) (g.L.Look.page_state c.numbers_in_order.new.look) (g.L.Look.words self.look) (g.L.Look.words c.numbers_in_order.new.look) self.page self.known c.known_index.new.known self.cursor self.place self.last.0 self.last.1 volume
+    (last.page_state ∙ first.page_state) (last.words ∙ first.words) (subst (λ (u : ℕ → ℕ → ℕ). IsKnown (contents_of (u self.page)).entries c.known_index.new.known) (sym last.words) c.in-Some.ensures.known) of
 
 pub returns-clause-answers : goal.returns-clause-answers
 returns-clause-answers g c = λ volume of.
     let self = c.args.self.now in
     let first = c.in-Some.ensures.unchanged in
     let last = c.numbers_in_order.ensures.unchanged in
-    source_since (g.L.Look.standing self.look) (g.L.Look.standing c.numbers_in_order.new.look) (g.L.Look.words self.look) (g.L.Look.words c.numbers_in_order.new.look) self.page self.known c.known_index.new.known self.cursor self.place self.last.0 self.last.1 volume
-    (last.standing ∙ first.standing) (last.words ∙ first.words) (subst (λ (u : ℕ → ℕ → ℕ). IsKnown (contents_of (u self.page)).entries c.known_index.new.known) (sym last.words) c.in-Some.ensures.known) of
+    source_since (g.L.Look.page_state self.look) (g.L.Look.page_state c.numbers_in_order.new.look) (g.L.Look.words self.look) (g.L.Look.words c.numbers_in_order.new.look) self.page self.known c.known_index.new.known self.cursor self.place self.last.0 self.last.1 volume
+    (last.page_state ∙ first.page_state) (last.words ∙ first.words) (subst (λ (u : ℕ → ℕ → ℕ). IsKnown (contents_of (u self.page)).entries c.known_index.new.known) (sym last.words) c.in-Some.ensures.known) of

@@ -20,21 +20,21 @@ known_index-requires g c = record { version = (c.requires.0, c.requires.1.versio
 pub passing_in_order-requires-clause-tree : goal.passing_in_order-requires-clause-tree
 passing_in_order-requires-clause-tree g c =
     let self = c.args.self.now in
-    let s = g.L.Look.standing c.known_index.new.look in
+    let s = g.L.Look.page_state c.known_index.new.look in
     let w = g.L.Look.words c.known_index.new.look in
     let since = c.in-Some.ensures.unchanged in
-    let version = version_since (g.L.Look.standing self.look) s (g.L.Look.words self.look) w self.page c.requires.0 since.standing since.words c.requires.1.version in
+    let version = version_since (g.L.Look.page_state self.look) s (g.L.Look.words self.look) w self.page c.requires.0 since.page_state since.words c.requires.1.version in
     subst (IsTree s w) (sym (c.in-Some.ensures.found.root nowhere)) (entry_tree s w (contents_of (w self.page)) c.in-Some.index.place nowhere version.in_hand c.in-Some.ensures.found.named.in_range)
 
 pub passing_in_order-requires-clause-testable : goal.passing_in_order-requires-clause-testable
 passing_in_order-requires-clause-testable g c =
     let self = c.args.self.now in
-    let s = g.L.Look.standing c.known_index.new.look in
+    let s = g.L.Look.page_state c.known_index.new.look in
     let w = g.L.Look.words c.known_index.new.look in
     let since = c.in-Some.ensures.unchanged in
-    let version = version_since (g.L.Look.standing self.look) s (g.L.Look.words self.look) w self.page c.requires.0 since.standing since.words c.requires.1.version in
+    let version = version_since (g.L.Look.page_state self.look) s (g.L.Look.words self.look) w self.page c.requires.0 since.page_state since.words c.requires.1.version in
     subst (λ (r : ℕ). AreTestable c.args.test (pairs w r)) (sym (c.in-Some.ensures.found.root nowhere))
-    (keys_testable w (contents_of (w self.page)) c.requires.0 c.args.name.now c.in-Some.index.place nowhere version.spells c.in-Some.ensures.found.named version.sound c.args.test
+    (keys_testable w (contents_of (w self.page)) c.requires.0 c.args.name.now c.in-Some.index.place nowhere version.encodes c.in-Some.ensures.found.named version.sound c.args.test
     (λ e. sym (c.in-Some.ensures.found.kind nowhere) ∙ c.is_testable.ensures c.if-not-is_testable.false e))
 
 pub returns-in_default-clause-passing : goal.returns-in_default-clause-passing
@@ -53,26 +53,26 @@ pub returns-in_default-clause-answers : goal.returns-in_default-clause-answers
 returns-in_default-clause-answers g c = λ volume of.
     let self = c.args.self.now in
     let since = c.in_default.ensures.unchanged in
-    source_since (g.L.Look.standing self.look) (g.L.Look.standing c.known_index.new.look) (g.L.Look.words self.look) (g.L.Look.words c.known_index.new.look) self.page self.known c.known_index.new.known self.cursor self.place self.last.0 self.last.1 volume since.standing since.words c.in_default.ensures.known of
+    source_since (g.L.Look.page_state self.look) (g.L.Look.page_state c.known_index.new.look) (g.L.Look.words self.look) (g.L.Look.words c.known_index.new.look) self.page self.known c.known_index.new.known self.cursor self.place self.last.0 self.last.1 volume since.page_state since.words c.in_default.ensures.known of
 
 pub returns-then-not-is_testable-clause-answers : goal.returns-then-not-is_testable-clause-answers
 returns-then-not-is_testable-clause-answers g c = λ volume of.
     let self = c.args.self.now in
     let since = c.in-Some.ensures.unchanged in
-    source_since (g.L.Look.standing self.look) (g.L.Look.standing c.known_index.new.look) (g.L.Look.words self.look) (g.L.Look.words c.known_index.new.look) self.page self.known c.known_index.new.known self.cursor self.place self.last.0 self.last.1 volume since.standing since.words c.in-Some.ensures.known of
+    source_since (g.L.Look.page_state self.look) (g.L.Look.page_state c.known_index.new.look) (g.L.Look.words self.look) (g.L.Look.words c.known_index.new.look) self.page self.known c.known_index.new.known self.cursor self.place self.last.0 self.last.1 volume since.page_state since.words c.in-Some.ensures.known of
 
 pub returns-in_err-passing_in_order-clause-answers : goal.returns-in_err-passing_in_order-clause-answers
 returns-in_err-passing_in_order-clause-answers g c = λ volume of.
     let self = c.args.self.now in
     let first = c.in-Some.ensures.unchanged in
     let last = c.passing_in_order.ensures.unchanged in
-    source_since (g.L.Look.standing self.look) (g.L.Look.standing c.passing_in_order.new.look) (g.L.Look.words self.look) (g.L.Look.words c.passing_in_order.new.look) self.page self.known c.known_index.new.known self.cursor self.place self.last.0 self.last.1 volume
-    (last.standing ∙ first.standing) (last.words ∙ first.words) (subst (λ (u : ℕ → ℕ → ℕ). IsKnown (contents_of (u self.page)).entries c.known_index.new.known) (sym last.words) c.in-Some.ensures.known) of
+    source_since (g.L.Look.page_state self.look) (g.L.Look.page_state c.passing_in_order.new.look) (g.L.Look.words self.look) (g.L.Look.words c.passing_in_order.new.look) self.page self.known c.known_index.new.known self.cursor self.place self.last.0 self.last.1 volume
+    (last.page_state ∙ first.page_state) (last.words ∙ first.words) (subst (λ (u : ℕ → ℕ → ℕ). IsKnown (contents_of (u self.page)).entries c.known_index.new.known) (sym last.words) c.in-Some.ensures.known) of
 
 pub returns-clause-answers : goal.returns-clause-answers
 returns-clause-answers g c = λ volume of.
     let self = c.args.self.now in
     let first = c.in-Some.ensures.unchanged in
     let last = c.passing_in_order.ensures.unchanged in
-    source_since (g.L.Look.standing self.look) (g.L.Look.standing c.passing_in_order.new.look) (g.L.Look.words self.look) (g.L.Look.words c.passing_in_order.new.look) self.page self.known c.known_index.new.known self.cursor self.place self.last.0 self.last.1 volume
-    (last.standing ∙ first.standing) (last.words ∙ first.words) (subst (λ (u : ℕ → ℕ → ℕ). IsKnown (contents_of (u self.page)).entries c.known_index.new.known) (sym last.words) c.in-Some.ensures.known) of
+    source_since (g.L.Look.page_state self.look) (g.L.Look.page_state c.passing_in_order.new.look) (g.L.Look.words self.look) (g.L.Look.words c.passing_in_order.new.look) self.page self.known c.known_index.new.known self.cursor self.place self.last.0 self.last.1 volume
+    (last.page_state ∙ first.page_state) (last.words ∙ first.words) (subst (λ (u : ℕ → ℕ → ℕ). IsKnown (contents_of (u self.page)).entries c.known_index.new.known) (sym last.words) c.in-Some.ensures.known) of

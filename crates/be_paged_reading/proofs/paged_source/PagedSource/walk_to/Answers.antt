@@ -34,7 +34,7 @@ pub returns-clause-cursor : goal.returns-clause-cursor
 returns-clause-cursor g c =
     let before = c.if-after.self.look in
     let since = c.seek.ensures.unchanged in
-    cursor_since (g.L.Look.standing before) (g.L.Look.standing c.seek.new.look) (g.L.Look.words before) (g.L.Look.words c.seek.new.look) c.seek.new.self since.standing since.words c.seek.ensures.cursor
+    cursor_since (g.L.Look.page_state before) (g.L.Look.page_state c.seek.new.look) (g.L.Look.words before) (g.L.Look.words c.seek.new.look) c.seek.new.self since.page_state since.words c.seek.ensures.cursor
 
 pub returns-clause-rest : goal.returns-clause-rest
 returns-clause-rest g c =

@@ -19,10 +19,10 @@ known_index-requires g c = record { version = (c.requires.0, c.requires.1.versio
 pub has_key-requires : goal.has_key-requires
 has_key-requires g c =
     let self = c.args.self.now in
-    let s = g.L.Look.standing c.known_index.new.look in
+    let s = g.L.Look.page_state c.known_index.new.look in
     let w = g.L.Look.words c.known_index.new.look in
     let since = c.in-Some.ensures.unchanged in
-    let version = version_since (g.L.Look.standing self.look) s (g.L.Look.words self.look) w self.page c.requires.0 since.standing since.words c.requires.1.version in
+    let version = version_since (g.L.Look.page_state self.look) s (g.L.Look.words self.look) w self.page c.requires.0 since.page_state since.words c.requires.1.version in
     record {
       tree = subst (λ (r : ℕ). IsTree s w r) (sym (c.in-Some.ensures.found.root nowhere))
           (entry_tree s w (contents_of (w self.page)) c.in-Some.index.place nowhere version.in_hand c.in-Some.ensures.found.named.in_range);
@@ -33,8 +33,8 @@ returns-in-Some-clause-found g c = λ volume of found.
     let self = c.args.self.now in
     let w = g.L.Look.words c.known_index.new.look in
     let since = c.in-Some.ensures.unchanged in
-    let version = version_since (g.L.Look.standing self.look) (g.L.Look.standing c.known_index.new.look) (g.L.Look.words self.look) w self.page volume since.standing since.words of.version in
-    key_found w (contents_of (w self.page)) volume c.args.name.now c.in-Some.index.place version.spells nowhere c.in-Some.ensures.found.named c.args.key.now
+    let version = version_since (g.L.Look.page_state self.look) (g.L.Look.page_state c.known_index.new.look) (g.L.Look.words self.look) w self.page volume since.page_state since.words of.version in
+    key_found w (contents_of (w self.page)) volume c.args.name.now c.in-Some.index.place version.encodes nowhere c.in-Some.ensures.found.named c.args.key.now
     (ap (λ (r : ℕ). is_some (payload_at (pairs w r) c.args.key.now)) (sym (c.in-Some.ensures.found.root nowhere)) ∙ sym c.has_key.ensures.found ∙ found)
 
 pub returns-in-Some-clause-finds : goal.returns-in-Some-clause-finds
@@ -42,28 +42,28 @@ returns-in-Some-clause-finds g c = λ volume of is.
     let self = c.args.self.now in
     let w = g.L.Look.words c.known_index.new.look in
     let since = c.in-Some.ensures.unchanged in
-    let version = version_since (g.L.Look.standing self.look) (g.L.Look.standing c.known_index.new.look) (g.L.Look.words self.look) w self.page volume since.standing since.words of.version in
+    let version = version_since (g.L.Look.page_state self.look) (g.L.Look.page_state c.known_index.new.look) (g.L.Look.words self.look) w self.page volume since.page_state since.words of.version in
     c.has_key.ensures.found ∙ ap (λ (r : ℕ). is_some (payload_at (pairs w r) c.args.key.now)) (c.in-Some.ensures.found.root nowhere)
-    ∙ key_finds w (contents_of (w self.page)) volume c.args.name.now c.in-Some.index.place version.spells nowhere c.in-Some.ensures.found.named c.args.key.now is
+    ∙ key_finds w (contents_of (w self.page)) volume c.args.name.now c.in-Some.index.place version.encodes nowhere c.in-Some.ensures.found.named c.args.key.now is
 
 pub returns-in-None-clause-finds : goal.returns-in-None-clause-finds
 returns-in-None-clause-finds g c = λ volume of is.
     let self = c.args.self.now in
     let w = g.L.Look.words c.known_index.new.look in
     let since = c.in-None.ensures.unchanged in
-    let version = version_since (g.L.Look.standing self.look) (g.L.Look.standing c.known_index.new.look) (g.L.Look.words self.look) w self.page volume since.standing since.words of.version in
-    absurd (no_key w (contents_of (w self.page)) volume c.args.name.now c.in-None.ensures.found.absent.0 version.spells c.in-None.ensures.found.absent.1 c.args.key.now is)
+    let version = version_since (g.L.Look.page_state self.look) (g.L.Look.page_state c.known_index.new.look) (g.L.Look.words self.look) w self.page volume since.page_state since.words of.version in
+    absurd (no_key w (contents_of (w self.page)) volume c.args.name.now c.in-None.ensures.found.absent.0 version.encodes c.in-None.ensures.found.absent.1 c.args.key.now is)
 
 pub returns-in-Some-clause-answers : goal.returns-in-Some-clause-answers
 returns-in-Some-clause-answers g c = λ volume of.
     let self = c.args.self.now in
     let first = c.in-Some.ensures.unchanged in
     let last = c.has_key.ensures.unchanged in
-    source_since (g.L.Look.standing self.look) (g.L.Look.standing c.has_key.new.look) (g.L.Look.words self.look) (g.L.Look.words c.has_key.new.look) self.page self.known c.known_index.new.known self.cursor self.place self.last.0 self.last.1 volume
-    (last.standing ∙ first.standing) (last.words ∙ first.words) (subst (λ (u : ℕ → ℕ → ℕ). IsKnown (contents_of (u self.page)).entries c.known_index.new.known) (sym last.words) c.in-Some.ensures.known) of
+    source_since (g.L.Look.page_state self.look) (g.L.Look.page_state c.has_key.new.look) (g.L.Look.words self.look) (g.L.Look.words c.has_key.new.look) self.page self.known c.known_index.new.known self.cursor self.place self.last.0 self.last.1 volume
+    (last.page_state ∙ first.page_state) (last.words ∙ first.words) (subst (λ (u : ℕ → ℕ → ℕ). IsKnown (contents_of (u self.page)).entries c.known_index.new.known) (sym last.words) c.in-Some.ensures.known) of
 
 pub returns-in-None-clause-answers : goal.returns-in-None-clause-answers
 returns-in-None-clause-answers g c = λ volume of.
     let self = c.args.self.now in
     let since = c.in-None.ensures.unchanged in
-    source_since (g.L.Look.standing self.look) (g.L.Look.standing c.known_index.new.look) (g.L.Look.words self.look) (g.L.Look.words c.known_index.new.look) self.page self.known c.known_index.new.known self.cursor self.place self.last.0 self.last.1 volume since.standing since.words c.in-None.ensures.known of
+    source_since (g.L.Look.page_state self.look) (g.L.Look.page_state c.known_index.new.look) (g.L.Look.words self.look) (g.L.Look.words c.known_index.new.look) self.page self.known c.known_index.new.known self.cursor self.place self.last.0 self.last.1 volume since.page_state since.words c.in-None.ensures.known of

@@ -11,5 +11,5 @@ pub returns-clause-answers : goal.returns-clause-answers
 returns-clause-answers g c = λ volume of.
     let self = c.args.self.now in
     let since = c.holds_in.ensures.unchanged in
-    source_since (g.L.Look.standing self.look) (g.L.Look.standing c.holds_in.new.look) (g.L.Look.words self.look) (g.L.Look.words c.holds_in.new.look) self.page self.known c.holds_in.new.known self.cursor self.place self.last.0 self.last.1 volume since.standing since.words
+    source_since (g.L.Look.page_state self.look) (g.L.Look.page_state c.holds_in.new.look) (g.L.Look.words self.look) (g.L.Look.words c.holds_in.new.look) self.page self.known c.holds_in.new.known self.cursor self.place self.last.0 self.last.1 volume since.page_state since.words
     c.holds_in.ensures.known of

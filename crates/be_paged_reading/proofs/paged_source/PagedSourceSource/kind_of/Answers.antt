@@ -19,26 +19,26 @@ returns-in-Some-clause-answer g c = λ volume of.
     let self = c.args.self.now in
     let w = g.L.Look.words c.known_index.new.look in
     let since = c.in-Some.ensures.unchanged in
-    let version = version_since (g.L.Look.standing self.look) (g.L.Look.standing c.known_index.new.look) (g.L.Look.words self.look) w self.page volume since.standing since.words of.version in
+    let version = version_since (g.L.Look.page_state self.look) (g.L.Look.page_state c.known_index.new.look) (g.L.Look.words self.look) w self.page volume since.page_state since.words of.version in
     ap (λ (k : Kind). Some k) (c.in-Some.ensures.found.kind nowhere)
-    ∙ kind_found w (contents_of (w self.page)).entries volume.indices c.args.name.now c.in-Some.index.place nowhere version.spells.indices c.in-Some.ensures.found.named
+    ∙ kind_found w (contents_of (w self.page)).entries volume.indices c.args.name.now c.in-Some.index.place nowhere version.encodes.indices c.in-Some.ensures.found.named
 
 pub returns-in-None-clause-answer : goal.returns-in-None-clause-answer
 returns-in-None-clause-answer g c = λ volume of.
     let self = c.args.self.now in
     let w = g.L.Look.words c.known_index.new.look in
     let since = c.in-None.ensures.unchanged in
-    let version = version_since (g.L.Look.standing self.look) (g.L.Look.standing c.known_index.new.look) (g.L.Look.words self.look) w self.page volume since.standing since.words of.version in
-    kind_absent w (contents_of (w self.page)).entries volume.indices c.args.name.now c.in-None.ensures.found.absent.0 version.spells.indices c.in-None.ensures.found.absent.1
+    let version = version_since (g.L.Look.page_state self.look) (g.L.Look.page_state c.known_index.new.look) (g.L.Look.words self.look) w self.page volume since.page_state since.words of.version in
+    kind_absent w (contents_of (w self.page)).entries volume.indices c.args.name.now c.in-None.ensures.found.absent.0 version.encodes.indices c.in-None.ensures.found.absent.1
 
 pub returns-in-Some-clause-answers : goal.returns-in-Some-clause-answers
 returns-in-Some-clause-answers g c = λ volume of.
     let self = c.args.self.now in
     let since = c.in-Some.ensures.unchanged in
-    source_since (g.L.Look.standing self.look) (g.L.Look.standing c.known_index.new.look) (g.L.Look.words self.look) (g.L.Look.words c.known_index.new.look) self.page self.known c.known_index.new.known self.cursor self.place self.last.0 self.last.1 volume since.standing since.words c.in-Some.ensures.known of
+    source_since (g.L.Look.page_state self.look) (g.L.Look.page_state c.known_index.new.look) (g.L.Look.words self.look) (g.L.Look.words c.known_index.new.look) self.page self.known c.known_index.new.known self.cursor self.place self.last.0 self.last.1 volume since.page_state since.words c.in-Some.ensures.known of
 
 pub returns-in-None-clause-answers : goal.returns-in-None-clause-answers
 returns-in-None-clause-answers g c = λ volume of.
     let self = c.args.self.now in
     let since = c.in-None.ensures.unchanged in
-    source_since (g.L.Look.standing self.look) (g.L.Look.standing c.known_index.new.look) (g.L.Look.words self.look) (g.L.Look.words c.known_index.new.look) self.page self.known c.known_index.new.known self.cursor self.place self.last.0 self.last.1 volume since.standing since.words c.in-None.ensures.known of
+    source_since (g.L.Look.page_state self.look) (g.L.Look.page_state c.known_index.new.look) (g.L.Look.words self.look) (g.L.Look.words c.known_index.new.look) self.page self.known c.known_index.new.known self.cursor self.place self.last.0 self.last.1 volume since.page_state since.words c.in-None.ensures.known of

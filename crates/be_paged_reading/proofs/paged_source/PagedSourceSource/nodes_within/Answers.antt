@@ -26,33 +26,33 @@ returns-in_default-clause-has g c = λ volume of k is.
     let self = c.args.self.now in
     let w = g.L.Look.words c.known_index.new.look in
     let since = c.in_default.ensures.unchanged in
-    let version = version_since (g.L.Look.standing self.look) (g.L.Look.standing c.known_index.new.look) (g.L.Look.words self.look) w self.page volume since.standing since.words of.version in
-    absurd (no_key w (contents_of (w self.page)) volume c.args.keys.name.now c.in_default.ensures.found.absent.0 version.spells c.in_default.ensures.found.absent.1 k is)
+    let version = version_since (g.L.Look.page_state self.look) (g.L.Look.page_state c.known_index.new.look) (g.L.Look.words self.look) w self.page volume since.page_state since.words of.version in
+    absurd (no_key w (contents_of (w self.page)) volume c.args.keys.name.now c.in_default.ensures.found.absent.0 version.encodes c.in_default.ensures.found.absent.1 k is)
 
 pub returns-in_default-clause-answers : goal.returns-in_default-clause-answers
 returns-in_default-clause-answers g c = λ volume of.
     let self = c.args.self.now in
     let since = c.in_default.ensures.unchanged in
-    source_since (g.L.Look.standing self.look) (g.L.Look.standing c.known_index.new.look) (g.L.Look.words self.look) (g.L.Look.words c.known_index.new.look) self.page self.known c.known_index.new.known self.cursor self.place self.last.0 self.last.1 volume since.standing since.words c.in_default.ensures.known of
+    source_since (g.L.Look.page_state self.look) (g.L.Look.page_state c.known_index.new.look) (g.L.Look.words self.look) (g.L.Look.words c.known_index.new.look) self.page self.known c.known_index.new.known self.cursor self.place self.last.0 self.last.1 volume since.page_state since.words c.in_default.ensures.known of
 
 pub numbers_within-requires-clause-tree : goal.numbers_within-requires-clause-tree
 numbers_within-requires-clause-tree g c =
     let self = c.args.self.now in
-    let s = g.L.Look.standing c.known_index.new.look in
+    let s = g.L.Look.page_state c.known_index.new.look in
     let w = g.L.Look.words c.known_index.new.look in
     let since = c.in-Some.ensures.unchanged in
-    let version = version_since (g.L.Look.standing self.look) s (g.L.Look.words self.look) w self.page c.requires.0 since.standing since.words c.requires.1.version in
+    let version = version_since (g.L.Look.page_state self.look) s (g.L.Look.words self.look) w self.page c.requires.0 since.page_state since.words c.requires.1.version in
     subst (IsTree s w) (sym (c.in-Some.ensures.found.root nowhere)) (entry_tree s w (contents_of (w self.page)) c.in-Some.index.place nowhere version.in_hand c.in-Some.ensures.found.named.in_range)
 
 pub numbers_within-requires-clause-long : goal.numbers_within-requires-clause-long
 numbers_within-requires-clause-long g c =
     let self = c.args.self.now in
-    let s = g.L.Look.standing c.known_index.new.look in
+    let s = g.L.Look.page_state c.known_index.new.look in
     let w = g.L.Look.words c.known_index.new.look in
     let since = c.in-Some.ensures.unchanged in
-    let version = version_since (g.L.Look.standing self.look) s (g.L.Look.words self.look) w self.page c.requires.0 since.standing since.words c.requires.1.version in
+    let version = version_since (g.L.Look.page_state self.look) s (g.L.Look.words self.look) w self.page c.requires.0 since.page_state since.words c.requires.1.version in
     subst (λ (r : ℕ). AreLong (pairs w r)) (sym (c.in-Some.ensures.found.root nowhere))
-    (keys_long w (contents_of (w self.page)) c.requires.0 c.args.keys.name.now c.in-Some.index.place nowhere version.spells c.in-Some.ensures.found.named)
+    (keys_long w (contents_of (w self.page)) c.requires.0 c.args.keys.name.now c.in-Some.index.place nowhere version.encodes c.in-Some.ensures.found.named)
 
 pub returns-in_err-numbers_within-clause-keeps : goal.returns-in_err-numbers_within-clause-keeps
 returns-in_err-numbers_within-clause-keeps g c = first_keeps _ _ _ c.numbers_within.ensures.first
@@ -67,8 +67,8 @@ returns-in_err-numbers_within-clause-only g c = λ volume of.
     let low = c.args.keys.low.now in
     let high = option_copied c.args.keys.high in
     let since = c.in-Some.ensures.unchanged in
-    let version = version_since (g.L.Look.standing self.look) (g.L.Look.standing c.known_index.new.look) (g.L.Look.words self.look) w self.page volume since.standing since.words of.version in
-    first_only w (contents_of (w self.page)) volume c.args.keys.name.now c.in-Some.index.place nowhere version.spells c.in-Some.ensures.found.named version.sound low high
+    let version = version_since (g.L.Look.page_state self.look) (g.L.Look.page_state c.known_index.new.look) (g.L.Look.words self.look) w self.page volume since.page_state since.words of.version in
+    first_only w (contents_of (w self.page)) volume c.args.keys.name.now c.in-Some.index.place nowhere version.encodes c.in-Some.ensures.found.named version.sound low high
     c.args.found.now.items c.numbers_within.new.found.items
     (subst (λ (r : ℕ). HasFirst c.args.found.now.items (numbers_to (pairs_from (pairs w r) low false) high) c.numbers_within.new.found.items) (c.in-Some.ensures.found.root nowhere) c.numbers_within.ensures.first)
 
@@ -79,15 +79,15 @@ returns-clause-only g c = λ volume of.
     let low = c.args.keys.low.now in
     let high = option_copied c.args.keys.high in
     let since = c.in-Some.ensures.unchanged in
-    let version = version_since (g.L.Look.standing self.look) (g.L.Look.standing c.known_index.new.look) (g.L.Look.words self.look) w self.page volume since.standing since.words of.version in
-    first_only w (contents_of (w self.page)) volume c.args.keys.name.now c.in-Some.index.place nowhere version.spells c.in-Some.ensures.found.named version.sound low high
+    let version = version_since (g.L.Look.page_state self.look) (g.L.Look.page_state c.known_index.new.look) (g.L.Look.words self.look) w self.page volume since.page_state since.words of.version in
+    first_only w (contents_of (w self.page)) volume c.args.keys.name.now c.in-Some.index.place nowhere version.encodes c.in-Some.ensures.found.named version.sound low high
     c.args.found.now.items c.numbers_within.new.found.items
     (subst (λ (r : ℕ). HasFirst c.args.found.now.items (numbers_to (pairs_from (pairs w r) low false) high) c.numbers_within.new.found.items) (c.in-Some.ensures.found.root nowhere) c.numbers_within.ensures.first)
 
 pub returns-clause-has : goal.returns-clause-has
 returns-clause-has g c = λ volume of k is within.
     let self = c.args.self.now in
-    let s = g.L.Look.standing c.known_index.new.look in
+    let s = g.L.Look.page_state c.known_index.new.look in
     let w = g.L.Look.words c.known_index.new.look in
     let contents = contents_of (w self.page) in
     let name = c.args.keys.name.now in
@@ -95,10 +95,10 @@ returns-clause-has g c = λ volume of k is within.
     let high = option_copied c.args.keys.high in
     let before = c.args.found.now.items in
     let since = c.in-Some.ensures.unchanged in
-    let version = version_since (g.L.Look.standing self.look) s (g.L.Look.words self.look) w self.page volume since.standing since.words of.version in
+    let version = version_since (g.L.Look.page_state self.look) s (g.L.Look.words self.look) w self.page volume since.page_state since.words of.version in
     let all = get_or contents.entries c.in-Some.index.place nowhere in
     let rising = tree_rising s w all.root (entry_tree s w contents c.in-Some.index.place nowhere version.in_hand c.in-Some.ensures.found.named.in_range) in
-    let there = range_has w contents volume name c.in-Some.index.place nowhere version.spells c.in-Some.ensures.found.named version.sound low high rising k is within in
+    let there = range_has w contents volume name c.in-Some.index.place nowhere version.encodes c.in-Some.ensures.found.named version.sound low high rising k is within in
     let new = subst (λ (r : ℕ). Contains (numbers_to (pairs_from (pairs w r) low false) high) is.node) (sym (c.in-Some.ensures.found.root nowhere)) there in
     subst (λ (l : List ℕ). Contains l is.node) (sym c.in_ok-numbers_within.ensures.found)
     (Contains-append_right before (numbers_to (pairs_from (pairs w c.in-Some.index.root) low false) high) is.node new)
@@ -108,13 +108,13 @@ returns-in_err-numbers_within-clause-answers g c = λ volume of.
     let self = c.args.self.now in
     let first = c.in-Some.ensures.unchanged in
     let last = c.numbers_within.ensures.unchanged in
-    source_since (g.L.Look.standing self.look) (g.L.Look.standing c.numbers_within.new.look) (g.L.Look.words self.look) (g.L.Look.words c.numbers_within.new.look) self.page self.known c.known_index.new.known self.cursor self.place self.last.0 self.last.1 volume
-    (last.standing ∙ first.standing) (last.words ∙ first.words) (subst (λ (u : ℕ → ℕ → ℕ). IsKnown (contents_of (u self.page)).entries c.known_index.new.known) (sym last.words) c.in-Some.ensures.known) of
+    source_since (g.L.Look.page_state self.look) (g.L.Look.page_state c.numbers_within.new.look) (g.L.Look.words self.look) (g.L.Look.words c.numbers_within.new.look) self.page self.known c.known_index.new.known self.cursor self.place self.last.0 self.last.1 volume
+    (last.page_state ∙ first.page_state) (last.words ∙ first.words) (subst (λ (u : ℕ → ℕ → ℕ). IsKnown (contents_of (u self.page)).entries c.known_index.new.known) (sym last.words) c.in-Some.ensures.known) of
 
 pub returns-clause-answers : goal.returns-clause-answers
 returns-clause-answers g c = λ volume of.
     let self = c.args.self.now in
     let first = c.in-Some.ensures.unchanged in
     let last = c.numbers_within.ensures.unchanged in
-    source_since (g.L.Look.standing self.look) (g.L.Look.standing c.numbers_within.new.look) (g.L.Look.words self.look) (g.L.Look.words c.numbers_within.new.look) self.page self.known c.known_index.new.known self.cursor self.place self.last.0 self.last.1 volume
-    (last.standing ∙ first.standing) (last.words ∙ first.words) (subst (λ (u : ℕ → ℕ → ℕ). IsKnown (contents_of (u self.page)).entries c.known_index.new.known) (sym last.words) c.in-Some.ensures.known) of
+    source_since (g.L.Look.page_state self.look) (g.L.Look.page_state c.numbers_within.new.look) (g.L.Look.words self.look) (g.L.Look.words c.numbers_within.new.look) self.page self.known c.known_index.new.known self.cursor self.place self.last.0 self.last.1 volume
+    (last.page_state ∙ first.page_state) (last.words ∙ first.words) (subst (λ (u : ℕ → ℕ → ℕ). IsKnown (contents_of (u self.page)).entries c.known_index.new.known) (sym last.words) c.in-Some.ensures.known) of

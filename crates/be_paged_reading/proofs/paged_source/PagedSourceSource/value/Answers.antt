@@ -14,5 +14,5 @@ pub returns-clause-answers : goal.returns-clause-answers
 returns-clause-answers g c = λ volume of.
     let self = c.args.self.now in
     let since = c.get.ensures.unchanged in
-    source_since (g.L.Look.standing self.look) (g.L.Look.standing c.get.new.look) (g.L.Look.words self.look) (g.L.Look.words c.get.new.look) self.page self.known self.known self.cursor self.place self.last.0 self.last.1 volume since.standing since.words
+    source_since (g.L.Look.page_state self.look) (g.L.Look.page_state c.get.new.look) (g.L.Look.words self.look) (g.L.Look.words c.get.new.look) self.page self.known self.known self.cursor self.place self.last.0 self.last.1 volume since.page_state since.words
     (subst (λ (u : ℕ → ℕ → ℕ). IsKnown (contents_of (u self.page)).entries self.known) (sym since.words) of.known_is) of

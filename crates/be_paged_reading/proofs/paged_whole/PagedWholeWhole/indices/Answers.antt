@@ -11,4 +11,4 @@ pub returns-clause-answers : goal.returns-clause-answers
 returns-clause-answers g c = λ volume of.
     let self = c.args.self.now in
     let since = c.kinds_of.ensures.unchanged in
-    version_since (g.L.Look.standing self.look) (g.L.Look.standing c.kinds_of.new.look) (g.L.Look.words self.look) (g.L.Look.words c.kinds_of.new.look) self.page volume since.standing since.words of
+    version_since (g.L.Look.page_state self.look) (g.L.Look.page_state c.kinds_of.new.look) (g.L.Look.words self.look) (g.L.Look.words c.kinds_of.new.look) self.page volume since.page_state since.words of

@@ -2,7 +2,7 @@ use Rattle.std.proofs.Common.{◌≡◌, ℕ, length}
 use Rattle.be_pages.specs.Place.{place_of, swept_place}
 use Rattle.be_pages.proofs.page_pool.PagePool.sweep.Given as goal
 
--- what is to become of each page is what was to become of it
+-- what each page has still to become is what it had to become at first
 abbrev pub invariant-loop-page : goal.invariant-loop-page
 invariant-loop-page l = record {
   swept : (q : ℕ) → swept_place l.least (place_of l.self.places.items q) ≡ swept_place l.least (place_of l.initial.self.places.items q);

@@ -2,7 +2,7 @@ use Rattle.std.proofs.Common.{◌≡◌, ℕ, ◌<◌, ◌≤◌, ◌+◌, lengt
 use Rattle.be_pages.specs.PageSet.{has_page}
 use Rattle.be_pages.proofs.page_set.PageSet.from.Given as goal
 
--- the last pages are in
+-- the last pages are in the set
 abbrev pub invariant-loop-i : goal.invariant-loop-i
 invariant-loop-i l = record {
   pages : length l.set.places.items ≡ l.pages;

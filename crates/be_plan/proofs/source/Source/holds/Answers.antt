@@ -17,21 +17,21 @@ has_key-requires g c = (c.requires.0, c.kind_of.ensures.answers _ (c.value.ensur
 pub returns-then-indexable-clause-answer : goal.returns-then-indexable-clause-answer
 returns-then-indexable-clause-answer g c = λ volume is.
     let asked = c.args.comparison.now in
-    let told = λ (v : Value). holds asked.op v (literal asked.literal) in
+    let reported = λ (v : Value). holds asked.op v (literal asked.literal) in
     let since = c.value.ensures.answers volume is in
     let last = c.kind_of.ensures.answers volume since in
     let P : List ℕ → Type 0 = λ k. IsKey volume asked.name k in
     let key_is = c.as_slice.ensures.value ∙ c.key_of.ensures in
     let kind_is : index_kind volume asked.name ≡ Some c.in-Some-kind_of.field-0 = sym (c.kind_of.ensures.answer volume since) ∙ c.in-Some-kind_of.is in
-    seen_by_key volume (g.met.Self.Source.sound c.args.self.now volume is) asked.name c.args.node c.ranges.node.fits told c.in-Some.value c.in-Some-kind_of.field-0 kind_is (sym (c.in-Some.ensures.answer volume is))
+    seen_by_key volume (g.met.Self.Source.sound c.args.self.now volume is) asked.name c.args.node c.ranges.node.fits reported c.in-Some.value c.in-Some-kind_of.field-0 kind_is (sym (c.in-Some.ensures.answer volume is))
     (sym c.holds.ensures ∙ c.if-not-holds.false) c.has_key.result (λ yes. subst P key_is (c.has_key.ensures.found volume last yes)) (λ k. c.has_key.ensures.finds volume last (subst P (sym key_is) k))
 
 pub returns-else-indexable-clause-answer : goal.returns-else-indexable-clause-answer
 returns-else-indexable-clause-answer g c = λ volume is.
     let asked = c.args.comparison.now in
-    let told = λ (v : Value). holds asked.op v (literal asked.literal) in
+    let reported = λ (v : Value). holds asked.op v (literal asked.literal) in
     let since = c.value.ensures.answers volume is in
     let kind_is : index_kind volume asked.name ≡ Some c.in-Some-kind_of.field-0 = sym (c.kind_of.ensures.answer volume since) ∙ c.in-Some-kind_of.is in
     c.if-indexable.false
-    ∙ not_indexable volume (g.met.Self.Source.sound c.args.self.now volume is) asked.name c.args.node c.ranges.node.fits told c.in-Some.value c.in-Some-kind_of.field-0 kind_is (sym (c.in-Some.ensures.answer volume is))
+    ∙ not_indexable volume (g.met.Self.Source.sound c.args.self.now volume is) asked.name c.args.node c.ranges.node.fits reported c.in-Some.value c.in-Some-kind_of.field-0 kind_is (sym (c.in-Some.ensures.answer volume is))
     (ap is_indexable (sym c.kind.ensures) ∙ sym c.indexable.ensures ∙ c.if-indexable.false)

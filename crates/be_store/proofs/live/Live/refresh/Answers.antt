@@ -26,9 +26,9 @@ returns-clause-ok c =
     let v = volume_pinned c.args.pass.now.knows in
     let last = c.as_slice.ensures.value ∙ ap (λ (l : LiveQuery). l.last) c.self.view_is in
     let now = c.as_slice-2.ensures.value in
-    let told = c.in_ok-updates.ensures.ok in
+    let reported = c.in_ok-updates.ensures.ok in
     refreshes v c.args.self.now _ c.query_prepared.new.nodes.items c.in_ok-updates.updates.created.items c.in_ok-updates.updates.removed.items
     (ap (λ (l : LiveQuery). scan v l.query) (sym c.self.view_is) ∙ c.in_ok-number.ensures.nodes)
     (c.query_prepared.ensures.same ∙ ap (λ (l : LiveQuery). l.query) c.self.view_is) refl
-    (told.0 ∙ ap (λ (x : List ℕ × List ℕ). without x.0 x.1) (λ i. (now i, last i)))
-    (told.1 ∙ ap (λ (x : List ℕ × List ℕ). without x.0 x.1) (λ i. (last i, now i)))
+    (reported.0 ∙ ap (λ (x : List ℕ × List ℕ). without x.0 x.1) (λ i. (now i, last i)))
+    (reported.1 ∙ ap (λ (x : List ℕ × List ℕ). without x.0 x.1) (λ i. (last i, now i)))

@@ -6,5 +6,5 @@ use Rattle.be_store.proofs.store.Store.apply_or_retry.Given as goal
 abbrev pub invariant-loop-made : goal.invariant-loop-made
 invariant-loop-made l = record {
   pass : IsPassOf l.self l.pass;
-  tries : (holders : List ℕ) × (length holders + 1 ≡ l._made) × (l.pass.knows ≡ tried l.fn.pass.knows holders);
+  tries : (writers : List ℕ) × (length writers + 1 ≡ l._made) × (l.pass.knows ≡ tried l.fn.pass.knows writers);
 }

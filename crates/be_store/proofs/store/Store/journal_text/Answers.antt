@@ -1,6 +1,6 @@
 use Rattle.std.proofs.Common.{Ok, inr, refl}
 use Rattle.be_store.specs.History.{text_seen}
-use Rattle.be_store.proofs.Applied.{learns_only, locks_and_unlocks, told}
+use Rattle.be_store.proofs.Applied.{learns_only, locks_and_unlocks, reported}
 use Rattle.be_store.proofs.store.Store.journal_text.Goals as goal
 
 pub returns-in-Ok-clause-learns : goal.returns-in-Ok-clause-learns
@@ -13,7 +13,7 @@ returns-in-Err-clause-learns c =
 
 pub returns-in-Ok-clause-text : goal.returns-in-Ok-clause-text
 returns-in-Ok-clause-text c =
-    told c.in_ok-held.held.knows c.unlock.result.knows _ (Ok (text_seen c.in_ok-held.held.knows)) c.unlock.ensures.pass refl c.in-Ok.ensures
+    reported c.in_ok-held.held.knows c.unlock.result.knows _ (Ok (text_seen c.in_ok-held.held.knows)) c.unlock.ensures.pass refl c.in-Ok.ensures
 
 pub returns-in-Ok-clause-moves : goal.returns-in-Ok-clause-moves
 returns-in-Ok-clause-moves c =

@@ -1,11 +1,11 @@
 use Rattle.std.proofs.Common.{◌≡◌, ◌+◌, ◌*◌, sym, ap, ◌∙◌, arith, refl}
 use Rattle.be_table.proofs.Moves.{announces_as}
-use Rattle.be_table.proofs.Told.{announced_told}
+use Rattle.be_table.proofs.Reported.{announced_reported}
 use Rattle.be_table.proofs.table.VersionTable.announce.Goals as goal
 
 pub store-requires : goal.store-requires
 store-requires c =
-    let p = c.into_base-base.ensures.pass in let t = c.into_base-base.ensures.told in let i = c.self.invariant in
+    let p = c.into_base-base.ensures.pass in let t = c.into_base-base.ensures.reported in let i = c.self.invariant in
     let e : c.move_out.result.knows.limits.passes ≡ c.self.inside.limits.passes = ap (λ s. s.knows.limits.passes) c.move_out.ensures.0 ∙ ap (λ l. l.passes) c.requires.seat.2 ∙ sym (ap (λ t. t.limits.passes) c.self.view_is) ∙ sym (ap (λ l. l.passes) i.2) in
     let lt = t.1.pass.number_below in
     let k = ap (λ s. s.knows) c.move_out.ensures.0 in (
@@ -14,8 +14,8 @@ store-requires c =
       announces_as _ _ _ c.move_out.result.knows _ _ p.1 c.args.number _ _ (ap (λ n. n.phase) k ∙ c.requires.looked) (ap (λ n. 16 + 8 * n) (sym t.1.number_is)) refl,
     )
 
-pub of-requires-clause-told : goal.of-requires-clause-told
-of-requires-clause-told c =
-    let p = c.into_base-base.ensures.pass in let t = c.into_base-base.ensures.told in
+pub of-requires-clause-reported : goal.of-requires-clause-reported
+of-requires-clause-reported c =
+    let p = c.into_base-base.ensures.pass in let t = c.into_base-base.ensures.reported in
     let k = ap (λ s. s.knows) c.move_out.ensures.0 in
-    announced_told _ _ c.move_out.result.knows (c.args.number + 1) c.args.number _ _ p.1 (ap (λ n. n.phase) k ∙ c.requires.looked) (omega arith) c.store.ensures.2 t.1
+    announced_reported _ _ c.move_out.result.knows (c.args.number + 1) c.args.number _ _ p.1 (ap (λ n. n.phase) k ∙ c.requires.looked) (omega arith) c.store.ensures.2 t.1

@@ -15,7 +15,7 @@ closed c =
     let g = c.gather.ensures.passes in
     let limits = ap (λ t. t.limits) c.self.view_is in
     subst (λ l. Closes l (map knows_of c.args.seats.items) c.into_journal.result) limits
-    (closes c.self.inside.table.shared.key (map knows_of c.args.seats.items) c.gather.new.rest.id c.gather.new.rest.me.0 _ _ c.in-Some.ledger c.into_journal.result g
+    (closes c.self.inside.table.shared.key (map knows_of c.args.seats.items) c.gather.new.rest.id c.gather.new.rest.me.0 _ _ c.in-Some.writer_state c.into_journal.result g
     (λ k lt. c.requires.all k (subst (λ l. k < l.passes) limits lt)) c.close_with-closed.ensures.values.2 (c.take-slot.ensures.value ∙ ap some c.in-Some.is) c.into_journal.ensures)
 
 pub returns-clause-legal : goal.returns-clause-legal

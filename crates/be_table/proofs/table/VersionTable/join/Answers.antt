@@ -3,7 +3,7 @@ use Rattle.be_table.specs.Rule.{one_step_on}
 use Rattle.be_table.specs.Steps.{longer}
 use Rattle.be_table.proofs.Deals.{joins}
 use Rattle.be_table.proofs.Meetings.{left_longer, right_longer}
-use Rattle.be_table.proofs.Witnesses.{attests_as, joined_front, learns_as, told_joined}
+use Rattle.be_table.proofs.Witnesses.{attests_as, joined_front, learns_as, reported_joined}
 use Rattle.be_table.proofs.table.VersionTable.join.Goals as goal
 use Rattle.be_table.proofs.table.VersionTable.join.Goals.{then-marks-seen, else-marks-seen}
 
@@ -18,7 +18,7 @@ load-requires c =
     let j = c.join_seat.ensures in (
       j.0 ∙ p.0 ∙ ap (λ s. s.table) c.move_out.ensures.0 ∙ c.requires.0.1 ∙ id,
       omega (arith, c.self.invariant.0),
-      learns_as _ _ _ (one_step_on c.move_out.result.knows) c.move_out-2.result.seen _ (joined_front _ _ _ _ _ p.1 q.1 j.2) c.into_base-base.ensures.told.1.writes,
+      learns_as _ _ _ (one_step_on c.move_out.result.knows) c.move_out-2.result.seen _ (joined_front _ _ _ _ _ p.1 q.1 j.2) c.into_base-base.ensures.reported.1.writes,
     )
 
 pub split_seat-front-requires : goal.split_seat-front-requires
@@ -27,12 +27,12 @@ split_seat-front-requires c =
     let j = c.join_seat.ensures in let l = c.load.ensures in
     (l.0 ∙ j.0 ∙ p.0 ∙ ap (λ s. s.table) c.move_out.ensures.0 ∙ c.requires.0.1 ∙ id, omega (arith, c.self.invariant.0), attests_as _ _ _ _ (ap (λ m. m.0) l.2.0))
 
-pub of-requires-clause-told : goal.of-requires-clause-told
-of-requires-clause-told c =
+pub of-requires-clause-reported : goal.of-requires-clause-reported
+of-requires-clause-reported c =
     let p = c.into_base-base.ensures in let q = c.into_base-other.ensures in
     let a = c.move_out.result.knows in let front = c.move_out-2.result.seen in
     let long : length (longer a.seen front) ≡ c.if-marks-seen.both = elim c.if-marks-seen.branch [
-      | then-marks-seen w ↦ right_longer a.seen front (omega (arith, p.told.1.seen_is, q.length, w.if-marks-seen)) ∙ q.length ∙ sym w.both-is
-      | else-marks-seen w ↦ left_longer a.seen front (omega (arith, p.told.1.seen_is, q.length, w.if-marks-seen)) ∙ p.told.1.seen_is ∙ sym w.both-is
+      | then-marks-seen w ↦ right_longer a.seen front (omega (arith, p.reported.1.seen_is, q.length, w.if-marks-seen)) ∙ q.length ∙ sym w.both-is
+      | else-marks-seen w ↦ left_longer a.seen front (omega (arith, p.reported.1.seen_is, q.length, w.if-marks-seen)) ∙ p.reported.1.seen_is ∙ sym w.both-is
     ] in
-    told_joined a front _ _ _ c.load.new.seat.me _ _ p.pass.1 q.front.1 c.join_seat.ensures.2 c.load.ensures.2 c.split_seat-front.new.seat.me _ c.split_seat-front.ensures.2 long p.told.1
+    reported_joined a front _ _ _ c.load.new.seat.me _ _ p.pass.1 q.front.1 c.join_seat.ensures.2 c.load.ensures.2 c.split_seat-front.new.seat.me _ c.split_seat-front.ensures.2 long p.reported.1

@@ -1,14 +1,14 @@
 use Rattle.std.proofs.Common.{◌≡◌, ◌<◌, IsTrue, sym, ap, ◌∙◌, subst, arith}
 use Rattle.be_core.specs.Machine.{has}
 use Rattle.be_table.specs.Rule.{one_step_on, pass_of, reach_at}
-use Rattle.be_table.proofs.Told.{told_as, stepped_pass}
+use Rattle.be_table.proofs.Reported.{reported_as, stepped_pass}
 use Rattle.be_table.proofs.Moves.{pinned_as}
 use Rattle.be_table.proofs.Pins.{page_inside}
 use Rattle.be_table.proofs.table.VersionTable.pinned_word.Goals as goal
 
 pub load-found-requires : goal.load-found-requires
 load-found-requires c =
-    let p = c.into_base-base.ensures.pass in let i = c.self.invariant in let t = c.into_base-base.ensures.told in
+    let p = c.into_base-base.ensures.pass in let i = c.self.invariant in let t = c.into_base-base.ensures.reported in
     let k = ap (λ s. s.knows) c.move_out.ensures.0 in
     let r = c.requires.pinned in
     let phase = ap (λ n. n.phase) k ∙ r.2 in
@@ -20,10 +20,10 @@ load-found-requires c =
       pinned_as _ _ _ c.move_out.result.knows _ _ p.1 r.0 r.1 c.args.page c.args.i _ phase reached c.requires.place (omega arith),
     )
 
-pub of-requires-clause-told : goal.of-requires-clause-told
-of-requires-clause-told c =
-    let t = c.into_base-base.ensures.told.1 in
+pub of-requires-clause-reported : goal.of-requires-clause-reported
+of-requires-clause-reported c =
+    let t = c.into_base-base.ensures.reported.1 in
     let a = c.move_out.result.knows in
-    told_as (one_step_on a) c.load-found.new.seat.me c.into_base-base.result.1.number c.into_base-base.result.1.seen
+    reported_as (one_step_on a) c.load-found.new.seat.me c.into_base-base.result.1.number c.into_base-base.result.1.seen
     (ap (λ m. pass_of m.0) c.load-found.ensures.2.0 ∙ ap (λ m. one_step_on (pass_of m.0)) c.into_base-base.ensures.pass.1)
     (record { number_is = t.number_is; seen_is = t.seen_is; writes = t.writes; pass = stepped_pass a _ t.pass })

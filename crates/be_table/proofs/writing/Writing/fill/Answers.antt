@@ -2,9 +2,9 @@ use Rattle.std.proofs.Common.{◌≡◌, ◌<◌, length, IsTrue, refl, sym, ap,
 use Rattle.be_table.specs.declared.pass.Knowledge.{Knowledge}
 use Rattle.be_pages.specs.declared.page_pool.Place.TheVariants.{Filled}
 use Rattle.be_pages.specs.Place.{is_in_hand, place_of}
-use Rattle.be_table.specs.Rule.{alone, ledger_places, pass_of, word_place}
+use Rattle.be_table.specs.Rule.{alone, writer_state_places, pass_of, word_place}
 use Rattle.be_table.specs.Steps.{fills_word, fill_moves, with_history}
-use Rattle.be_table.proofs.Ledgers.{left-fill}
+use Rattle.be_table.proofs.WriterStates.{left-fill}
 use Rattle.be_table.proofs.Opened.{may_fill, reopened}
 use Rattle.be_table.proofs.Worked.{fill_needs, fill_work, reasons_none, worked_more}
 use Rattle.be_table.proofs.writing.Writing.fill.Goals as goal
@@ -30,7 +30,7 @@ invariant_of-self c =
     let b = fills_word (with_history a (pass_of c.fill_word.new.base.me.0).history) c.args.page c.args.i c.args.word in
     reopened w _ b i refl refl refl refl refl c.fill_word.ensures.seat.0 (c.fill_word.ensures.me ∙ ap (λ l. (alone b, l)) (ap (λ m. m.1) i.me_is)) refl i.turn
     (length-set a.words (word_place c.args.page c.args.i) c.args.word) (length-set a.places c.args.page Filled) (c.fill.ensures ∙ ap (λ l. slice_set l c.args.page Filled) i.places)
-    (left-fill w.ledger.left (ledger_places w.ledger) c.args.self.now.knows.places _ c.args.page Filled (i.places ∙ ap (λ (x : Rattle.be_table.specs.Place.Work). x.knows.places) c.self.view_is) c.fill.ensures c.requires.taken.0 c.requires.taken.1 i.left)
+    (left-fill w.writer_state.left (writer_state_places w.writer_state) c.args.self.now.knows.places _ c.args.page Filled (i.places ∙ ap (λ (x : Rattle.be_table.specs.Place.Work). x.knows.places) c.self.view_is) c.fill.ensures c.requires.taken.0 c.requires.taken.1 i.left)
     (λ unpublished. worked_more a.limits a.number a.history (fill_moves a c.args.page c.args.i c.args.word) (pass_of c.fill_word.new.base.me.0).history (fill_work a c.args.page c.args.i c.args.word)
     (reasons_none a.limits a.number a.history (fill_moves a c.args.page c.args.i c.args.word) (pass_of c.fill_word.new.base.me.0).history (fill_needs a.limits a c.args.page c.args.i c.args.word) c.fill_word.ensures.moves) (i.worked unpublished))
 

@@ -1,13 +1,13 @@
 use Rattle.std.proofs.Common.{refl, ◌≡◌, ◌<◌, length, IsTrue, sym, ap, ◌∙◌, subst, arith, length-set, slice_set}
 use Rattle.be_table.specs.declared.pass.Knowledge.{Knowledge}
 use Rattle.be_pages.specs.Place.{given_place, is_held_page, place_of}
-use Rattle.be_table.specs.Rule.{alone, ledger_places, pass_of}
+use Rattle.be_table.specs.Rule.{alone, writer_state_places, pass_of}
 use Rattle.be_table.specs.Place.{Work}
 use Rattle.be_table.specs.Steps.{gives_up, given_moves, with_history}
 use Rattle.be_table.specs.Trace.{Makes}
 use Rattle.be_table.specs.Writes.{work_of}
 use Rattle.be_table.proofs.Holding.{gives_as}
-use Rattle.be_table.proofs.Ledgers.{left-give}
+use Rattle.be_table.proofs.WriterStates.{left-give}
 use Rattle.be_table.proofs.Opened.{reopened}
 use Rattle.be_table.proofs.Worked.{given_needs, given_work, reasons_none, worked_more}
 use Rattle.be_table.proofs.writing.Writing.give_up.Goals as goal
@@ -34,7 +34,7 @@ invariant_of-self c =
     let m = g.2 in
     reopened w _ b i refl refl refl refl refl s.0 (m ∙ ap (λ l. (alone b, l)) (ap (λ m. m.1) i.me_is)) refl i.turn refl (length-set a.places c.args.page (given_place (place_of a.places c.args.page)))
     (c.give_up.ensures ∙ ap (λ l. slice_set l c.args.page (given_place (place_of l c.args.page))) i.places)
-    (left-give w.ledger.left (ledger_places w.ledger) c.args.self.now.knows.places _ c.args.page _ (i.places ∙ ap (λ (x : Rattle.be_table.specs.Place.Work). x.knows.places) c.self.view_is) c.give_up.ensures c.requires.held.0 c.requires.held.1 i.left)
+    (left-give w.writer_state.left (writer_state_places w.writer_state) c.args.self.now.knows.places _ c.args.page _ (i.places ∙ ap (λ (x : Rattle.be_table.specs.Place.Work). x.knows.places) c.self.view_is) c.give_up.ensures c.requires.held.0 c.requires.held.1 i.left)
     (λ unpublished. worked_more a.limits a.number a.history (given_moves a c.args.page) g.0 (given_work a c.args.page)
     (reasons_none a.limits a.number a.history (given_moves a c.args.page) g.0 (given_needs a.limits a c.args.page) g.1) (i.worked unpublished))
 

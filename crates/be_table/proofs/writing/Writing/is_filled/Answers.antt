@@ -1,4 +1,4 @@
-use Rattle.be_table.proofs.Standings.{filled_place}
+use Rattle.be_table.proofs.PageStates.{filled_place}
 use Rattle.be_table.proofs.writing.Writing.is_filled.Goals as goal
 
 pub returns : goal.returns

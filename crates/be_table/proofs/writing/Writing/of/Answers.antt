@@ -4,7 +4,7 @@ use Rattle.be_table.proofs.Worked.{worked_none}
 use Rattle.be_table.proofs.writing.Writing.of.Goals as goal
 
 pub invariant_of-result : goal.invariant_of-result
-invariant_of-result c = let l = c.requires.ledger in let p = c.requires.pass in record {
+invariant_of-result c = let l = c.requires.writer_state in let p = c.requires.pass in record {
   table_is = c.requires.seat.0;
   me_is = c.requires.seat.1;
   number_is = p.0;

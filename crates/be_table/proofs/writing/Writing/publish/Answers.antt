@@ -5,22 +5,22 @@ use Rattle.be_journal.specs.Journal.{Agrees, replay}
 use Rattle.be_pages.specs.Place.{is_retired, retired_at, place_of, published_place}
 use Rattle.be_table.specs.declared.pass.Knowledge.{Knowledge}
 use Rattle.be_table.specs.Place.{Work}
-use Rattle.be_table.specs.Rule.{alone, entries, ledger_places, page_at, pass_of}
+use Rattle.be_table.specs.Rule.{alone, entries, writer_state_places, page_at, pass_of}
 use Rattle.be_table.specs.Seats.{pin_of}
-use Rattle.be_table.specs.Ledger.{is_of_next}
-use Rattle.be_pages.specs.declared.room.Standing.TheVariants.{Taken}
-use Rattle.be_table.specs.Reading.{standing_among, word_of_page}
+use Rattle.be_table.specs.WriterState.{is_of_next}
+use Rattle.be_pages.specs.declared.room.PageState.TheVariants.{Taken}
+use Rattle.be_table.specs.Reading.{page_state_among, word_of_page}
 use Rattle.be_table.specs.Steps.{commit_of, pages_from, publishes, with_history}
 use Rattle.be_table.specs.Working.{HasWorked}
-use Rattle.be_table.specs.Versions.{SpellsVolume}
-use Rattle.be_table.proofs.Keeping.{spells_kept}
-use Rattle.be_table.proofs.Ledgers.{left-publish}
+use Rattle.be_table.specs.Versions.{EncodesVolume}
+use Rattle.be_table.proofs.Keeping.{encodes_kept}
+use Rattle.be_table.proofs.WriterStates.{left-publish}
 use Rattle.be_table.proofs.Frames.{entries-append}
 use Rattle.be_table.proofs.Answers.{answers_each}
 use Rattle.be_table.proofs.Opened.{seen_length}
 use Rattle.be_table.proofs.PinMarks.{pin_stays}
 use Rattle.be_table.proofs.Publishing.{last_page}
-use Rattle.be_table.proofs.Standings.{unreserved}
+use Rattle.be_table.proofs.PageStates.{unreserved}
 use Rattle.be_table.proofs.writing.Writing.publish.Goals as goal
 
 pub store_version-requires-clause-pass : goal.store_version-requires-clause-pass
@@ -41,10 +41,10 @@ store_version-requires-clause-pass c =
         room = (i.room (let n = c.requires.count.0 in let r = c.requires.reserved in omega arith)).1;
         inside = subst (λ (n : Knowledge). c.args.page < length n.places) (sym k) c.is_filled.ensures.0;
         filled = ap (λ (n : Knowledge). place_of n.places c.args.page) k ∙ c.is_filled.ensures.1;
-        none_reserved = λ q. unreserved a.places q (subst (λ (n : Knowledge). standing_among n.places q ≢ Taken) (sym k) (c.requires.filled q)) (omega (arith, few, ap (λ (x : Knowledge). length x.places) k));
-        spelt = subst (λ (n : Knowledge). SpellsVolume (pages_from is_of_next 0 n.places) (word_of_page n.words) c.args.page (replay (entries n.seen ++ e ∷ []))) (sym k)
-            (subst (λ s. SpellsVolume (pages_from is_of_next 0 n0.places) (word_of_page n0.words) c.args.page s) (sym (c.replay_push.ensures (entries n0.seen) e))
-            (spells_kept n0.places few c.requires.filled (word_of_page n0.words) c.args.page _ c.requires.volume c.requires.exact));
+        none_reserved = λ q. unreserved a.places q (subst (λ (n : Knowledge). page_state_among n.places q ≢ Taken) (sym k) (c.requires.filled q)) (omega (arith, few, ap (λ (x : Knowledge). length x.places) k));
+        encoded = subst (λ (n : Knowledge). EncodesVolume (pages_from is_of_next 0 n.places) (word_of_page n.words) c.args.page (replay (entries n.seen ++ e ∷ []))) (sym k)
+            (subst (λ s. EncodesVolume (pages_from is_of_next 0 n0.places) (word_of_page n0.words) c.args.page s) (sym (c.replay_push.ensures (entries n0.seen) e))
+            (encodes_kept n0.places few c.requires.filled (word_of_page n0.words) c.args.page _ c.requires.volume c.requires.exact));
       },
     )
 
@@ -56,7 +56,7 @@ invariant_of-self c =
     let commit = commit_of a e c.args.page in
     let m : c.store_version.new.base.me ≡ (alone b, (0, None) ∷ []) = c.store_version.ensures.me ∙ ap (λ l. (alone b, l)) (ap (λ m. m.1) i.me_is) in
     let k : pass_of c.store_version.new.base.me.0 ≡ b = ap (λ m. pass_of m.0) m in
-    let long : length w.ledger.journal.entries ≡ length a.seen = ap length i.journal ∙ seen_length a.seen in
+    let long : length w.writer_state.journal.entries ≡ length a.seen = ap length i.journal ∙ seen_length a.seen in
     let places = c.append.ensures.places in
     record {
       table_is = c.store_version.ensures.seat.0 ∙ i.table_is;
@@ -68,14 +68,14 @@ invariant_of-self c =
       journal = ap (λ j. j.entries) c.append.ensures.journal ∙ ap (λ l. l ++ e ∷ []) i.journal ∙ sym (entries-append a.seen (commit ∷ [])) ∙ sym (ap (λ (x : Knowledge). entries x.seen) k);
       page = c.append.ensures.page ∙ sym (last_page a.seen commit) ∙ sym (ap (λ (x : Knowledge). page_at x.seen (length x.seen)) k);
       places = places ∙ (λ n. map (published_place (long n)) (i.places n)) ∙ sym (ap (λ (x : Knowledge). x.places) k);
-      count = ap length places ∙ length-map (ledger_places w.ledger) (published_place (length w.ledger.journal.entries)) ∙ i.count;
+      count = ap length places ∙ length-map (writer_state_places w.writer_state) (published_place (length w.writer_state.journal.entries)) ∙ i.count;
       size = ap (λ (x : Knowledge). length x.words) k ∙ i.size;
       turn = ap (λ (x : Knowledge). x.scanned) k ∙ i.turn;
       pin = i.pin ∙ sym (pin_stays a.phase a.seen b.seen i.pass.pin (commit ∷ [], refl)) ∙ sym (ap (λ (x : Knowledge). pin_of x.phase x.seen) k);
       pass = c.store_version.ensures.pass;
       limit = ap (λ j. j.limit) c.append.ensures.journal ∙ i.limit;
-      left = subst (λ n. n ≤ count_by is_retired (ledger_places c.append.new.self)) (sym c.append.ensures.left)
-          (left-publish w.ledger.left (length w.ledger.journal.entries) (ledger_places w.ledger) (ledger_places c.append.new.self) places i.left);
+      left = subst (λ n. n ≤ count_by is_retired (writer_state_places c.append.new.self)) (sym c.append.ensures.left)
+          (left-publish w.writer_state.left (length w.writer_state.journal.entries) (writer_state_places w.writer_state) (writer_state_places c.append.new.self) places i.left);
       room = λ some. absurd (omega (arith, some));
       worked = λ unpublished. absurd (true≢false (sym (ap (λ (x : Knowledge). x.published) k) ∙ unpublished));
     }

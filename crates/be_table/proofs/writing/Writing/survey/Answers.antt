@@ -10,7 +10,7 @@ use Rattle.be_table.specs.Working.{HasWorked, MakesForReason}
 use Rattle.be_table.specs.Works.{HasNoFree, HasReasonToScan}
 use Rattle.be_table.specs.Writes.{work_of}
 use Rattle.be_table.proofs.Opened.{reopened}
-use Rattle.be_table.proofs.Standings.{none_past}
+use Rattle.be_table.proofs.PageStates.{none_past}
 use Rattle.be_table.proofs.Worked.{worked_scan}
 use Rattle.be_table.proofs.writing.Writing.survey.Goals as goal
 

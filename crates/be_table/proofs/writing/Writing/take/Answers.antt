@@ -1,6 +1,6 @@
 use Rattle.std.proofs.Common.{◌≡◌, false, arith, refl, sym, subst, inl, inr}
 use Rattle.be_table.specs.Place.{Work}
-use Rattle.be_table.specs.Steps.{IsOwnLeast}
+use Rattle.be_table.specs.Steps.{IsOwnLowest}
 use Rattle.be_table.specs.Works.{HasNoFree, MakesScan, FindsNone}
 use Rattle.be_table.proofs.Announced.{held_still, was_announced}
 use Rattle.be_table.proofs.Opened.{all_held}
@@ -28,9 +28,9 @@ returns-in-None-clause-full c =
         none = e.none;
         full = (
           (
-            sym h.least_is,
+            sym h.lowest_is,
             λ p lt. all_held c.args.self.now c.scan-least.new.self c.scan-least.result h e.none p (let count = e.count in omega arith),
-            subst (λ (w : Work). IsOwnLeast w.knows c.scan-least.result) (sym h.same) h.own,
+            subst (λ (w : Work). IsOwnLowest w.knows c.scan-least.result) (sym h.same) h.own,
             was_announced c.args.self.now c.scan-least.new.self c.scan-least.result h,
           ),
           held_still c.args.self.now c.scan-least.new.self c.scan-least.result h,

@@ -7,9 +7,9 @@ use Rattle.be_paged_reading.specs.Version.{IsVersion}
 use Rattle.be_volume.specs.Ahead.{state_after, reached}
 use Rattle.be_volume.specs.Volume.{State, steps}
 use Rattle.be_table.specs.declared.pass.Knowledge.{Knowledge}
-use Rattle.be_table.specs.Reading.{standing_among, word_of_page, StaysOpen}
+use Rattle.be_table.specs.Reading.{page_state_among, word_of_page, StaysOpen}
 use Rattle.be_table.specs.Rule.{entries, reach_at}
-use Rattle.be_table.specs.Versions.{SpellsVolume}
+use Rattle.be_table.specs.Versions.{EncodesVolume}
 use Rattle.be_table.proofs.Keeping.{begun_version, keeps_exactly}
 use Rattle.be_table_tests.proofs.tests.writes.write.Goals as goal
 
@@ -17,7 +17,7 @@ pub apply_to-requires : goal.apply_to-requires
 apply_to-requires c =
     let t = c.requires.begun.1 in let k = c.args.writing.now.knows in (
       begun_version k t.begun c.current-old.result.1 (replay (entries k.seen))
-          (subst (λ p. SpellsVolume (reach_at k.seen (length k.seen)) (word_of_page k.words) p (replay (entries k.seen))) (sym c.current-old.ensures.version.1) t.spelt),
+          (subst (λ p. EncodesVolume (reach_at k.seen (length k.seen)) (word_of_page k.words) p (replay (entries k.seen))) (sym c.current-old.ensures.version.1) t.encoded),
       (c.requires.count, (c.current-old.ensures.next, ap (λ (x : Knowledge). x.published) t.same)),
     )
 
@@ -30,8 +30,8 @@ publish-requires-clause-entry c =
 pub publish-requires-clause-filled : goal.publish-requires-clause-filled
 publish-requires-clause-filled c =
     let t = c.requires.begun.1 in let ok = c.in_ok-page.ensures.ok in let old = c.args.writing.now in
-    let first = subst (λ p. SpellsVolume (reach_at old.knows.seen (length old.knows.seen)) (word_of_page old.knows.words) p (replay (entries old.knows.seen))) (sym c.current-old.ensures.version.1) t.spelt in
-    λ q e. (keeps_exactly old c.apply_to.new.writing c.current-old.result.1 c.in_ok-page.page _ ok.made t.begun first ok.version ok.swaps q).1 (ap (λ (k : Knowledge). standing_among k.places q) (sym c.make_room.ensures.knows) ∙ e)
+    let first = subst (λ p. EncodesVolume (reach_at old.knows.seen (length old.knows.seen)) (word_of_page old.knows.words) p (replay (entries old.knows.seen))) (sym c.current-old.ensures.version.1) t.encoded in
+    λ q e. (keeps_exactly old c.apply_to.new.writing c.current-old.result.1 c.in_ok-page.page _ ok.made t.begun first ok.version ok.swaps q).1 (ap (λ (k : Knowledge). page_state_among k.places q) (sym c.make_room.ensures.knows) ∙ e)
 
 pub publish-requires-clause-volume : goal.publish-requires-clause-volume
 publish-requires-clause-volume c =
@@ -40,11 +40,11 @@ publish-requires-clause-volume c =
     ap (λ (k : Knowledge). state_after (replay (entries k.seen)) c.args.ops.now) c.make_room.ensures.knows
     ∙ ap (λ (o : StaysOpen). state_after (replay (entries o.seen)) c.args.ops.now) ok.swaps.kept
     ∙ ap (reached (replay (entries old.knows.seen))) ok.stepped in
-    subst (λ (x : Knowledge × State). IsVersion (standing_among x.0.places) (word_of_page x.0.words) c.in_ok-page.page x.1) (λ i. (sym c.make_room.ensures.knows i, sym made i)) ok.version
+    subst (λ (x : Knowledge × State). IsVersion (page_state_among x.0.places) (word_of_page x.0.words) c.in_ok-page.page x.1) (λ i. (sym c.make_room.ensures.knows i, sym made i)) ok.version
 
 pub publish-requires-clause-exact : goal.publish-requires-clause-exact
 publish-requires-clause-exact c =
     let t = c.requires.begun.1 in let ok = c.in_ok-page.ensures.ok in let old = c.args.writing.now in
-    let first = subst (λ p. SpellsVolume (reach_at old.knows.seen (length old.knows.seen)) (word_of_page old.knows.words) p (replay (entries old.knows.seen))) (sym c.current-old.ensures.version.1) t.spelt in
-    subst (λ (k : Knowledge). (q : ℕ) → times q (reach (word_of_page k.words) c.in_ok-page.page) ≡ bit (is_kept (standing_among k.places q))) (sym c.make_room.ensures.knows)
+    let first = subst (λ p. EncodesVolume (reach_at old.knows.seen (length old.knows.seen)) (word_of_page old.knows.words) p (replay (entries old.knows.seen))) (sym c.current-old.ensures.version.1) t.encoded in
+    subst (λ (k : Knowledge). (q : ℕ) → times q (reach (word_of_page k.words) c.in_ok-page.page) ≡ bit (is_kept (page_state_among k.places q))) (sym c.make_room.ensures.knows)
     (λ q. (keeps_exactly old c.apply_to.new.writing c.current-old.result.1 c.in_ok-page.page _ ok.made t.begun first ok.version ok.swaps q).0)

@@ -1,13 +1,13 @@
 use Rattle.std.proofs.Common.{◌≡◌, ℕ, suc, List, [], ◌∷◌, ◌++◌, ◌+◌, ◌-◌, ◌*◌, ◌/◌, ◌<◌, ◌≤◌, length, drop, not, ap, sym, subst, ◌∙◌, arith, append_assoc, Some}
 use Rattle.std.proofs.lemmas.List.{length-append}
-use Rattle.be_pages.specs.declared.room.Standing.{Standing}
+use Rattle.be_pages.specs.declared.room.PageState.{PageState}
 use Rattle.be_tree_reading.specs.declared.cursor.Place.{Place}
 use Rattle.be_tree_reading.specs.Back.{pairs_before, pairs_up_to}
 use Rattle.be_tree_reading.specs.Cursor.{IsPath}
 use Rattle.be_tree_reading.specs.Places.{IsBranchAt}
 use Rattle.be_tree_reading.specs.Page.{items_of, item_at, IsItem}
 use Rattle.be_tree_reading.specs.Range.{pairs_from}
-use Rattle.be_tree_reading.specs.Tree.{IsTreeAt, child, pairs_at, least_of_root}
+use Rattle.be_tree_reading.specs.Tree.{IsTreeAt, child, pairs_at, minimum_of_root}
 use Rattle.be_tree_reading.specs.Way.{pairs_until}
 use Rattle.be_tree_reading.proofs.Reading.Backward.{until_branch, up_push}
 use Rattle.be_tree_reading.proofs.Reading.Cursors.{path_push, leads_down, LeadsDown, root_pairs}
@@ -22,31 +22,31 @@ use Rattle.be_tree_reading.proofs.back.BackCursor.descend.Given.{Over}
 use Rattle.be_tree_reading.proofs.back.BackCursor.descend.Goals as goal
 use Rattle.be_tree_reading.proofs.back.BackCursor.descend.Goals.{After-branch_in-at}
 
--- a path without a place
-empty : (path : List Place) → path ≡ [] → (standing : ℕ → Standing) (words : ℕ → ℕ → ℕ) → IsPath standing words path
-empty path e standing words = subst (IsPath standing words) (sym e) (record { places = λ i d lt. absurd (omega (arith, lt)); short = λ i d lt. absurd (omega (arith, lt)) })
+-- an empty path
+empty : (path : List Place) → path ≡ [] → (page_state : ℕ → PageState) (words : ℕ → ℕ → ℕ) → IsPath page_state words path
+empty path e page_state words = subst (IsPath page_state words) (sym e) (record { places = λ i d lt. absurd (omega (arith, lt)); short = λ i d lt. absurd (omega (arith, lt)) })
 
 pub loop-level-init : goal.loop-level-init
 loop-level-init g c =
-    let standing = g.L.Look.standing c.args.look.now in
+    let page_state = g.L.Look.page_state c.args.look.now in
     let words = g.L.Look.words c.args.look.now in
     let page = c.args.root - 1 in
     let level = c.word-level.result in
     let path = c.args.self.now.path.items in
     let e : c.args.root ≡ suc page = omega (arith, c.requires.some) in
-    let tree = root_tree c.args.root page level standing words e c.word-level.ensures.value c.requires.tree in
+    let tree = root_tree c.args.root page level page_state words e c.word-level.ensures.value c.requires.tree in
     record {
-      least = least_of_root level;
+      least = minimum_of_root level;
       some = root_some level;
       tree = tree;
-      path = empty path c.requires.empty standing words;
-      short = omega (arith, ap length c.requires.empty, height level (least_of_root level) standing words page (root_some level) tree (g.met.L.Look.pages_small c.args.look.now));
+      path = empty path c.requires.empty page_state words;
+      short = omega (arith, ap length c.requires.empty, height level (minimum_of_root level) page_state words page (root_some level) tree (g.met.L.Look.pages_small c.args.look.now));
       same = ap (λ ps. pairs_up_to words ps ++ pairs_until (pairs_at level words page) (Some c.args.to.now) c.args.before) c.requires.empty
           ∙ ap (λ xs. pairs_until xs (Some c.args.to.now) c.args.before) (sym (root_pairs c.args.root page level words e c.word-level.ensures.value));
-      unchanged = record { kept = c.word-level.ensures.kept; standing = c.word-level.ensures.standing; words = c.word-level.ensures.words };
+      unchanged = record { kept = c.word-level.ensures.kept; page_state = c.word-level.ensures.page_state; words = c.word-level.ensures.words };
     }
 
--- the room after the search in a page is as at first
+-- after the search on a page, the words are those at the call
 words_same : (g : Over) (c : After-branch_in-at g) → g.L.Look.words c.branch_in-at.new.look ≡ g.L.Look.words c.args.look.now
 words_same g c = c.branch_in-at.ensures.unchanged.words ∙ c.loop-level.invariant.unchanged.words
 
@@ -56,11 +56,11 @@ found g c = subst (λ (w : ℕ → ℕ → ℕ). IsBranchAt c.args.to.now (items
 at_item : (g : Over) (c : After-branch_in-at g) → (found g c).number < g.L.Look.words c.args.look.now c.loop-level.page 1
 at_item g c = omega (arith, (found g c).is_branch.before, (found g c).is_branch.is_rank.in_range, c.loop-level.invariant.tree.node.enough, c.loop-level.invariant.some, items_count (g.L.Look.words c.args.look.now c.loop-level.page))
 
-leads : (g : Over) (c : After-branch_in-at g) → LeadsDown c.loop-level.level (c.loop-level.level - 1) (g.L.Look.standing c.args.look.now) (g.L.Look.words c.args.look.now) c.loop-level.page (found g c).number (item_at (g.L.Look.words c.args.look.now c.loop-level.page) (2 + 42 * (found g c).number))
-leads g c = leads_down c.loop-level.level (c.loop-level.level - 1) (g.L.Look.standing c.args.look.now) (g.L.Look.words c.args.look.now) c.loop-level.invariant.least c.loop-level.page (found g c).number
+leads : (g : Over) (c : After-branch_in-at g) → LeadsDown c.loop-level.level (c.loop-level.level - 1) (g.L.Look.page_state c.args.look.now) (g.L.Look.words c.args.look.now) c.loop-level.page (found g c).number (item_at (g.L.Look.words c.args.look.now c.loop-level.page) (2 + 42 * (found g c).number))
+leads g c = leads_down c.loop-level.level (c.loop-level.level - 1) (g.L.Look.page_state c.args.look.now) (g.L.Look.words c.args.look.now) c.loop-level.invariant.least c.loop-level.page (found g c).number
     (omega (arith, c.loop-level-test.true)) c.loop-level.invariant.tree (at_item g c)
 
--- the number of the branch's place
+-- the number of the branch at its place
 number_is : (g : Over) (c : After-branch_in-at g) → (c.branch_in-at.result - 2) / 42 ≡ (found g c).number
 number_is g c = omega (arith, (found g c).is_place)
 
@@ -94,7 +94,7 @@ child_at-child-requires-clause-names_page g c =
 pub overflow_cast-page : goal.overflow_cast-page
 overflow_cast-page g c =
     let i = c.loop-level.invariant in
-    omega (arith, g.met.L.Look.pages_small c.args.look.now c.loop-level.page (kept_not_free (g.L.Look.standing c.args.look.now c.loop-level.page) i.tree.page_in_use))
+    omega (arith, g.met.L.Look.pages_small c.args.look.now c.loop-level.page (kept_not_free (g.L.Look.page_state c.args.look.now c.loop-level.page) i.tree.page_in_use))
 
 pub overflow_cast-next : goal.overflow_cast-next
 overflow_cast-next g c =
@@ -107,7 +107,7 @@ overflow_cast-level g c = omega (arith, c.loop-level.invariant.short)
 pub loop-level-preserved : goal.loop-level-preserved
 loop-level-preserved g c =
     let at = (goal.at.loop-level-preserved g c).After-branch_in-at in
-    let standing = g.L.Look.standing c.args.look.now in
+    let page_state = g.L.Look.page_state c.args.look.now in
     let words = g.L.Look.words c.args.look.now in
     let page = c.loop-level.page in
     let level = c.loop-level.level in
@@ -124,20 +124,20 @@ loop-level-preserved g c =
     record {
       least = 1;
       some = omega arith;
-      tree = subst (λ p. IsTreeAt down 1 standing words p) (sym is) lead.tree;
-      path = subst (IsPath standing words) (sym pushed) (path_push standing words path place c.loop-level.invariant.path
-          (record { tree = tree_weaker level c.loop-level.invariant.least standing words page c.loop-level.invariant.some c.loop-level.invariant.tree; in_range = omega (arith, at_item g at, items_count (words page)) })
+      tree = subst (λ p. IsTreeAt down 1 page_state words p) (sym is) lead.tree;
+      path = subst (IsPath page_state words) (sym pushed) (path_push page_state words path place c.loop-level.invariant.path
+          (record { tree = tree_weaker level c.loop-level.invariant.least page_state words page c.loop-level.invariant.some c.loop-level.invariant.tree; in_range = omega (arith, at_item g at, items_count (words page)) })
           c.loop-level.invariant.short);
       short = omega (arith, c.loop-level.invariant.short, c.loop-level-test.true, ap length pushed, length-append path (place ∷ []));
       same = ap (λ p. pairs_up_to words c.push.new.self.items ++ pairs_until (pairs_at down words p) (Some c.args.to.now) c.args.before) is
           ∙ ap (λ ps. pairs_up_to words ps ++ here) pushed
           ∙ ap (λ xs. xs ++ here) (up_push words path place)
           ∙ append_assoc (pairs_up_to words path) (pairs_before words place) here
-          ∙ ap (λ xs. pairs_up_to words path ++ xs) (sym (until_branch level down standing words c.loop-level.invariant.least page c.args.to.now (found g at).is_branch.rank next c.args.before
+          ∙ ap (λ xs. pairs_up_to words path ++ xs) (sym (until_branch level down page_state words c.loop-level.invariant.least page c.args.to.now (found g at).is_branch.rank next c.args.before
           (omega (arith, c.loop-level-test.true)) c.loop-level.invariant.tree c.loop-level.invariant.some (found g at).is_branch.is_rank (found g at).is_branch.before (at_item g at)))
           ∙ c.loop-level.invariant.same;
-      unchanged = unchanged_trans g.L.Look.kept g.L.Look.standing g.L.Look.words c.args.look.now c.branch_in-at.new.look c.child_at-child.new.look
-          (unchanged_trans g.L.Look.kept g.L.Look.standing g.L.Look.words c.args.look.now c.loop-level.look c.branch_in-at.new.look c.loop-level.invariant.unchanged c.branch_in-at.ensures.unchanged) c.child_at-child.ensures.unchanged;
+      unchanged = unchanged_trans g.L.Look.kept g.L.Look.page_state g.L.Look.words c.args.look.now c.branch_in-at.new.look c.child_at-child.new.look
+          (unchanged_trans g.L.Look.kept g.L.Look.page_state g.L.Look.words c.args.look.now c.loop-level.look c.branch_in-at.new.look c.loop-level.invariant.unchanged c.branch_in-at.ensures.unchanged) c.child_at-child.ensures.unchanged;
     }
 
 pub overflow_cast-next-2 : goal.overflow_cast-next-2
@@ -146,19 +146,19 @@ overflow_cast-next-2 g c =
     let in_range = subst (λ (w : ℕ → ℕ → ℕ). c.leaf_from-next.result ≤ length (items_of (w c.loop-level.page))) i.unchanged.words c.leaf_from-next.ensures.in_range in
     omega (arith, in_range, items_count (g.L.Look.words c.args.look.now c.loop-level.page), i.tree.node.is_page.few)
 
--- the leaf that was come to
+-- the leaf that the descent reached
 pub returns-clause-cursor : goal.returns-clause-cursor
 returns-clause-cursor g c =
-    let standing = g.L.Look.standing c.args.look.now in
+    let page_state = g.L.Look.page_state c.args.look.now in
     let words = g.L.Look.words c.args.look.now in
     let i = c.loop-level.invariant in
     let page = c.loop-level.page in
     let path = c.loop-level.self.path.items in
     let place : Place = record { page = page; next = c.leaf_from-next.result; level = 0 } in
     let leaf : c.loop-level.level ≡ 0 = omega (arith, c.loop-level-test.false) in
-    let tree = subst (λ l. IsTreeAt l 1 standing words page) leaf (tree_weaker c.loop-level.level i.least standing words page i.some i.tree) in
+    let tree = subst (λ l. IsTreeAt l 1 page_state words page) leaf (tree_weaker c.loop-level.level i.least page_state words page i.some i.tree) in
     let in_range = subst (λ (w : ℕ → ℕ → ℕ). c.leaf_from-next.result ≤ length (items_of (w page))) i.unchanged.words c.leaf_from-next.ensures.in_range in
-    subst (IsPath standing words) (sym c.push-2.ensures.items) (path_push standing words path place i.path (record { tree = tree; in_range = in_range }) (omega (arith, i.short, leaf)))
+    subst (IsPath page_state words) (sym c.push-2.ensures.items) (path_push page_state words path place i.path (record { tree = tree; in_range = in_range }) (omega (arith, i.short, leaf)))
 
 pub returns-clause-coming : goal.returns-clause-coming
 returns-clause-coming g c =

@@ -1,6 +1,6 @@
 use Rattle.std.proofs.Common.{◌≡◌, ℕ, [], ◌∷◌, ◌++◌, ◌+◌, ◌-◌, ◌*◌, ◌<◌, length, take, refl, ap, sym, subst, ◌∙◌, arith, append_assoc}
 use Rattle.std.proofs.lemmas.List.{length-append}
-use Rattle.be_pages.specs.declared.room.Standing.{Standing}
+use Rattle.be_pages.specs.declared.room.PageState.{PageState}
 use Rattle.be_tree_reading.specs.declared.cursor.Place.{Place}
 use Rattle.be_tree_reading.specs.Back.{pairs_before, pairs_up_to}
 use Rattle.be_tree_reading.specs.Cursor.{IsPath, IsPlace}
@@ -15,20 +15,20 @@ use Rattle.be_tree_reading.proofs.back.BackCursor.step_leaf.Goals as goal
 use Rattle.be_tree_reading.proofs.back.BackCursor.step_leaf.Goals.{After-child_at-child}
 
 pub returns-in_err-place-clause-cursor : goal.returns-in_err-place-clause-cursor
-returns-in_err-place-clause-cursor g c = c.pop_spent.ensures.cursor (g.L.Look.standing c.args.look.now) (g.L.Look.words c.args.look.now) c.requires.cursor
+returns-in_err-place-clause-cursor g c = c.pop_spent.ensures.cursor (g.L.Look.page_state c.args.look.now) (g.L.Look.words c.args.look.now) c.requires.cursor
 
 pub loop-place-init : goal.loop-place-init
 loop-place-init g c =
-    let standing = g.L.Look.standing c.args.look.now in
+    let page_state = g.L.Look.page_state c.args.look.now in
     let words = g.L.Look.words c.args.look.now in
     let i = c.in_ok-place.ensures in
     record {
-      place = i.place standing words c.requires.cursor;
+      place = i.place page_state words c.requires.cursor;
       left = i.left;
-      path = c.pop_spent.ensures.cursor standing words c.requires.cursor;
-      short = i.short standing words c.requires.cursor;
+      path = c.pop_spent.ensures.cursor page_state words c.requires.cursor;
+      short = i.short page_state words c.requires.cursor;
       same = sym (i.parts words);
-      unchanged = record { kept = refl; standing = refl; words = refl };
+      unchanged = record { kept = refl; page_state = refl; words = refl };
     }
 
 -- the branch before the place
@@ -49,18 +49,18 @@ child_at-child-requires-clause-names_page g c =
     let place = c.loop-place.place in
     let i = c.loop-place.invariant in
     let words = g.L.Look.words c.args.look.now in
-    let lead = leads_down place.level (place.level - 1) (g.L.Look.standing c.args.look.now) words 1 place.page (place.next - 1) (omega (arith, c.loop-place-test.true)) i.place.tree
+    let lead = leads_down place.level (place.level - 1) (g.L.Look.page_state c.args.look.now) words 1 place.page (place.next - 1) (omega (arith, c.loop-place-test.true)) i.place.tree
     (omega (arith, i.left, i.place.in_range, items_count (words place.page))) in
     subst (λ (w : ℕ → ℕ → ℕ). length (item_at (w place.page) (2 + 42 * (place.next - 1))).payload ≡ 8) (sym i.unchanged.words) lead.names_page
 
 -- the page below it
-leads : (g : Over) (c : After-child_at-child g) → LeadsDown c.loop-place.place.level (c.loop-place.place.level - 1) (g.L.Look.standing c.args.look.now) (g.L.Look.words c.args.look.now) c.loop-place.place.page
+leads : (g : Over) (c : After-child_at-child g) → LeadsDown c.loop-place.place.level (c.loop-place.place.level - 1) (g.L.Look.page_state c.args.look.now) (g.L.Look.words c.args.look.now) c.loop-place.place.page
     (c.loop-place.place.next - 1) (item_at (g.L.Look.words c.args.look.now c.loop-place.place.page) (2 + 42 * (c.loop-place.place.next - 1)))
 leads g c =
     let place = c.loop-place.place in
     let i = c.loop-place.invariant in
     let words = g.L.Look.words c.args.look.now in
-    leads_down place.level (place.level - 1) (g.L.Look.standing c.args.look.now) words 1 place.page (place.next - 1) (omega (arith, c.loop-place-test.true)) i.place.tree
+    leads_down place.level (place.level - 1) (g.L.Look.page_state c.args.look.now) words 1 place.page (place.next - 1) (omega (arith, c.loop-place-test.true)) i.place.tree
     (omega (arith, i.left, i.place.in_range, items_count (words place.page)))
 
 child_is : (g : Over) (c : After-child_at-child g) → c.child_at-child.result ≡ child (item_at (g.L.Look.words c.args.look.now c.loop-place.place.page) (2 + 42 * (c.loop-place.place.next - 1)))
@@ -69,11 +69,11 @@ child_is g c = c.child_at-child.ensures.child ∙ ap (λ (w : ℕ → ℕ → �
 read : (g : Over) (c : After-child_at-child g) → g.L.Look.words c.child_at-child.new.look ≡ g.L.Look.words c.args.look.now
 read g c = c.child_at-child.ensures.unchanged.words ∙ c.loop-place.invariant.unchanged.words
 
-stands : (g : Over) (c : After-child_at-child g) → g.L.Look.standing c.child_at-child.new.look ≡ g.L.Look.standing c.args.look.now
-stands g c = c.child_at-child.ensures.unchanged.standing ∙ c.loop-place.invariant.unchanged.standing
+states : (g : Over) (c : After-child_at-child g) → g.L.Look.page_state c.child_at-child.new.look ≡ g.L.Look.page_state c.args.look.now
+states g c = c.child_at-child.ensures.unchanged.page_state ∙ c.loop-place.invariant.unchanged.page_state
 
-tree : (g : Over) (c : After-child_at-child g) → IsTreeAt (c.loop-place.place.level - 1) 1 (g.L.Look.standing c.args.look.now) (g.L.Look.words c.args.look.now) c.child_at-child.result
-tree g c = subst (λ p. IsTreeAt (c.loop-place.place.level - 1) 1 (g.L.Look.standing c.args.look.now) (g.L.Look.words c.args.look.now) p) (sym (child_is g c)) (leads g c).tree
+tree : (g : Over) (c : After-child_at-child g) → IsTreeAt (c.loop-place.place.level - 1) 1 (g.L.Look.page_state c.args.look.now) (g.L.Look.words c.args.look.now) c.child_at-child.result
+tree g c = subst (λ p. IsTreeAt (c.loop-place.place.level - 1) 1 (g.L.Look.page_state c.args.look.now) (g.L.Look.words c.args.look.now) p) (sym (child_is g c)) (leads g c).tree
 
 pub after_items-place-requires : goal.after_items-place-requires
 after_items-place-requires g c =
@@ -84,15 +84,15 @@ after_items-place-requires g c =
       tree = (
         1,
         omega arith,
-        subst (λ (w : ℕ → ℕ → ℕ). IsTreeAt down 1 (g.L.Look.standing c.child_at-child.new.look) w page) (sym (read g at))
-            (subst (λ (s : ℕ → Standing). IsTreeAt down 1 s (g.L.Look.words c.args.look.now) page) (sym (stands g at)) (tree g at)),
+        subst (λ (w : ℕ → ℕ → ℕ). IsTreeAt down 1 (g.L.Look.page_state c.child_at-child.new.look) w page) (sym (read g at))
+            (subst (λ (s : ℕ → PageState). IsTreeAt down 1 s (g.L.Look.words c.args.look.now) page) (sym (states g at)) (tree g at)),
       );
     }
 
 pub loop-place-preserved : goal.loop-place-preserved
 loop-place-preserved g c =
     let at = (goal.at.loop-place-preserved g c).After-child_at-child in
-    let standing = g.L.Look.standing c.args.look.now in
+    let page_state = g.L.Look.page_state c.args.look.now in
     let words = g.L.Look.words c.args.look.now in
     let place = c.loop-place.place in
     let path = c.loop-place.self.path.items in
@@ -109,9 +109,9 @@ loop-place-preserved g c =
     ∙ ap (λ p. pairs_at down words p) (child_is g at) in
     let some : 0 < words (child branch) 1 = (leads g at).some in
     record {
-      place = subst (λ (w : ℕ → ℕ → ℕ). IsPlace standing w below) (read g at) (subst (λ (s : ℕ → Standing). IsPlace s (g.L.Look.words c.child_at-child.new.look) below) (stands g at) is.place);
+      place = subst (λ (w : ℕ → ℕ → ℕ). IsPlace page_state w below) (read g at) (subst (λ (s : ℕ → PageState). IsPlace s (g.L.Look.words c.child_at-child.new.look) below) (states g at) is.place);
       left = omega (arith, is.next ∙ ap (λ (w : ℕ → ℕ → ℕ). w c.child_at-child.result 1) (read g at) ∙ ap (λ p. words p 1) (child_is g at), some);
-      path = subst (IsPath standing words) (sym c.push.ensures.items) (path_push standing words path before i.path (record { tree = i.place.tree; in_range = omega (arith, in_items, items_count (words place.page)) }) i.short);
+      path = subst (IsPath page_state words) (sym c.push.ensures.items) (path_push page_state words path before i.path (record { tree = i.place.tree; in_range = omega (arith, in_items, items_count (words place.page)) }) i.short);
       short = omega (arith, is.level, i.short, c.loop-place-test.true, ap length c.push.ensures.items, length-append path (before ∷ []));
       same = ap (λ ps. pairs_up_to words ps ++ pairs_before words below) c.push.ensures.items
           ∙ ap (λ xs. xs ++ pairs_before words below) (up_push words path before)
@@ -120,8 +120,8 @@ loop-place-preserved g c =
           ∙ sym (leads_back place.level down words place.page (place.next - 1) (omega (arith, c.loop-place-test.true)) in_items)
           ∙ ap (λ n. pairs_below place.level words (take n (items_of (words place.page)))) (sym back))
           ∙ i.same;
-      unchanged = unchanged_trans g.L.Look.kept g.L.Look.standing g.L.Look.words c.args.look.now c.child_at-child.new.look c.after_items-place.new.look
-          (unchanged_trans g.L.Look.kept g.L.Look.standing g.L.Look.words c.args.look.now c.loop-place.look c.child_at-child.new.look i.unchanged c.child_at-child.ensures.unchanged)
+      unchanged = unchanged_trans g.L.Look.kept g.L.Look.page_state g.L.Look.words c.args.look.now c.child_at-child.new.look c.after_items-place.new.look
+          (unchanged_trans g.L.Look.kept g.L.Look.page_state g.L.Look.words c.args.look.now c.loop-place.look c.child_at-child.new.look i.unchanged c.child_at-child.ensures.unchanged)
           is.unchanged;
     }
 
@@ -129,7 +129,7 @@ loop-place-preserved g c =
 pub returns-clause-leaf : goal.returns-clause-leaf
 returns-clause-leaf g c =
     let leaf : c.loop-place.place.level ≡ 0 = omega (arith, c.loop-place-test.false) in
-    subst (λ (l : ℕ). IsTreeAt l 1 (g.L.Look.standing c.args.look.now) (g.L.Look.words c.args.look.now) c.loop-place.place.page) leaf c.loop-place.invariant.place.tree
+    subst (λ (l : ℕ). IsTreeAt l 1 (g.L.Look.page_state c.args.look.now) (g.L.Look.words c.args.look.now) c.loop-place.place.page) leaf c.loop-place.invariant.place.tree
 
 pub returns-clause-in_range : goal.returns-clause-in_range
 returns-clause-in_range g c = omega (arith, c.loop-place.invariant.place.in_range, items_count (g.L.Look.words c.args.look.now c.loop-place.place.page))

@@ -1,12 +1,12 @@
 use Rattle.std.proofs.Common.{◌≡◌, ℕ, suc, List, [], ◌∷◌, ◌++◌, ◌+◌, ◌-◌, ◌*◌, ◌/◌, ◌<◌, ◌≤◌, length, drop, ap, sym, subst, ◌∙◌, arith, append_assoc}
 use Rattle.std.proofs.lemmas.List.{append-nil, length-append}
-use Rattle.be_pages.specs.declared.room.Standing.{Standing}
+use Rattle.be_pages.specs.declared.room.PageState.{PageState}
 use Rattle.be_tree_reading.specs.declared.cursor.Place.{Place}
 use Rattle.be_tree_reading.specs.Cursor.{IsPath, pairs_along, pairs_past}
 use Rattle.be_tree_reading.specs.Places.{IsBranchAt}
 use Rattle.be_tree_reading.specs.Page.{items_of, item_at, IsItem}
 use Rattle.be_tree_reading.specs.Range.{pairs_from}
-use Rattle.be_tree_reading.specs.Tree.{IsTreeAt, child, pairs_at, least_of_root}
+use Rattle.be_tree_reading.specs.Tree.{IsTreeAt, child, pairs_at, minimum_of_root}
 use Rattle.be_tree_reading.proofs.Reading.Cursors.{along_push, path_push, from_branch, leads_down, LeadsDown, root_pairs}
 use Rattle.be_tree_reading.proofs.Frame.{unchanged_trans}
 use Rattle.be_tree_reading.proofs.Shape.Heights.{height}
@@ -18,31 +18,31 @@ use Rattle.be_tree_reading.proofs.cursor.Cursor.descend.Given.{Over}
 use Rattle.be_tree_reading.proofs.cursor.Cursor.descend.Goals as goal
 use Rattle.be_tree_reading.proofs.cursor.Cursor.descend.Goals.{After-branch_in-at}
 
--- a path without a place
-empty : (path : List Place) → path ≡ [] → (standing : ℕ → Standing) (words : ℕ → ℕ → ℕ) → IsPath standing words path
-empty path e standing words = subst (IsPath standing words) (sym e) (record { places = λ i d lt. absurd (omega (arith, lt)); short = λ i d lt. absurd (omega (arith, lt)) })
+-- an empty path
+empty : (path : List Place) → path ≡ [] → (page_state : ℕ → PageState) (words : ℕ → ℕ → ℕ) → IsPath page_state words path
+empty path e page_state words = subst (IsPath page_state words) (sym e) (record { places = λ i d lt. absurd (omega (arith, lt)); short = λ i d lt. absurd (omega (arith, lt)) })
 
 pub loop-level-init : goal.loop-level-init
 loop-level-init g c =
-    let standing = g.L.Look.standing c.args.look.now in
+    let page_state = g.L.Look.page_state c.args.look.now in
     let words = g.L.Look.words c.args.look.now in
     let page = c.args.root - 1 in
     let level = c.word-level.result in
     let e : c.args.root ≡ suc page = omega (arith, c.requires.some) in
-    let tree = root_tree c.args.root page level standing words e c.word-level.ensures.value c.requires.tree in
+    let tree = root_tree c.args.root page level page_state words e c.word-level.ensures.value c.requires.tree in
     record {
-      least = least_of_root level;
+      least = minimum_of_root level;
       some = root_some level;
       tree = tree;
-      path = empty c.clear.new.self.items c.clear.ensures standing words;
-      short = omega (arith, ap length c.clear.ensures, height level (least_of_root level) standing words page (root_some level) tree (g.met.L.Look.pages_small c.args.look.now));
+      path = empty c.clear.new.self.items c.clear.ensures page_state words;
+      short = omega (arith, ap length c.clear.ensures, height level (minimum_of_root level) page_state words page (root_some level) tree (g.met.L.Look.pages_small c.args.look.now));
       same = ap (λ ps. pairs_from (pairs_at level words page) c.args.from.now c.args.after ++ pairs_along words ps) c.clear.ensures
           ∙ append-nil (pairs_from (pairs_at level words page) c.args.from.now c.args.after)
           ∙ ap (λ xs. pairs_from xs c.args.from.now c.args.after) (sym (root_pairs c.args.root page level words e c.word-level.ensures.value));
-      unchanged = record { kept = c.word-level.ensures.kept; standing = c.word-level.ensures.standing; words = c.word-level.ensures.words };
+      unchanged = record { kept = c.word-level.ensures.kept; page_state = c.word-level.ensures.page_state; words = c.word-level.ensures.words };
     }
 
--- the room after the search in a page is as at first
+-- after the search on a page, the words are those at the call
 words_same : (g : Over) (c : After-branch_in-at g) → g.L.Look.words c.branch_in-at.new.look ≡ g.L.Look.words c.args.look.now
 words_same g c = c.branch_in-at.ensures.unchanged.words ∙ c.loop-level.invariant.unchanged.words
 
@@ -52,11 +52,11 @@ found g c = subst (λ (w : ℕ → ℕ → ℕ). IsBranchAt c.args.from.now (ite
 at_item : (g : Over) (c : After-branch_in-at g) → (found g c).number < g.L.Look.words c.args.look.now c.loop-level.page 1
 at_item g c = omega (arith, (found g c).is_branch.before, (found g c).is_branch.is_rank.in_range, c.loop-level.invariant.tree.node.enough, c.loop-level.invariant.some, items_count (g.L.Look.words c.args.look.now c.loop-level.page))
 
-leads : (g : Over) (c : After-branch_in-at g) → LeadsDown c.loop-level.level (c.loop-level.level - 1) (g.L.Look.standing c.args.look.now) (g.L.Look.words c.args.look.now) c.loop-level.page (found g c).number (item_at (g.L.Look.words c.args.look.now c.loop-level.page) (2 + 42 * (found g c).number))
-leads g c = leads_down c.loop-level.level (c.loop-level.level - 1) (g.L.Look.standing c.args.look.now) (g.L.Look.words c.args.look.now) c.loop-level.invariant.least c.loop-level.page (found g c).number
+leads : (g : Over) (c : After-branch_in-at g) → LeadsDown c.loop-level.level (c.loop-level.level - 1) (g.L.Look.page_state c.args.look.now) (g.L.Look.words c.args.look.now) c.loop-level.page (found g c).number (item_at (g.L.Look.words c.args.look.now c.loop-level.page) (2 + 42 * (found g c).number))
+leads g c = leads_down c.loop-level.level (c.loop-level.level - 1) (g.L.Look.page_state c.args.look.now) (g.L.Look.words c.args.look.now) c.loop-level.invariant.least c.loop-level.page (found g c).number
     (omega (arith, c.loop-level-test.true)) c.loop-level.invariant.tree (at_item g c)
 
--- the number of the branch's place
+-- the number of the branch at its place
 number_is : (g : Over) (c : After-branch_in-at g) → (c.branch_in-at.result - 2) / 42 ≡ (found g c).number
 number_is g c = omega (arith, (found g c).is_place)
 
@@ -95,7 +95,7 @@ overflow_add-next g c =
 pub overflow_cast-page : goal.overflow_cast-page
 overflow_cast-page g c =
     let i = c.loop-level.invariant in
-    omega (arith, g.met.L.Look.pages_small c.args.look.now c.loop-level.page (kept_not_free (g.L.Look.standing c.args.look.now c.loop-level.page) i.tree.page_in_use))
+    omega (arith, g.met.L.Look.pages_small c.args.look.now c.loop-level.page (kept_not_free (g.L.Look.page_state c.args.look.now c.loop-level.page) i.tree.page_in_use))
 
 pub overflow_cast-next : goal.overflow_cast-next
 overflow_cast-next g c =
@@ -108,7 +108,7 @@ overflow_cast-level g c = omega (arith, c.loop-level.invariant.short)
 pub loop-level-preserved : goal.loop-level-preserved
 loop-level-preserved g c =
     let at = (goal.at.loop-level-preserved g c).After-branch_in-at in
-    let standing = g.L.Look.standing c.args.look.now in
+    let page_state = g.L.Look.page_state c.args.look.now in
     let words = g.L.Look.words c.args.look.now in
     let page = c.loop-level.page in
     let level = c.loop-level.level in
@@ -125,30 +125,30 @@ loop-level-preserved g c =
     record {
       least = 1;
       some = omega arith;
-      tree = subst (λ p. IsTreeAt down 1 standing words p) (sym is) lead.tree;
-      path = subst (IsPath standing words) (sym pushed) (path_push standing words path place c.loop-level.invariant.path
-          (record { tree = tree_weaker level c.loop-level.invariant.least standing words page c.loop-level.invariant.some c.loop-level.invariant.tree; in_range = omega (arith, at_item g at, items_count (words page)) })
+      tree = subst (λ p. IsTreeAt down 1 page_state words p) (sym is) lead.tree;
+      path = subst (IsPath page_state words) (sym pushed) (path_push page_state words path place c.loop-level.invariant.path
+          (record { tree = tree_weaker level c.loop-level.invariant.least page_state words page c.loop-level.invariant.some c.loop-level.invariant.tree; in_range = omega (arith, at_item g at, items_count (words page)) })
           c.loop-level.invariant.short);
       short = omega (arith, c.loop-level.invariant.short, c.loop-level-test.true, ap length pushed, length-append path (place ∷ []));
       same = ap (λ p. pairs_from (pairs_at down words p) c.args.from.now c.args.after ++ pairs_along words c.push.new.self.items) is
           ∙ ap (λ ps. here ++ pairs_along words ps) pushed
           ∙ ap (λ xs. here ++ xs) (along_push words path place)
           ∙ sym (append_assoc here (pairs_past words place) (pairs_along words path))
-          ∙ ap (λ xs. xs ++ pairs_along words path) (sym (from_branch level down standing words c.loop-level.invariant.least page c.args.from.now (found g at).is_branch.rank next c.args.after
+          ∙ ap (λ xs. xs ++ pairs_along words path) (sym (from_branch level down page_state words c.loop-level.invariant.least page c.args.from.now (found g at).is_branch.rank next c.args.after
           (omega (arith, c.loop-level-test.true)) c.loop-level.invariant.tree c.loop-level.invariant.some (found g at).is_branch.is_rank (found g at).is_branch.before (at_item g at)))
           ∙ c.loop-level.invariant.same;
-      unchanged = unchanged_trans g.L.Look.kept g.L.Look.standing g.L.Look.words c.args.look.now c.branch_in-at.new.look c.child_at-child.new.look
-          (unchanged_trans g.L.Look.kept g.L.Look.standing g.L.Look.words c.args.look.now c.loop-level.look c.branch_in-at.new.look c.loop-level.invariant.unchanged c.branch_in-at.ensures.unchanged) c.child_at-child.ensures.unchanged;
+      unchanged = unchanged_trans g.L.Look.kept g.L.Look.page_state g.L.Look.words c.args.look.now c.branch_in-at.new.look c.child_at-child.new.look
+          (unchanged_trans g.L.Look.kept g.L.Look.page_state g.L.Look.words c.args.look.now c.loop-level.look c.branch_in-at.new.look c.loop-level.invariant.unchanged c.branch_in-at.ensures.unchanged) c.child_at-child.ensures.unchanged;
     }
 
--- the leaf that was come to
+-- the leaf that the descent reached
 pub returns-clause-leaf : goal.returns-clause-leaf
 returns-clause-leaf g c =
-    let standing = g.L.Look.standing c.args.look.now in
+    let page_state = g.L.Look.page_state c.args.look.now in
     let words = g.L.Look.words c.args.look.now in
     let i = c.loop-level.invariant in
     let leaf : c.loop-level.level ≡ 0 = omega (arith, c.loop-level-test.false) in
-    subst (λ l. IsTreeAt l 1 standing words c.loop-level.page) leaf (tree_weaker c.loop-level.level i.least standing words c.loop-level.page i.some i.tree)
+    subst (λ l. IsTreeAt l 1 page_state words c.loop-level.page) leaf (tree_weaker c.loop-level.level i.least page_state words c.loop-level.page i.some i.tree)
 
 pub returns-clause-in_range : goal.returns-clause-in_range
 returns-clause-in_range g c =

@@ -19,9 +19,9 @@ loop-place-preserved g c =
     let end : length (items_of (words place.page)) ≤ place.next =
     omega (arith, c.if-place-word.false, c.word.ensures.value, ap (λ (w : ℕ → ℕ → ℕ). w place.page 1) c.loop-place.invariant.unchanged.words, items_count (words place.page)) in
     record {
-      path = path_front (g.L.Look.standing c.args.look.now) words c.pop.new.self.items place (subst (IsPath (g.L.Look.standing c.args.look.now) words) parts c.loop-place.invariant.path);
+      path = path_front (g.L.Look.page_state c.args.look.now) words c.pop.new.self.items place (subst (IsPath (g.L.Look.page_state c.args.look.now) words) parts c.loop-place.invariant.path);
       same = sym (ap (λ xs. xs ++ pairs_along words c.pop.new.self.items) (past_end words place end))
           ∙ sym (ap (pairs_along words) parts ∙ along_push words c.pop.new.self.items place) ∙ c.loop-place.invariant.same;
-      unchanged = unchanged_trans g.L.Look.kept g.L.Look.standing g.L.Look.words c.args.look.now c.loop-place.look c.word.new.self c.loop-place.invariant.unchanged
-          (record { kept = c.word.ensures.kept; standing = c.word.ensures.standing; words = c.word.ensures.words });
+      unchanged = unchanged_trans g.L.Look.kept g.L.Look.page_state g.L.Look.words c.args.look.now c.loop-place.look c.word.new.self c.loop-place.invariant.unchanged
+          (record { kept = c.word.ensures.kept; page_state = c.word.ensures.page_state; words = c.word.ensures.words });
     }

@@ -7,7 +7,7 @@ use Rattle.be_tree_reading.proofs.cursor.Cursor.step_leaf.Goals as goal
 pub returns-clause-leaf : goal.returns-clause-leaf
 returns-clause-leaf g c =
     let i = c.in_ok-place.ensures in
-    subst (λ (l : ℕ). IsTreeAt l 1 (g.L.Look.standing c.args.look.now) (g.L.Look.words c.args.look.now) c.in_ok-place.place.page) i.leaf i.place.0.tree
+    subst (λ (l : ℕ). IsTreeAt l 1 (g.L.Look.page_state c.args.look.now) (g.L.Look.words c.args.look.now) c.in_ok-place.place.page) i.leaf i.place.0.tree
 
 pub returns-clause-parts : goal.returns-clause-parts
 returns-clause-parts g c =

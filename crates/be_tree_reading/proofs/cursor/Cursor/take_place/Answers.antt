@@ -14,37 +14,37 @@ pub child_at-child-requires-clause-names_page : goal.child_at-child-requires-cla
 child_at-child-requires-clause-names_page g c =
     let place = c.loop-place.place in
     let i = c.loop-place.invariant in
-    let lead = leads_down place.level (place.level - 1) (g.L.Look.standing c.args.look.now) (g.L.Look.words c.args.look.now) 1 place.page place.next (omega (arith, c.loop-place-test.true)) i.place.tree i.left in
+    let lead = leads_down place.level (place.level - 1) (g.L.Look.page_state c.args.look.now) (g.L.Look.words c.args.look.now) 1 place.page place.next (omega (arith, c.loop-place-test.true)) i.place.tree i.left in
     subst (λ (w : ℕ → ℕ → ℕ). length (item_at (w place.page) (2 + 42 * place.next)).payload ≡ 8) (sym i.unchanged.words) lead.names_page
 
 -- the child is in use, so its number is small
 pub overflow_cast-place-in-loop-place-2 : goal.overflow_cast-place-in-loop-place-2
 overflow_cast-place-in-loop-place-2 g c =
-    let standing = g.L.Look.standing c.args.look.now in
+    let page_state = g.L.Look.page_state c.args.look.now in
     let words = g.L.Look.words c.args.look.now in
     let place = c.loop-place.place in
     let i = c.loop-place.invariant in
-    let lead = leads_down place.level (place.level - 1) standing words 1 place.page place.next (omega (arith, c.loop-place-test.true)) i.place.tree i.left in
+    let lead = leads_down place.level (place.level - 1) page_state words 1 place.page place.next (omega (arith, c.loop-place-test.true)) i.place.tree i.left in
     let branch = item_at (words place.page) (2 + 42 * place.next) in
     let is = c.child_at-child.ensures.child ∙ ap (λ (w : ℕ → ℕ → ℕ). child (item_at (w place.page) (2 + 42 * place.next))) i.unchanged.words in
-    omega (arith, is, g.met.L.Look.pages_small c.args.look.now (child branch) (kept_not_free (standing (child branch)) lead.tree.page_in_use))
+    omega (arith, is, g.met.L.Look.pages_small c.args.look.now (child branch) (kept_not_free (page_state (child branch)) lead.tree.page_in_use))
 
 pub loop-place-preserved : goal.loop-place-preserved
 loop-place-preserved g c =
-    let standing = g.L.Look.standing c.args.look.now in
+    let page_state = g.L.Look.page_state c.args.look.now in
     let words = g.L.Look.words c.args.look.now in
     let place = c.loop-place.place in
     let path = c.loop-place.self.path.items in
     let i = c.loop-place.invariant in
     let down = place.level - 1 in
-    let lead = leads_down place.level down standing words 1 place.page place.next (omega (arith, c.loop-place-test.true)) i.place.tree i.left in
+    let lead = leads_down place.level down page_state words 1 place.page place.next (omega (arith, c.loop-place-test.true)) i.place.tree i.left in
     let branch = item_at (words place.page) (2 + 42 * place.next) in
     let is = c.child_at-child.ensures.child ∙ ap (λ (w : ℕ → ℕ → ℕ). child (item_at (w place.page) (2 + 42 * place.next))) i.unchanged.words in
     let past : Place = record { page = place.page; next = place.next + 1; level = place.level } in
     record {
-      place = record { tree = subst (λ p. IsTreeAt down 1 standing words p) (sym is) lead.tree; in_range = omega arith };
+      place = record { tree = subst (λ p. IsTreeAt down 1 page_state words p) (sym is) lead.tree; in_range = omega arith };
       left = subst (λ p. 0 < words p 1) (sym is) lead.some;
-      path = subst (IsPath standing words) (sym c.push.ensures.items) (path_push standing words path past i.path (record { tree = i.place.tree; in_range = omega (arith, i.left, items_count (words place.page)) }) i.short);
+      path = subst (IsPath page_state words) (sym c.push.ensures.items) (path_push page_state words path past i.path (record { tree = i.place.tree; in_range = omega (arith, i.left, items_count (words place.page)) }) i.short);
       short = omega (arith, i.short, c.loop-place-test.true, ap length c.push.ensures.items, length-append path (past ∷ []));
       same = ap (λ p. pairs_at down words p ++ pairs_along words c.push.new.self.items) is
           ∙ ap (λ ps. pairs_at down words (child branch) ++ pairs_along words ps) c.push.ensures.items
@@ -52,7 +52,7 @@ loop-place-preserved g c =
           ∙ sym (append_assoc (pairs_at down words (child branch)) (pairs_past words past) (pairs_along words path))
           ∙ ap (λ xs. xs ++ pairs_along words path) (sym lead.parts)
           ∙ i.same;
-      unchanged = unchanged_trans g.L.Look.kept g.L.Look.standing g.L.Look.words c.args.look.now c.loop-place.look c.child_at-child.new.look i.unchanged c.child_at-child.ensures.unchanged;
+      unchanged = unchanged_trans g.L.Look.kept g.L.Look.page_state g.L.Look.words c.args.look.now c.loop-place.look c.child_at-child.new.look i.unchanged c.child_at-child.ensures.unchanged;
     }
 
 pub returns-clause-parts : goal.returns-clause-parts

@@ -12,7 +12,7 @@ returns-then-self-clause-count g c =
     sym (ap (λ (b : Bool). length (turned b (drop leaf.at (items_of words)) (take leaf.at (items_of words)))) c.if-self.true ∙ count_down words leaf.at c.requires.leaf.1)
 
 pub word-requires-clause-readable : goal.word-requires-clause-readable
-word-requires-clause-readable g c = readable_kept (g.L.Look.standing c.args.look.now c.args.self.page) c.requires.leaf.0.page_in_use
+word-requires-clause-readable g c = readable_kept (g.L.Look.page_state c.args.look.now c.args.self.page) c.requires.leaf.0.page_in_use
 
 pub overflow_sub-result : goal.overflow_sub-result
 overflow_sub-result g c = omega (arith, c.word.ensures.value, c.requires.leaf.1)

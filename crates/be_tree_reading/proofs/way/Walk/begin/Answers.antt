@@ -9,7 +9,7 @@ use Rattle.be_tree_reading.proofs.Walks.{turned_down, turned_up}
 use Rattle.be_tree_reading.proofs.way.Walk.begin.Goals as goal
 
 pub returns-then-way-clause-walk : goal.returns-then-way-clause-walk
-returns-then-way-clause-walk g c = (c.new.ensures.cursor (g.L.Look.standing c.args.look.now) (g.L.Look.words c.args.look.now), c.seek.ensures.cursor)
+returns-then-way-clause-walk g c = (c.new.ensures.cursor (g.L.Look.page_state c.args.look.now) (g.L.Look.words c.args.look.now), c.seek.ensures.cursor)
 
 pub returns-then-way-clause-ahead : goal.returns-then-way-clause-ahead
 returns-then-way-clause-ahead g c =
@@ -20,7 +20,7 @@ returns-then-way-clause-ahead g c =
     ∙ ap (λ (b : Bool). from_start b way.strict way.low.now (option_copied way.high) (pairs words c.args.root)) (sym c.if-way.true)
 
 pub returns-clause-walk : goal.returns-clause-walk
-returns-clause-walk g c = (c.seek-2.ensures.cursor, c.new-2.ensures.cursor (g.L.Look.standing c.args.look.now) (g.L.Look.words c.args.look.now))
+returns-clause-walk g c = (c.seek-2.ensures.cursor, c.new-2.ensures.cursor (g.L.Look.page_state c.args.look.now) (g.L.Look.words c.args.look.now))
 
 pub returns-clause-ahead : goal.returns-clause-ahead
 returns-clause-ahead g c =

@@ -7,7 +7,7 @@ use Rattle.be_tree_reading.specs.Pair.{Pair}
 use Rattle.be_tree_reading.proofs.Walks.{count_down, count_up, reverse_nil, turned_down, turned_up}
 use Rattle.be_tree_reading.proofs.way.Walk.step_leaf.Goals as goal
 
--- none is before the falling cursor
+-- nothing is before the backward cursor
 pub returns-in_err-page-clause-none : goal.returns-in_err-page-clause-none
 returns-in_err-page-clause-none g c =
     let words = g.L.Look.words c.args.look.now in
@@ -34,7 +34,7 @@ returns-then-self-clause-parts g c =
     ∙ reverse-append front here
     ∙ ap (λ (xs : List Pair). reverse here ++ xs) (sym (turned_down walk.back (remaining words walk.rising) front c.if-self.true))
 
--- none is after the rising cursor
+-- nothing is after the forward cursor
 pub returns-in_err-page-2-clause-none : goal.returns-in_err-page-2-clause-none
 returns-in_err-page-2-clause-none g c =
     let words = g.L.Look.words c.args.look.now in

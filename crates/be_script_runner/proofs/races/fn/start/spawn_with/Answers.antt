@@ -1,6 +1,6 @@
 use Rattle.std.proofs.Common.{IfOk, subst}
 use Rattle.std.specs.Prelude.{OnOk}
-use Rattle.be_script_runner.specs.Gates.{AreTold, line_count}
+use Rattle.be_script_runner.specs.Gates.{AreReported, line_count}
 use Rattle.be_script_runner.specs.Race.{IsOutcome}
 use Rattle.be_script_runner.proofs.races.fn.start.spawn_with.Goals as goal
 
@@ -12,6 +12,6 @@ returns g c =
       pass = c.serve_new.ensures.pass;
       number = c.serve_new.ensures.number;
       replies = subst (λ bytes. IfOk c.serve_new.result.1 (λ replies. IsOutcome limits k bytes c.serve_new.result.0.knows replies.items)) c.deref.ensures.value c.serve_new.ensures.replies;
-      told = subst (λ bytes. OnOk c.serve_new.result.1 (AreTold (g.G.Gate.begun c.captures.gate.now k) (g.G.Gate.ended c.captures.gate.now k) (line_count bytes)))
-          c.deref.ensures.value c.serve_new.ensures.told;
+      reported = subst (λ bytes. OnOk c.serve_new.result.1 (AreReported (g.G.Gate.begun c.captures.gate.now k) (g.G.Gate.ended c.captures.gate.now k) (line_count bytes)))
+          c.deref.ensures.value c.serve_new.ensures.reported;
     }

@@ -1,7 +1,0 @@
-use Rattle.std.proofs.Common.{List, ℕ, ap, drop, ◌∙◌}
-use Rattle.be_paged_reading.proofs.cells.tell_data.Goals as goal
-
-pub returns-clause-told : goal.returns-clause-told
-returns-clause-told g c = λ x found cell_places byte_places is_cell is_data told.
-    c.tell.ensures.told x found cell_places byte_places is_cell
-    (c.after_first-content.ensures ∙ ap (λ (l : List ℕ). drop 1 l) (c.as_slice.ensures.value ∙ c.fill_payload.ensures.payload) ∙ is_data) told

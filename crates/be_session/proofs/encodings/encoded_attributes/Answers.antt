@@ -1,0 +1,13 @@
+use Rattle.std.proofs.Common.{subst}
+use Rattle.be_session.specs.Operations.{IsMeantBy, sets}
+use Rattle.be_session.proofs.GrowingBytes.{listed_next}
+use Rattle.be_session.proofs.encodings.encoded_attributes.Goals as goal
+
+pub loop-name-preserved : goal.loop-name-preserved
+loop-name-preserved c =
+    listed_next (sets c.args.node) c.args.list.now c.loop-name.name-index _ c.loop-name.operations.items c.push.new.self.items c.in_ok-operation.operation
+    c.loop-name.bytes.items
+    c.encode_attribute.new.bytes.items c.loop-name-test.true c.loop-name.invariant c.in_ok-operation.ensures.more
+    c.in_ok-operation.ensures.meant.0 (subst (λ a. IsMeantBy c.in_ok-operation.operation c.encode_attribute.new.bytes.items ((sets c.args.node) a))
+    c.loop-name-item.is c.in_ok-operation.ensures.meant.1)
+    c.in_ok-push.ensures.items

@@ -1,0 +1,190 @@
+//! Attributes, indices and operations as other languages get them: as operations, with the bytes
+//! that contain their parts.
+ghost use Rattle.std.specs.Prelude.{◌≡◌, ◌++◌, IfOk, IfErr, IfSome, length, map};
+ghost use Rattle.be_value.specs.declared.refusals.Refusal.TheVariants.{OutOfMemory};
+ghost use Rattle.be_session.specs.Operations.{AreEncoded, IsMeantBy, ArePartsWithin, ReportNodes};
+ghost use Rattle.be_session.specs.Operations.{ReportsNode, both_parts, makes, sets};
+ghost use Rattle.be_session.specs.declared.faults.Fault.TheVariants.{Refused};
+
+use crate::meanings::encoded_operation;
+use crate::{Fault, Operation, encoded};
+use be_store::{Done, Kind, Name, Op, Refusal, Value};
+use std::alloc::Global;
+
+/// Encoded operations, with the bytes that contain their parts.
+#[derive(Drop)]
+pub struct Encoding {
+    pub operations: Vec<Operation>,
+    pub bytes: Vec<u8>,
+}
+
+/// Appends bytes, and returns their offset and length. OutOfMemory, also at 4 GiB.
+fn append(bytes: &mut Vec<u8>, more: &[u8]) -> Result<(u32, u32), Fault>
+    ensures ok { IfOk result (λ r. (r.0 ≡ length bytes.old.items) × (r.1 ≡ length more.now)
+        × (bytes.new.items ≡ bytes.old.items ++ more.now)) }
+    ensures err { IfErr result (λ e. e ≡ Refused OutOfMemory) }
+{
+    let Ok(at) = u32::try_from(bytes.len()) else {
+        return Err(Fault::Refused(Refusal::OutOfMemory));
+    };
+    let Ok(length) = u32::try_from(more.len()) else {
+        return Err(Fault::Refused(Refusal::OutOfMemory));
+    };
+    bytes.extend_from_slice(more)?;
+    Ok((at, length))
+}
+
+/// The operation that sets an attribute of a node. Appends its name and its value to the bytes.
+/// OutOfMemory.
+fn encode_attribute(
+    bytes: &mut Vec<u8>,
+    node: u64,
+    name: &Name,
+    value: &Value,
+) -> Result<Operation, Fault>
+    ensures more { IfOk result (λ o. bytes.new.items ≡ bytes.old.items
+        ++ both_parts o bytes.new.items) }
+    ensures meant { IfOk result (λ o. ArePartsWithin o (length bytes.new.items)
+        × IsMeantBy o bytes.new.items (sets node (name.now, value.now))) }
+    ensures err { IfErr result (λ e. e ≡ Refused OutOfMemory) }
+{
+    let (code, number, data) = encoded(value);
+    let (name_at, name_length) = append(bytes, name.as_str().as_bytes())?;
+    let (value_at, value_length) = append(bytes, data)?;
+    Ok(Operation {
+        kind: 2,
+        code,
+        node,
+        number,
+        name_at,
+        name_length,
+        value_at,
+        value_length,
+    })
+}
+
+/// The operation that makes an index. Appends its name to the bytes. OutOfMemory.
+fn encode_index(bytes: &mut Vec<u8>, name: &Name, kind: Kind) -> Result<Operation, Fault>
+    ensures more { IfOk result (λ o. bytes.new.items ≡ bytes.old.items
+        ++ both_parts o bytes.new.items) }
+    ensures meant { IfOk result (λ o. ArePartsWithin o (length bytes.new.items)
+        × IsMeantBy o bytes.new.items (makes (name.now, kind))) }
+    ensures err { IfErr result (λ e. e ≡ Refused OutOfMemory) }
+{
+    let (name_at, name_length) = append(bytes, name.as_str().as_bytes())?;
+    Ok(Operation {
+        kind: 4,
+        code: kind.code(),
+        node: 0,
+        number: 0,
+        name_at,
+        name_length,
+        value_at: 0,
+        value_length: 0,
+    })
+}
+
+/// A node's attributes, as the operations that set them, in the list's order. OutOfMemory.
+pub fn encoded_attributes(
+    alloc: Global,
+    node: u64,
+    list: &[(Name, Value)],
+) -> Result<Encoding, Fault>
+    ensures ok { IfOk result (λ s. AreEncoded s.operations.items s.bytes.items
+        (map (sets node) list.now)) }
+    ensures err { IfErr result (λ e. e ≡ Refused OutOfMemory) }
+{
+    let mut operations = Vec::new(alloc);
+    let mut bytes = Vec::new(alloc);
+    for (name, value) in list {
+        let operation = encode_attribute(&mut bytes, node, name, value)?;
+        operations.push(operation)?;
+    }
+    Ok(Encoding { operations, bytes })
+}
+
+/// Indices, as the operations that make them, in the list's order. OutOfMemory.
+pub fn encoded_indices(alloc: Global, list: &[(Name, Kind)]) -> Result<Encoding, Fault>
+    ensures ok { IfOk result (λ s. AreEncoded s.operations.items s.bytes.items
+        (map makes list.now)) }
+    ensures err { IfErr result (λ e. e ≡ Refused OutOfMemory) }
+{
+    let mut operations = Vec::new(alloc);
+    let mut bytes = Vec::new(alloc);
+    for (name, kind) in list {
+        let operation = encode_index(&mut bytes, name, *kind)?;
+        operations.push(operation)?;
+    }
+    Ok(Encoding { operations, bytes })
+}
+
+/// Encodes an operation. Appends its name and its value to the bytes. OutOfMemory.
+fn encode(bytes: &mut Vec<u8>, op: &Op) -> Result<Operation, Fault>
+    ensures more { IfOk result (λ o. bytes.new.items ≡ bytes.old.items
+        ++ both_parts o bytes.new.items) }
+    ensures meant { IfOk result (λ o. ArePartsWithin o (length bytes.new.items)
+        × IsMeantBy o bytes.new.items op.now) }
+    ensures err { IfErr result (λ e. e ≡ Refused OutOfMemory) }
+{
+    let (kind, node, name, (code, number, data)) = encoded_operation(op);
+    let (name_at, name_length) = append(bytes, name)?;
+    let (value_at, value_length) = append(bytes, data)?;
+    Ok(Operation {
+        kind,
+        code,
+        node,
+        number,
+        name_at,
+        name_length,
+        value_at,
+        value_length,
+    })
+}
+
+/// Encodes operations in the list's order. OutOfMemory.
+pub fn encoded_operations(alloc: Global, list: &[Op]) -> Result<Encoding, Fault>
+    ensures ok { IfOk result (λ s. AreEncoded s.operations.items s.bytes.items list.now) }
+    ensures err { IfErr result (λ e. e ≡ Refused OutOfMemory) }
+{
+    let mut operations = Vec::new(alloc);
+    let mut bytes = Vec::new(alloc);
+    for op in list {
+        let operation = encode(&mut bytes, op)?;
+        operations.push(operation)?;
+    }
+    Ok(Encoding { operations, bytes })
+}
+
+/// Encodes an operation of an entry as `encode` does. If it made a node, the encoding has that
+/// node's number.
+fn encode_done(bytes: &mut Vec<u8>, op: &Op, done: Option<&Done>) -> Result<Operation, Fault>
+    ensures more { IfOk result (λ o. bytes.new.items ≡ bytes.old.items
+        ++ both_parts o bytes.new.items) }
+    ensures meant { IfOk result (λ o. ArePartsWithin o (length bytes.new.items)
+        × IsMeantBy o bytes.new.items op.now) }
+    ensures made { IfOk result (λ o. IfSome done.entry (λ d. ReportsNode o op.now d.now)) }
+    ensures err { IfErr result (λ e. e ≡ Refused OutOfMemory) }
+{
+    let mut operation = encode(bytes, op)?;
+    if let (Op::New, Some(Done::Node(node))) = (op, done) {
+        operation.node = *node;
+    }
+    Ok(operation)
+}
+
+/// Encodes an entry's operations in order. Each one that made a node has that node's number.
+/// OutOfMemory.
+pub fn encoded_entry(alloc: Global, ops: &[Op], dones: &[Done]) -> Result<Encoding, Fault>
+    ensures ok { IfOk result (λ s. AreEncoded s.operations.items s.bytes.items ops.now) }
+    ensures made { IfOk result (λ s. ReportNodes s.operations.items ops.now dones.now) }
+    ensures err { IfErr result (λ e. e ≡ Refused OutOfMemory) }
+{
+    let mut operations = Vec::new(alloc);
+    let mut bytes = Vec::new(alloc);
+    for op in ops {
+        let done = dones.get(operations.len());
+        let operation = encode_done(&mut bytes, op, done)?;
+        operations.push(operation)?;
+    }
+    Ok(Encoding { operations, bytes })
+}

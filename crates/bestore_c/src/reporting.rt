@@ -1,0 +1,34 @@
+//! A store's figures, as C gets them.
+ghost use Rattle.std.specs.Prelude.{◌≡◌};
+ghost use Rattle.bestore_c.specs.Usage.{Shows};
+
+use crate::handle::Usage;
+use be_store::Status;
+
+/// A store's figures. A flag says whether there is an oldest version.
+pub(crate) fn usage_of(status: &Status) -> Usage
+    ensures { Shows status.now result }
+{
+    let Status {
+        pages,
+        free,
+        retired,
+        entries,
+        commits,
+        oldest,
+    } = *status;
+    let (is_held, oldest, holder) = match oldest {
+        Some(oldest) => (true, oldest.number, oldest.pass),
+        None => (false, 0, 0),
+    };
+    Usage {
+        pages,
+        free,
+        retired,
+        entries,
+        commits,
+        is_held,
+        oldest,
+        holder,
+    }
+}
