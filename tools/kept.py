@@ -8,8 +8,10 @@ from __future__ import annotations
 
 import hashlib
 import os
+import shutil
+import tempfile
 from pathlib import Path
-from typing import Iterable
+from typing import Callable, Iterable
 
 
 def folder() -> Path:
@@ -18,13 +20,13 @@ def folder() -> Path:
     return Path(os.environ.get("BESTORE_KEPT") or cache / "bestore")
 
 
-def checksum(files: Iterable[Path], words: Iterable[str] = ()) -> str:
-    """Returns the checksum of these files, of their names, and of these words."""
+def checksum(files: Iterable[Path], words: Iterable[str] = (), read: Callable[[Path], bytes] = Path.read_bytes) -> str:
+    """Returns the checksum of what `read` returns for these files, of their names, and of these words."""
     whole = hashlib.sha256()
     for word in words:
         whole.update(f"{len(word)} {word} ".encode())
     for file in files:
-        data = file.read_bytes()
+        data = read(file)
         whole.update(f"{file.name} {len(data)} ".encode())
         whole.update(data)
     return whole.hexdigest()
@@ -48,5 +50,17 @@ def keep(what: str, sum_of_all: str, text: str = "") -> None:
         place = folder() / what
         place.mkdir(parents=True, exist_ok=True)
         (place / sum_of_all).write_text(text)
+    except OSError:
+        pass
+
+
+def keep_file(what: str, sum_of_all: str, file: Path) -> None:
+    """Keeps a copy of a file. If the folder can't be made or written, nothing is kept."""
+    try:
+        place = folder() / what
+        place.mkdir(parents=True, exist_ok=True)
+        with tempfile.TemporaryDirectory(dir=place) as room:
+            shutil.copyfile(file, Path(room, "copy"))
+            os.replace(Path(room, "copy"), place / sum_of_all)
     except OSError:
         pass
