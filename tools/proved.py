@@ -23,22 +23,22 @@ def below(crate: str, libraries: dict[str, list[str]]) -> set[str]:
     return found
 
 
-def folder_of(crate: str) -> Path:
+def folder_of(crate: str, top: Path = ROOT) -> Path:
     """Returns where the gate, or a check, leaves a library's proved form."""
-    return ROOT / f"crates/{crate}/out/rlib"
+    return top / f"crates/{crate}/out/rlib"
 
 
 def find_rt() -> Path:
     return Path(shutil.which("rt") or sys.exit("there is no rt")).resolve()
 
 
-def rattle_words(command: str, crate: str, source: str, libraries: dict[str, list[str]]) -> list[str]:
-    """Returns the words of `rattle COMMAND` for a crate with this source."""
+def rattle_words(command: str, crate: str, source: str, libraries: dict[str, list[str]], top: Path = ROOT) -> list[str]:
+    """Returns the words of `rattle COMMAND` for a crate with this source, in the clone `top`."""
     rt = find_rt()
     kit = rt.parent.parent
 
     def rlib(library: str) -> Path:
-        return (folder_of(library) if library in libraries else kit / "rlibs") / f"{library}.rlib"
+        return (folder_of(library, top) if library in libraries else kit / "rlibs") / f"{library}.rlib"
 
     externs = [("--extern", f"{it}={rlib(it)}") for it in ["std", *libraries[crate]]]
     folders = [("-L", f"dependency={rlib(it).parent}") for it in ["std", *sorted(below(crate, libraries))]]
