@@ -23,9 +23,11 @@ TOGETHER = 6
 MEMORY = 5 << 20
 PARTS = "src", "specs", "proofs"
 FUNCTION = re.compile(r'^(\s*)(?:pub(?:\([a-z]+\))? )?(?:const |unsafe |extern "C" )*fn (\w+)')
-# What a check says of a goal that stays open, and of a function with such goals.
-OPEN = r"^(?:note: )?(?:\./)?{file}:(\d+):\d+: it is not proved that "
-NOT_PROVED = r"^fn {crate}::(?:\S+::)?{function}: not proved"
+# What a check says at a place in a file, what it says only because the edit removed a name, and what it says of a function whose own
+# goals are open.
+SAID = re.compile(r"^(?:note: )?(?:\./)?((?:src|proofs)/\S+?):(\d+):\d+: (.*)", re.M)
+NAMES = re.compile(r"has no field|is not in scope|has no `|was not admitted")
+OPEN = r"^fn {path}(?:\S+::)?{function}: (?:not proved$|no proof: expected answers)"
 
 
 class Place(NamedTuple):
@@ -35,6 +37,18 @@ class Place(NamedTuple):
     first: int
     last: int
     function: str
+
+    @property
+    def module(self) -> str:
+        """The names of its modules, as they begin the paths of its proofs."""
+        inner = self.file[len("src/") : -len(".rt")].removesuffix("/mod")
+        return "" if inner == "lib" else f"{inner}/"
+
+    def has(self, file: str, line: int) -> bool:
+        """Returns whether a line is in the function, or in one of its proofs."""
+        if file == self.file:
+            return self.first <= line <= self.last
+        return file.startswith(f"proofs/{self.module}") and f"/{self.function}/" in file
 
 
 class Edit(NamedTuple):
@@ -75,10 +89,12 @@ def begins_body(line: str, indent: str) -> bool:
 
 
 def is_refused(said: str, crate: str, place: Place) -> bool:
-    """Returns whether a check left a goal of this function open, as opposed to not judging it."""
-    lines = {int(it) for it in re.findall(OPEN.format(file=re.escape(place.file)), said, re.M)}
-    has_open = any(place.first <= it <= place.last for it in lines)
-    return has_open and re.search(NOT_PROVED.format(crate=crate, function=place.function), said, re.M) is not None
+    """Returns whether a check left a goal of this function open. It didn't if it hasn't judged the function, or if it only missed
+    a name."""
+    path = re.escape("::".join((crate, *place.module.split("/"))) if place.module else f"{crate}::")
+    if not re.search(OPEN.format(path=path, function=place.function), said, re.M):
+        return False
+    return any(place.has(file, int(line)) and not NAMES.search(text) for file, line, text in SAID.findall(said))
 
 
 def deal(waiting: dict[Edit, Place], size: int) -> list[list[Edit]]:
