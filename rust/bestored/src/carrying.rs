@@ -1,4 +1,4 @@
-//! A thread that carries on volumes whose journals have grown, so that their memory is freed, and that sees to it that no pass
+//! A thread that carries on the volumes whose journals have grown, so that their memory is freed. It makes sure that no pass
 //! keeps the earlier memory.
 
 use crate::kept::Kept;

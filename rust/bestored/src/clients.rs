@@ -38,7 +38,7 @@ pub struct Client {
 /// What a client is doing at the moment.
 #[derive(Debug, Default)]
 struct Doing {
-    /// Its pass in each volume.
+    /// The client's pass in each volume.
     seats: Vec<Seat>,
     pinned: Option<Pinned>,
     command: Option<&'static str>,
@@ -212,7 +212,8 @@ impl Clients {
         )
     }
 
-    /// Returns the client that has pinned a snapshot from before this generation of a volume, and has had it pinned the longest.
+    /// Of the clients that have pinned a snapshot from before this generation of a volume, returns the one that has had it pinned
+    /// the longest.
     pub fn reader_before(&self, volume: usize, generation: u64) -> Option<wire::OldestReader> {
         let connected = lock(&self.connected);
         let readers = connected.clients.values().filter_map(|client| {

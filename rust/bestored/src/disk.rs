@@ -7,7 +7,7 @@ use std::io;
 use std::os::unix::ffi::OsStrExt;
 use std::path::Path;
 
-/// The disk that a folder is on.
+/// The disk that holds a folder.
 #[derive(Debug)]
 pub struct Disk {
     folder: CString,

@@ -1,4 +1,4 @@
-//! Shows the people who run the server what it is doing.
+//! Reports what the server is doing, for the people who run it.
 
 use crate::answer::View;
 use crate::clients::{Client, Seat};

@@ -20,7 +20,7 @@ const ROOM: usize = 1 << 14;
 pub enum Received {
     /// Some bytes arrived.
     Some,
-    /// The time is up.
+    /// The wait has timed out.
     Late,
     /// The client has taken too long to finish a line.
     Half,

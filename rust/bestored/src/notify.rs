@@ -18,7 +18,7 @@ pub struct Notifier {
 }
 
 /// Returns how often to notify a watchdog that waits this many µs. `process` is the process that the watchdog expects to hear
-/// from, if it says so.
+/// from, if it names one.
 fn interval(wait: Option<&str>, process: Option<&str>, own: u32) -> Option<Duration> {
     let wait: u64 = wait?.parse().ok()?;
     let is_own = process.map_or(true, |process| process.parse() == Ok(own));

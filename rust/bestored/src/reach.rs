@@ -7,7 +7,7 @@ use bestore_client::wire::{self, ErrorName, Numbers};
 use std::thread;
 use std::time::{Duration, Instant};
 
-/// How long to wait by default, and the longest wait.
+/// The default and the maximum time to wait.
 const WITHIN: Duration = Duration::from_secs(5);
 const MOST: Duration = Duration::from_secs(60);
 

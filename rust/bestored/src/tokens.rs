@@ -23,7 +23,7 @@ struct Table {
     most: usize,
 }
 
-/// The tokens of the last 65,536 writes per volume that had one.
+/// The tokens of the most recent writes that had one: 65,536 per volume.
 #[derive(Debug)]
 pub struct Tokens {
     table: Mutex<Table>,

@@ -34,7 +34,7 @@ pub struct Watch {
     pub number: u64,
     /// The query, or `None` if the watch pushes every commit.
     pub live: Option<ShelfLive>,
-    /// The number of the snapshot in each volume that the changes found so far lead to.
+    /// For each volume, the number of the snapshot that the changes found so far lead to.
     pub numbers: Vec<u64>,
     /// The changes that haven't been pushed yet.
     pub rest: Updates,

@@ -76,7 +76,7 @@ const COLUMNS: &str = "
     ALTER TABLE bestore_log ADD COLUMN IF NOT EXISTS touched timestamptz, ADD COLUMN IF NOT EXISTS touched_term bigint;
 ";
 
-/// Reads the head, and how many seconds its leader has been silent, if the leader sends reports that it is alive.
+/// Reads the head, and how many seconds its leader has been silent, if that leader reports that it is alive.
 const HEAD: &str = "
     SELECT *, CASE WHEN touched_term = term THEN extract(epoch FROM clock_timestamp() - touched)::float8 END AS silence
     FROM bestore_log";

@@ -1,4 +1,4 @@
-//! The errors for which a log can't be read or written, or for which a server stops using it.
+//! The reasons why a log can't be read or written, and why a server stops using it.
 
 use bestore::saved::Place;
 use std::error::Error as _;

@@ -63,8 +63,8 @@ pub struct State {
     waiting_bytes: usize,
     /// Whether the server is shutting down.
     is_closing: bool,
-    /// How many times someone has asked whether this server still leads, and the number of the last such question to which the
-    /// answer was yes.
+    /// How many times someone has asked whether this server still leads, and the number of the last question that was answered
+    /// with yes.
     asked: u64,
     confirmed: u64,
     /// Whether the log's thread has ended.

@@ -34,7 +34,7 @@ const FOR_PAGES: Duration = Duration::from_secs(60);
 /// The number of entries after which the leader writes the state.
 const STATE_EVERY: u64 = 100_000;
 
-/// Why the thread has stopped what it was doing.
+/// Why following or leading has ended.
 #[derive(Clone, Copy, Debug, PartialEq, Eq)]
 enum Turn {
     /// The server's role has changed.
@@ -463,7 +463,7 @@ async fn take_term(database: &Database, access: &Access, again: bool) -> Result<
     taken.ok_or(Error::Foreign)
 }
 
-/// Takes the lock and the first term for a server that starts as leader.
+/// Takes the lock and begins a term for a server that starts as leader.
 async fn lead_first(database: &Database, access: &Access) -> Result<Role> {
     let until = Instant::now() + FOR_LOCK;
     while !database.try_lock().await? {
