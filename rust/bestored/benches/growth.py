@@ -43,7 +43,7 @@ TICK = os.sysconf("SC_CLK_TCK")
 
 
 class Size(NamedTuple):
-    """The size of the files and of the memory in bytes, either at one moment or the maximum."""
+    """The size of the files and of the memory, in bytes: at one moment, or the maximum."""
 
     files: int
     memory: int

@@ -2,7 +2,7 @@
 //! the followers have these writes, and how long another server needs to take over from a leader that was killed.
 //!
 //! Run it with `cargo bench -p bestored --features log --bench log_rate`. The database writes to the disk that holds the folder for
-//! temporary files (`TMPDIR`). Each client is a thread that sends a write and waits for the reply. Of each case, the best round
+//! temporary files (`TMPDIR`). Each client is a thread that sends a write and waits for the reply. For each case, the best round
 //! counts.
 
 #[path = "../tests/common/mod.rs"]

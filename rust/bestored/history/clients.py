@@ -21,9 +21,9 @@ REPEATING = 60.0
 LATE_MOST = 4
 """How many connections a client keeps while their replies are late."""
 NOT_WRITTEN = {"Conflict", "NotLeader", "Stopped", "Busy", "Full"}
-"""The errors which mean that a batch sent for the first time wasn't written."""
+"""Errors that mean a batch sent for the first time wasn't written."""
 NOT_WRITTEN_BEFORE = {"Conflict"}
-"""The errors which mean that no earlier attempt wrote the batch either."""
+"""Errors that mean no earlier attempt wrote the batch either."""
 
 
 @dataclass

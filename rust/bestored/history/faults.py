@@ -1,4 +1,4 @@
-"""The faults that a round causes while clients write. Each returns the time from which on writes must soon continue."""
+"""The faults that a round causes while clients write. Each returns the time after which writes must soon continue."""
 from __future__ import annotations
 
 import random

@@ -24,7 +24,7 @@ def programs() -> Optional[Path]:
 
 
 def _user() -> Optional[str]:
-    """Returns the user to run PostgreSQL as if this process runs as root, since PostgreSQL refuses to run as root."""
+    """If this process runs as root, returns another user to run PostgreSQL as, since PostgreSQL refuses to run as root."""
     if os.geteuid() != 0:
         return None
     names = {user.pw_name for user in pwd.getpwall()}

@@ -48,7 +48,7 @@ class Outcome(enum.Enum):
 @dataclass
 class Write:
     """A batch that may be written only directly after this snapshot. `commit` and `number` come from the reply, if there is one.
-    All that a repeated reply says about the commit number is that it isn't earlier than the batch."""
+    If the reply was repeated, all that is known about `commit` is that it isn't earlier than the batch."""
 
     value: int
     registers: Tuple[int, ...]

@@ -27,7 +27,7 @@ LATE = 5.0
 """How many seconds to wait for late replies at the end."""
 LOOK = 0.02
 Made = List[Tuple[Fault, float]]
-"""Faults, and the times from which on writes must soon continue."""
+"""Faults, and the times after which writes must soon continue."""
 
 
 @dataclass
@@ -182,7 +182,7 @@ def _has_written(writer: Writer, since: float) -> bool:
 
 
 def _wait_after(history: History, since: float) -> Optional[float]:
-    """Returns how many seconds it took until a batch that was sent after the fault was acknowledged."""
+    """Returns how many seconds passed between a fault and the first acknowledgement of a batch that was sent after it."""
     ends = [write.end - since for write in history.writes
             if write.outcome is Outcome.ACKNOWLEDGED and write.begin >= since and write.end is not None]
     return min(ends, default=None)

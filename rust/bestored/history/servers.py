@@ -21,11 +21,11 @@ JOURNAL = 256
 PATIENCE = 120.0
 """How many seconds a server may take to start or to answer."""
 LOOK = 0.02
-"""How many seconds to wait between two checks whether a server is running."""
+"""How often, in seconds, to check whether a server is running."""
 
 
 class Server:
-    """A program that is restarted this many seconds after it ends."""
+    """A program that is restarted `rest` seconds after it ends."""
 
     def __init__(self, command: List[str], place: Path, rest: float) -> None:
         self.place = str(place)
@@ -178,7 +178,7 @@ class LogServers(Servers):
 
 
 def _ask_again(connect: Callable[[], Connection], ask: Callable[[Connection], T]) -> T:
-    """Calls `ask` with a connection, and calls it again for as long as the server ends or can't answer."""
+    """Calls `ask` with a connection, and retries with a new one if the server ends or can't answer."""
     until = time.monotonic() + PATIENCE
     while True:
         connection = connect()

@@ -83,7 +83,7 @@ fn misbehave(stream: &mut UnixStream, number: u64, is_over: &AtomicBool) -> io::
         6 => send(stream, 10_000, |at| {
             format!("{{\"id\":{at},\"batch\":{{\"operations\":[[\"set\",1,\"a\",{at}]]}}}}\n")
         })?,
-        // Starts one live query more than it may have, and reads nothing.
+        // Starts one more live query than it may have, and reads nothing.
         7 => send(stream, 33, |at| {
             format!("{{\"id\":{at},\"watch\":{{\"query\":\"client{}>=0\"}}}}\n", at % GOOD)
         })?,
@@ -121,7 +121,7 @@ fn surplus(server: &Server, is_over: &AtomicBool) -> u64 {
     while !is_over.load(Relaxed) {
         let mut talks: Vec<Talk> = (0..PASSES).map(|_| server.talk()).collect();
         for talk in &mut talks {
-            // This fails if the server has closed the connection, but the server says why before it closes one.
+            // This fails if the server has already closed the connection. It sends the reason before it closes one.
             let _ = talk.stream.write_all(b"{\"id\":1,\"next\":{}}\n");
             let line = talk.line();
             let is_answered = line.starts_with("{\"id\":1,\"ok\":{\"commit\":");

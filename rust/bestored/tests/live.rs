@@ -132,7 +132,7 @@ fn a_refresh_leads_to_the_snapshot() {
         std::thread::sleep(Duration::from_micros(200 * (round % 20)));
         let answer = ask(&mut talk, r#""query":{"query":"size>=5"}"#, &mut found);
         let mut refreshed = ask(&mut talk, r#""refresh":{"watch":1}"#, &mut found);
-        // A round can't push its changes while a reply is being sent. These changes come first.
+        // A round can't push its changes while a reply is being sent. The refresh returns such changes first.
         while refreshed.get("more").is_some() {
             take_in(&mut found, &serde_json::from_value(refreshed).unwrap());
             refreshed = ask(&mut talk, r#""refresh":{"watch":1}"#, &mut found);

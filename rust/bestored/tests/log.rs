@@ -386,7 +386,7 @@ fn leave_leader(database: &Database, is_next_one_killed: bool) {
     let found = new.client().get(1, "count").unwrap().and_then(|value| value.as_u64());
     assert_eq!(found, Some(2));
     if !is_next_one_killed {
-        // A server that is started to lead a log that already has a leader doesn't start.
+        // A server can't start as the leader of a log that already has one.
         let said = Member::start_in(old.folder, database, "--log").end();
         assert!(said.contains("the log is led by "), "{said}");
     }

@@ -158,7 +158,8 @@ fn a_cursor_of_another_page_is_refused() {
     talk.check(&other, &format!(r#""error":{{{}}}"#, fault(why)));
 }
 
-/// A cursor also fits the same query written in a different way, but not an index that has been removed and created again.
+/// A cursor is also valid for the same query written in a different way, but not for an index that has been removed and created
+/// again.
 #[test]
 fn a_cursor_of_an_index_that_was_made_anew() {
     let (_folder, server, mut talk) = four();

@@ -1,4 +1,4 @@
-//! Tests that a batch which a client sends again with its token is written exactly once, even if the server is killed.
+//! Tests that a batch is written exactly once when a client sends it again with its token, even if the server is killed.
 
 use crate::common::{wait_until, Folder, Random, Server};
 use bestore::Batch;

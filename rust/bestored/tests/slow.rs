@@ -8,7 +8,7 @@ use std::sync::atomic::{AtomicBool, Ordering::Relaxed};
 use std::thread;
 use std::time::{Duration, Instant};
 
-/// The number of pages, which is so small that writes soon need the snapshot's pages.
+/// The number of pages: so few that writes soon need the snapshot's pages.
 const PAGES: &str = "128";
 
 /// How long a write may wait. The server ends a snapshot that blocks writes after one second. The rest allows for a busy machine.

@@ -8,7 +8,7 @@ use bestore::Batch;
 use bestore_client::wire::{Command, Nothing, Numbers, Token, Write, Written};
 use bestore_client::ErrorName;
 
-/// Starts a leader, writes an entry, and starts a follower. Returns them once the follower has the entry.
+/// Starts a leader, writes an entry, and starts a follower. Returns all three once the follower has the entry.
 fn leader_and_follower(database: &Database) -> (Member, Written, Member) {
     let leader = Member::start(database, "--log");
     let first = make(&mut leader.client(), "a").unwrap();

@@ -15,7 +15,7 @@ const LIMITED: &str = "trap '' XFSZ && ulimit -f \"$1\" && shift && exec \"$@\""
 /// A disk whose size can be changed.
 #[derive(Debug)]
 pub enum Disk {
-    /// An in-memory file system in its own namespace. It exists as long as the process that keeps the namespace.
+    /// An in-memory file system in its own namespace. It exists for as long as the process that keeps the namespace runs.
     Mounted {
         folder: Folder,
         holder: Child,

@@ -20,7 +20,7 @@ use std::sync::{Mutex, MutexGuard, PoisonError};
 use std::thread;
 use std::time::{Duration, Instant, SystemTime};
 
-/// How long a server may take for any single thing. It is slow under memcheck and on a busy machine.
+/// The maximum time to wait for a server to do anything. It is slow under memcheck and on a busy machine.
 pub const PATIENCE: Duration = Duration::from_secs(300);
 
 /// A folder that is removed when the test ends.

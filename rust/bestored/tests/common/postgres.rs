@@ -44,7 +44,7 @@ fn programs() -> Option<PathBuf> {
     programs.pop()
 }
 
-/// Returns the user to run PostgreSQL as if the tests run as root, since PostgreSQL refuses to run as root.
+/// If the tests run as root, returns another user to run PostgreSQL as, since PostgreSQL refuses to run as root.
 fn other_user() -> Option<(u32, u32)> {
     let status = fs::read_to_string("/proc/self/status").ok()?;
     let ids = status.lines().find_map(|line| line.strip_prefix("Uid:"))?;

@@ -1,4 +1,4 @@
-//! A TCP connection between a server and its database which breaks when a test asks for it.
+//! A TCP connection between a server and its database that a test can break.
 
 use std::io::{Read, Write};
 use std::net::{Shutdown, TcpListener, TcpStream};

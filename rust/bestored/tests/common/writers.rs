@@ -125,8 +125,7 @@ impl Writers {
         found
     }
 
-    /// Does what `check` does after the server has ended and another has opened its file, and takes the contents as known from then
-    /// on.
+    /// Calls `check` once another server has opened the file of one that has ended, and takes the contents as known from then on.
     pub fn go_on(&self, client: &mut Client) {
         for (known, found) in self.known.iter().zip(self.check(client)) {
             if found > known.answered.swap(found, Relaxed) {
