@@ -15,7 +15,7 @@ pub enum Side {
     Server(Starter),
 }
 
-/// The server's connection to the process that ran the command, which waits to be told where the server listens.
+/// The server's connection to the process that ran the command, which waits to learn where the server listens.
 #[derive(Debug)]
 pub struct Starter(UnixStream);
 
@@ -55,7 +55,7 @@ fn wait(mut starter: UnixStream, process: &Process) -> io::Result<ExitCode> {
 }
 
 impl Starter {
-    /// Tells the waiting process where the server listens.
+    /// Reports to the waiting process where the server listens.
     pub fn listens_at(mut self, path: &Path) -> io::Result<()> {
         // If that process has ended, the server keeps running.
         let _ = write!(self.0, "{}", path.display());

@@ -81,7 +81,7 @@ impl<'a> Connection<'a> {
     }
 
     /// Pins a snapshot, and answers requests until the client unpins it or the server ends it. Returns `None` if no snapshot
-    /// could be pinned; the client has then been told why.
+    /// could be pinned; the reply then says why.
     fn keep(&mut self, id: u64, pass: &mut ShelfPass) -> io::Result<Option<Turn>> {
         let pinned = pass.pin().map_err(Failure::from);
         let pinned = pinned.and_then(|snapshot| Ok((volumes::next(&snapshot)?, snapshot)));

@@ -1,4 +1,4 @@
-//! Tells the service manager when the server is ready, that it is still alive, and when it is stopping. See sd_notify(3).
+//! Notifies the service manager when the server is ready, while it is alive, and when it is stopping. See sd_notify(3).
 
 use crate::os;
 use std::env;
@@ -12,7 +12,7 @@ const EXTENSION: Duration = Duration::from_secs(30);
 #[derive(Debug)]
 pub struct Notifier {
     socket: Option<OsString>,
-    /// How often to tell the watchdog that the server is alive.
+    /// How often to notify the watchdog that the server is alive.
     every: Option<Duration>,
     last: Instant,
 }

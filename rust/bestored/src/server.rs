@@ -100,7 +100,7 @@ pub fn run(
     shared.kept.finish()
 }
 
-/// Starts listening, and tells the process that started the server.
+/// Starts listening, and reports this to the process that started the server.
 fn listen(place: Place, starter: Option<Starter>, run: &str) -> io::Result<Socket> {
     let path = place.path().map(PathBuf::from);
     let socket = place.listen()?;
@@ -264,7 +264,7 @@ pub fn no_pass(shared: &Shared) -> Failure {
     Failure::new(ErrorName::NoPass, message).with("clients", clients)
 }
 
-/// Tells the client why it is refused, if the socket accepts the message immediately.
+/// Sends the client the reason why it is refused, if the socket accepts the message immediately.
 fn refuse(stream: &UnixStream, failure: &Failure) {
     if let Ok(body) = serde_json::to_string(&failure.0) {
         // The server doesn't wait for a client that doesn't read the message.

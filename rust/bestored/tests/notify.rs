@@ -1,4 +1,4 @@
-//! Tests the messages that a service manager receives. A socket of the test's own stands in for the manager.
+//! Tests the messages that a service manager receives. A socket of the test's own takes the manager's place.
 
 use crate::common::{command, Folder, Server, PATIENCE};
 use bestore_client::Client;

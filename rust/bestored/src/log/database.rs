@@ -23,7 +23,7 @@ const LIMIT: Duration = Duration::from_secs(7);
 /// The maximum number of entries to read at a time.
 pub const ENTRIES: usize = 500;
 
-/// How many entries from before the state to leave in the log, for followers that are slightly behind.
+/// How many entries from before the state to leave in the log, for followers that lag slightly.
 const SPARE: u64 = 10_000;
 
 /// The settings of a session. If the leader's machine disappears, PostgreSQL gives up on it after about 11 seconds, so that another

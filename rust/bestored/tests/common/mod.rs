@@ -263,7 +263,7 @@ impl Talk {
         BufReader::new(Cursor::new(first).chain(stream.try_clone().unwrap()))
     }
 
-    /// Puts bytes that have already been read from the stream in front of the next lines.
+    /// Continues with bytes that have already been read from the stream before it reads the next lines.
     pub fn begin_with(&mut self, first: Vec<u8>) {
         self.reader = Self::reader_of(&self.stream, first);
     }
