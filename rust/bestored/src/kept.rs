@@ -284,7 +284,7 @@ impl Kept {
         }
     }
 
-    /// Waits until all writes so far are kept, unless the server replies to writes before it keeps them.
+    /// Waits until all writes so far are kept, if replies to writes wait for that.
     pub fn flush_if_each(&self) -> Result<(), Failure> {
         match self {
             Kept::Memory(_) => Ok(()),

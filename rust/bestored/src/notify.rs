@@ -5,7 +5,7 @@ use std::env;
 use std::ffi::OsString;
 use std::time::{Duration, Instant};
 
-/// How much more time to start each message requests while the server waits for a database.
+/// How much more start-up time each message requests while the server is waiting for a database.
 const EXTENSION: Duration = Duration::from_secs(30);
 
 /// Sends messages to the service manager, if there is one.

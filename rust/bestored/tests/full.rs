@@ -1,4 +1,4 @@
-//! Tests that no confirmed write is lost when the disk fills up at any moment while clients write.
+//! Tests that no answered write is lost when the disk fills up at any moment while clients are writing.
 
 use crate::common::disk::Disk;
 use crate::common::writers::{check_history, Writers};

@@ -87,8 +87,8 @@ const TOUCH: &str = "
     FROM (SELECT set_config('synchronous_commit', 'local', true)) AS once
     WHERE term = $1 RETURNING bestore_log.*";
 
-/// Ends the session that holds the lock, if the session has been idle for `$1` seconds. A follower that has just taken the lock
-/// keeps it.
+/// Ends the session that holds the lock, if it has done nothing for `$1` seconds. A follower that has just taken the lock keeps
+/// it.
 const END_LEADER: &str = "
     SELECT pg_terminate_backend(pid) FROM pg_locks JOIN pg_stat_activity USING (pid)
     WHERE locktype = 'advisory' AND datname = current_database() AND granted
@@ -312,7 +312,7 @@ impl Database {
         touched.as_ref().map(Head::of).transpose()
     }
 
-    /// Ends the session of a leader that has been idle for this many seconds. Returns whether there was such a session.
+    /// Ends the session of a leader that has done nothing for this many seconds. Returns whether there was such a session.
     pub async fn end_leader(&self, silence: f64) -> Result<bool> {
         let ended = limited(self.client.query(END_LEADER, &[&silence])).await?;
         Ok(!ended.is_empty())

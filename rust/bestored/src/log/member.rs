@@ -59,7 +59,7 @@ pub struct Member {
     state: u64,
     /// The earliest time at which this server may lead, while it is a follower.
     may_lead: Instant,
-    /// When the most recent database call began.
+    /// When the last attempt to use the database began.
     tried: Instant,
 }
 
