@@ -1,4 +1,4 @@
-/* Passes a predicate's items with arbitrary numbers and parts. All calls must agree on whether to accept them, and the canonical text
+/* Builds a predicate from items with arbitrary numbers and parts. All calls must agree on whether to accept it, and the canonical text
  * of an accepted predicate must be the same query. An item has six bytes: its kind, and its number or the position and length of its
  * bytes. These bytes follow the last item. */
 #include "fuzz.h"

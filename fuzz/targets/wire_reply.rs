@@ -45,8 +45,8 @@ fn goes_there_and_back<T: DeserializeOwned + Serialize + PartialEq + Debug>(line
     let line = serde_json::to_string(&read).expect("a reply that was read can be written");
     assert!(!line.contains('\n'), "{line}");
     let again: T = serde_json::from_str(&line).expect("a reply that was written can be read");
-    // A journal may have entries with more than 64 operations, of which only 64 are kept. The kept ones are the same after
-    // another reading.
+    // A journal may have entries with more than 64 operations, of which only 64 are kept. Writing and reading these again changes
+    // nothing.
     let written = serde_json::to_string(&again).expect("a reply that was read can be written");
     assert_eq!(line, written);
 }

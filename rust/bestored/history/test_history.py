@@ -46,7 +46,7 @@ class Checker(unittest.TestCase):
     """Tests what the checker finds."""
 
     def check(self, history: History, *texts: str) -> None:
-        """Checks that the first violations are described by these strings."""
+        """Checks that the first violations have these descriptions."""
         found = list(violations(history))
         self.assertEqual(bool(found), bool(texts), found)
         for text in texts:
@@ -141,7 +141,7 @@ class Checker(unittest.TestCase):
 
 @unittest.skipUnless(BESTORED, "BESTORED names no bestored")
 class Rounds(unittest.TestCase):
-    """Tests with short rounds."""
+    """Tests that run short rounds."""
 
     folder = Path(BESTORED or "").parent
 

@@ -23,7 +23,7 @@ pub struct Copy<'a> {
     volumes: Vec<Volume>,
 }
 
-/// The batches of a volume, as bytes.
+/// A volume's batches, as bytes.
 #[derive(Debug)]
 struct Volume {
     commit: u64,
@@ -99,7 +99,7 @@ impl Volume {
 }
 
 impl Copy<'_> {
-    /// Returns the copy's numbers. New nodes are created in the volume with the most free pages.
+    /// Returns the copy's commit numbers and next node numbers. New nodes are created in the volume with the most free pages.
     fn next(&self, roomiest: u32) -> wire::Next {
         let commits: Vec<u64> = self.volumes.iter().map(|volume| volume.commit).collect();
         let nexts: Vec<u64> = self.volumes.iter().map(|volume| volume.next).collect();

@@ -5,7 +5,7 @@ use std::sync::atomic::{AtomicU64, Ordering};
 use std::sync::{Mutex, PoisonError};
 use std::time::{Duration, Instant};
 
-/// The number of most recent seconds that are counted.
+/// The number of recent seconds that are counted.
 const SECONDS: u64 = 10;
 
 /// The number of ranges into which write times fall: four for each power of two in µs, up to an hour.
@@ -59,7 +59,7 @@ impl Drop for Measured<'_> {
 }
 
 impl Measured<'_> {
-    /// Counts the write, which has been made and kept.
+    /// Counts the write. Call this once the write has been made and kept.
     pub fn finish(self) {
         let meter = self.meter;
         meter.count(meter.now(), self.begin.elapsed());

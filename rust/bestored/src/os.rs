@@ -44,7 +44,7 @@ pub fn wait_readable<const N: usize>(descriptors: [RawFd; N], time: Option<Durat
     wait(descriptors, libc::POLLIN, time)
 }
 
-/// Waits until the socket accepts more bytes, but no longer than this.
+/// Waits until the socket accepts more bytes, but no longer than `time`.
 pub fn wait_writable(stream: &UnixStream, time: Duration) -> io::Result<()> {
     wait([stream.as_raw_fd()], libc::POLLOUT, Some(time)).map(drop)
 }

@@ -25,7 +25,7 @@ impl Room {
         }
     }
 
-    /// Uses space for an item. Returns whether there is space for another.
+    /// Takes up space for an item. Returns whether there is space for another.
     pub fn take(&mut self, bytes: usize) -> bool {
         self.bytes = self.bytes.saturating_sub(bytes);
         self.bytes > 0

@@ -24,7 +24,7 @@ pub struct Pressure {
     /// How long a write waits for pages.
     wait: Duration,
     begin: Instant,
-    /// When anything last waited, in milliseconds since the start, or 0 if nothing has.
+    /// When something last waited for memory, in milliseconds since the start, or 0 if nothing has waited yet.
     last: AtomicU64,
 }
 
@@ -93,7 +93,7 @@ impl Pressure {
     }
 }
 
-/// Returns how often the library retries a call on a connection's pass. It retries only while another pass is busy.
+/// Returns the retry settings for a connection's pass. The library retries a call only while another pass is busy.
 pub fn retry() -> Retry {
     Retry {
         full: 0,

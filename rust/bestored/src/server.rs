@@ -125,7 +125,7 @@ fn accept(listener: &UnixListener, notifier: &mut Notifier, signals: &File, shar
         }
         take_client(listener, shared);
     }
-    // Clients that connected before the signal still get answers.
+    // Clients that connected before the signal still get replies.
     let most = shared.options.passes as usize + WAITING;
     (0..most).take_while(|_| take_client(listener, shared)).count();
 }

@@ -115,7 +115,7 @@ pub fn next(snapshot: &ShelfSnapshot<'_>) -> Result<wire::Next, Failure> {
     })
 }
 
-/// Returns the indices, and those that some volumes lack.
+/// Returns all indices, and which of them some volumes lack.
 pub fn indices(snapshot: &ShelfSnapshot<'_>) -> Result<wire::Indices, Failure> {
     let indices = snapshot.indices()?.into_iter();
     Ok(wire::Indices {

@@ -9,7 +9,7 @@ use std::os::unix::net::UnixListener;
 use std::path::Path;
 use std::process::{Command, Output};
 
-/// A background server, which is ended when the test ends.
+/// A background server, which is shut down when the test ends.
 struct Background(String);
 
 impl Background {

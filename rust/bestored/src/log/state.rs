@@ -1,4 +1,4 @@
-//! The log's state: batches that rebuild a store, so that a server that starts doesn't have to apply every entry.
+//! The log's state: batches that rebuild a store, so that a server doesn't have to apply every entry when it starts.
 
 use super::database::{Database, ENTRIES};
 use super::error::{Error, Result};
