@@ -46,7 +46,7 @@ pub struct Options {
     pub pages: u64,
     pub passes: u64,
     pub commits: u64,
-    /// How many bytes of entries a volume's journal may hold before its memory is freed, if given.
+    /// If given, how many bytes of entries a volume's journal may hold before its memory is freed.
     pub journal: Option<u64>,
     pub hold: Duration,
     /// The time after which a request is reported as slow.
