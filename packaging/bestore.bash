@@ -1,12 +1,12 @@
 # Bash completion for the command bestore.
 
-# Sets COMPREPLY to the files whose names begin with the word.
+# Sets COMPREPLY to the files whose names begin with this word.
 _bestore_files() {
     compopt -o filenames 2>/dev/null
     mapfile -t COMPREPLY < <(compgen -f -- "$1")
 }
 
-# Sets COMPREPLY to the words that can come next on the command line.
+# Sets COMPREPLY to the words that may come next on the command line.
 _bestore() {
     local word=${COMP_WORDS[COMP_CWORD]} before=${COMP_WORDS[COMP_CWORD-1]} options
     COMPREPLY=()

@@ -1,7 +1,7 @@
 #!/bin/sh
-# Starts the program bestore. For `bestore shell` at a terminal, this script makes Ctrl-C a character that ends a line, and the
-# program takes that line as cancelled. So Ctrl-C doesn't end the program, which would lose its store. At the end the script
-# restores the terminal's settings. For anything else, it only runs the program.
+# Starts the program bestore. For `bestore shell` at a terminal, this script turns Ctrl-C into a character that ends a line, and
+# the program treats that line as cancelled. Ctrl-C therefore doesn't end the program, which would lose its store. When the program
+# ends, the script restores the terminal's settings. In all other cases, it just runs the program.
 
 program=${0%/*}/@RELATIVE@
 [ -x "$program" ] || program='@ABSOLUTE@'
@@ -22,7 +22,7 @@ stop() {
 
 trap 'stty "$saved" 2>/dev/null' EXIT
 set_keys
-# A background program has no standard input unless it is given one. The traps run while this script waits for the program.
+# A program in the background has no standard input unless it is given one. Traps can run while this script waits for it.
 exec 3<&0
 "$program" "$@" <&3 3<&- &
 child=$!
@@ -34,6 +34,6 @@ trap set_keys CONT
 while :; do
     wait "$child"
     status=$?
-    # A signal ends the wait too, but the program is then still running.
+    # A signal also ends the wait, but then the program is still running.
     kill -0 "$child" 2>/dev/null || exit "$status"
 done

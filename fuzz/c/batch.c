@@ -1,14 +1,14 @@
-/* Random batches. What bes_apply accepts is in the journal as it was given, what it refuses leaves nothing, and the store's state
- * rebuilds the same store. An input is a sequence of batches: the number of operations, 12 bytes for each, how many bytes they
- * have, and these bytes. */
+/* Applies random batches. A batch that bes_apply accepts must be in the journal as it was given, one that it refuses must leave no
+ * trace, and the store's state must rebuild the same store. An input is a sequence of batches. Each consists of the number of
+ * operations, 12 bytes for each operation, the length of their bytes, and these bytes. */
 #include "fuzz.h"
 
 enum { APPLIED, APPLIED_WHAT, JOURNAL };
 
-/* One more than a batch can have. */
+/* One operation more than a batch can have. */
 #define MOST 65
 
-/* What the parts of a batch are in. */
+/* A batch's operations, and the bytes that hold their parts. */
 typedef struct fuzz_batch {
     bes_operation operations[MOST];
     size_t count;
@@ -64,7 +64,7 @@ static bool is_part(const bes_batch *entry, uint32_t at, uint32_t length, const 
            memcmp(entry->bytes + at, expected, expected_length) == 0;
 }
 
-/* Checks that an operation in the journal is the one that was applied, in the fields that it uses. */
+/* Checks that an operation in the journal has the same values as the one that was applied, in the fields that it uses. */
 static void is_kept(const bes_batch *entry, const bes_operation *kept, const fuzz_batch *batch, const bes_operation *it, uint64_t made)
 {
     bool has_name = it->kind >= BES_SET, has_node = it->kind <= BES_UNSET, sets = it->kind == BES_SET;
@@ -131,7 +131,7 @@ static size_t state_of(bes_pass *pass, uint8_t *bytes, size_t room)
     return all;
 }
 
-/* Checks that the store's state makes a store with the same state. */
+/* Checks that applying the store's state to an empty store gives a store with the same state. */
 static void carries_on(bes_pass *pass)
 {
     static uint8_t state[1 << 20], again[1 << 20];

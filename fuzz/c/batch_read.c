@@ -1,5 +1,5 @@
-/* Bytes of a batch, read by the helpers. If they are valid, they are encoded to the same bytes. An error has an offset within the
- * bytes. */
+/* Reads a batch from bytes with the helpers. A valid batch must be encoded as the same bytes, and an error must have an offset
+ * within the bytes. */
 #include "fuzz.h"
 
 enum { READ, PLACED, COUNTED };

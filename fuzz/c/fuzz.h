@@ -1,7 +1,7 @@
-/* What the C fuzz targets share: how an input is taken apart, and how a run that finds a fault ends.
+/* The code that the C fuzz targets share: it takes inputs apart, and ends a run that finds a fault.
  *
- * The library isn't instrumented for coverage, so a target reports to libFuzzer with `saw` what a call returned. An input that
- * shows something new is kept, just as one that takes a new branch in the helpers is. */
+ * The library isn't instrumented for coverage, so a target uses `saw` to report to libFuzzer what a call returned. libFuzzer keeps
+ * an input that produces a new result, just as it keeps one that takes a new branch in the helpers. */
 #ifndef FUZZ_H
 #define FUZZ_H
 
@@ -11,7 +11,7 @@
 #include <stdlib.h>
 #include <string.h>
 
-/* Ends the run and names this place if the condition doesn't hold. */
+/* If the condition doesn't hold, prints where it is and ends the run. */
 #define CHECK(condition)                                                          \
     do {                                                                          \
         if (!(condition)) {                                                       \
@@ -22,16 +22,16 @@
 
 int LLVMFuzzerTestOneInput(const uint8_t *input, size_t length);
 
-/* libFuzzer counts these as it counts branches, and clears them before each input. */
+/* libFuzzer treats these counters like those of branches, and clears them before each input. */
 __attribute__((used, section("__libfuzzer_extra_counters"))) static uint8_t seen[1 << 12];
 
-/* Reports a call's result: which call it was, and a number for its result. */
+/* Reports which call was made, and a number that stands for its result. */
 static inline void saw(unsigned call, uint64_t what)
 {
     seen[(call * 128u + (unsigned)(what % 128u)) % sizeof seen] = 1;
 }
 
-/* Returns how many bits a number has: a coarse size for `saw`. */
+/* Returns how many bits a number has, as a coarse size for `saw`. */
 static inline uint64_t size_of(uint64_t number)
 {
     uint64_t bits = 0;
@@ -40,7 +40,7 @@ static inline uint64_t size_of(uint64_t number)
     return bits;
 }
 
-/* What is left of an input. At its end, everything taken is 0. */
+/* The rest of an input. Once the input is used up, everything taken from it is 0. */
 typedef struct fuzz_input {
     const uint8_t *bytes;
     size_t length;
@@ -54,7 +54,7 @@ static inline uint64_t take(fuzz_input *input, size_t length)
     return number;
 }
 
-/* Makes a copy of exactly this size, so that a read past its end is found. */
+/* Makes a copy of exactly this size, so that a read past its end is detected. */
 static inline char *copy_of(const void *bytes, size_t length)
 {
     char *copy = malloc(length > 0 ? length : 1);
@@ -63,7 +63,7 @@ static inline char *copy_of(const void *bytes, size_t length)
     return copy;
 }
 
-/* Opens a store with an index "a" of texts and an index of numbers, and with nodes 1 to 20, which have the numbers -5 to 14. */
+/* Opens a store with an index "a" of strings, an index of numbers, and nodes 1 to 20, which have the numbers -5 to 14. */
 static inline void open_indexed(bes_pass *pass, const char *numbers)
 {
     uint64_t node = 0;

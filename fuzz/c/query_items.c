@@ -1,6 +1,6 @@
-/* A predicate's items with any numbers and parts. Each call accepts or refuses them alike, and the accepted ones have a canonical
- * text for the same query. An item has six bytes: its kind, and its number or the position and length of its bytes. The bytes
- * follow the last item. */
+/* Builds a predicate from items with arbitrary numbers and parts. All calls must agree on whether to accept it, and the canonical text
+ * of an accepted predicate must be the same query. An item has six bytes: its kind, and its number or the position and length of its
+ * bytes. These bytes follow the last item. */
 #include "fuzz.h"
 
 enum { PREPARED, QUERIED, PLACED };
@@ -19,7 +19,7 @@ static void open_store(void)
     CHECK(bes_pin(&pass, &number) == BES_OK);
 }
 
-/* Reads the items. Most are of valid kinds, and most parts begin within the bytes. */
+/* Reads the items from the input. Most of them have a valid kind, and most parts begin within the bytes. */
 static size_t take_items(fuzz_input *input, bes_item *items)
 {
     size_t count = (size_t)take(input, 2) % MOST, all = 0;
@@ -39,7 +39,7 @@ static bool has_place(uint32_t error)
            error == BES_NO_ITEM || error == BES_BAD_RPN || error == BES_BAD_PATTERN;
 }
 
-/* Checks that a predicate's canonical text, unless it is too long, is a query with the same canonical text that finds the same
+/* Checks that a predicate's canonical text, unless it is too long, is a query that has the same canonical text and finds the same
  * nodes. */
 static void is_same_query(bes_prepared *prepared, const uint64_t *nodes, uint64_t count, uint32_t error)
 {

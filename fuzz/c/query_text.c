@@ -1,14 +1,14 @@
-/* A query's text: the library and the helpers read the same from it, and its canonical text is its own canonical text. */
+/* Reads a query's text. The library and the helpers must read the same query, and its canonical text must be canonical itself. */
 #include "fuzz.h"
 
 enum { PREPARED, QUERIED, COMPARED, FOUND };
 
-/* The maximum length of a canonical text that is read. */
+/* The maximum length of a canonical text. */
 #define ROOM (1 << 16)
 
 static bes_pass pass = BES_PASS_INIT;
 
-/* Opens and pins a store in which some comparisons find some nodes. */
+/* Opens a store in which some comparisons find nodes, and pins a snapshot. */
 static void open_store(void)
 {
     uint64_t number = 0;
@@ -31,7 +31,7 @@ static bool is_of_text(uint32_t error)
     return has_place(error) || error == BES_NOT_UTF8 || error == BES_TOO_LONG || error == BES_TOO_MANY || error == BES_TOO_DEEP;
 }
 
-/* Returns a prepared query's canonical text, in memory of exactly its size. */
+/* Returns a prepared query's canonical text, in a buffer of exactly its size. */
 static char *canonical_of(bes_prepared *prepared, size_t *length)
 {
     static uint8_t text[ROOM];
@@ -44,7 +44,7 @@ static char *canonical_of(bes_prepared *prepared, size_t *length)
     return copy_of(text, *length);
 }
 
-/* Checks that the helper reads any bytes to their end, and no further. Returns how many comparisons it finds. */
+/* Checks that the helper reads arbitrary bytes up to their end and no further. Returns how many comparisons it finds. */
 static size_t count_comparisons(const char *text, size_t length)
 {
     bes_comparison found;
@@ -64,15 +64,15 @@ static uint32_t opposite(uint32_t kind)
     return kinds[kind - BES_ITEM_EQ];
 }
 
-/* Returns whether these parts of the bytes of two lists are the same. */
+/* Returns whether these parts of two lists' bytes are the same. */
 static bool is_same(const bes_comparison_list *mine, uint64_t at, uint64_t end, const bes_comparison_list *theirs, uint64_t their_at,
                     uint64_t their_end)
 {
     return end - at == their_end - their_at && memcmp(mine->bytes + at, theirs->bytes + their_at, (size_t)(end - at)) == 0;
 }
 
-/* Checks that a query and its canonical text have the same comparisons in the same order. A ! negates their operators. A
- * canonical text may be too long to be a query. */
+/* Checks that a query and its canonical text have the same comparisons in the same order, except that a ! negates their operators.
+ * A canonical text may be too long for a query. */
 static void compare(const char *text, size_t length, const char *canonical, size_t canonical_length)
 {
     static bes_comparison_list mine, theirs;
@@ -90,7 +90,7 @@ static void compare(const char *text, size_t length, const char *canonical, size
     }
 }
 
-/* Checks that a canonical text, unless it is too long, is a query with this canonical text. */
+/* Checks that a canonical text, unless it is too long, is a query whose canonical text is the same. */
 static void is_canonical(const char *canonical, size_t length)
 {
     bes_prepared prepared = BES_PREPARED_INIT;
@@ -106,7 +106,7 @@ static void is_canonical(const char *canonical, size_t length)
     }
 }
 
-/* Checks that a query finds the same nodes as a text and prepared, and that nothing is written past the array. */
+/* Checks that a query finds the same nodes whether it is given as a text or prepared, and that nothing is written past the array. */
 static void ask(const char *text, size_t length, bes_prepared *prepared)
 {
     uint64_t nodes[21], again[21], count = 0, prepared_count = 0;
@@ -136,7 +136,7 @@ static void is_prepared(const char *text, size_t length, bes_prepared *prepared)
     free(canonical);
 }
 
-/* Checks that each call refuses a text with the same error, at the same place. */
+/* Checks that every call refuses a text with the same error at the same position. */
 static void is_refused(const char *text, size_t length, uint32_t error, uint64_t place)
 {
     uint64_t node = 7, count = 0;

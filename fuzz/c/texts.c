@@ -1,10 +1,10 @@
-/* Any bytes as a name or a value in a query: the helpers make texts of them that the library accepts and reads as the same, and
- * write nothing past their arrays. The first two bytes say how much room there is. */
+/* Uses arbitrary bytes as a name and as a value in a query. The library must accept the texts that the helpers make of them, and read
+ * the same bytes from them. The helpers must write nothing past their buffers. The first two bytes give a buffer's length. */
 #include "fuzz.h"
 
 enum { CHARACTERS, NUMBER, PATTERN };
 
-/* Returns the text of the value in a query's only comparison, without its backslashes. */
+/* Copies the value in a query's only comparison, without its backslashes, and returns its length. */
 static size_t plain_value(const char *query, size_t length, char *plain, size_t room)
 {
     static bes_comparison_list list;
@@ -18,7 +18,7 @@ static size_t plain_value(const char *query, size_t length, char *plain, size_t 
     return count;
 }
 
-/* Checks that an escaped text is read as itself in each way to write it. */
+/* Checks that an escaped text stands for itself in each form in which it can be written. */
 static void stands_for_itself(const char *text, const char *escaped)
 {
     static const char *const forms[] = {"a>=\"%s\"", "a>='%s'", "a>=%s"};
@@ -31,7 +31,7 @@ static void stands_for_itself(const char *text, const char *escaped)
     }
 }
 
-/* Checks that a helper with too little room writes the start of the text, a zero byte, and nothing more. */
+/* Checks that a helper whose buffer is too small writes the beginning of the text, a zero byte, and nothing more. */
 static void is_cut(size_t (*helper)(const char *, char *, size_t), const char *text, size_t room)
 {
     char whole[3100], cut[3101];
@@ -45,7 +45,7 @@ static void is_cut(size_t (*helper)(const char *, char *, size_t), const char *t
     }
 }
 
-/* Checks that a text in either case is a pattern that the library accepts. */
+/* Checks that the library accepts the pattern that bes_any_case makes of a text. */
 static void is_pattern(const char *text)
 {
     bes_prepared prepared = BES_PREPARED_INIT;
@@ -62,7 +62,8 @@ static bool is_digit(char c)
     return c >= '0' && c <= '9';
 }
 
-/* Checks that what is read as a number has an optional - and up to 20 digits, and that the C library prints the same number. */
+/* Checks that exactly those texts are read as numbers that have an optional - and up to 20 digits, and that the C library also reads
+ * as numbers of 64 bits. */
 static void spells(const char *text, const char *escaped)
 {
     static bes_comparison_list list;

@@ -1,21 +1,21 @@
-//! What the fuzz targets share: the function that libFuzzer calls, and a reader that takes an input apart.
+//! The code that the fuzz targets share: the function that libFuzzer calls, and a reader that takes inputs apart.
 
 use std::os::raw::c_int;
 
-/// Defines the function that libFuzzer calls with each input. A panic in the body ends the run, and libFuzzer keeps the input.
+/// Defines the function that libFuzzer calls with each input. If the body panics, the run ends, and libFuzzer saves the input.
 #[macro_export]
 macro_rules! target {
     (|$input:ident| $body:block) => {
         /// The function that libFuzzer calls.
         ///
         /// # Safety
-        /// `bytes` has to have `length` readable bytes.
+        /// `bytes` must point to `length` readable bytes.
         #[no_mangle]
         pub unsafe extern "C" fn LLVMFuzzerTestOneInput(bytes: *const u8, length: usize) -> std::os::raw::c_int {
             fn run($input: &[u8]) $body
             let input = match length {
                 0 => &[][..],
-                // SAFETY: libFuzzer passes this many bytes.
+                // SAFETY: libFuzzer passes a pointer to this many bytes.
                 _ => unsafe { std::slice::from_raw_parts(bytes, length) },
             };
             $crate::call(run, input)
@@ -23,13 +23,13 @@ macro_rules! target {
     };
 }
 
-/// Runs a target on an input, and returns what libFuzzer expects.
+/// Runs a target on an input, and returns the value that libFuzzer expects.
 pub fn call(run: fn(&[u8]), input: &[u8]) -> c_int {
     run(input);
     0
 }
 
-/// Takes an input apart. At its end, everything taken is 0 or empty.
+/// Takes an input apart. Once the input is used up, everything taken from it is 0 or empty.
 #[derive(Debug)]
 pub struct Input<'a> {
     rest: &'a [u8],
@@ -62,7 +62,7 @@ impl<'a> Input<'a> {
         u64::from_le_bytes(all)
     }
 
-    /// Takes a part. The two bytes before it are its length.
+    /// Takes a part, whose length is in the two bytes before it.
     pub fn part(&mut self) -> &'a [u8] {
         let length = u16::from_le_bytes([self.byte(), self.byte()]);
         self.bytes(length.into())

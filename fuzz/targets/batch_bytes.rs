@@ -1,5 +1,5 @@
-//! Bytes of a batch, as in kept files and logs. If they are valid, they are encoded to the same bytes. What a store accepts of
-//! them is in its journal.
+//! Reads a batch from bytes, as kept files and logs contain them. A valid batch must be encoded as the same bytes. If a store
+//! accepts the batch, it must be in the store's journal.
 #![no_main]
 
 use bestore::{Batch, Error, Limits, Store};
@@ -20,7 +20,7 @@ bestore_fuzz::target!(|input| {
     }
 });
 
-/// Checks that what an empty store accepts is in its journal, and that what it refuses leaves nothing.
+/// Checks that a batch which an empty store accepts is in its journal, and that a batch which it refuses leaves no trace.
 fn applies(batch: &Batch) {
     let limits = Limits {
         pages: 64,

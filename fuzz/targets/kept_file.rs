@@ -1,7 +1,8 @@
-//! The rows of a kept file. If the file opens, it opens again as it was left. If it doesn't, the error has the place.
+//! Opens a kept file with the rows from the input. A file that opens must open again as it was left. If it doesn't open, the error
+//! must say where the fault is.
 //!
-//! An input has the two numbers of the table `about`, the number of batches in `state`, and those batches. Then come the entries:
-//! what is added to the next number, and the batch.
+//! An input consists of the two numbers in the table `about`, the number of batches in `state`, and these batches. Then come the
+//! entries: for each, a byte that is added to the next number, and the entry's batch.
 #![no_main]
 
 use bestore::saved::{self, Error, Saved};
@@ -24,7 +25,7 @@ bestore_fuzz::target!(|input| {
     let folder = Folder::new();
     let path = folder.0.join("fuzz.bestore");
     if write_file(&path, &mut Input::new(input)).is_err() {
-        // Two entries have the same number.
+        // Two entries have the same number, so the file can't be written.
         return;
     }
     let read = bestore_types::saved::read(&path);
@@ -64,7 +65,7 @@ fn open(path: &Path) -> saved::Result<Saved> {
     saved::Options::new().limits(limits).open(path)
 }
 
-/// Checks that what is written to an opened file is there when it is opened again.
+/// Checks that a write to the opened file is still there when the file is opened again.
 fn goes_on(saved: Saved, path: &Path) {
     let pass = saved.pass().expect("there is a pass");
     let written = pass.apply(Batch::new().new_node());
@@ -75,7 +76,7 @@ fn goes_on(saved: Saved, path: &Path) {
     assert_eq!(shown(&saved), before, "after the write {written:?}");
 }
 
-/// Returns the snapshot as batches.
+/// Returns the current snapshot as batches.
 fn shown(saved: &Saved) -> Vec<Batch> {
     let mut pass = saved.pass().expect("there is a pass");
     let snapshot = pass.pin().expect("the pass is pinned");

@@ -1,7 +1,8 @@
-//! Entries of a log: what a leader adds makes the same store at a follower, entry by entry.
+//! Applies a leader's log entries on a follower. After each entry, the follower's store must be the
+//! same as the leader's.
 //!
-//! An input has the number of entries that the log already has, and batches as bytes, each after
-//! its length.
+//! An input consists of the number of entries that the log already has, and of batches as bytes,
+//! each after its length.
 #![no_main]
 
 use bestore::{Batch, Limits, Store};

@@ -1,10 +1,10 @@
-//! What a client sends to a server: each line gets one reply, with the line's id. The first byte says how many volumes there are.
+//! Sends lines to a server. Each line must get exactly one reply, with the line's id. The first byte gives the number of volumes.
 #![no_main]
 
 use bestore_client::wire::{id_of, Command, Request};
 use serde_json::Value;
 
-/// The maximum number of bytes to send: a socket has room for them.
+/// The maximum number of bytes to send, which fit into a socket's buffer.
 const MOST: usize = 1 << 14;
 
 bestore_fuzz::target!(|input| {
@@ -26,7 +26,7 @@ bestore_fuzz::target!(|input| {
     }
 });
 
-/// Whether the reply comes only when the time is over. Waiting for it isn't worth an input.
+/// Returns whether the reply may arrive only after a timeout. No input is worth such a wait.
 fn waits(line: &[u8]) -> bool {
     let request = serde_json::from_slice::<Request<'_>>(line);
     matches!(
@@ -35,7 +35,7 @@ fn waits(line: &[u8]) -> bool {
     )
 }
 
-/// Checks that the reply to a line is an object with the line's id, and a result or an error.
+/// Checks that the reply to a line is an object with the line's id and either a result or an error.
 fn answers(line: &[u8], reply: &str) {
     let read: Value = serde_json::from_str(reply).expect("a reply is JSON");
     assert_eq!(read["id"].as_u64(), id_of(line), "{reply}");

@@ -1,5 +1,5 @@
-//! A line that a server sends: what is read from it can be written as a line that reads the same. The first byte says which reply
-//! to read it as.
+//! Reads a line from a server. A reply that can be read must be written as a line that reads the same. The first byte says as which
+//! reply to read the line.
 #![no_main]
 
 use bestore_client::wire::{self, Json};
@@ -15,7 +15,7 @@ bestore_fuzz::target!(|input| {
     READERS[usize::from(*which) % READERS.len()](line);
 });
 
-/// A reader for each reply. The corpus's first bytes depend on their order, so a new one goes to the end.
+/// A reader for each kind of reply. The first bytes of the inputs in the corpus depend on the order, so append new readers.
 const READERS: [fn(&[u8]); 19] = [
     goes_there_and_back::<wire::Hello>,
     goes_there_and_back::<wire::Written>,
@@ -45,13 +45,13 @@ fn goes_there_and_back<T: DeserializeOwned + Serialize + PartialEq + Debug>(line
     let line = serde_json::to_string(&read).expect("a reply that was read can be written");
     assert!(!line.contains('\n'), "{line}");
     let again: T = serde_json::from_str(&line).expect("a reply that was written can be read");
-    // A journal may have entries with more than 64 operations, of which only 64 are kept. What is kept stays the same from then
-    // on.
+    // A journal may have entries with more than 64 operations, of which only 64 are kept. Writing and reading these again changes
+    // nothing.
     let written = serde_json::to_string(&again).expect("a reply that was read can be written");
     assert_eq!(line, written);
 }
 
-/// Checks that an error can be shown whatever it says, even if the caret's place is past the query's end.
+/// Checks that an error can be displayed whatever it contains, even if the caret's position is past the end of the query.
 fn refuses(line: &[u8]) {
     if let Ok(mut refusal) = serde_json::from_slice::<wire::Refusal>(line) {
         if refusal.details.values().all(is_exact) {
@@ -62,7 +62,7 @@ fn refuses(line: &[u8]) {
     }
 }
 
-/// Whether a detail has no fraction. The protocol has no detail with one, and serde_json doesn't read fractions exactly.
+/// Returns whether a detail has no fraction. No detail in the protocol has one, and serde_json doesn't read fractions exactly.
 fn is_exact(detail: &Detail) -> bool {
     match detail {
         Detail::Number(number) => !number.is_f64(),
@@ -72,7 +72,7 @@ fn is_exact(detail: &Detail) -> bool {
     }
 }
 
-/// Checks that a value takes no more bytes than a reply's page counts for it.
+/// Checks that a value doesn't take more bytes than a page of a reply counts for it.
 fn has_length(line: &[u8]) {
     goes_there_and_back::<Json>(line);
     if let Ok(value) = serde_json::from_slice::<Json>(line) {

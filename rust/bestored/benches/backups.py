@@ -1,12 +1,14 @@
 #!/usr/bin/env python3
-"""Backs up a server while eight processes write to it. Is each backup the state of one commit, and what do the writers notice?
+"""Backs up a server while eight processes write to it. Is each backup the state at one commit, and how much do the writers slow
+down?
 
 usage: backups.py FOLDER [BACKUPS]    the folder with bestored and be, such as rust/target/release; 50 backups by default
 
-It makes a store of 60,000 nodes in five volumes, in a new folder. It measures how long writes take, and measures again while
-it runs `be backup` repeatedly. Then it opens each backup. Each write moves one counter, so in each volume the counters have to
-add up to the commit number. No counter may be lower than the count acknowledged before the backup began. PYTHONPATH names the
-folder of the package bestore. It exits with 1 if a backup is wrong, or if the writes' 99th percentile more than triples.
+The program creates a store of 60,000 nodes in five volumes, in a new folder. It measures how long writes take, first alone and
+then while it runs `be backup` again and again. Finally, it opens each backup. Every write increments one counter, so the counters
+in a volume must add up to the volume's commit number. No counter may be lower than the count acknowledged before the backup began.
+PYTHONPATH must name the folder that contains the bestore package. The program exits with 1 if a backup is wrong, or if the 99th
+percentile of the writes' times more than triples.
 """
 from __future__ import annotations
 
@@ -28,23 +30,23 @@ from filled import NODES, VOLUMES, fill, node
 WRITERS = 8
 BACKUPS = 50
 ALONE = 10.0
-"""How many seconds the writers write before the backups begin."""
+"""How many seconds to measure writes before the backups begin."""
 MOST_GROWTH = 3.0
 PAGES = 16_384
 
 
 def counted_by(writer: int) -> int:
-    """Returns a writer's node; writers are numbered from 0. Writers take turns among the volumes."""
+    """Returns the node that a writer counts in. Writers are numbered from 0 and spread over the volumes in turn."""
     return node(writer)
 
 
 def counter() -> Synchronized[int]:
-    """Makes a number that processes share."""
+    """Creates a counter that processes can share."""
     return cast("Synchronized[int]", multiprocessing.Value("Q", 0))
 
 
 class Shared(NamedTuple):
-    """What the writers share with this process."""
+    """The values that the writers share with this process."""
 
     answered: List[Synchronized[int]]
     is_over: Synchronized[int]
@@ -52,7 +54,7 @@ class Shared(NamedTuple):
 
 
 def write(socket: str, shared: Shared, writer: int) -> None:
-    """Counts up in the writer's node, by one with each write, and reports how long each write took."""
+    """Increments the counter in the writer's node with each write, and reports how long each write took."""
     answered, node = shared.answered[writer], counted_by(writer)
     times: List[float] = []
     with bestore.connect(socket) as store:
@@ -71,7 +73,7 @@ def percentile(times: List[float], part: float) -> float:
 
 
 class Writing:
-    """Runs writers during a `with`. `times` has how long their writes took."""
+    """Runs writers for the duration of a `with` block. `times` holds how long their writes took."""
 
     def __init__(self, socket: str, answered: List[Synchronized[int]]) -> None:
         self.shared = Shared(answered, counter(), multiprocessing.Queue())
@@ -93,7 +95,7 @@ class Writing:
 
 
 def check(path: Path, about: Any, begin: List[int], before: List[int]) -> None:
-    """Fails unless the backup is each volume's state at its commit, and has what was acknowledged before."""
+    """Exits unless the backup holds each volume's state at its commit, with all writes acknowledged before the backup."""
     with saved.open_shelf(path, pages=PAGES) as store, store.pin() as version:
         found = version.column(map(counted_by, range(WRITERS)), "count")
         counts = [int(value) for value in found if isinstance(value, int)]
@@ -109,14 +111,14 @@ def check(path: Path, about: Any, begin: List[int], before: List[int]) -> None:
 
 
 def back_up(programs: Path, socket: str, path: Path) -> Any:
-    """Makes a backup, and returns the tool's report about it."""
+    """Makes a backup, and returns the tool's report."""
     said = subprocess.run(
         [programs / "be", "--socket", socket, "backup", "--json", path], check=True, stdout=subprocess.PIPE)
     return json.loads(said.stdout)
 
 
 def measure(programs: Path, folder: Path, socket: str, backups: int) -> float:
-    """Prints the figures, and returns the factor by which the writes' 99th percentile grows."""
+    """Prints the figures, and returns the factor by which the 99th percentile of the writes' times grows."""
     begin = fill(socket)
     answered = [counter() for _ in range(WRITERS)]
     with Writing(socket, answered) as alone:

@@ -1,5 +1,5 @@
-"""Makes a store of 60,000 nodes in five volumes for the programs next to this one to
-measure."""
+"""Fills a store with 60,000 nodes in five volumes, for the other programs in this folder
+to measure."""
 from __future__ import annotations
 
 from typing import List
@@ -10,7 +10,7 @@ from bestore import Batch
 NODES = 60_000
 VOLUMES = 5
 STEP = 16
-"""How many nodes a batch makes."""
+"""How many nodes a batch creates."""
 
 
 def node_in(volume: int, number: int) -> int:
@@ -19,13 +19,13 @@ def node_in(volume: int, number: int) -> int:
 
 
 def node(number: int) -> int:
-    """Returns the node with this number; nodes are numbered from 0, and the volumes
-    take turns."""
+    """Returns the node with this number. Nodes are numbered from 0 and spread over the
+    volumes in turn."""
     return node_in(number % VOLUMES, number // VOLUMES + 1)
 
 
 def fill(socket: str) -> List[int]:
-    """Makes the nodes. Returns the commit number of each volume."""
+    """Creates the nodes, and returns each volume's commit number."""
     with bestore.connect(socket) as store:
         store.make_index("name", bestore.Kind.STRING)
         for number in range(NODES // STEP):

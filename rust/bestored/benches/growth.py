@@ -1,17 +1,17 @@
 #!/usr/bin/env python3
-"""Measures a server that is written to for a long time: how large do its files get, how much memory does it need, and how much
-does the next start read?
+"""Measures a server that receives writes for a long time. How large do its files get, how much memory does it need, and how much
+does it read at the next start?
 
 usage: growth.py FOLDER [WRITES]    the folder with bestored, such as rust/target/release; 10,000,000 writes by default
 
-It makes a store of 60,000 nodes in five volumes, in a new folder. One client sends many small writes at a time, and a second
-one sends its writes one by one. The second client's slowest reply shows how long the server pauses when it rewrites its
-states. After 10,000 writes and again after all of them, the server is killed and restarted. PYTHONPATH names the folder of the
-package bestore.
+The program creates a store of 60,000 nodes in five volumes, in a new folder. One client sends many small writes at a time, and a
+second client sends its writes one by one. The second client's slowest reply shows how long the server pauses when it rewrites its
+states. After 10,000 writes, and again after all writes, the program kills the server and restarts it. PYTHONPATH must name the
+folder that contains the bestore package.
 
-It exits with 1 if the files were more than twice as long as the state, or the memory more than twice the size of the pages.
-Each limit has 20 MB more per volume, for its WAL and for waiting entries. It also exits with 1 if the last start takes over a
-fifth more processor time than the first.
+The program exits with 1 if the files became more than twice as long as the state, or if the memory became more than twice the size
+of the pages. Each limit allows another 20 MB per volume, for its WAL and for waiting entries. The program also exits with 1 if the
+last start takes over a fifth more processor time than the first.
 """
 from __future__ import annotations
 
@@ -33,9 +33,9 @@ from filled import NODES, VOLUMES, fill, node
 PAGES = 8192
 WRITES = 10_000_000
 FIRST = 10_000
-"""After how many writes the server is started again for the first time."""
+"""How many writes to make before the server is restarted for the first time."""
 AT_ONCE = 500
-"""How many writes are sent before their replies are read."""
+"""How many writes to send before reading their replies."""
 LEAST = 20 << 20
 MOST_GROWTH = 2.0
 MOST_SLOWER = 1.2
@@ -43,14 +43,14 @@ TICK = os.sysconf("SC_CLK_TCK")
 
 
 class Size(NamedTuple):
-    """How many bytes the files and the memory take, at one moment or at most."""
+    """The size of the files and of the memory, in bytes: at one moment, or the maximum."""
 
     files: int
     memory: int
 
 
 class Start(NamedTuple):
-    """What a start took: elapsed time, processor time, and how many batches of the states and entries it made."""
+    """The cost of a start: elapsed time, processor time, and the number of batches applied from the states and entries."""
 
     seconds: float
     busy: float
@@ -61,14 +61,14 @@ class Start(NamedTuple):
 
 
 class Watched(NamedTuple):
-    """What the second client shares with this process."""
+    """The values that the second client shares with this process."""
 
     is_over: Synchronized[int]
     longest: Synchronized[float]
 
 
 class Server:
-    """A server that keeps its store in the folder, and is killed when the `with` ends."""
+    """A server that keeps its store in the folder. It is killed when the `with` block ends."""
 
     def __init__(self, program: Path, folder: Path) -> None:
         self.path, self.folder = str(folder / "socket"), folder / "kept"
@@ -98,19 +98,19 @@ class Server:
 
     @property
     def _busy(self) -> float:
-        """How many seconds of processor time the server has used."""
+        """The number of seconds of processor time that the server has used."""
         fields = Path(f"/proc/{self._process.pid}/stat").read_text().rsplit(")", 1)[1].split()
         return (int(fields[11]) + int(fields[12])) / TICK
 
     def end(self) -> int:
-        """Ends the server. Returns how many bytes its files have then."""
+        """Shuts the server down, and returns the size of its files in bytes."""
         self._process.terminate()
         self._process.wait()
         return sum(path.stat().st_size for path in self.folder.iterdir())
 
     @property
     def memory(self) -> int:
-        """How many bytes of memory the server uses now."""
+        """The number of bytes of memory that the server is using."""
         status = Path(f"/proc/{self._process.pid}/status").read_text()
         return int(next(line.split()[1] for line in status.splitlines() if line.startswith("VmRSS"))) << 10
 
@@ -124,7 +124,7 @@ class Lines:
         self._replies = self._socket.makefile("rb")
 
     def ask(self, *requests: Dict[str, Any]) -> Any:
-        """Sends several requests at once. Returns the reply to the last."""
+        """Sends several requests together, and returns the result of the last one."""
         lines = (json.dumps({"id": number, **request}) for number, request in enumerate(requests))
         self._socket.sendall(("\n".join(lines) + "\n").encode())
         replies = [json.loads(self._replies.readline()) for _ in requests]
@@ -135,7 +135,7 @@ class Lines:
 
 
 def watch(path: str, watched: Watched) -> None:
-    """Makes one write after another, and reports the slowest."""
+    """Makes one write after another, and reports how long the slowest took."""
     with bestore.connect(path) as store:
         while not watched.is_over.value:
             begin = time.perf_counter()
@@ -145,7 +145,7 @@ def watch(path: str, watched: Watched) -> None:
 
 
 def write(server: Server, count: int) -> Size:
-    """Makes this many small writes. Returns the maximum size of the files and the memory."""
+    """Makes this many small writes, and returns the maximum sizes of the files and of the memory."""
     lines = Lines(server.path)
     sizes: List[Size] = []
     for first in range(0, count, AT_ONCE):
@@ -158,7 +158,7 @@ def write(server: Server, count: int) -> Size:
 
 
 def write_for_long(server: Server, count: int) -> Size:
-    """Makes the writes while a second client writes too. Prints the figures, and returns the maximum of each."""
+    """Makes the writes while a second client also writes. Prints the figures, and returns the maximum sizes."""
     number: Any = multiprocessing.Value
     watched = Watched(cast("Synchronized[int]", number("b", 0)), cast("Synchronized[float]", number("d", 0)))
     watching = multiprocessing.Process(target=watch, args=(server.path, watched))

@@ -1,8 +1,9 @@
-//! Measures how many writes a second a leader takes with a log in a PostgreSQL on this machine. Also measures how much later
-//! followers have them, and how long it takes until another server leads.
+//! Measures how many writes per second a leader makes with a log in a PostgreSQL on the same machine. Also measures how much later
+//! the followers have these writes, and how long another server needs to take over from a leader that was killed.
 //!
-//! `cargo bench -p bestored --features log --bench log_rate`. The database writes to the disk of the folder for temporary files
-//! (`TMPDIR`). Each client is a thread that sends a write and waits for the reply. The best round of each case counts.
+//! Run it with `cargo bench -p bestored --features log --bench log_rate`. The database writes to the disk that holds the folder for
+//! temporary files (`TMPDIR`). Each client is a thread that sends a write and waits for the reply. For each case, the best round
+//! counts.
 
 #[path = "../tests/common/mod.rs"]
 mod common;
@@ -22,7 +23,7 @@ const TIME: Duration = Duration::from_secs(2);
 const CLIENTS: [usize; 3] = [1, 8, 32];
 const VALUE: &str = "Ada Lovelace <ada@example.org>";
 
-/// How many writes the lag is measured with, and how many leaders are killed.
+/// The number of writes used to measure the lag, and the number of leaders that are killed.
 const WRITES: usize = 500;
 const KILLS: usize = 10;
 
@@ -53,14 +54,14 @@ impl Member {
     }
 }
 
-/// Returns the microseconds within which 50% and 99% of the writes finish.
+/// Returns the times, in microseconds, within which 50% and 99% of the writes finish.
 fn half_and_most(mut times: Vec<Duration>) -> (f64, f64) {
     times.sort_unstable();
     let at = |part: usize| times[times.len() * part / 100].as_secs_f64() * 1e6;
     (at(50), at(99))
 }
 
-/// Measures each write's time. Each client makes its writes one after another.
+/// Returns how long each write took. Each client makes its writes one after another.
 fn write(socket: &Path, clients: usize) -> Vec<Duration> {
     let write = |node: u64| {
         let mut client = Client::connect(socket).expect("the server listens");
@@ -83,7 +84,7 @@ fn write(socket: &Path, clients: usize) -> Vec<Duration> {
     })
 }
 
-/// Prints a row for each number of clients.
+/// Prints one row for each number of clients.
 fn measure(name: &str, member: &Member) {
     let mut client = member.server.client();
     for _ in 0..*CLIENTS.iter().max().unwrap_or(&1) {
@@ -98,7 +99,7 @@ fn measure(name: &str, member: &Member) {
     }
 }
 
-/// Prints how long after a write's reply each follower has the write.
+/// Prints how long after the reply to a write each follower has the write.
 fn measure_lag(leader: &Member, followers: &[Member]) {
     for (number, follower) in (1..).zip(followers) {
         let (mut to, mut from) = (leader.server.client(), follower.server.client());
@@ -119,7 +120,7 @@ fn measure_lag(leader: &Member, followers: &[Member]) {
     }
 }
 
-/// Prints how long after a leader is killed another server accepts a write.
+/// Prints how long it takes until another server accepts a write after the leader has been killed.
 fn measure_change(mut members: Vec<Member>, database: &Database) {
     let mut times = Vec::new();
     for _ in 0..KILLS {

@@ -1,12 +1,12 @@
 #!/usr/bin/env python3
-"""Repeats batches by their tokens while their server is killed again and again. Is each batch written once?
+"""Sends batches again with their tokens while the server is killed again and again. Is each batch written exactly once?
 
 usage: retries.py FOLDER [BATCHES]    the folder with bestored, such as rust/target/release; 100,000 batches by default
 
-32 processes write to a server with a file. Each batch makes a node, removes the one that the process made before, and counts
-up. The server is killed by signal 9 at random moments and restarted. In the end, each process must have a reply to each of its
-batches, and the store must have made exactly one node per batch. PYTHONPATH names the folder of the package bestore. It exits
-with 1 if a batch is missing or was written twice.
+32 processes write to a server that keeps its store in a file. Each batch creates a node, removes the node that the process created
+before, and increments a counter. The server is killed with signal 9 at random moments and restarted. At the end, every process must
+have received a reply to each of its batches, and the store must have created exactly one node per batch. PYTHONPATH must name the
+folder that contains the bestore package. The program exits with 1 if a batch is missing or was written twice.
 """
 from __future__ import annotations
 
@@ -26,9 +26,9 @@ from bestore import Batch
 CLIENTS = 32
 BATCHES = 100_000
 PATIENCE = 120.0
-"""How many seconds a client repeats a batch."""
+"""How many seconds a client keeps sending a batch."""
 LIFE = 1.5
-"""How many seconds a server lives at most."""
+"""The maximum number of seconds before a server is killed."""
 
 
 def connect(socket: str) -> bestore.connected.ConnectedPass:
@@ -44,7 +44,7 @@ def connect(socket: str) -> bestore.connected.ConnectedPass:
 
 
 def write(socket: str, node: int, count: int) -> int:
-    """Writes batches, each once. Returns how many replies arrived."""
+    """Writes batches, each exactly once. Returns how many replies arrived."""
     last = 0
     with connect(socket) as store:
         for number in range(1, count + 1):
@@ -76,7 +76,7 @@ class Server:
 
 
 def kill_until(server: Server, writing: List[AsyncResult[int]]) -> int:
-    """Kills the server again and again until all writers have finished. Returns how many times."""
+    """Kills the server again and again until all writers have finished. Returns how many times it did so."""
     kills = 0
     while not all(one.ready() for one in writing):
         time.sleep(random.uniform(0.01, LIFE))
@@ -87,7 +87,7 @@ def kill_until(server: Server, writing: List[AsyncResult[int]]) -> int:
 
 
 def check(server: Server, begin: int, each: int) -> None:
-    """Fails unless each batch was written once."""
+    """Exits unless each batch was written exactly once."""
     with bestore.connect(server.socket) as store, store.pin() as version:
         counts = version.column(range(1, CLIENTS + 1), "count")
         made = version.next_node - begin

@@ -1,8 +1,8 @@
-//! Measures how many requests a second bestored answers through its socket, compared with redis-server through its own if it is
-//! installed.
+//! Measures how many requests per second bestored answers through its socket. If redis-server is installed, measures it too, for
+//! comparison.
 //!
-//! `cargo build --release && cargo run --release --example rate`. Each client is a thread that sends a request and waits for the
-//! reply. The servers take turns at each case for several rounds, and the best round counts.
+//! Run it with `cargo build --release && cargo run --release --example rate`. Each client is a thread that sends a request and
+//! waits for the reply. In each case, the servers take turns for several rounds, and the best round counts.
 
 use std::fs;
 use std::io::{Read, Write};
@@ -18,7 +18,7 @@ const TIME: Duration = Duration::from_millis(700);
 const CLIENTS: [usize; 3] = [1, 8, 32];
 const VALUE: &str = "Ada Lovelace <ada@example.org>";
 
-/// A server, which is killed at the end.
+/// A server, which is killed when it is dropped.
 struct Server {
     child: Child,
     socket: PathBuf,
@@ -48,7 +48,7 @@ impl Server {
     }
 }
 
-/// A kind of request: how many lines its reply has, and how to write the request with a given number.
+/// A kind of request: the number of lines in its reply, and a function that writes the request with a given number.
 struct Case {
     name: &'static str,
     lines: usize,
@@ -60,7 +60,7 @@ fn put(to: &mut Vec<u8>, text: std::fmt::Arguments<'_>) {
     to.write_fmt(text).expect("memory can hold what is written");
 }
 
-/// Writes a redis command with a key and an optional value.
+/// Writes a Redis command with a key and an optional value.
 fn redis(to: &mut Vec<u8>, command: &str, key: u64, value: Option<&str>) {
     let key = format!("node:{key}");
     put(
@@ -151,7 +151,7 @@ impl Client {
     }
 }
 
-/// Measures each request's time. Each client sends its requests one after another.
+/// Returns how long each request took. Each client sends its requests one after another.
 fn run(socket: &Path, case: &Case, clients: usize) -> Vec<u32> {
     thread::scope(|scope| {
         let running: Vec<_> = (0..clients)
@@ -180,7 +180,7 @@ fn run(socket: &Path, case: &Case, clients: usize) -> Vec<u32> {
     })
 }
 
-/// Requests a second, and the microseconds within which 50% and 99% of them finish.
+/// Requests per second, and the times, in microseconds, within which 50% and 99% of them finish.
 #[derive(Clone, Copy, Default)]
 struct Figures {
     rate: f64,
@@ -229,7 +229,7 @@ fn fill(socket: &Path) {
     }
 }
 
-/// Starts and fills both servers in the folder. The second is `None` if it isn't installed.
+/// Starts both servers in the folder and fills them. The second is `None` if redis-server isn't installed.
 fn start(folder: &Path) -> (Server, Option<Server>) {
     let program = std::env::current_exe().expect("this program has a path");
     let program = program.ancestors().nth(2).expect("it is in examples").join("bestored");
@@ -276,6 +276,6 @@ fn main() {
         }
     }
     drop((ours, redis));
-    // Anything left is removed along with the folder for temporary files.
+    // If this fails, what is left is removed along with the folder for temporary files.
     let _ = fs::remove_dir_all(&folder);
 }

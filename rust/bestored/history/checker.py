@@ -1,9 +1,9 @@
-"""Checks whether a history is strictly serializable, in the order of the batches' numbers.
+"""Checks whether a history is strictly serializable, with its batches in the order of their numbers.
 
-Four things have to hold. The trail has each acknowledged batch once, at the place that its reply gives, and none that was
-refused. Throughout a run, its numbers differ from its commit numbers by the same amount. Each snapshot is the state that the
-trail gives when replayed up to its number, and each batch in the trail comes directly after the snapshot that it was based on.
-The order respects real time: if something ended before something else began, it comes first.
+Four conditions must hold. The trail contains each acknowledged batch exactly once, at the position that its reply gives, and no
+batch that was refused. Throughout a run, the batches' numbers differ from the commit numbers by the same amount. Each snapshot is
+the state obtained by replaying the trail up to the snapshot's number, and each batch in the trail comes directly after the
+snapshot that it was based on. The order respects real time: if one operation ended before another began, it comes first.
 """
 from __future__ import annotations
 
@@ -14,11 +14,11 @@ from record import NO_VALUES, History, Outcome, Read, Snapshot, Values, Write
 
 Event = Tuple[float, int, int]
 BEGIN, END = 1, 0
-"""If two events have the same time, an end counts as first: they may have happened in this order."""
+"""If two events have the same time, an end is ordered before a beginning, since they may have happened in this order."""
 
 
 def violations(history: History) -> Iterator[str]:
-    """Yields everything that a correct store wouldn't do."""
+    """Yields a description of everything in the history that a correct store wouldn't do."""
     yield from _wrong_trail(history)
     yield from _wrong_outcomes(history)
     yield from _wrong_commits(history)
@@ -27,7 +27,7 @@ def violations(history: History) -> Iterator[str]:
 
 
 def _wrong_trail(history: History) -> Iterator[str]:
-    """Yields batches in the trail that no one sent, or that are there twice."""
+    """Yields batches in the trail that no client sent, or that occur twice."""
     sent = {write.value for write in history.writes}
     places: Dict[int, int] = {}
     for number, value in enumerate(history.trail, 1):
@@ -39,7 +39,7 @@ def _wrong_trail(history: History) -> Iterator[str]:
 
 
 def _wrong_outcomes(history: History) -> Iterator[str]:
-    """Yields batches that are lost, that aren't at the acknowledged place, or that are there although they were refused."""
+    """Yields batches that are missing, that aren't at the acknowledged position, or that are present although they were refused."""
     places = _places(history)
     for write in history.writes:
         place = places.get(write.value)
@@ -54,13 +54,13 @@ def _wrong_outcomes(history: History) -> Iterator[str]:
 
 
 def _places(history: History) -> Dict[int, int]:
-    """Returns the number of each value in the trail."""
+    """Returns the batch number of each value in the trail."""
     return {value: number for number, value in enumerate(history.trail, 1)}
 
 
 def _wrong_commits(history: History) -> Iterator[str]:
-    """Yields numbers that don't differ from their run's commit numbers, or from the log's entries, by the same amount as the
-    first one."""
+    """Yields numbers whose difference from their run's commit numbers, or from the numbers of the log's entries, isn't the same as
+    for the first one."""
     shifts: Dict[str, int] = {}
 
     def wrong(what: str, run: str, commit: int, number: int) -> Iterator[str]:
@@ -98,7 +98,7 @@ def _wrong_states(history: History) -> Iterator[str]:
 
 
 def _states(history: History, written: Dict[int, Write]) -> Iterator[Values]:
-    """Yields the registers before the first batch, and after each."""
+    """Yields the registers before the first batch, and after each batch."""
     values = list(NO_VALUES)
     yield tuple(values)
     for value in history.trail:
@@ -108,7 +108,7 @@ def _states(history: History, written: Dict[int, Write]) -> Iterator[Values]:
 
 
 def _wrong_times(history: History) -> Iterator[str]:
-    """Yields batches, and reads of the latest snapshot, that are ordered before something that ended before they began."""
+    """Yields batches and latest reads that are ordered before an operation that had ended when they began."""
     timed: List[Union[Read, Write]] = [*_timed_writes(history), *history.reads]
     events: List[Event] = []
     for place, it in enumerate(timed):
@@ -127,7 +127,7 @@ def _wrong_times(history: History) -> Iterator[str]:
 
 
 def _timed_writes(history: History) -> Iterator[Write]:
-    """Yields the trail's batches. One that wasn't acknowledged may have been written at any time after it was sent."""
+    """Yields the trail's batches. A batch that wasn't acknowledged may have been written at any time after it was sent."""
     places = _places(history)
     for write in history.writes:
         place = places.get(write.value)

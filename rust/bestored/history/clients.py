@@ -1,4 +1,4 @@
-"""Clients that write and read until the round is over, and record what they did."""
+"""Clients that write and read until the round is over, and that record what they did."""
 from __future__ import annotations
 
 import random
@@ -13,23 +13,23 @@ from lines import Connection, Gone, Late, Refused, Reply
 from record import REGISTERS, Outcome, Read, Snapshot, Write
 
 PART_READS = 0.3
-"""The share of snapshots that are only read."""
+"""The proportion of snapshots that a writer only reads."""
 REST = 0.02
-"""How many seconds a client waits before it tries to connect again."""
+"""How many seconds a client waits before it retries."""
 REPEATING = 60.0
-"""For how many seconds a client repeats a batch."""
+"""How many seconds a client keeps sending a batch."""
 LATE_MOST = 4
-"""How many connections with a late reply a client keeps."""
+"""How many connections a client keeps while their replies are late."""
 NOT_WRITTEN = {"Conflict", "NotLeader", "Stopped", "Busy", "Full"}
-"""After these errors, a batch that was sent for the first time isn't written."""
+"""Errors that mean a batch sent for the first time wasn't written."""
 NOT_WRITTEN_BEFORE = {"Conflict"}
-"""After these errors, no earlier attempt has written the batch either."""
+"""Errors that mean no earlier attempt wrote the batch either."""
 
 
 @dataclass
 class Setting:
-    """What a round's clients share. `base` is the last node before the trail's first. With `is_latest`, each read that `flush`
-    confirms has to show everything that was acknowledged before."""
+    """The settings that a round's clients share. `base` is the last node before the trail's first one. With `is_latest`, each read
+    that `flush` confirms must show everything that was acknowledged before it."""
 
     places: Sequence[str]
     base: int
@@ -40,7 +40,7 @@ class Setting:
 
 
 def snapshot_of(connection: Connection) -> Snapshot:
-    """Pins, reads the registers, and unpins."""
+    """Pins a snapshot, reads the registers, and unpins it."""
     columns = {"nodes": list(range(1, REGISTERS + 1)), "names": ["value", "number"]}
     pinned, read, _ = connection.ask_all([("pin", {}), ("columns", columns), ("unpin", {})])
     values = tuple(int(row[0]) for row in read["rows"])
@@ -48,7 +48,7 @@ def snapshot_of(connection: Connection) -> Snapshot:
 
 
 class Client(threading.Thread):
-    """A client that reconnects after each error. Each client tries the places in its own order."""
+    """A client that reconnects after errors. Each client tries the servers' addresses in its own order."""
 
     def __init__(self, setting: Setting, number: int, places: Sequence[str], patience: float) -> None:
         super().__init__()
@@ -72,11 +72,11 @@ class Client(threading.Thread):
         self.leave()
 
     def turn(self, connection: Connection) -> None:
-        """Does one thing."""
+        """Performs one operation."""
         self.read(connection)
 
     def read(self, connection: Connection) -> Snapshot:
-        """Reads a snapshot, and records it once all of it is certain to be kept."""
+        """Reads a snapshot, and records it once the server has confirmed that all of it is kept."""
         begin = time.monotonic()
         snapshot = snapshot_of(connection)
         connection.ask("flush", {})
@@ -84,7 +84,7 @@ class Client(threading.Thread):
         return snapshot
 
     def connect(self) -> Connection:
-        """Returns the connection, or a new one to the first place that accepts it."""
+        """Returns the current connection, or a new one to the first address that accepts it."""
         while self._connection is None and not self.setting.over.is_set():
             try:
                 self._connection = Connection(self._places[0], self.patience)
@@ -96,11 +96,11 @@ class Client(threading.Thread):
         return self._connection
 
     def turn_places(self) -> None:
-        """Makes the next place the first to try."""
+        """Makes the next address the first to try."""
         self._places.append(self._places.pop(0))
 
     def leave(self) -> None:
-        """Closes the connection, and moves on to the next place."""
+        """Closes the connection, and moves on to the next address."""
         if self._connection is not None:
             self._connection.close()
             self._connection = None
@@ -108,8 +108,8 @@ class Client(threading.Thread):
 
 
 class Writer(Client):
-    """A client that writes batches based on what it has read. Every other writer repeats a batch with its token until it knows
-    the outcome."""
+    """A client that writes batches based on what it has read. Every other writer sends a batch again, with its token, until the
+    outcome is known."""
 
     def __init__(self, setting: Setting, number: int, places: Sequence[str], patience: float) -> None:
         super().__init__(setting, number, places, patience)
@@ -139,7 +139,7 @@ class Writer(Client):
         return Write(value, registers, on, time.monotonic())
 
     def _send(self, connection: Connection, write: Write, not_written: "set[str]") -> None:
-        """Sends a batch, and records what is known about it afterwards."""
+        """Sends a batch, and records what the client then knows about it."""
         on, node = write.on, self.setting.base + write.on.number + 1
         operations = [["new"], ["set", node, "value", write.value], ["set", 1, "number", on.number + 1]]
         operations += [["set", register, "value", write.value] for register in write.registers]
@@ -170,7 +170,7 @@ class Writer(Client):
         write.is_repeated = reply.get("repeated", False)
 
     def _keep_late(self, connection: Connection, write: Write) -> None:
-        """Keeps a connection whose server may still acknowledge the batch."""
+        """Sets the connection aside, since the server may still acknowledge the batch on it."""
         self._late.append((connection, write))
         self._connection = None
         self.turn_places()
@@ -178,7 +178,7 @@ class Writer(Client):
             self._take_late(0.0)
 
     def _take_late(self, seconds: float) -> None:
-        """Takes the reply that has been late the longest, if it comes within this many seconds."""
+        """Receives the reply that has been late the longest, if it arrives within this many seconds."""
         connection, write = self._late.pop(0)
         connection.wait(max(seconds, 0.001))
         try:
@@ -190,7 +190,7 @@ class Writer(Client):
         connection.close()
 
     def take_all_late(self, seconds: float) -> None:
-        """Takes the late replies after the client has ended."""
+        """Receives the late replies after the client has finished."""
         until = time.monotonic() + seconds
         while self._late:
             self._take_late(until - time.monotonic())

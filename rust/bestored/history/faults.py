@@ -1,4 +1,4 @@
-"""Faults that servers get while clients write. Each fault returns the moment after which writes have to continue soon."""
+"""The faults that a round causes while clients write. Each returns the time after which writes must soon continue."""
 from __future__ import annotations
 
 import random
@@ -10,18 +10,18 @@ from typing import Callable, List
 from servers import FileServers, LogServers, Server
 
 SOON = 10.0
-"""Within how many seconds writes have to continue."""
+"""The number of seconds within which writes must continue."""
 LEASE = 10.0
-"""For how many seconds a leader is silent before a follower takes over."""
+"""How many seconds a leader is silent before a follower takes over."""
 HANGS = 15.0
-"""For how many seconds a database hangs."""
+"""How many seconds a database hangs."""
 PAUSED = 30.0
-"""For how many seconds a leader is paused."""
+"""How many seconds a leader is paused."""
 
 
 @dataclass(frozen=True)
 class Fault:
-    """A fault, and how many seconds after it writes have to continue at the latest."""
+    """A fault, and the number of seconds within which writes must continue after it."""
 
     name: str
     bound: float
@@ -29,7 +29,7 @@ class Fault:
 
 
 def _leader(servers: LogServers) -> Server:
-    """Returns the server that leads, once one does."""
+    """Waits until a server leads, and returns it."""
     servers.connect().close()
     return servers.leader() or _leader(servers)
 
@@ -40,7 +40,7 @@ def _kill(servers: FileServers, dice: random.Random) -> float:
 
 
 def _kill_starting(servers: FileServers, dice: random.Random) -> float:
-    """Kills the server, and then the next one while it starts."""
+    """Kills the server, and then kills its successor while that is starting."""
     server = servers.members[0]
     starts = server.starts
     server.send(signal.SIGKILL)
@@ -62,7 +62,7 @@ def _pause(servers: FileServers, dice: random.Random) -> float:
 
 
 def _stop_for(server: Server, seconds: float) -> float:
-    """Stops a server for this many seconds, and returns when that began."""
+    """Pauses a server for this many seconds, and returns when the pause began."""
     server.send(signal.SIGSTOP)
     begin = time.monotonic()
     time.sleep(seconds)
@@ -111,7 +111,7 @@ def _hang_database(servers: LogServers, dice: random.Random) -> float:
 
 
 def _lose_standby(servers: LogServers, dice: random.Random) -> float:
-    """Makes PostgreSQL wait at each commit for a standby that isn't there."""
+    """Makes PostgreSQL wait at each commit for a standby that doesn't exist."""
     _set(servers, "SET synchronous_standby_names = 'away'")
     time.sleep(HANGS)
     _set(servers, "RESET synchronous_standby_names")

@@ -1,5 +1,4 @@
-"""A client that speaks the server's protocol. It shares no code with the server or its packages, so it can't repeat their
-mistakes."""
+"""A client for the server's protocol. It shares no code with the server or its packages, so it can't share their mistakes."""
 from __future__ import annotations
 
 import json
@@ -11,15 +10,15 @@ Reply = Dict[str, Any]
 
 
 class Gone(Exception):
-    """The connection has ended, or the server accepts none."""
+    """The connection was closed, or the server doesn't accept connections."""
 
 
 class Late(Exception):
-    """No reply came in time. It may still come."""
+    """No reply arrived in time, but it may still arrive."""
 
 
 class Refused(Exception):
-    """The reply is an error. `name` is the error's name."""
+    """The server replied with an error. `name` is the error's name."""
 
     def __init__(self, error: Reply) -> None:
         super().__init__(f"{error['name']}: {error['message']}")
@@ -27,7 +26,7 @@ class Refused(Exception):
 
 
 class Connection:
-    """A connection that waits up to this many seconds for a reply. `run` is the server's run."""
+    """A connection that waits up to `patience` seconds for a reply. `run` is the server's run."""
 
     def __init__(self, place: str, patience: float) -> None:
         self._socket = socket.socket(socket.AF_UNIX)
@@ -45,11 +44,11 @@ class Connection:
             raise
 
     def ask(self, name: str, parameters: Dict[str, Any]) -> Reply:
-        """Sends one command, and returns its `ok`."""
+        """Sends one command, and returns the reply's `ok`."""
         return self.ask_all([(name, parameters)])[0]
 
     def ask_all(self, commands: List[Command]) -> List[Reply]:
-        """Sends the commands together, and returns the `ok` of each."""
+        """Sends the commands together, and returns the `ok` of each reply."""
         lines = []
         for name, parameters in commands:
             self._last += 1
@@ -67,7 +66,7 @@ class Connection:
         return [reply["ok"] for reply in replies]
 
     def wait(self, seconds: float) -> None:
-        """Sets how long the connection waits for a reply from now on."""
+        """Sets how many seconds the connection waits for each later reply."""
         self._socket.settimeout(seconds)
 
     def receive(self) -> Reply:

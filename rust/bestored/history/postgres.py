@@ -1,4 +1,4 @@
-"""A private PostgreSQL, which can be ended, or stopped so that it hangs."""
+"""A private PostgreSQL server that can be shut down, or stopped so that it hangs."""
 from __future__ import annotations
 
 import os
@@ -14,17 +14,17 @@ from typing import Iterator, List, Optional
 
 OPTIONS = ["max_connections=100", "shared_buffers=32MB", "fsync=off", "log_min_messages=fatal", "max_wal_size=64MB"]
 PATIENCE = 60.0
-"""How many seconds it may take to start."""
+"""How many seconds the server may take to start."""
 
 
 def programs() -> Optional[Path]:
-    """Returns the folder of the latest installed version."""
+    """Returns the folder of the latest installed version, or `None` if PostgreSQL isn't installed."""
     found = sorted(Path("/usr/lib/postgresql").glob("*/bin/initdb"))
     return found[-1].parent if found else None
 
 
 def _user() -> Optional[str]:
-    """Returns the user that runs PostgreSQL if this is root, since PostgreSQL refuses to run as root."""
+    """If this process runs as root, returns another user to run PostgreSQL as, since PostgreSQL refuses to run as root."""
     if os.geteuid() != 0:
         return None
     names = {user.pw_name for user in pwd.getpwall()}
@@ -39,7 +39,7 @@ def _free_port() -> int:
 
 
 class Postgres:
-    """A database server. When the `with` ends, it is stopped and its folder is removed."""
+    """A database server. When the `with` block ends, the server is stopped and its folder is removed."""
 
     def __init__(self) -> None:
         found = programs()
@@ -78,7 +78,7 @@ class Postgres:
             time.sleep(0.02)
 
     def end(self, how: signal.Signals) -> None:
-        """Ends the server: SIGINT rolls sessions back, and SIGQUIT acts like a crash."""
+        """Shuts the server down. SIGINT rolls its sessions back, and SIGQUIT acts like a crash."""
         if self._process is not None:
             self._process.send_signal(how)
             self._process.wait(PATIENCE)
@@ -91,7 +91,7 @@ class Postgres:
                 _send(number, how)
 
     def sql(self, statements: str) -> str:
-        """Runs statements, and returns the last one's result."""
+        """Runs statements, and returns the result of the last one."""
         return self._run("psql", "-X", "-q", "-A", "-t", "-v", "ON_ERROR_STOP=1", "-U", "bestore", "-d", "postgres",
                          "-h", str(self._folder), "-p", str(self._port), "-c", statements)
 
@@ -109,7 +109,7 @@ class Postgres:
 
 
 def _children(parent: int) -> Iterator[int]:
-    """Yields the processes that a process has started."""
+    """Yields the child processes of a process."""
     for path in Path("/proc").glob("[0-9]*/stat"):
         try:
             fields = path.read_text().rpartition(")")[2].split()

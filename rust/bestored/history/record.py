@@ -1,8 +1,8 @@
-"""The record of a history: what each client requested and received, and when, by one clock.
+"""The record of a history: what each client requested and received, and when, according to a single clock.
 
-A store has registers, which are the nodes 1 to REGISTERS. A batch sets some of them to the batch's own value, which no other
-batch has. It also makes a node with this value, so the store lists its batches in order; this list is the trail. A batch's
-number is its place there, from 1 on. A snapshot's number is that of the last batch in it.
+A store has registers, which are the nodes 1 to REGISTERS. A batch sets some of them to a value that no other batch uses. It also
+creates a node with this value, so that the store lists its batches in order. This list is the trail. A batch's number is its
+position in the trail, counting from 1. A snapshot's number is the number of the last batch in it.
 """
 from __future__ import annotations
 
@@ -12,13 +12,13 @@ from typing import List, Optional, Tuple
 
 REGISTERS = 6
 Values = Tuple[int, ...]
-"""The value of each register, in their order."""
+"""The registers' values, in order."""
 NO_VALUES: Values = (0,) * REGISTERS
 
 
 @dataclass(frozen=True)
 class Snapshot:
-    """What a pin has shown, in a run of a server."""
+    """What a client read from a pinned snapshot, in one run of a server."""
 
     run: str
     commit: int
@@ -28,8 +28,8 @@ class Snapshot:
 
 @dataclass
 class Read:
-    """A snapshot that a client read between `begin` and `end`, in seconds. If it is the latest, it has to show everything that
-    was acknowledged before."""
+    """A snapshot that a client read between the times `begin` and `end`, in seconds. If `is_latest` is true, it must show
+    everything that was acknowledged before the read."""
 
     snapshot: Snapshot
     begin: float
@@ -47,8 +47,8 @@ class Outcome(enum.Enum):
 
 @dataclass
 class Write:
-    """A batch to be written on this snapshot and on nothing else. `commit` and `number` come from the reply, if there is one. For
-    a repeated reply, all that is known about the commit number is that it isn't earlier than the batch."""
+    """A batch that may be written only directly after this snapshot. `commit` and `number` come from the reply, if there is one.
+    If the reply was repeated, all that is known about `commit` is that it isn't earlier than the batch."""
 
     value: int
     registers: Tuple[int, ...]
@@ -62,12 +62,12 @@ class Write:
     entry: Optional[int] = None
     is_repeated: bool = False
     errors: List[str] = field(default_factory=list)
-    """The outcome of each attempt to send it, except for an acknowledgement, in order."""
+    """The outcomes of the attempts to send the batch, in order, except for an acknowledgement."""
 
 
 @dataclass
 class History:
-    """What all clients did, and the trail at the end."""
+    """The operations of all clients, and the trail at the end."""
 
     writes: List[Write] = field(default_factory=list)
     reads: List[Read] = field(default_factory=list)

@@ -1,4 +1,4 @@
-"""A round: clients write and read for a while, faults occur, and what the clients have seen is checked."""
+"""A round: clients write and read for a while, faults occur, and then everything that the clients saw is checked."""
 from __future__ import annotations
 
 import random
@@ -17,22 +17,22 @@ from servers import LogServers, Servers
 
 WRITERS = 8
 PATIENCES = (2.0, 12.0)
-"""For how many seconds the writers wait for a reply, in turn, if there is another server to go to."""
+"""How many seconds the writers wait for a reply if there is another server to turn to. The values alternate between writers."""
 PATIENT = 120.0
-"""The same if there is none."""
+"""How many seconds they wait if there is no other server."""
 AT_ONCE = 1_000
-"""How many nodes of the trail are read by one request."""
+"""How many of the trail's nodes to read with one request."""
 OPERATIONS = 64
 LATE = 5.0
 """How many seconds to wait for late replies at the end."""
 LOOK = 0.02
 Made = List[Tuple[Fault, float]]
-"""Faults, and the moments after which writes have to continue soon."""
+"""Faults, and the times after which writes must soon continue."""
 
 
 @dataclass
 class Report:
-    """A round's outcome. `waits` has the seconds until the next write, for each fault."""
+    """A round's outcome. `waits` holds the number of seconds from each fault to the next write."""
 
     history: History
     violations: List[str]
@@ -43,13 +43,13 @@ class Report:
         return sum(write.outcome is outcome for write in self.history.writes)
 
     def slow(self, times: float = 1.0) -> List[str]:
-        """Returns the faults after which writes took more than this many times the fault's limit to continue."""
+        """Returns the faults after which writes took more than `times` times the fault's limit to continue."""
         return [f"{fault.name}: writes went on after {'more than the rest of the round' if wait is None else f'{wait:.1f} s'}"
                 for fault, wait in self.waits if wait is None or wait > times * fault.bound]
 
 
 class Plan:
-    """Random faults for some seconds."""
+    """A plan that causes random faults for this many seconds."""
 
     def __init__(self, seed: str, seconds: float, faults: List[Fault], pauses: Tuple[float, float]) -> None:
         self.dice = random.Random(seed)
@@ -57,7 +57,7 @@ class Plan:
         self._faults, self._pauses = faults, pauses
 
     def run(self, servers: Servers, written: Callable[[], int]) -> Made:
-        """Causes faults, and returns when each of them happened. `written` says how many batches are acknowledged."""
+        """Causes the faults, and returns when each of them happened. `written` returns how many batches have been acknowledged."""
         made: Made = []
         while time.monotonic() < self._until:
             time.sleep(self.dice.uniform(*self._pauses))
@@ -68,7 +68,7 @@ class Plan:
 
 
 class Given(Plan):
-    """These faults, each once, and each after some batches have been written."""
+    """A plan that causes each of these faults once, each after some batches have been written."""
 
     def __init__(self, seed: str, faults: List[Fault], batches: int) -> None:
         super().__init__(seed, 0.0, faults, (0.0, 0.1))
@@ -87,8 +87,8 @@ class Given(Plan):
 
 
 def run_round(servers: Servers, plan: Plan, seed: str, pause: float) -> Report:
-    """Runs clients that rest up to `pause` seconds after each write, while the plan causes its faults. Checks what they have
-    seen."""
+    """Runs clients that rest up to `pause` seconds after each write while the plan causes its faults, and then checks what they
+    saw."""
     is_shared = isinstance(servers, LogServers)
     setting = Setting(servers.places, servers.ask_leader(_begin), seed, not is_shared, pause)
     writers = [Writer(setting, number + 1, _from(servers.places, number), PATIENCES[number % 2] if is_shared else PATIENT)
@@ -114,13 +114,13 @@ def run_round(servers: Servers, plan: Plan, seed: str, pause: float) -> Report:
 
 
 def _from(places: List[str], number: int) -> List[str]:
-    """Returns the places, starting with a different one for each client."""
+    """Returns the addresses in an order that starts with a different one for each client."""
     first = number % len(places)
     return places[first:] + places[:first]
 
 
 def _begin(connection: Connection) -> int:
-    """Makes the registers, or resets them and removes the previous round's trail. Returns the last node before the next trail."""
+    """Creates the registers, or resets them and removes the previous round's trail. Returns the last node before the next trail."""
     if connection.ask("next", {})["next"] == 1:
         _apply(connection, [["new"]] * REGISTERS)
     while True:
@@ -139,7 +139,7 @@ def _apply(connection: Connection, operations: List[List[object]]) -> Reply:
 
 
 def _trail(connection: Connection, base: int) -> List[int]:
-    """Returns the batches' values in order, with 0 for a node that has none."""
+    """Returns the batches' values in order, with 0 for each node that has no value."""
     connection.ask_all([("flush", {}), ("pin", {})])
     after = connection.ask("next", {})["next"]
     trail: List[int] = []
@@ -152,7 +152,7 @@ def _trail(connection: Connection, base: int) -> List[int]:
 
 
 def _other_trails(servers: Servers, base: int, trail: List[int]) -> Iterator[str]:
-    """Yields a log's servers whose trail differs from the leader's, once they have all of its entries."""
+    """Yields the servers of a log whose trails still differ from the leader's once they have all of its entries."""
     if not isinstance(servers, LogServers):
         return
     entry = servers.ask_leader(lambda connection: connection.ask("log", {}))["entry"]
@@ -167,7 +167,7 @@ def _other_trails(servers: Servers, base: int, trail: List[int]) -> Iterator[str
 
 
 def _wait_for_writes(writers: List[Writer], made: Made) -> None:
-    """Waits until batches are written again after the last fault."""
+    """Waits until a batch has been written after the last fault."""
     since = max((since for _, since in made), default=time.monotonic())
     until = since + PATIENT
     while time.monotonic() < until:
@@ -182,7 +182,7 @@ def _has_written(writer: Writer, since: float) -> bool:
 
 
 def _wait_after(history: History, since: float) -> Optional[float]:
-    """Returns how many seconds after a fault a batch that was sent after it was first acknowledged."""
+    """Returns how many seconds passed between a fault and the first acknowledgement of a batch that was sent after it."""
     ends = [write.end - since for write in history.writes
             if write.outcome is Outcome.ACKNOWLEDGED and write.begin >= since and write.end is not None]
     return min(ends, default=None)

@@ -1,4 +1,4 @@
-"""A history's servers: one with a file, or three with a log. A server that ends is restarted, as a service manager would do."""
+"""A history's servers: one with a file, or three with a log. A server that ends is restarted, as it would be by a service manager."""
 from __future__ import annotations
 
 import os
@@ -17,15 +17,15 @@ from postgres import Postgres
 T = TypeVar("T")
 PAGES = 16_384
 JOURNAL = 256
-"""After how many KiB of entries a server lets go of its journal in memory, so that it does so several times a minute."""
+"""How many KiB of entries a server's journal may hold in memory before it is freed. The limit is reached several times a minute."""
 PATIENCE = 120.0
-"""How many seconds a server may take to start and to answer."""
+"""How many seconds a server may take to start or to answer."""
 LOOK = 0.02
-"""How many seconds pass between two looks at whether a server runs."""
+"""How often, in seconds, to check whether a server is running."""
 
 
 class Server:
-    """A program that is restarted this many seconds after it ends."""
+    """A program that is restarted `rest` seconds after it ends."""
 
     def __init__(self, command: List[str], place: Path, rest: float) -> None:
         self.place = str(place)
@@ -48,7 +48,7 @@ class Server:
                 self._start()
 
     def change_command(self, command: List[str]) -> None:
-        """Sets the command to run from the next start on."""
+        """Sets the command for the next start and later ones."""
         self._command = command
 
     def send(self, how: signal.Signals) -> None:
@@ -57,7 +57,7 @@ class Server:
                 self._process.send_signal(how)
 
     def memory(self) -> int:
-        """Returns how much memory it uses, in MiB."""
+        """Returns how many MiB of memory the server uses."""
         try:
             status = Path(f"/proc/{self._process.pid}/status").read_text()
         except OSError:
@@ -73,7 +73,7 @@ class Server:
 
 
 class Servers:
-    """Servers of one store, in a new folder."""
+    """The servers of one store, in a new folder."""
 
     def __init__(self, programs: Path) -> None:
         self.program = str(programs / "bestored")
@@ -81,7 +81,7 @@ class Servers:
         self.members: List[Server] = []
 
     def leader(self) -> Optional[Server]:
-        """Returns the server that accepts writes now, if there is one."""
+        """Returns the server that currently accepts writes, if there is one."""
         raise NotImplementedError
 
     @property
@@ -89,7 +89,7 @@ class Servers:
         return [member.place for member in self.members]
 
     def connect(self) -> Connection:
-        """Returns a connection to the server that accepts writes, once there is one."""
+        """Waits until a server accepts writes, and returns a connection to it."""
         until = time.monotonic() + PATIENCE
         while time.monotonic() < until:
             leader = self.leader()
@@ -102,15 +102,15 @@ class Servers:
         raise SystemExit(f"no server has taken writes for {PATIENCE:.0f} seconds\n{self.said()}")
 
     def ask_leader(self, ask: Callable[[Connection], T]) -> T:
-        """Runs this on a connection to the server that accepts writes, and again if that server ends meanwhile."""
+        """Calls `ask` with a connection to the server that accepts writes. Calls it again if that server ends in the meantime."""
         return _ask_again(self.connect, ask)
 
     def ask_at(self, place: str, ask: Callable[[Connection], T]) -> T:
-        """Does the same on a connection to this server."""
+        """Does the same with a connection to the server at this address."""
         return _ask_again(lambda: self.connect_to(place), ask)
 
     def connect_to(self, place: str) -> Connection:
-        """Returns a connection to this server, once it accepts one."""
+        """Waits until this server accepts a connection, and returns the connection."""
         until = time.monotonic() + PATIENCE
         while time.monotonic() < until:
             try:
@@ -124,7 +124,7 @@ class Servers:
         return "\n".join(Path(f"{place}.said").read_text()[-2000:] for place in self.places)
 
     def memory(self) -> int:
-        """Returns how much memory the servers use, in MiB."""
+        """Returns how many MiB of memory the servers use."""
         return sum(member.memory() for member in self.members)
 
     def __enter__(self) -> Servers:
@@ -168,7 +168,7 @@ class LogServers(Servers):
         return [self.program, "--socket", str(place), "--pages", str(PAGES), "--journal", str(JOURNAL), how, self.postgres.url]
 
     def leader(self) -> Optional[Server]:
-        """Returns the last term's leader, since one that was paused doesn't notice right away that it no longer leads."""
+        """Returns the leader of the last term. A leader that was paused doesn't notice right away that it no longer leads."""
         terms = [(_log_of(member.place).get("term", 0), number) for number, member in enumerate(self.members)]
         term, last = max(terms)
         return self.members[last] if term else None
@@ -178,7 +178,7 @@ class LogServers(Servers):
 
 
 def _ask_again(connect: Callable[[], Connection], ask: Callable[[Connection], T]) -> T:
-    """Runs this on a connection, and again while the server ends or can't answer."""
+    """Calls `ask` with a connection, and retries with a new one if the server ends or can't answer."""
     until = time.monotonic() + PATIENCE
     while True:
         connection = connect()
@@ -193,7 +193,7 @@ def _ask_again(connect: Callable[[], Connection], ask: Callable[[Connection], T]
 
 
 def _log_of(place: str) -> Reply:
-    """Returns what a server reports about its log, or nothing if it doesn't answer."""
+    """Returns what a server reports about its log, or an empty reply if it doesn't answer."""
     try:
         connection = Connection(place, 0.5)
     except (Gone, Late, Refused):
@@ -207,5 +207,5 @@ def _log_of(place: str) -> Reply:
 
 
 def _memory() -> Optional[str]:
-    """Returns a folder in memory, if possible. Its contents outlive a killed process."""
+    """Returns a folder in memory, if possible. Its contents survive when a process is killed."""
     return "/dev/shm" if os.access("/dev/shm", os.W_OK) else None

@@ -1,15 +1,16 @@
 #!/usr/bin/env python3
-"""Causes random faults while clients write and read. Is each history strictly serializable, and do writes continue soon?
+"""Causes random faults while clients write and read. Is each history strictly serializable, and do writes soon continue?
 
 usage: soak.py FOLDER [--minutes M] [--seed N] [--only file|log] [--pause SECONDS] [--round SECONDS]
 
-FOLDER has bestored, such as rust/target/release. The default is 60 minutes in total. Half of the time goes to a server with a
-file, which is killed, ended and paused. The other half goes to three servers with a log in PostgreSQL: their leader is killed,
-ended and paused, and their database is ended, hangs, or waits for a standby. Without PostgreSQL, this half is skipped.
+FOLDER contains bestored, such as rust/target/release. The run takes 60 minutes by default. Half of the time goes to a server with
+a file, which is killed, shut down and paused. The other half goes to three servers with a log in PostgreSQL. Their leader is killed,
+shut down and paused, and their database is shut down, hangs, or waits for a standby. If PostgreSQL isn't installed, this half is
+skipped.
 
-Eight clients write batches with `expected`, based on what they have read; three more read from the log's servers. Each round
-is checked separately. The same seed gives the same faults in the same order. It prints tables in Markdown, and exits with 1 if
-a history isn't strictly serializable or if writes continued too late.
+Eight clients write batches with `expected`, based on what they have read; another three read from the log's servers. Each round is
+checked separately. The same seed causes the same faults in the same order. The program prints tables in Markdown. It exits with 1
+if a history isn't strictly serializable or if writes took too long to continue.
 """
 from __future__ import annotations
 
@@ -28,7 +29,7 @@ from rounds import Plan, Report, run_round
 from servers import FileServers, LogServers, Servers
 
 PAUSES = {"file": (0.3, 3.0), "log": (2.0, 8.0)}
-"""How many seconds there are between two faults."""
+"""How many seconds to wait between two faults."""
 
 
 def options() -> argparse.Namespace:
@@ -43,7 +44,7 @@ def options() -> argparse.Namespace:
 
 
 def soak(servers: Servers, form: str, seconds: float, chosen: argparse.Namespace) -> List[Report]:
-    """Runs rounds on the same servers, and prints a line for each."""
+    """Runs rounds on the same servers, and prints a line for each round."""
     faults, until = OF_FILE if form == "file" else OF_LOG, time.monotonic() + seconds
     reports: List[Report] = []
     while not reports or time.monotonic() < until:
@@ -60,7 +61,7 @@ def soak(servers: Servers, form: str, seconds: float, chosen: argparse.Namespace
 
 
 def fault_lines(reports: List[Report]) -> List[str]:
-    """Returns a line for each fault: how many times it occurred, and how soon writes continued."""
+    """Returns a line for each fault that says how many times it occurred and how soon writes continued."""
     waits: Dict[Fault, List[float]] = {}
     for report in reports:
         for fault, wait in report.waits:

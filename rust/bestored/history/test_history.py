@@ -1,5 +1,5 @@
-"""Tests of the checker, with histories that have one thing wrong, and short rounds with a real server. BESTORED names the program
-bestored; without it, the rounds are skipped."""
+"""Tests the checker with histories that each contain one fault, and runs short rounds with real servers. If BESTORED doesn't give
+the path of the program bestored, the rounds are skipped."""
 from __future__ import annotations
 
 import os
@@ -21,7 +21,7 @@ BESTORED = os.environ.get("BESTORED")
 FIRST_COMMIT = 7
 """The commit number before the first batch."""
 BATCHES = 50
-"""How many batches are written before each fault of a round."""
+"""How many batches are written before each of a round's faults."""
 
 
 def snapshot(number: int, values: Values) -> Snapshot:
@@ -29,8 +29,8 @@ def snapshot(number: int, values: Values) -> Snapshot:
 
 
 def sound() -> History:
-    """Returns four batches, one after another, each between two reads. Batch n sets register n to 10 n, from second n to n +
-    0.4."""
+    """Returns a history of four batches, one after another, each between two reads. Batch n sets register n to 10 n, and takes
+    from second n to n + 0.4."""
     history, values = History(), list(NO_VALUES)
     for number in range(1, 5):
         before = snapshot(number - 1, tuple(values))
@@ -43,17 +43,17 @@ def sound() -> History:
 
 
 class Checker(unittest.TestCase):
-    """What the checker finds."""
+    """Tests what the checker finds."""
 
     def check(self, history: History, *texts: str) -> None:
-        """Checks that the first violations have these texts."""
+        """Checks that the first violations have these descriptions."""
         found = list(violations(history))
         self.assertEqual(bool(found), bool(texts), found)
         for text in texts:
             self.assertTrue(any(text in it for it in found), found)
 
     def check_longer(self, value: int, text: str) -> None:
-        """The trail has one batch more, with this value, and that violation is found."""
+        """Checks that this violation is found when the trail has one more batch, with this value."""
         history = sound()
         history.trail.append(value)
         self.check(history, text)
@@ -63,7 +63,7 @@ class Checker(unittest.TestCase):
         self.check(History())
 
     def test_stale_read(self) -> None:
-        """A read shows an old snapshot as it was."""
+        """A read shows an old snapshot, exactly as it was."""
         history = sound()
         history.reads[3] = replace(history.reads[3], snapshot=history.reads[1].snapshot)
         self.check(history, "a read that saw batch 2 as the last one began when batch 4 was acknowledged or read before")
@@ -71,7 +71,7 @@ class Checker(unittest.TestCase):
         self.check(history)
 
     def test_later_read_is_older(self) -> None:
-        """Batch 4 isn't acknowledged. One read shows it, and a later one doesn't."""
+        """Batch 4 isn't acknowledged. One read shows it, but a later read doesn't."""
         history = sound()
         history.writes[3] = replace(history.writes[3], outcome=Outcome.UNKNOWN, end=None)
         self.check(history)
@@ -141,7 +141,7 @@ class Checker(unittest.TestCase):
 
 @unittest.skipUnless(BESTORED, "BESTORED names no bestored")
 class Rounds(unittest.TestCase):
-    """Short rounds."""
+    """Tests that run short rounds."""
 
     folder = Path(BESTORED or "").parent
 
@@ -151,7 +151,7 @@ class Rounds(unittest.TestCase):
         return run_round(servers, Given(seed, faults, BATCHES), seed, 0.01)
 
     def check(self, report: Report) -> None:
-        """Checks that everything is right. On a busy machine, writes take longer to continue."""
+        """Checks that a round found no fault. On a busy machine, writes may take longer to continue."""
         self.assertEqual([*report.violations, *report.slow(3.0)], [])
         self.assertGreaterEqual(report.count(Outcome.ACKNOWLEDGED), BATCHES * len(report.waits))
         self.assertTrue(report.history.reads)
@@ -170,7 +170,7 @@ class Rounds(unittest.TestCase):
             self.check(self.run_round(servers, [KILL_LEADER, RESTART_DATABASE, KILL_LEADER]))
 
     def test_server_that_loses_writes(self) -> None:
-        """A server that replies before its file has the writes."""
+        """The server replies before the writes are in its file."""
         with FileServers(self.folder, "--every", "3600000") as servers, mock.patch("clients.PART_READS", 0.0):
             report = self.run_round(servers, [KILL])
             self.assertTrue(any("is lost" in it or "and is batch" in it for it in report.violations), report.violations)

@@ -1,4 +1,4 @@
-//! The answers to requests.
+//! Answers requests.
 
 use crate::clients::Client;
 use crate::copy::{self, Copy};
@@ -20,28 +20,28 @@ use std::io::{self, Write};
 use std::sync::Arc;
 use std::time::Instant;
 
-/// The maximum number of live queries on one connection.
+/// The maximum number of live queries per connection.
 pub const WATCHES: usize = 32;
 
-/// The server's features beyond the first version of the protocol.
+/// The features that the server adds to the first version of the protocol.
 const FEATURES: [&str; 7] = ["token", "run", "collect", "info", "clients", "kick", "text"];
 
-/// How many bytes of replies are collected before they are sent.
+/// How many bytes of replies to collect before sending them.
 const COLLECTED: usize = 1 << 16;
 
-/// What a connection's reads see.
+/// The state that a connection's reads see.
 #[derive(Debug)]
 pub enum View<'v, 'p> {
-    /// The current snapshot, for each read.
+    /// Each read uses the current snapshot.
     Current(&'v mut ShelfPass),
-    /// One snapshot, pinned at this time.
+    /// All reads use one snapshot, which has been pinned since this time.
     Kept {
         snapshot: &'v ShelfSnapshot<'p>,
         since: Instant,
-        /// How far `state` has been read.
+        /// How far the client has read the snapshot with `state`.
         state: Option<Reading<'v>>,
     },
-    /// Nothing, since the server ended the snapshot.
+    /// Reads fail, because the server has ended the snapshot.
     Expired(&'v mut ShelfPass),
 }
 
@@ -54,7 +54,7 @@ impl<'v, 'p> View<'v, 'p> {
         }
     }
 
-    /// Returns since when a snapshot has been pinned, if one is.
+    /// Returns when the snapshot was pinned, or `None` if no snapshot is pinned.
     pub fn since(&self) -> Option<Instant> {
         match self {
             View::Kept { since, .. } => Some(*since),
@@ -62,7 +62,7 @@ impl<'v, 'p> View<'v, 'p> {
         }
     }
 
-    /// Gives up the earlier memory of volumes that were carried on, unless a snapshot is pinned. Returns the passes if they have
+    /// Releases the earlier memory of volumes that were carried on, unless a snapshot is pinned. Returns the passes if they have
     /// changed.
     pub fn follow(&mut self) -> Result<Option<&ShelfPass>, Error> {
         let pass = match self {
@@ -72,7 +72,7 @@ impl<'v, 'p> View<'v, 'p> {
         Ok(pass.follow()?.then_some(&**pass))
     }
 
-    /// Returns how many volumes there are.
+    /// Returns the number of volumes.
     pub fn volumes(&self) -> usize {
         match self {
             View::Current(pass) => pass.volumes().len(),
@@ -81,7 +81,7 @@ impl<'v, 'p> View<'v, 'p> {
         }
     }
 
-    /// Returns the pass of a volume.
+    /// Returns the connection's pass in a volume.
     pub fn pass(&self, volume: u32) -> Result<&Pass, Error> {
         match self {
             View::Current(pass) => pass.volume(volume),
@@ -108,7 +108,8 @@ impl<'v, 'p> View<'v, 'p> {
         }
     }
 
-    /// Refuses to wait for an entry while a snapshot is pinned, since the entries may need its pages.
+    /// Returns an error if the client asks to wait for an entry while it has a snapshot pinned: applying entries may need the
+    /// snapshot's pages.
     fn check_waits(&self, wanted: &wire::OfLog) -> Result<(), Failure> {
         match (self, wanted.entry) {
             (View::Kept { .. }, Some(_)) => Err(Failure::pinned()),
@@ -116,7 +117,7 @@ impl<'v, 'p> View<'v, 'p> {
         }
     }
 
-    /// Reads in the pinned snapshot, otherwise in the current one.
+    /// Reads the pinned snapshot, or the current one if none is pinned.
     pub fn read<T>(&mut self, read: impl FnOnce(&ShelfSnapshot<'_>) -> Result<T, Failure>) -> Result<T, Failure> {
         match self {
             View::Current(pass) => read(&pass.pin()?),
@@ -126,16 +127,16 @@ impl<'v, 'p> View<'v, 'p> {
     }
 }
 
-/// Answers the requests of one client, and collects the replies.
+/// Answers one client's requests and collects the replies.
 #[derive(Debug)]
 pub struct Desk<'a> {
     pub shared: &'a Shared,
     client: &'a Client,
-    /// What `state` reads if nothing is pinned.
+    /// The copy that `state` reads when no snapshot is pinned.
     copy: Option<Copy<'a>>,
     outbox: Arc<Outbox>,
     out: Vec<u8>,
-    /// Whether the outbox still has something to send.
+    /// Whether the outbox still holds unsent replies.
     is_left: bool,
     watches: Option<Arc<Watches>>,
     last_watch: u64,
@@ -165,8 +166,8 @@ impl<'a> Desk<'a> {
         }
     }
 
-    /// Sends the collected replies, and waits for the client to read them. If reads have used a snapshot since this time, the
-    /// wait ends when it has to be unpinned, and the rest is sent later.
+    /// Sends the collected replies and waits for the client to read them. `since` says when the snapshot was pinned, if there is
+    /// one; the wait then ends when it has to be unpinned, and the remaining replies are sent later.
     pub fn send(&mut self, since: Option<Instant>) -> io::Result<()> {
         if self.out.is_empty() && !self.is_left {
             return Ok(());
@@ -184,7 +185,7 @@ impl<'a> Desk<'a> {
         self.add(Some(id), "ok", ok);
     }
 
-    /// Adds the reply to a request that was refused.
+    /// Adds an error as the reply to a request.
     pub fn refuse(&mut self, id: Option<u64>, failure: Failure) {
         self.add(id, "error", &failure.0);
     }
@@ -198,12 +199,12 @@ impl<'a> Desk<'a> {
         let written = written.and_then(|()| Ok(serde_json::to_writer(&mut self.out, body)?));
         match written {
             Ok(()) => self.out.extend_from_slice(b"}\n"),
-            // Writing to memory can't fail.
+            // Never happens, since writing to memory can't fail.
             Err(_) => self.out.truncate(length),
         }
     }
 
-    /// Answers a command other than `pin` and `unpin`.
+    /// Answers any command except `pin` and `unpin`.
     pub fn answer(&mut self, id: u64, command: Command<'_>, view: &mut View<'_, '_>) -> io::Result<()> {
         let is_of_server = matches!(
             command,
@@ -237,7 +238,7 @@ impl<'a> Desk<'a> {
             Command::State(from) => self.state(view, &from).map(|page| self.reply(id, &page)),
             Command::Collect(_) => self.collect(view).map(|next| self.reply(id, &next)),
             Command::Reach(reach) => {
-                // Earlier replies don't wait for a commit.
+                // Earlier replies must not wait for the commit.
                 self.send(view.since())?;
                 let reached = reach::reach(view, &self.shared.pressure, &reach);
                 reached.map(|reached| self.reply(id, &reached))
@@ -251,7 +252,7 @@ impl<'a> Desk<'a> {
             Command::Kick(kick) => info::kick(self.shared, self.client, &kick).map(|done| self.reply(id, &done)),
             Command::Flush(_) => self.shared.kept.flush().map(|()| self.reply(id, &wire::Nothing {})),
             Command::Log(wanted) => {
-                // Earlier replies don't wait for an entry.
+                // Earlier replies must not wait for the entry.
                 self.send(view.since())?;
                 let status = view.check_waits(&wanted);
                 let status = status.and_then(|()| self.shared.kept.log_status(&wanted));
@@ -266,7 +267,7 @@ impl<'a> Desk<'a> {
         Ok(())
     }
 
-    /// Answers a command that reads in one snapshot.
+    /// Answers a command that reads from a snapshot.
     fn read(&mut self, id: u64, command: Command<'_>, snapshot: &ShelfSnapshot<'_>) -> Result<(), Failure> {
         let (commit, commits) = (snapshot.number(), commits(snapshot));
         match command {
@@ -348,7 +349,7 @@ impl<'a> Desk<'a> {
         Ok(())
     }
 
-    /// Copies what reads see, so that `state` can read it without a snapshot.
+    /// Copies the state that reads see, so that `state` can read it later without a pinned snapshot.
     fn collect(&mut self, view: &mut View<'_, '_>) -> Result<wire::Next, Failure> {
         self.copy = None;
         let (copy, next) = copy::collect(self.shared, view)?;
@@ -356,7 +357,7 @@ impl<'a> Desk<'a> {
         Ok(next)
     }
 
-    /// Returns a page of the batches that rebuild the pinned snapshot, or the copy.
+    /// Returns a page of the batches that rebuild the pinned snapshot or the copy.
     fn state(&self, view: &mut View<'_, '_>, from: &wire::From) -> Result<wire::State, Failure> {
         match (view, &self.copy) {
             (View::Kept { snapshot, state, .. }, _) => page::state(snapshot, state, from),
@@ -366,7 +367,7 @@ impl<'a> Desk<'a> {
         }
     }
 
-    /// Runs a live query for the first time.
+    /// Starts a watch, and runs its query for the first time.
     fn watch(&mut self, watch: wire::Watch<'_>, view: &mut View<'_, '_>) -> Result<(wire::Watched, Watch), Failure> {
         if self.watches.as_ref().map_or(0, |watches| watches.count()) >= WATCHES {
             let message =
@@ -394,7 +395,7 @@ impl<'a> Desk<'a> {
         Ok((reply, Watch::new(number, live, numbers, found)))
     }
 
-    /// Runs a live query in the snapshot that reads see. The watch is taken off the list until the reply is sent.
+    /// Runs a live query again, in the snapshot that reads see. The watch stays off the list until the reply has been sent.
     fn refresh(&mut self, watching: &wire::Watching, view: &mut View<'_, '_>) -> Result<(wire::Push, Watch), Failure> {
         let watches = self.watches.as_ref().ok_or_else(Failure::no_watch)?;
         let mut watch = watches.take(watching.watch).ok_or_else(Failure::no_watch)?;
@@ -407,7 +408,7 @@ impl<'a> Desk<'a> {
         }
     }
 
-    /// Sends the reply before anything can be pushed for this watch.
+    /// Sends the reply, then adds the watch to the list, so that nothing is pushed before the reply.
     fn begin(&mut self, id: u64, reply: &impl Serialize, watch: Watch, since: Option<Instant>) -> io::Result<()> {
         self.reply(id, reply);
         self.send(since)?;

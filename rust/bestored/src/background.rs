@@ -1,4 +1,4 @@
-//! Runs the server in the background: the command returns once the server is listening.
+//! Runs the server in the background. The command returns once the server is listening.
 
 use crate::os::{self, Process};
 use std::io::{self, Read, Write};
@@ -9,17 +9,17 @@ use std::process::ExitCode;
 /// Which of the two processes this is.
 #[derive(Debug)]
 pub enum Side {
-    /// The process that was started. It ends with this status.
+    /// The process that ran the command. It exits with this status.
     Starter(ExitCode),
     /// The server.
     Server(Starter),
 }
 
-/// The process that was started, seen from the server. It waits to hear where the server listens.
+/// The server's connection to the process that ran the command, which waits to learn where the server listens.
 #[derive(Debug)]
 pub struct Starter(UnixStream);
 
-/// Makes a process for the server, in its own session. It has to be called while there is only one thread.
+/// Creates the server's process, in a session of its own. Must be called while the program has only one thread.
 pub fn begin() -> io::Result<Side> {
     let (starter, server) = UnixStream::pair()?;
     match os::fork()? {
@@ -35,17 +35,17 @@ pub fn begin() -> io::Result<Side> {
     }
 }
 
-/// Waits until the server listens or has ended.
+/// Waits until the server is listening or has ended.
 fn wait(mut starter: UnixStream, process: &Process) -> io::Result<ExitCode> {
     let mut said = String::new();
     starter.read_to_string(&mut said)?;
     if !said.is_empty() {
-        // If the output was closed, no one wants to know.
+        // If standard output is closed, no one needs the message.
         let _ = writeln!(io::stdout(), "bestored: process {} listens at {said}", process.number());
         return Ok(ExitCode::SUCCESS);
     }
     match process.wait()? {
-        // The server has said why.
+        // The server has already printed the reason.
         Some(status) if status != 0 => Ok(ExitCode::from(status)),
         _ => Err(io::Error::new(
             io::ErrorKind::Other,
@@ -55,9 +55,9 @@ fn wait(mut starter: UnixStream, process: &Process) -> io::Result<ExitCode> {
 }
 
 impl Starter {
-    /// Says where the server listens.
+    /// Reports to the waiting process where the server listens.
     pub fn listens_at(mut self, path: &Path) -> io::Result<()> {
-        // The process that started the server may be gone; the server stays.
+        // If that process has ended, the server keeps running.
         let _ = write!(self.0, "{}", path.display());
         os::leave_errors()
     }

@@ -1,5 +1,5 @@
-//! Carries on the volumes whose journals have grown, so that their memory is freed. A thread does this, and makes sure that no
-//! one keeps the earlier memory.
+//! A thread that carries on the volumes whose journals have grown, so that their memory is freed. It makes sure that no pass
+//! keeps the earlier memory.
 
 use crate::kept::Kept;
 use crate::server::Shared;
@@ -7,7 +7,7 @@ use bestore::Error;
 use std::sync::{Condvar, Mutex, MutexGuard, PoisonError, TryLockError};
 use std::time::Duration;
 
-/// How often the thread checks who still has earlier memory.
+/// How often the thread checks whether any pass still uses earlier memory.
 const LOOK: Duration = Duration::from_millis(100);
 
 #[derive(Debug, Default)]
@@ -16,7 +16,7 @@ struct State {
     is_ending: bool,
 }
 
-/// What the thread waits for.
+/// What the thread waits on.
 #[derive(Debug, Default)]
 pub struct Carrying {
     state: Mutex<State>,
@@ -28,7 +28,7 @@ impl Carrying {
         self.state.lock().unwrap_or_else(PoisonError::into_inner)
     }
 
-    /// Signals that something was written.
+    /// Wakes the thread after a write, if a volume is due to be carried on.
     pub fn written(&self, kept: &Kept) {
         if kept.shelf().is_due() {
             self.lock().is_due = true;
@@ -42,7 +42,7 @@ impl Carrying {
         self.wake.notify_one();
     }
 
-    /// Carries volumes on until the end.
+    /// Carries volumes on whenever they are due, until [`end`](Self::end) is called.
     pub fn run(&self, shared: &Shared) {
         let shelf = shared.kept.shelf();
         while self.wait(shelf.is_read_before()) {
@@ -55,7 +55,8 @@ impl Carrying {
         }
     }
 
-    /// Waits until there may be something to do, here or for others that still use the earlier memory. Returns `false` at the end.
+    /// Waits until a volume may be due or, while passes still use earlier memory, for a short time. Returns `false` if the thread
+    /// must end.
     fn wait(&self, is_read_before: bool) -> bool {
         let mut state = self.lock();
         if is_read_before && !state.is_ending {
@@ -70,7 +71,7 @@ impl Carrying {
     }
 }
 
-/// Moves the server's own passes away from the earlier memory. Clients' passes move between requests.
+/// Moves the server's own passes off the earlier memory. Clients' passes move between requests.
 fn release(shared: &Shared) {
     shared.watcher.wake();
     let visits = match shared.visits.try_lock() {
@@ -79,7 +80,7 @@ fn release(shared: &Shared) {
         Err(TryLockError::WouldBlock) => None,
     };
     if let Some(mut pass) = visits {
-        // If this fails, it is tried again.
+        // If this fails, the next round tries again.
         let _ = pass.follow();
     }
 }

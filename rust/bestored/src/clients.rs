@@ -1,4 +1,4 @@
-//! The clients that are connected, and what each of them is doing.
+//! The connected clients, and what each of them is doing.
 
 use bestore::{Pass, ShelfSnapshot};
 use bestore_client::socket::peer_process;
@@ -11,7 +11,7 @@ use std::sync::atomic::{AtomicU64, Ordering};
 use std::sync::{Arc, Condvar, Mutex, MutexGuard, PoisonError};
 use std::time::{Duration, Instant};
 
-/// How long clients have to read their last replies when the server ends.
+/// How long clients have to read their last replies when the server shuts down.
 const LAST: Duration = Duration::from_secs(5);
 
 fn lock<T>(mutex: &Mutex<T>) -> MutexGuard<'_, T> {
@@ -25,9 +25,9 @@ pub fn milliseconds(time: Duration) -> u64 {
 /// A client.
 #[derive(Debug)]
 pub struct Client {
-    /// The connection's number; connections are counted from the start.
+    /// The connection's number, counted from the server's start.
     pub number: u64,
-    /// The client's process number, or 0 if the system doesn't give it.
+    /// The client's process ID, or 0 if the system doesn't provide it.
     pub process: u32,
     stream: Arc<UnixStream>,
     since: Instant,
@@ -35,16 +35,16 @@ pub struct Client {
     doing: Mutex<Doing>,
 }
 
-/// What a client is doing now.
+/// What a client is doing at the moment.
 #[derive(Debug, Default)]
 struct Doing {
-    /// Its pass in each volume.
+    /// The client's pass in each volume.
     seats: Vec<Seat>,
     pinned: Option<Pinned>,
     command: Option<&'static str>,
 }
 
-/// How a volume identifies a pass. The numbers of passes restart when the volume is carried on.
+/// How a volume identifies a pass. Pass numbers start again when the volume is carried on.
 #[derive(Clone, Copy, Debug, PartialEq, Eq)]
 pub struct Seat {
     pub pass: u64,
@@ -60,19 +60,19 @@ impl Seat {
     }
 }
 
-/// The snapshot that a client has pinned, and since when.
+/// The snapshot that a client has pinned, and when it pinned it.
 #[derive(Debug)]
 struct Pinned {
     commit: u64,
-    /// Its number in each volume.
+    /// The snapshot's number in each volume.
     commits: Vec<u64>,
     since: Instant,
 }
 
 impl Client {
-    /// Records that the client has these passes of the volumes.
+    /// Records the client's passes in the volumes.
     pub fn takes<'a>(&self, passes: impl Iterator<Item = &'a Pass>) {
-        // If this fails, the client just can't be found by its passes.
+        // If this fails, the only effect is that the client can't be found by its passes.
         let seats = passes.map(Seat::of).collect::<bestore::Result<_>>();
         lock(&self.doing).seats = seats.unwrap_or_default();
     }
@@ -112,8 +112,8 @@ impl Client {
         lock(&self.doing).seats.get(volume) == Some(&seat)
     }
 
-    /// Returns the snapshot that the client has pinned in a volume, if the volume has been carried on since, and now has this
-    /// generation.
+    /// Returns the snapshot that the client has pinned in a volume, if the volume has been carried on since then. `generation`
+    /// is the volume's current generation.
     fn reads_before(&self, volume: usize, generation: u64) -> Option<u64> {
         let doing = lock(&self.doing);
         let seat = doing.seats.get(volume)?;
@@ -149,7 +149,7 @@ impl Client {
     }
 }
 
-/// The clients by their numbers.
+/// The clients, by number.
 #[derive(Debug, Default)]
 pub struct Clients {
     connected: Mutex<Connected>,
@@ -160,7 +160,7 @@ pub struct Clients {
 struct Connected {
     last: u64,
     clients: BTreeMap<u64, Arc<Client>>,
-    /// How many requests were sent by clients that have left.
+    /// How many requests came from clients that have left.
     requests: u64,
 }
 
@@ -191,14 +191,14 @@ impl Clients {
         self.left.notify_all();
     }
 
-    /// Returns how many requests were sent since the server started.
+    /// Returns how many requests clients have sent since the server started.
     pub fn requests(&self) -> u64 {
         let connected = lock(&self.connected);
         let sent = connected.clients.values();
         connected.requests + sent.map(|client| client.requests.load(Ordering::Relaxed)).sum::<u64>()
     }
 
-    /// Returns who reads this snapshot of a volume: the client with that pass, otherwise the server itself.
+    /// Returns who is reading this snapshot of a volume: the client with that pass or, if there is none, the server itself.
     pub fn reader(&self, volume: usize, commit: u64, seat: Seat) -> wire::OldestReader {
         let connected = lock(&self.connected);
         let mut clients = connected.clients.values();
@@ -212,7 +212,8 @@ impl Clients {
         )
     }
 
-    /// Returns the client that has longest had a snapshot of a volume pinned from before this generation.
+    /// Of the clients that have pinned a snapshot from before this generation of a volume, returns the one that has had it pinned
+    /// the longest.
     pub fn reader_before(&self, volume: usize, generation: u64) -> Option<wire::OldestReader> {
         let connected = lock(&self.connected);
         let readers = connected.clients.values().filter_map(|client| {
@@ -225,7 +226,7 @@ impl Clients {
         readers.max_by_key(|reader| reader.milliseconds)
     }
 
-    /// Returns all clients, as shown to the client with the number `own`.
+    /// Returns all clients, as the client with the number `own` sees them.
     pub fn shown(&self, own: u64) -> wire::Clients {
         let connected = lock(&self.connected);
         wire::Clients {
@@ -233,7 +234,7 @@ impl Clients {
         }
     }
 
-    /// Ends the connection of a client. Returns `None` if there is no such client.
+    /// Closes a client's connection. Returns `None` if there is no client with this number.
     pub fn kick(&self, number: u64) -> Option<io::Result<Arc<Client>>> {
         let client = lock(&self.connected).clients.get(&number).cloned()?;
         match client.stream.shutdown(Shutdown::Both) {
@@ -242,11 +243,11 @@ impl Clients {
         }
     }
 
-    /// Lets the clients finish: what they have sent is answered, and they get some time to read the replies.
+    /// Lets the clients finish: answers the requests they have already sent, and gives them some time to read the replies.
     pub fn end(&self) {
         for how in [Shutdown::Read, Shutdown::Both] {
             for client in lock(&self.connected).clients.values() {
-                // A client that has left needs no ending.
+                // This fails if the client has already left.
                 let _ = client.stream.shutdown(how);
             }
             let until = Instant::now() + LAST;

@@ -1,4 +1,4 @@
-//! The connection of one client: its requests, in order, and the snapshot that it keeps.
+//! A client's connection: its requests, in order, and the snapshot that it has pinned.
 
 use crate::answer::{Desk, View};
 use crate::clients::{milliseconds, Client};
@@ -15,16 +15,16 @@ use std::os::unix::net::UnixStream;
 use std::sync::Arc;
 use std::time::{Duration, Instant};
 
-/// How long a visitor may stay. A visitor is a client that arrived when all places were taken.
+/// How long a visitor may stay. A visitor is a client that connected when all places were taken.
 const VISIT: Duration = Duration::from_secs(2);
 
-/// How long a visitor may take from a reply to its next request.
+/// How long a visitor may wait after a reply before it sends its next request.
 const IDLE: Duration = Duration::from_millis(250);
 
-/// How often an idle connection checks whether its pass keeps memory that was carried on.
+/// How often an idle connection checks whether its pass still holds the earlier memory of a volume that was carried on.
 const RESTS: Duration = Duration::from_secs(1);
 
-/// Why reads see a different state from now on.
+/// Why reads are about to see a different state.
 #[derive(Clone, Copy, Debug, PartialEq, Eq)]
 enum Turn {
     Pin { id: u64 },
@@ -39,7 +39,7 @@ pub struct Connection<'a> {
     client: &'a Client,
     lines: Lines,
     desk: Desk<'a>,
-    /// When a visitor has to leave.
+    /// When the client has to leave, if it is a visitor.
     visit: Option<Instant>,
 }
 
@@ -80,8 +80,8 @@ impl<'a> Connection<'a> {
         }
     }
 
-    /// Pins a snapshot, and answers requests until the client unpins it or has to. Returns `None` if no snapshot is pinned and
-    /// the client has been sent the reason.
+    /// Pins a snapshot, and answers requests until the client unpins it or the server ends it. Returns `None` if no snapshot
+    /// could be pinned; the reply then says why.
     fn keep(&mut self, id: u64, pass: &mut ShelfPass) -> io::Result<Option<Turn>> {
         let pinned = pass.pin().map_err(Failure::from);
         let pinned = pinned.and_then(|snapshot| Ok((volumes::next(&snapshot)?, snapshot)));
@@ -100,7 +100,7 @@ impl<'a> Connection<'a> {
         }
     }
 
-    /// Answers requests until reads have to see another state.
+    /// Answers requests until reads have to see a different state.
     fn serve(&mut self, view: &mut View<'_, '_>) -> io::Result<Turn> {
         loop {
             if view
@@ -109,7 +109,7 @@ impl<'a> Connection<'a> {
             {
                 return Ok(Turn::Expire);
             }
-            // If this fails, it is tried again, and the next read returns the error.
+            // If this fails, it is retried, and the next read returns the error.
             if let Ok(Some(pass)) = view.follow() {
                 self.client.takes(pass.volumes().iter());
             }
@@ -142,7 +142,8 @@ impl<'a> Connection<'a> {
         }
     }
 
-    /// Sends the replies, and waits for more requests. If a snapshot has been pinned for some time, it waits only for a moment.
+    /// Sends the replies, and waits for more requests. If a snapshot is pinned, each wait is short, so that the snapshot can be
+    /// unpinned in time.
     fn receive(&mut self, since: Option<Instant>) -> io::Result<Option<Turn>> {
         self.desk.send(since)?;
         let looks = since.map(|_| Instant::now() + pressure::LOOK);
@@ -164,7 +165,7 @@ impl<'a> Connection<'a> {
     }
 }
 
-/// Answers a command, and reports it if it takes long.
+/// Answers a command, and reports it if it takes too long.
 fn answer(
     desk: &mut Desk<'_>,
     client: &Client,
@@ -187,7 +188,7 @@ fn answer(
     Ok(())
 }
 
-/// Returns whether the command can take long, so that visitors may not send it.
+/// Returns whether the command can take a long time. Visitors may not send such commands.
 fn waits(command: &Command<'_>) -> bool {
     match command {
         Command::Watch(_) | Command::Reach(_) => true,

@@ -1,5 +1,5 @@
-//! Copies of snapshots: what `state` reads after `collect`. A client may read a copy slowly, since a copy doesn't hold the
-//! store's pages.
+//! Copies of snapshots, which `collect` makes and `state` reads. A client may read a copy slowly, since a copy doesn't hold any
+//! of the store's pages.
 
 use crate::answer::View;
 use crate::failure::Failure;
@@ -9,7 +9,7 @@ use bestore::{Batch, Node, ShelfSnapshot, StateCopy};
 use bestore_client::wire::{self, ErrorName, ShownOperations};
 use std::sync::atomic::{AtomicUsize, Ordering};
 
-/// How many copies all clients together can have at once. Each copy takes at most as much memory as the store's pages.
+/// How many copies all clients together may have at a time. A copy takes no more memory than the store's pages do.
 const MOST: usize = 2;
 
 /// Counts the existing copies.
@@ -23,7 +23,7 @@ pub struct Copy<'a> {
     volumes: Vec<Volume>,
 }
 
-/// The batches of a volume, as bytes.
+/// A volume's batches, as bytes.
 #[derive(Debug)]
 struct Volume {
     commit: u64,
@@ -53,7 +53,7 @@ impl Copies {
     }
 }
 
-/// Copies what reads see. If nothing is pinned, each volume is copied from its own snapshot.
+/// Copies the state that reads see. If no snapshot is pinned, each volume is copied from a snapshot of its own.
 pub fn collect<'a>(shared: &'a Shared, view: &View<'_, '_>) -> Result<(Copy<'a>, wire::Next), Failure> {
     let mut copy = shared.copies.begin()?;
     for (volume, store) in (0_u32..).zip(shared.kept.shelf().volumes()) {
@@ -80,7 +80,7 @@ impl Volume {
         })
     }
 
-    /// Copies the volume, unless its snapshot `is_over` before the copy is done.
+    /// Copies the volume, unless `is_over` says that its snapshot has to be unpinned before the copy is complete.
     fn of_snapshot(volume: u32, snapshot: &ShelfSnapshot<'_>, is_over: impl Fn() -> bool) -> Result<Self, Failure> {
         let of_volume = snapshot.volume(volume)?;
         let mut batches = Vec::new();
@@ -99,7 +99,7 @@ impl Volume {
 }
 
 impl Copy<'_> {
-    /// Returns the copy's numbers. New nodes are made in the volume with the most free pages.
+    /// Returns the copy's commit numbers and next node numbers. New nodes are created in the volume with the most free pages.
     fn next(&self, roomiest: u32) -> wire::Next {
         let commits: Vec<u64> = self.volumes.iter().map(|volume| volume.commit).collect();
         let nexts: Vec<u64> = self.volumes.iter().map(|volume| volume.next).collect();

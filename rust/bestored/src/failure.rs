@@ -1,4 +1,4 @@
-//! Errors as the protocol writes them.
+//! Errors in the form in which the protocol sends them.
 
 #[cfg(feature = "log")]
 use crate::log::Refused;
@@ -6,23 +6,23 @@ use bestore::{saved, Class, Error, QueryError};
 use bestore_client::wire::{ErrorName, Refusal};
 use serde_json::Value;
 
-/// Why a request did nothing.
+/// Why a request had no effect.
 #[derive(Debug)]
 pub struct Failure(pub Refusal);
 
 impl Failure {
-    /// Makes an error with its own message.
+    /// Creates an error with this message.
     pub fn new(name: ErrorName, message: impl Into<String>) -> Self {
         Self(Refusal::new(name, message))
     }
 
-    /// Makes an error with its name's message.
+    /// Creates an error with the standard message for its name.
     pub fn named(name: ErrorName) -> Self {
         let message = name.text();
         Self::new(name, message)
     }
 
-    /// Sets a class that differs from the name's.
+    /// Sets a class other than the usual one for the error's name.
     pub fn of_class(mut self, class: Class) -> Self {
         self.0.class = Some(class);
         self
@@ -53,7 +53,7 @@ impl Failure {
         Self::named(ErrorName::Expired)
     }
 
-    /// Makes the error for a journal that no longer has the entries up to this one.
+    /// Creates the error for reading a journal that no longer has the entries up to this one.
     pub fn journal_begins(entry: u64) -> Self {
         let message = format!(
             "the journal has no entries before {} any more; read the state, and then the journal from {entry} on",
@@ -62,12 +62,12 @@ impl Failure {
         Self::new(ErrorName::Expired, message).with("from", entry)
     }
 
-    /// Returns whether a batch was for another snapshot.
+    /// Returns whether a batch was meant for a different snapshot.
     pub fn is_conflict(&self) -> bool {
         self.0.name == ErrorName::Conflict
     }
 
-    /// Makes the error for an entry that the server doesn't have yet.
+    /// Creates the error for an entry that the server doesn't have yet.
     #[cfg(feature = "log")]
     pub fn not_reached(expected: u64, found: u64) -> Self {
         let message = format!("the server has {found} of the log's entries, and not {expected} yet; ask again");
@@ -75,13 +75,13 @@ impl Failure {
         failure.with("found", found)
     }
 
-    /// Makes the error for a request that has to name a volume and doesn't.
+    /// Creates the error for a request that must name a volume and doesn't.
     pub fn volume_missing(volumes: usize) -> Self {
         let message = format!("the request has to name one of the {volumes} volumes, counted from 0");
         Self::new(ErrorName::NoVolume, message).with("volumes", volumes)
     }
 
-    /// Makes the error for commit numbers that don't match the volumes.
+    /// Creates the error for commit numbers that don't match the volumes.
     pub fn numbers(volumes: usize) -> Self {
         match volumes {
             1 => Self::bad_request("the server has one volume, so a commit number is one integer, not a list"),
@@ -144,7 +144,7 @@ impl From<Error> for Failure {
     }
 }
 
-/// Returns an error's name in the protocol.
+/// Returns the protocol's name for an error.
 fn name(error: &Error) -> ErrorName {
     match error {
         Error::PartialIndex { .. } => ErrorName::PartialIndex,

@@ -1,4 +1,4 @@
-//! Parts of a server in the calling program, without a socket file or a database, for the fuzz targets.
+//! Runs parts of a server inside the calling program, without a socket file or a database. The fuzz targets use it.
 
 use crate::connection::Connection;
 use crate::kept::Kept;
@@ -20,7 +20,7 @@ use std::sync::{Mutex, PoisonError};
 use std::thread;
 use std::time::Duration;
 
-/// Small limits, so that a store is opened soon and fills up.
+/// Returns options with small limits, so that a store opens quickly and can fill up.
 fn options(volumes: u32) -> Options {
     Options {
         socket: None,
@@ -39,10 +39,10 @@ fn options(volumes: u32) -> Options {
     }
 }
 
-/// Returns the replies of a server with this many empty volumes to a client that sends these lines and leaves.
+/// Returns the replies that a server with this many empty volumes sends to a client that sends these lines and leaves.
 ///
 /// # Errors
-/// There is no memory, thread or socket.
+/// The system has run out of memory, threads or sockets.
 pub fn replies_to(lines: &[u8], volumes: u32) -> Result<Vec<u8>, Box<dyn Error>> {
     let options = options(volumes);
     let kept = Kept::Memory(Shelf::open(volumes, options.limits())?);
@@ -62,7 +62,7 @@ pub fn replies_to(lines: &[u8], volumes: u32) -> Result<Vec<u8>, Box<dyn Error>>
     })?)
 }
 
-/// Sends the lines, which fit into the socket, and reads the replies.
+/// Sends the lines, which fit into the socket's buffer, and reads the replies.
 fn talk(mut client: UnixStream, lines: &[u8]) -> io::Result<Vec<u8>> {
     client.write_all(lines)?;
     client.shutdown(Shutdown::Write)?;
@@ -71,11 +71,11 @@ fn talk(mut client: UnixStream, lines: &[u8]) -> io::Result<Vec<u8>> {
     Ok(replies)
 }
 
-/// Returns the entries that a leader's writes add to the log, each with its number and its batch as bytes. The leader's store is empty, and
-/// the log already has this many entries.
+/// Returns the entries that a leader adds to the log when it writes these batches: each entry's number, and its batch as bytes.
+/// The leader's store is empty, and the log already has this many entries.
 ///
 /// # Errors
-/// There is no memory.
+/// The process has run out of memory.
 #[cfg(feature = "log")]
 pub fn entries_of(batches: &[Batch], entries: u64) -> bestore::Result<Vec<(u64, Vec<u8>)>> {
     let options = options(1);
@@ -86,7 +86,7 @@ pub fn entries_of(batches: &[Batch], entries: u64) -> bestore::Result<Vec<(u64, 
     });
     let pass = store.pass()?.kept_by(log.clone());
     for batch in batches {
-        // Writes that the store refuses aren't in the log.
+        // A batch that the store refuses isn't added to the log.
         let _ = pass.apply(batch);
     }
     drop(pass);
@@ -94,7 +94,7 @@ pub fn entries_of(batches: &[Batch], entries: u64) -> bestore::Result<Vec<(u64, 
     Ok(entries.clone())
 }
 
-/// A log that takes each entry immediately.
+/// A log that accepts each entry immediately.
 #[cfg(feature = "log")]
 #[derive(Debug)]
 struct Log {

@@ -1,4 +1,4 @@
-//! What the server is doing, for the people who run it.
+//! Reports what the server is doing, for the people who run it.
 
 use crate::answer::View;
 use crate::clients::{Client, Seat};
@@ -34,7 +34,7 @@ pub fn info(shared: &Shared, view: &View<'_, '_>) -> Result<wire::Info, Failure>
     })
 }
 
-/// Returns who holds a volume's oldest snapshot. With several volumes, it is the snapshot that was pinned first.
+/// Returns the oldest reader of the volumes. If several volumes have one, it is the reader that pinned its snapshot first.
 fn oldest(shared: &Shared, all: &[Status]) -> Option<wire::OldestReader> {
     let stores = shared.kept.shelf().volumes();
     let readers = stores
@@ -51,8 +51,8 @@ fn oldest(shared: &Shared, all: &[Status]) -> Option<wire::OldestReader> {
     readers.max_by_key(|reader| reader.milliseconds)
 }
 
-/// Returns who holds the oldest snapshot of a volume. A snapshot from before the volume was carried on is older than any that the
-/// status knows.
+/// Returns who holds a volume's oldest snapshot. A snapshot from before the volume was carried on is older than any snapshot that
+/// `status` reports.
 fn oldest_of(shared: &Shared, volume: usize, store: &Store, status: &Status) -> Option<wire::OldestReader> {
     let generation = store.generation();
     let before = shared.clients.reader_before(volume, generation);
@@ -62,7 +62,7 @@ fn oldest_of(shared: &Shared, volume: usize, store: &Store, status: &Status) -> 
     })
 }
 
-/// Ends the connection of another client.
+/// Closes another client's connection.
 pub fn kick(shared: &Shared, own: &Client, kick: &wire::Kick) -> Result<wire::Nothing, Failure> {
     match shared.clients.kick(kick.client) {
         Some(Ok(client)) => {

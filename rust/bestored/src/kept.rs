@@ -1,4 +1,4 @@
-//! The volumes of the server: only in memory, kept in files, or one in a log that machines share.
+//! The server's volumes: in memory only, kept in files, or a single one in a log that several machines share.
 
 use crate::disk::Disk;
 use crate::failure::Failure;
@@ -21,7 +21,7 @@ use std::sync::atomic::{AtomicBool, Ordering};
 use std::sync::{Arc, Mutex, PoisonError};
 use std::thread::{self, JoinHandle};
 
-/// The volumes.
+/// The volumes, and where their writes are kept.
 #[derive(Debug)]
 pub enum Kept {
     Memory(Shelf),
@@ -39,7 +39,7 @@ pub struct Opening<'a> {
     pub run: &'a str,
     pub tokens: &'a Arc<Tokens>,
     pub notifier: &'a Notifier,
-    /// Becomes readable after a signal.
+    /// Becomes readable once a signal has arrived.
     pub signals: &'a File,
 }
 
@@ -50,9 +50,9 @@ pub struct InFiles {
     path: PathBuf,
     each: bool,
     disk: Disk,
-    /// Whether a commit has failed, so that the server ends.
+    /// Whether the server is ending because a commit has failed.
     is_over: AtomicBool,
-    /// The thread that rewrites the states, if one does.
+    /// The thread that rewrites the states, if one has been started.
     compacting: Mutex<Option<JoinHandle<()>>>,
 }
 
@@ -70,7 +70,7 @@ impl InFiles {
         })
     }
 
-    /// Returns how long the files of all volumes are now.
+    /// Returns the total lengths of the volumes' files.
     fn sizes(&self) -> wire::Files {
         let mut files = wire::Files::default();
         let length = |path: PathBuf| path.metadata().map_or(0, |found| found.len());
@@ -83,7 +83,7 @@ impl InFiles {
         files
     }
 
-    /// Returns the error from the first commit that failed.
+    /// Returns the error from the first failed commit, if any has failed.
     fn failure(&self) -> Option<Arc<saved::Error>> {
         self.saved.volumes().iter().find_map(Saved::failure)
     }
@@ -94,8 +94,8 @@ impl InFiles {
         }
     }
 
-    /// Has a thread rewrite the states that are due, unless a thread is already doing so or the disk has no space for them in
-    /// addition to the files.
+    /// Starts a thread that rewrites the states that are due, unless one is already running or the disk has no space for a second
+    /// copy of the files.
     fn compact_if_due(&self) {
         if !self.saved.is_due() || !self.disk.has_room(self.sizes().bytes) {
             return;
@@ -116,15 +116,15 @@ impl InFiles {
         }
     }
 
-    /// Saves what was written, after any state that is still being written.
+    /// Waits until no state is being rewritten, then saves all writes.
     fn finish(&self) -> saved::Result<()> {
         let compacting = self.compacting.lock().unwrap_or_else(PoisonError::into_inner).take();
-        // If the thread has panicked, the file still has its entries.
+        // Even if the thread has panicked, the file still has its entries.
         let _ = compacting.map(JoinHandle::join);
         self.saved.flush()
     }
 
-    /// Returns the outcome of a call on the files. The server then ends if a commit has failed.
+    /// Returns the outcome of a call that uses the files, and ends the server if a commit has failed.
     fn checked(&self, outcome: saved::Result<()>) -> Result<(), Failure> {
         if outcome.is_err() {
             self.end_if_failed();
@@ -133,7 +133,7 @@ impl InFiles {
     }
 }
 
-/// Starts the store's own thread, if it has one.
+/// Starts the log's thread, if there is a log.
 #[cfg(feature = "log")]
 pub fn start(shared: &Arc<Shared>) -> io::Result<()> {
     match &shared.kept {
@@ -148,7 +148,7 @@ pub fn start(_: &Arc<Shared>) -> io::Result<()> {
 }
 
 impl Kept {
-    /// Opens the volumes. Returns `None` if a signal arrived while the database of a log couldn't be reached.
+    /// Opens the volumes. Returns `None` if a signal arrived while the log's database couldn't be reached.
     pub fn open(opening: Opening<'_>) -> Result<Option<Self>, Box<dyn Error>> {
         let Opening { options, tokens, .. } = opening;
         if options.log.is_some() {
@@ -175,7 +175,7 @@ impl Kept {
         Err("this program is built without the feature log".into())
     }
 
-    /// Returns the volumes in memory. Only writes by passes from [`pass`](Self::pass) are kept.
+    /// Returns the volumes in memory. Writes are kept only if they go through a pass from [`pass`](Self::pass).
     pub fn shelf(&self) -> &Shelf {
         match self {
             Kept::Memory(shelf) => shelf,
@@ -194,7 +194,7 @@ impl Kept {
         }
     }
 
-    /// Returns when writes are in the file or the log, in the words of `hello`.
+    /// Returns the value that `hello` uses to say when writes reach the file or the log.
     pub fn when(&self) -> &'static str {
         match self {
             Kept::Memory(_) => "no",
@@ -203,7 +203,7 @@ impl Kept {
         }
     }
 
-    /// Refuses reads and writes once a commit has failed.
+    /// Returns an error once a commit has failed, so that reads and writes are refused.
     pub fn check(&self) -> Result<(), Failure> {
         match self {
             Kept::File(files) if files.is_over.load(Ordering::Relaxed) => Err(Failure::new(
@@ -214,7 +214,7 @@ impl Kept {
         }
     }
 
-    /// Refuses a write if there is no space for it, or if another server has to make it.
+    /// Returns an error if a write can't be made here, either for lack of space or because another server has to make it.
     pub fn check_write(&self) -> Result<(), Failure> {
         let trouble = match self {
             Kept::File(files) => files.disk.trouble(),
@@ -230,8 +230,8 @@ impl Kept {
         }
     }
 
-    /// Waits until it is certain that this server knows everything written before the call. With a log, a server that was paused may
-    /// have been replaced meanwhile.
+    /// Waits until it is certain that this server knows every write made before the call. With a log, another server may have
+    /// taken over while this one was paused.
     pub fn confirm(&self) -> Result<(), Failure> {
         match self {
             #[cfg(feature = "log")]
@@ -240,7 +240,7 @@ impl Kept {
         }
     }
 
-    /// Returns how long the files are, if there are any.
+    /// Returns the lengths of the files, if there are any.
     pub fn files(&self) -> Option<wire::Files> {
         match self {
             Kept::File(files) => Some(files.sizes()),
@@ -248,7 +248,7 @@ impl Kept {
         }
     }
 
-    /// Returns what the server is doing in the log, if there is a log.
+    /// Returns the server's role in the log, if there is a log.
     pub fn role(&self) -> Option<wire::Role> {
         match self {
             #[cfg(feature = "log")]
@@ -257,7 +257,7 @@ impl Kept {
         }
     }
 
-    /// Returns why writes can't be kept for now, if that is so.
+    /// Returns why writes can't be kept at the moment, or `None` if they can.
     pub fn trouble(&self) -> Option<String> {
         match self {
             Kept::Memory(_) => None,
@@ -270,21 +270,21 @@ impl Kept {
         }
     }
 
-    /// Ends the server if a commit has failed: memory then has what the file lacks.
+    /// Ends the server if a commit has failed, since memory then has writes that the file lacks.
     pub fn end_if_failed(&self) {
         if let Kept::File(files) = self {
             files.end_if_failed();
         }
     }
 
-    /// Has the files compacted, if compacting is due.
+    /// Starts compacting the files, if compaction is due.
     pub fn compact_if_due(&self) {
         if let Kept::File(files) = self {
             files.compact_if_due();
         }
     }
 
-    /// Waits until everything written is kept, if the replies to writes wait for that.
+    /// Waits until all writes so far are kept, if replies to writes wait for that.
     pub fn flush_if_each(&self) -> Result<(), Failure> {
         match self {
             Kept::Memory(_) => Ok(()),
@@ -311,7 +311,7 @@ impl Kept {
         }
     }
 
-    /// Returns the number in the log for the entry with this commit number, if there is a log.
+    /// Returns the log's number for the entry with this commit number, if there is a log.
     pub fn entry(&self, commit: u64) -> Option<u64> {
         match self {
             #[cfg(feature = "log")]
@@ -323,7 +323,7 @@ impl Kept {
         }
     }
 
-    /// Returns what the server is doing in the log, once it has the requested entry.
+    /// Returns the server's status in the log once the server has the requested entry.
     pub fn log_status(&self, wanted: &wire::OfLog) -> Result<wire::LogStatus, Failure> {
         match self {
             #[cfg(feature = "log")]
@@ -335,7 +335,7 @@ impl Kept {
         }
     }
 
-    /// Saves what was written. The files are closed when the store is dropped.
+    /// Saves all writes. The files are closed when the volumes are dropped.
     pub fn finish(&self) -> Result<(), Box<dyn Error>> {
         match self {
             Kept::Memory(_) => Ok(()),
@@ -350,7 +350,7 @@ fn not_kept() -> Failure {
     Failure::named(ErrorName::NotKept)
 }
 
-/// Adds the tokens in the files of the volumes.
+/// Adds the tokens that were found in the volumes' files.
 fn add_tokens(found: Vec<Vec<saved::Token>>, tokens: &Tokens) {
     let count = found.len();
     tokens.make_room(count);
@@ -366,7 +366,7 @@ fn add_tokens(found: Vec<Vec<saved::Token>>, tokens: &Tokens) {
     }
 }
 
-/// Opens the file of one store, or the folder of several volumes.
+/// Opens the file of a single volume, or the folder of several volumes.
 fn open_files(options: &Options, path: &Path) -> saved::Result<SavedShelf> {
     let mut opened = saved::Options::new();
     opened.limits(options.limits());

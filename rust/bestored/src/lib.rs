@@ -1,6 +1,6 @@
 //! bestored: one attribute store for a user's programs. `docs/SERVER.md` describes it and its protocol.
 //!
-//! This is the program as a library, so that a fuzz target can link it. Nothing in it is promised to other programs.
+//! The program is a library so that fuzz targets can link it. The library makes no promises to other programs.
 #![warn(missing_debug_implementations, rust_2018_idioms)]
 #![deny(unsafe_code)]
 
@@ -48,7 +48,7 @@ use std::process::ExitCode;
 use std::sync::{Arc, Mutex};
 use tokens::Tokens;
 
-/// Runs the program with its command line.
+/// Runs the program with the options from its command line.
 pub fn main() -> ExitCode {
     start(Options::read()).unwrap_or_else(|error| {
         eprintln!("bestored: {error}");
@@ -79,7 +79,7 @@ fn place(options: &Options) -> Result<Place, Box<dyn Error>> {
     }
 }
 
-/// Opens the store, and serves clients until a signal ends the program.
+/// Opens the volumes, and serves clients until a signal ends the program.
 fn serve(options: Options, place: Place, starter: Option<Starter>) -> Result<(), Box<dyn Error>> {
     let signals = os::ending_signals()?;
     let run = server::run_text()?;
@@ -105,7 +105,7 @@ fn serve(options: Options, place: Place, starter: Option<Starter>) -> Result<(),
     server::run(place, starter, notifier, &signals, shared, own)
 }
 
-/// Returns what the connections to a server with this store share.
+/// Returns the state that all connections to the server share.
 fn share(kept: Kept, tokens: Arc<Tokens>, run: String, options: Options) -> bestore::Result<Shared> {
     let mut visits = kept.pass()?;
     visits.set_retry(pressure::retry());

@@ -1,4 +1,4 @@
-//! Lines that a client sends.
+//! Receives the lines that a client sends.
 
 use crate::os;
 use bestore_client::wire::LINE;
@@ -9,38 +9,38 @@ use std::os::unix::net::UnixStream;
 use std::sync::Arc;
 use std::time::{Duration, Instant};
 
-/// How long half a line may wait for the other half.
+/// How long a client may take to finish a line that it has begun.
 const PATIENCE: Duration = Duration::from_secs(30);
 
-/// The initial capacity in bytes.
+/// The buffer's initial capacity in bytes.
 const ROOM: usize = 1 << 14;
 
-/// The outcome of reading.
+/// The outcome of [`Lines::read`].
 #[derive(Debug, PartialEq, Eq)]
 pub enum Received {
     /// Some bytes arrived.
     Some,
-    /// The time is up.
+    /// The wait has timed out.
     Late,
-    /// Half a line has waited too long.
+    /// The client has taken too long to finish a line.
     Half,
     /// The line is too long.
     TooLong,
-    /// The client sends nothing more.
+    /// The client has closed its side of the connection.
     End,
 }
 
-/// The bytes that were received, and which of them have been taken.
+/// A buffer of received bytes, from which whole lines are taken.
 #[derive(Debug)]
 pub struct Lines {
     stream: Arc<UnixStream>,
     bytes: Vec<u8>,
-    /// How many of the bytes were received. The rest is free space.
+    /// How many of the bytes have been received. The rest is free space.
     filled: usize,
     taken: usize,
-    /// How many bytes were searched for the end of a line.
+    /// How many bytes have already been searched for the end of a line.
     searched: usize,
-    /// Since when there has been only half a line.
+    /// When the buffer began to hold an unfinished line.
     half_since: Option<Instant>,
     patience: Duration,
 }
@@ -58,7 +58,7 @@ impl Lines {
         }
     }
 
-    /// Makes [`read`](Self::read) without a time wait at most this long.
+    /// Limits how long [`read`](Self::read) waits when it is called with no deadline.
     pub fn rest_at_most(&self, time: Duration) -> io::Result<()> {
         self.stream.set_read_timeout(Some(time))
     }
@@ -87,7 +87,7 @@ impl Lines {
         &self.bytes[line]
     }
 
-    /// Receives more, until the given time if there is one. It has to be called when no line can be taken.
+    /// Receives more bytes, waiting no longer than `until` if it is given. Call this when [`take`](Self::take) finds no line.
     pub fn read(&mut self, until: Option<Instant>) -> io::Result<Received> {
         self.drop_taken();
         if self.filled >= LINE {
@@ -114,7 +114,7 @@ impl Lines {
         self.receive()
     }
 
-    /// Drops the lines that were taken, and the memory of a long one.
+    /// Removes the lines that have been taken from the buffer, and frees the memory that a long line needed.
     fn drop_taken(&mut self) {
         self.bytes.copy_within(self.taken..self.filled, 0);
         self.filled -= self.taken;

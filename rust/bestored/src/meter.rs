@@ -1,17 +1,17 @@
-//! Counts writes, and measures how long they take.
+//! Counts writes and measures how long they take.
 
 use bestore_client::wire::Latency;
 use std::sync::atomic::{AtomicU64, Ordering};
 use std::sync::{Mutex, PoisonError};
 use std::time::{Duration, Instant};
 
-/// How many of the last seconds are counted.
+/// The number of recent seconds that are counted.
 const SECONDS: u64 = 10;
 
-/// How many ranges of times are counted: four for each power of two in µs, up to an hour.
+/// The number of ranges into which write times fall: four for each power of two in µs, up to an hour.
 const SIZES: usize = 128;
 
-/// The writes of one second, by how long they took.
+/// The writes in one second, grouped by how long they took.
 #[derive(Clone, Debug)]
 struct Second {
     number: u64,
@@ -29,7 +29,7 @@ impl Second {
     }
 }
 
-/// Counts writes.
+/// Counts writes and measures their times.
 #[derive(Debug)]
 pub struct Meter {
     begin: Instant,
@@ -38,7 +38,7 @@ pub struct Meter {
     seconds: Mutex<Vec<Second>>,
 }
 
-/// How many writes there were in the last seconds, and how long they took.
+/// The rate of writes in the last seconds, and how long they took.
 #[derive(Clone, Debug, Default, PartialEq, Eq)]
 pub struct Rate {
     pub per_second: u64,
@@ -59,14 +59,14 @@ impl Drop for Measured<'_> {
 }
 
 impl Measured<'_> {
-    /// Records that the write has been made and kept.
+    /// Counts the write. Call this once the write has been made and kept.
     pub fn finish(self) {
         let meter = self.meter;
         meter.count(meter.now(), self.begin.elapsed());
     }
 }
 
-/// Returns the range for a time of this many µs.
+/// Returns the range that contains a time of this many µs.
 fn size_of(time: u64) -> usize {
     if time < 4 {
         return time as usize;
@@ -76,7 +76,7 @@ fn size_of(time: u64) -> usize {
     size.min(SIZES - 1)
 }
 
-/// Returns the longest time in this range.
+/// Returns the longest time in a range.
 fn longest_of(size: usize) -> u64 {
     match size {
         0..=3 => size as u64,
@@ -84,7 +84,7 @@ fn longest_of(size: usize) -> u64 {
     }
 }
 
-/// Returns the time within which this percentage of the writes was made. There must be at least one
+/// Returns the time within which this percentage of the writes finished. There must be at least one
 /// write.
 fn percentile(sizes: &[u64; SIZES], hundredths: u64) -> u64 {
     let wanted = (sizes.iter().sum::<u64>() * hundredths + 99) / 100;
@@ -111,7 +111,7 @@ impl Meter {
         self.begin.elapsed().as_secs()
     }
 
-    /// Begins a write.
+    /// Starts measuring a write.
     pub fn begin(&self) -> Measured<'_> {
         self.writing.fetch_add(1, Ordering::Relaxed);
         Measured {
@@ -142,7 +142,7 @@ impl Meter {
         second.most = second.most.max(took);
     }
 
-    /// Returns the last 10 seconds, including the current one.
+    /// Returns the rate over the last 10 seconds, including the current one.
     pub fn rate(&self) -> Rate {
         self.rate_at(self.now())
     }

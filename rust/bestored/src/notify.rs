@@ -1,14 +1,14 @@
-//! Messages to the service manager: that the server is ready, that it is alive, and that it is stopping. See sd_notify(3).
+//! Notifies the service manager when the server is ready, while it is alive, and when it is stopping. See sd_notify(3).
 
 use crate::os;
 use std::env;
 use std::ffi::OsString;
 use std::time::{Duration, Instant};
 
-/// How much more time each message requests while the server waits for a database.
+/// How much more start-up time each message requests while the server is waiting for a database.
 const EXTENSION: Duration = Duration::from_secs(30);
 
-/// The address that the server notifies, if there is one.
+/// Sends messages to the service manager, if there is one.
 #[derive(Debug)]
 pub struct Notifier {
     socket: Option<OsString>,
@@ -17,7 +17,8 @@ pub struct Notifier {
     last: Instant,
 }
 
-/// Returns how often to notify a watchdog that waits this many µs. `process` is the process that it watches, if it names one.
+/// Returns how often to notify a watchdog that waits this many µs. `process` is the process that the watchdog expects to hear
+/// from, if it names one.
 fn interval(wait: Option<&str>, process: Option<&str>, own: u32) -> Option<Duration> {
     let wait: u64 = wait?.parse().ok()?;
     let is_own = process.map_or(true, |process| process.parse() == Ok(own));
@@ -25,7 +26,7 @@ fn interval(wait: Option<&str>, process: Option<&str>, own: u32) -> Option<Durat
 }
 
 impl Notifier {
-    /// Reads the settings from the process's environment.
+    /// Reads the settings from the environment.
     pub fn of_environment() -> Self {
         let text = |name| env::var(name).ok();
         let (wait, process) = (text("WATCHDOG_USEC"), text("WATCHDOG_PID"));
@@ -47,12 +48,12 @@ impl Notifier {
         }
     }
 
-    /// Reports that the server listens.
+    /// Reports that the server is listening.
     pub fn ready(&self) {
         self.send("READY=1\nSTATUS=listens");
     }
 
-    /// Reports that the server waits for something before it can listen.
+    /// Reports what the server is waiting for before it can listen.
     #[cfg_attr(not(feature = "log"), allow(dead_code))]
     pub fn waits(&self, why: &str) {
         let more = EXTENSION.as_micros();
@@ -60,7 +61,7 @@ impl Notifier {
         self.send(&format!("EXTEND_TIMEOUT_USEC={more}\nSTATUS={why}"));
     }
 
-    /// Reports that the server is alive. Returns when to report this again.
+    /// Reports that the server is alive, if a report is due. Returns how long to wait before the next one.
     pub fn lives(&mut self) -> Option<Duration> {
         let every = self.every?;
         if self.last.elapsed() >= every {

@@ -1,4 +1,4 @@
-//! The options of the command line.
+//! The command-line options.
 
 use bestore::{Limits, MOST_VOLUMES};
 use bestore_client::SocketPath;
@@ -6,49 +6,50 @@ use clap::{value_parser, Arg, ArgAction, ArgGroup, Command};
 use std::path::PathBuf;
 use std::time::Duration;
 
-/// The maximum number of passes of a store.
+/// The maximum number of passes that a store can have.
 const MOST_PASSES: u64 = 63;
 
-/// Passes of the store for the server's own use: for live queries, and for clients that arrive when all places are taken.
+/// The number of passes that the server needs for itself: one for live queries, and one for clients that connect when all places
+/// are taken.
 const OWN_PASSES: u64 = 2;
 
-/// Passes of the store that a shared log needs.
+/// The number of passes that a shared log needs.
 const LOG_PASSES: u64 = 2;
 
-/// How many bytes stay free by default on the disk of a kept file.
+/// How many bytes are left free on the disk by default, if writes are kept in a file.
 const SPARE: u64 = 1 << 20;
 
-/// The log that machines share, and whether this server starts as its leader.
+/// A log that several machines share, and whether this server starts as its leader.
 #[derive(Clone, Debug)]
 #[cfg_attr(not(feature = "log"), allow(dead_code))]
 pub struct InLog {
     pub url: String,
     pub leads: bool,
-    /// The file with the password.
+    /// The file that contains the password, if one is given.
     pub passfile: Option<PathBuf>,
 }
 
-/// How the server runs.
+/// The options that the server runs with.
 #[derive(Clone, Debug)]
 pub struct Options {
-    /// The path of the socket, if it was given.
+    /// The path of the socket, if one was given.
     pub socket: Option<PathBuf>,
     /// Whether the command returns once the server is listening.
     pub background: bool,
     pub keep: Option<PathBuf>,
     pub every: Option<Duration>,
-    /// How many bytes stay free on the disk of `keep`.
+    /// How many bytes to leave free on the disk that holds `keep`.
     pub spare: u64,
-    /// The log, if machines share one.
+    /// The shared log, if the server uses one.
     pub log: Option<InLog>,
     pub volumes: Option<u32>,
     pub pages: u64,
     pub passes: u64,
     pub commits: u64,
-    /// After how many bytes of entries to free a volume's journal in memory, if given.
+    /// If given, how many bytes of entries a volume's journal may hold before its memory is freed.
     pub journal: Option<u64>,
     pub hold: Duration,
-    /// Requests that take longer than this are reported.
+    /// The time after which a request is reported as slow.
     pub slow: Option<Duration>,
 }
 
@@ -133,7 +134,7 @@ fn command() -> Command {
 }
 
 impl Options {
-    /// Reads the command line. Exits after `--help`, `--version` or an error.
+    /// Reads the command line. Exits the process after `--help`, `--version` or an error.
     pub fn read() -> Self {
         let read = command().get_matches();
         let number = |name| read.get_one::<u64>(name).copied().unwrap_or_default();
@@ -170,7 +171,7 @@ impl Options {
         }
     }
 
-    /// Returns the socket at which the server listens.
+    /// Returns the path of the socket that the server listens on.
     pub fn socket(&self) -> SocketPath {
         SocketPath::find(self.socket.clone())
     }
@@ -185,7 +186,7 @@ mod tests {
         command().debug_assert();
     }
 
-    /// Checks that each of these command lines is refused.
+    /// Asserts that each of these command lines is refused.
     fn assert_refused(lines: &[[&str; 2]]) {
         for arguments in lines {
             let read = command().try_get_matches_from([&["bestored"][..], &arguments[..]].concat());

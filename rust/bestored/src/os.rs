@@ -1,4 +1,4 @@
-//! System calls that the standard library doesn't have. All unsafe code of the program is here.
+//! System calls that the standard library doesn't provide. All of the program's unsafe code is here.
 #![allow(unsafe_code)]
 #![deny(unsafe_op_in_unsafe_fn)]
 
@@ -23,7 +23,7 @@ fn check(answer: libc::c_int) -> io::Result<libc::c_int> {
     }
 }
 
-/// Sends as many of the bytes as the socket takes immediately.
+/// Sends as many of the bytes as the socket accepts immediately, and returns how many that is.
 pub fn send_now(stream: &UnixStream, bytes: &[u8]) -> io::Result<usize> {
     let flags = libc::MSG_DONTWAIT | libc::MSG_NOSIGNAL;
     // SAFETY: the pointer and the length are those of the slice.
@@ -31,7 +31,7 @@ pub fn send_now(stream: &UnixStream, bytes: &[u8]) -> io::Result<usize> {
     usize::try_from(sent).map_err(|_| io::Error::last_os_error())
 }
 
-/// Copies what has been received without consuming it. Returns how many bytes were copied.
+/// Copies received bytes without consuming them, and returns how many bytes were copied.
 pub fn look_ahead(stream: &UnixStream, bytes: &mut [u8]) -> io::Result<usize> {
     let flags = libc::MSG_DONTWAIT | libc::MSG_PEEK;
     // SAFETY: the pointer and the length are those of the slice.
@@ -39,17 +39,17 @@ pub fn look_ahead(stream: &UnixStream, bytes: &mut [u8]) -> io::Result<usize> {
     usize::try_from(received).map_err(|_| io::Error::last_os_error())
 }
 
-/// Waits until one of the descriptors is readable, and returns which ones are.
+/// Waits until at least one of the descriptors is readable, and returns which ones are.
 pub fn wait_readable<const N: usize>(descriptors: [RawFd; N], time: Option<Duration>) -> io::Result<[bool; N]> {
     wait(descriptors, libc::POLLIN, time)
 }
 
-/// Waits until the socket can take more, or for this time.
+/// Waits until the socket accepts more bytes, but no longer than `time`.
 pub fn wait_writable(stream: &UnixStream, time: Duration) -> io::Result<()> {
     wait([stream.as_raw_fd()], libc::POLLOUT, Some(time)).map(drop)
 }
 
-/// Waits for one of these events on the descriptors, and returns which descriptors have one.
+/// Waits for any of these events on the descriptors, and returns which descriptors have one.
 fn wait<const N: usize>(
     descriptors: [RawFd; N],
     events: libc::c_short,
@@ -68,11 +68,11 @@ fn wait<const N: usize>(
     }
 }
 
-/// Returns a descriptor that becomes readable when a signal arrives that ends the program. Threads made later don't get these
-/// signals.
+/// Returns a descriptor that becomes readable when a signal arrives that should end the program. Threads created later don't
+/// receive these signals.
 pub fn ending_signals() -> io::Result<File> {
     let mut signals = MaybeUninit::uninit();
-    // SAFETY: `sigemptyset` initialises the set, which the others change or read.
+    // SAFETY: `sigemptyset` initialises the set before the other calls use it.
     unsafe {
         check(libc::sigemptyset(signals.as_mut_ptr()))?;
         for signal in [libc::SIGTERM, libc::SIGINT, libc::SIGHUP] {
@@ -84,7 +84,7 @@ pub fn ending_signals() -> io::Result<File> {
     }
 }
 
-/// Returns how many bytes this user can still use on the disk with this file, or `None` if the file system doesn't say.
+/// Returns how many more bytes this user can store on the disk that holds this file, or `None` if the file system doesn't say.
 pub fn free_space(path: &CStr) -> io::Result<Option<u64>> {
     let mut found = MaybeUninit::<libc::statvfs>::uninit();
     // SAFETY: the path ends with a zero byte, and the call fills `found` if it succeeds.
@@ -99,14 +99,14 @@ pub fn free_space(path: &CStr) -> io::Result<Option<u64>> {
     Ok((found.f_blocks > 0).then(|| blocks.saturating_mul(found.f_frsize)))
 }
 
-/// Ends the program the way a signal does.
+/// Ends the program as a signal does.
 pub fn end_program() {
     // SAFETY: the call takes only numbers.
     unsafe { libc::kill(libc::getpid(), libc::SIGTERM) };
 }
 
-/// Runs `make` with this umask: the files that it makes have none of these permissions. Neither do files that other threads make
-/// meanwhile.
+/// Runs `make` with this umask, so that files it creates have none of these permissions. Files that other threads create at the
+/// same time don't have them either.
 pub fn with_mask<T>(mask: libc::mode_t, make: impl FnOnce() -> T) -> T {
     // SAFETY: the call always succeeds.
     let before = unsafe { libc::umask(mask) };
@@ -116,13 +116,13 @@ pub fn with_mask<T>(mask: libc::mode_t, make: impl FnOnce() -> T) -> T {
     made
 }
 
-/// A process that this process has made.
+/// A child process.
 #[derive(Debug)]
 pub struct Process(libc::pid_t);
 
-/// Forks: the child, which continues from here like this process, gets `None`. Call it while there is only one thread.
+/// Forks the process. Returns the child to the parent, and `None` to the child. Call this only while there is a single thread.
 pub fn fork() -> io::Result<Option<Process>> {
-    // SAFETY: there is no other thread, so nothing in the program is in use by anyone else.
+    // SAFETY: there is no other thread, so nothing in the child is left locked or half changed.
     let number = check(unsafe { libc::fork() })?;
     Ok((number != 0).then_some(Process(number)))
 }
@@ -136,7 +136,7 @@ impl Process {
     pub fn wait(&self) -> io::Result<Option<u8>> {
         let mut status = 0;
         loop {
-            // SAFETY: the call writes an int.
+            // SAFETY: the call writes an int, which `status` is.
             match check(unsafe { libc::waitpid(self.0, &mut status, 0) }) {
                 Err(error) if error.kind() == io::ErrorKind::Interrupted => {}
                 Err(error) => return Err(error),
@@ -147,9 +147,9 @@ impl Process {
     }
 }
 
-/// Begins a new session, which doesn't end with a terminal, and closes standard input and output.
+/// Starts a new session, which doesn't end when the terminal closes, and closes standard input and output.
 pub fn leave_terminal() -> io::Result<()> {
-    // SAFETY: the call takes nothing.
+    // SAFETY: the call takes no arguments.
     check(unsafe { libc::setsid() })?;
     replace_by_nothing(libc::STDIN_FILENO)?;
     replace_by_nothing(libc::STDOUT_FILENO)
@@ -158,7 +158,7 @@ pub fn leave_terminal() -> io::Result<()> {
 /// Closes standard error, unless it is a file.
 pub fn leave_errors() -> io::Result<()> {
     let mut found = MaybeUninit::<libc::stat>::uninit();
-    // SAFETY: the call writes a `stat`, which is read if it has done so.
+    // SAFETY: the call writes a `stat`, which is read only if the call succeeded.
     let is_file = unsafe {
         libc::fstat(libc::STDERR_FILENO, found.as_mut_ptr()) == 0
             && found.assume_init().st_mode & libc::S_IFMT == libc::S_IFREG
@@ -171,23 +171,23 @@ pub fn leave_errors() -> io::Result<()> {
 
 fn replace_by_nothing(descriptor: RawFd) -> io::Result<()> {
     let nothing = OpenOptions::new().read(true).write(true).open("/dev/null")?;
-    // SAFETY: both descriptors are numbers, and the standard ones belong to the whole program.
+    // SAFETY: both arguments are plain numbers, and no part of the program owns a standard descriptor.
     check(unsafe { libc::dup2(nothing.as_raw_fd(), descriptor) }).map(drop)
 }
 
-/// Takes the lock of a file or folder, if no one holds it. The lock is released when the file is closed.
+/// Locks a file or folder, if no one else has locked it. The lock is released when `file` is closed.
 pub fn try_lock(file: &File) -> io::Result<()> {
     // SAFETY: the descriptor is open.
     check(unsafe { libc::flock(file.as_raw_fd(), libc::LOCK_EX | libc::LOCK_NB) }).map(drop)
 }
 
-/// Sends a datagram to a Unix socket: at a path, or with an abstract name after an `@`.
+/// Sends a datagram to a Unix socket, given by its path or by an `@` and its abstract name.
 pub fn send_datagram(socket: &OsStr, bytes: &[u8]) -> io::Result<()> {
     let from = UnixDatagram::unbound()?;
     if !socket.as_bytes().starts_with(b"@") {
         return from.send_to(bytes, socket).map(drop);
     }
-    // SAFETY: all of its fields may be zero.
+    // SAFETY: all fields of the address may be zero.
     let mut address: libc::sockaddr_un = unsafe { mem::zeroed() };
     address.sun_family = libc::AF_UNIX as libc::sa_family_t;
     let name = &socket.as_bytes()[1..];
@@ -203,7 +203,7 @@ pub fn send_datagram(socket: &OsStr, bytes: &[u8]) -> io::Result<()> {
     }
     let length = mem::size_of::<libc::sa_family_t>() + socket.len();
     let address: *const libc::sockaddr_un = &address;
-    // SAFETY: the pointers and lengths are those of the slice and of the address, which lives until the call returns.
+    // SAFETY: the pointers and lengths are those of the slice and the address, and both outlive the call.
     let sent = unsafe {
         libc::sendto(
             from.as_raw_fd(),
@@ -220,7 +220,7 @@ pub fn send_datagram(socket: &OsStr, bytes: &[u8]) -> io::Result<()> {
     }
 }
 
-/// Returns the socket that systemd has passed to the process with this number, according to its variables. Call it only once.
+/// Returns the socket that systemd has passed to this process, if the environment says that it has. Call this only once.
 pub fn passed_socket() -> io::Result<Option<UnixListener>> {
     let number = |name| std::env::var(name).ok().and_then(|text| text.parse::<u32>().ok());
     if number("LISTEN_PID") != Some(std::process::id()) {
@@ -247,7 +247,7 @@ pub fn passed_socket() -> io::Result<Option<UnixListener>> {
 fn option(fd: RawFd, option: libc::c_int) -> io::Result<libc::c_int> {
     let mut value: libc::c_int = 0;
     let mut length = mem::size_of::<libc::c_int>() as libc::socklen_t;
-    // SAFETY: these options write an int, and `length` has its size.
+    // SAFETY: the option's value is an int, and `length` is the size of an int.
     check(unsafe {
         libc::getsockopt(
             fd,
@@ -264,16 +264,16 @@ fn option(fd: RawFd, option: libc::c_int) -> io::Result<libc::c_int> {
 mod tests {
     use super::*;
 
-    /// Makes a socket with an abstract name, which the system chooses.
+    /// Creates a socket with an abstract name that the system chooses.
     fn abstract_socket() -> (UnixDatagram, Vec<u8>) {
         let socket = UnixDatagram::unbound().unwrap();
-        // SAFETY: all of its fields may be zero.
+        // SAFETY: all fields of the address may be zero.
         let mut address: libc::sockaddr_un = unsafe { mem::zeroed() };
         address.sun_family = libc::AF_UNIX as libc::sa_family_t;
         let family = mem::size_of::<libc::sa_family_t>();
         let mut length = mem::size_of::<libc::sockaddr_un>() as libc::socklen_t;
         let pointer: *mut libc::sockaddr_un = &mut address;
-        // SAFETY: the pointers are those of the address, and the lengths are at most its own.
+        // SAFETY: the pointers point to the address, and no length exceeds its size.
         unsafe {
             check(libc::bind(
                 socket.as_raw_fd(),

@@ -1,4 +1,5 @@
-//! What is sent to a client: replies from its own thread, which waits for the client, and pushes from a thread that doesn't.
+//! Sends lines to a client: replies from the client's own thread, which waits for the client, and pushes from a thread that
+//! doesn't.
 
 use crate::os;
 use std::io::{self, ErrorKind};
@@ -7,22 +8,22 @@ use std::os::unix::net::UnixStream;
 use std::sync::{Arc, Mutex, MutexGuard, PoisonError, TryLockError};
 use std::time::{Duration, Instant};
 
-/// How long a client may leave data unread.
+/// How long a client may leave lines unread.
 const PATIENCE: Duration = Duration::from_secs(30);
 
-/// How often a thread that waits for a client checks whether it has something else to do.
+/// How often a thread that is waiting for a client checks whether it has something else to do.
 const LOOK: Duration = Duration::from_millis(50);
 
-/// The bytes that the socket hasn't taken yet. They are sent before any others.
+/// The bytes that the socket hasn't accepted yet. They are sent before any others.
 #[derive(Debug, Default)]
 struct Unsent {
     bytes: Vec<u8>,
-    /// When the socket last took something, or when the bytes were added.
+    /// When the socket last accepted some of the bytes, or when they were added.
     since: Option<Instant>,
 }
 
 impl Unsent {
-    /// Adds lines. If nothing else is waiting, whatever the socket takes immediately isn't copied.
+    /// Adds lines. If no other bytes are waiting, those that the socket accepts immediately aren't copied.
     fn add(&mut self, stream: &UnixStream, lines: &[u8]) -> io::Result<()> {
         let sent = match self.bytes.is_empty() {
             true => send_some(stream, lines)?,
@@ -33,7 +34,7 @@ impl Unsent {
         Ok(())
     }
 
-    /// Sends what the socket takes immediately. Returns whether nothing is left.
+    /// Sends as many bytes as the socket accepts immediately. Returns whether all of them were sent.
     fn send(&mut self, stream: &UnixStream) -> io::Result<bool> {
         while !self.bytes.is_empty() {
             match send_some(stream, &self.bytes)? {
@@ -48,13 +49,13 @@ impl Unsent {
         Ok(true)
     }
 
-    /// Returns whether the client has read nothing for this time.
+    /// Returns whether the client has read nothing for longer than this.
     fn waits_for(&self, time: Duration) -> bool {
         self.since.map_or(false, |since| since.elapsed() > time)
     }
 }
 
-/// Sends as many of the bytes as the socket takes immediately, which may be none.
+/// Sends as many of the bytes as the socket accepts immediately, possibly none. Returns how many were sent.
 fn send_some(stream: &UnixStream, bytes: &[u8]) -> io::Result<usize> {
     match os::send_now(stream, bytes) {
         Err(error) if matches!(error.kind(), ErrorKind::WouldBlock | ErrorKind::Interrupted) => Ok(0),
@@ -62,7 +63,7 @@ fn send_some(stream: &UnixStream, bytes: &[u8]) -> io::Result<usize> {
     }
 }
 
-/// The queue of bytes to one client. Lines are never mixed.
+/// The queue of bytes for one client. Lines never interleave.
 #[derive(Debug)]
 pub struct Outbox {
     stream: Arc<UnixStream>,
@@ -79,8 +80,8 @@ impl Outbox {
         }
     }
 
-    /// Sends whole lines, and waits until the socket has taken them, or until `is_over`. Returns whether nothing is left;
-    /// otherwise the next call sends the rest.
+    /// Sends whole lines, and waits until the socket has accepted them or `is_over` returns `true`. Returns whether everything
+    /// was sent; if not, the next call sends the rest.
     pub fn send(&self, lines: &[u8], is_over: impl Fn() -> bool) -> io::Result<bool> {
         let mut unsent = self.unsent.lock().unwrap_or_else(PoisonError::into_inner);
         unsent.add(&self.stream, lines)?;
@@ -96,7 +97,8 @@ impl Outbox {
         Ok(true)
     }
 
-    /// Returns the right to push lines, unless something is being sent. The rest of the last line is sent first.
+    /// Returns a [`Pusher`], unless bytes are being sent. The rest of the last line is sent first; if the socket doesn't accept
+    /// all of it, there is no pusher either.
     pub fn pusher(&self) -> Option<Pusher<'_>> {
         let unsent = match self.unsent.try_lock() {
             Ok(unsent) => unsent,
@@ -121,7 +123,7 @@ pub struct Pusher<'a> {
 }
 
 impl Pusher<'_> {
-    /// Takes the line. Returns whether another line may follow.
+    /// Pushes a line. Returns whether another line may follow.
     pub fn push(&mut self, line: Vec<u8>) -> bool {
         *self.unsent = Unsent {
             bytes: line,
@@ -130,7 +132,8 @@ impl Pusher<'_> {
         self.send_rest()
     }
 
-    /// Returns whether nothing is left. If the client has read nothing for too long, its connection is closed.
+    /// Sends the remaining bytes, and returns whether all of them were sent. If the client has read nothing for too long, its
+    /// connection is closed.
     fn send_rest(&mut self) -> bool {
         match self.unsent.send(self.stream) {
             Ok(true) => return true,
@@ -146,7 +149,7 @@ impl Pusher<'_> {
 
     /// Closes the connection, so that the client's own thread ends.
     fn give_up(&mut self) {
-        // This fails if the client has closed the connection, which then needs no closing.
+        // This fails only if the client has already closed the connection.
         let _ = self.stream.shutdown(Shutdown::Both);
     }
 }
@@ -162,7 +165,7 @@ mod tests {
         (client, Outbox::new(Arc::new(server)))
     }
 
-    /// Pushes lines until the socket takes no more.
+    /// Pushes lines until the socket accepts no more.
     fn fill(outbox: &Outbox) -> usize {
         let mut pusher = outbox.pusher().unwrap();
         let mut lines = 1;
@@ -172,7 +175,7 @@ mod tests {
         lines
     }
 
-    /// Reads everything until the end, in a separate thread.
+    /// Reads until the end of the stream, in a separate thread.
     fn read_all(mut client: UnixStream) -> thread::JoinHandle<Vec<u8>> {
         thread::spawn(move || {
             let mut read = Vec::new();

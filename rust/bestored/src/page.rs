@@ -1,4 +1,4 @@
-//! Replies in pages: as much as fits on one line.
+//! Replies that come in pages, each as long as one line allows.
 
 use crate::answer::View;
 use crate::failure::Failure;
@@ -6,7 +6,7 @@ use crate::watcher;
 use bestore::{ShelfSnapshot, State};
 use bestore_client::wire::{self, Json, ShownOperations};
 
-/// How many bytes of JSON a page has; its last item may exceed that.
+/// How many bytes of JSON a page may hold. Its last item may exceed this limit.
 const BYTES: usize = 1 << 20;
 
 /// The space left on a page.
@@ -25,14 +25,14 @@ impl Room {
         }
     }
 
-    /// Uses space for an item. Returns whether there is space for another.
+    /// Takes up space for an item. Returns whether there is space for another.
     pub fn take(&mut self, bytes: usize) -> bool {
         self.bytes = self.bytes.saturating_sub(bytes);
         self.bytes > 0
     }
 }
 
-/// Returns the values in the columns for each node, for as many nodes as fit.
+/// Returns each node's values in these columns, for as many nodes as fit on the page.
 pub fn rows_of(
     snapshot: &ShelfSnapshot<'_>,
     nodes: &[u64],
@@ -65,7 +65,7 @@ pub fn commits(snapshot: &ShelfSnapshot<'_>) -> Vec<u64> {
     }
 }
 
-/// Returns the volume that a request names. If there are several volumes, the request has to name one.
+/// Returns the volume that a request names. If there are several volumes, the request must name one.
 pub fn volume(asked: Option<u32>, volumes: usize) -> Result<u32, Failure> {
     match asked {
         None if volumes > 1 => Err(Failure::volume_missing(volumes)),
@@ -116,7 +116,7 @@ pub fn journal(view: &View<'_, '_>, from: &wire::JournalFrom) -> Result<wire::Jo
     Ok(page)
 }
 
-/// How far a volume's batches have been read: the index of the next batch.
+/// A position in a volume's batches: the index of the next batch to read.
 #[derive(Debug)]
 pub struct Reading<'s> {
     volume: u32,
@@ -124,7 +124,7 @@ pub struct Reading<'s> {
     batches: State<'s>,
 }
 
-/// Returns a page of the batches that rebuild the snapshot of a volume. `read` says how far they have been read.
+/// Returns a page of the batches that rebuild a volume's snapshot. `read` remembers how far they have been read.
 pub fn state<'s>(
     snapshot: &'s ShelfSnapshot<'_>,
     read: &mut Option<Reading<'s>>,

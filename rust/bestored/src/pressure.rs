@@ -1,30 +1,30 @@
-//! Snapshots that hold memory while writes need it: pages, or a store that was carried on.
+//! Limits how long snapshots may hold memory that something else is waiting for: pages, or a store that was carried on.
 
 use bestore::{Batch, Error, Pass, Result, Retry, Written};
 use std::sync::atomic::{AtomicU64, Ordering};
 use std::thread;
 use std::time::{Duration, Instant};
 
-/// How often a connection with a snapshot checks whether it has to unpin it.
+/// How often a connection with a pinned snapshot checks whether it has to unpin it.
 pub const LOOK: Duration = Duration::from_millis(50);
 
-/// How long a snapshot may stay while something waits for its memory.
+/// How long a snapshot may stay pinned while something waits for its memory.
 const AT_LEAST: Duration = Duration::from_secs(1);
 
-/// How long a write waits for pages, and how long it pauses before it tries again, at first and later.
+/// How long a write waits for pages, and how long it pauses before its first retry and before later ones.
 const WAIT: Duration = Duration::from_secs(3);
 const FIRST_TRY: Duration = Duration::from_millis(1);
 const TRY: Duration = Duration::from_millis(10);
 
-/// Whether writes are waiting for memory that snapshots hold.
+/// Tracks whether anything is waiting for memory that snapshots hold.
 #[derive(Debug)]
 pub struct Pressure {
-    /// How long a snapshot may stay if no write is waiting.
+    /// How long a snapshot may stay pinned if no write is waiting.
     hold: Duration,
     /// How long a write waits for pages.
     wait: Duration,
     begin: Instant,
-    /// When a write last waited, in milliseconds since the start, or 0 if none has.
+    /// When something last waited for memory, in milliseconds since the start, or 0 if nothing has waited yet.
     last: AtomicU64,
 }
 
@@ -61,8 +61,8 @@ impl Pressure {
         last != 0 && self.now().saturating_sub(last) <= 2 * LOOK.as_millis() as u64
     }
 
-    /// Writes the batch. While other clients' snapshots hold the pages that it needs, it waits for a limited time. Calls `made`
-    /// with what was written once it is in memory.
+    /// Writes the batch. While other clients' snapshots hold the pages that the batch needs, retries for a limited time. Calls
+    /// `made` once the batch is in memory.
     pub fn write(
         &self,
         pass: &Pass,
@@ -80,7 +80,7 @@ impl Pressure {
                         return Err(Error::Full { oldest });
                     }
                     is_last = Instant::now() > until;
-                    // Otherwise the snapshot has been unpinned since the write failed.
+                    // If there is no oldest reader, the snapshot has been unpinned since the write failed.
                     if status.oldest.is_some() {
                         self.waits();
                         thread::sleep(pause);
@@ -93,7 +93,7 @@ impl Pressure {
     }
 }
 
-/// How many times the library retries calls of a connection's pass: only if another pass is busy.
+/// Returns the retry settings for a connection's pass. The library retries a call only while another pass is busy.
 pub fn retry() -> Retry {
     Retry {
         full: 0,
@@ -107,12 +107,12 @@ mod tests {
     use bestore::{Keeper, Limits, MakeWrite, Store};
     use std::sync::{Arc, Mutex};
 
-    /// Doesn't keep writes. Before some of them, another pass pins a snapshot and writes until no page is free. It unpins the
-    /// snapshot as soon as the write has found no page.
+    /// A keeper that doesn't keep writes. Before some of them, another pass pins a snapshot and writes until no page is free. It
+    /// unpins the snapshot once the write has failed.
     #[derive(Debug)]
     struct Busy {
         other: Mutex<Pass>,
-        /// Before how many more writes it does so, and how many writes there were.
+        /// How many more writes the other pass disturbs, and how many writes there have been.
         left: AtomicU64,
         writes: AtomicU64,
     }
@@ -146,7 +146,7 @@ mod tests {
         }
     }
 
-    /// Returns the outcome of a write, and how many times it was tried, if another pass is busy for this many tries.
+    /// Returns the outcome of a write and the number of attempts, when another pass is busy for the first `busy` attempts.
     fn write_beside(store: &Store, busy: u64, batch: &Batch) -> (Result<Written>, u64) {
         let mut other = store.pass().unwrap();
         other.set_retry(Retry::NEVER);

@@ -1,4 +1,4 @@
-//! The answers to `query`: a count, nodes by number, nodes in the order of an index, or any nodes.
+//! Answers `query` requests with a count, nodes by number, nodes in the order of an index, or any nodes.
 
 use crate::failure::Failure;
 use crate::page::{commits, rows_of, Room};
@@ -7,10 +7,10 @@ use bestore_client::wire::{self, NODES};
 use serde::Serialize;
 use std::collections::VecDeque;
 
-/// How many parsed queries a connection keeps.
+/// How many parsed queries to keep per connection.
 const KEPT: usize = 4;
 
-/// The last queries on a connection, latest first.
+/// A connection's most recent queries, newest first.
 #[derive(Debug, Default)]
 pub struct Queries(VecDeque<Parsed>);
 
@@ -19,11 +19,11 @@ pub struct Queries(VecDeque<Parsed>);
 struct Parsed {
     text: String,
     prepared: Prepared,
-    /// The count for the next page by number, so that the pages of an answer are counted only once.
+    /// The count for the next page by number, so that an answer is counted only once for all its pages.
     next: Option<Count>,
 }
 
-/// How many nodes a query finds from a number on, in the snapshot with these numbers.
+/// How many nodes numbered `from` or higher a query finds, in the snapshot with these numbers.
 #[derive(Debug)]
 struct Count {
     numbers: Vec<u64>,
@@ -39,7 +39,7 @@ pub enum Answer {
     Page(wire::Page),
 }
 
-/// The form of answer that a request asks for.
+/// The form of the answer that a request asks for.
 enum Form<'q> {
     Count,
     ByNumber,
@@ -69,7 +69,7 @@ impl Queries {
         }
     }
 
-    /// Returns the query with this text.
+    /// Returns the parsed query for this text.
     fn parsed(&mut self, text: &str) -> Result<&mut Parsed, Failure> {
         let kept = self.0.iter().position(|parsed| parsed.text == text);
         let parsed = match kept.and_then(|place| self.0.remove(place)) {
@@ -86,7 +86,7 @@ impl Queries {
     }
 }
 
-/// Returns an error if the given parameters can't be combined. The error says what would be right.
+/// Returns an error if the given parameters can't be combined. The error says what to use instead.
 fn check_together(query: &wire::Query<'_>) -> Result<(), Failure> {
     let by_number = query.from != 0 || query.uncounted;
     let wrong = match (&query.by, query.any) {
@@ -127,7 +127,7 @@ fn form_of<'q>(query: &'q wire::Query<'_>) -> Result<Form<'q>, Failure> {
     Ok(form)
 }
 
-/// Returns a number of nodes that a page can have.
+/// Converts a parameter to a page's maximum number of nodes.
 fn most_of(name: &str, nodes: u64) -> Result<usize, Failure> {
     match usize::try_from(nodes) {
         Ok(nodes @ 1..=NODES) => Ok(nodes),
@@ -138,7 +138,7 @@ fn most_of(name: &str, nodes: u64) -> Result<usize, Failure> {
 }
 
 impl Parsed {
-    /// Runs the query. If the query's text has an error, the error says where in the text it is.
+    /// Runs the query. If its text isn't valid, the error says where.
     fn ask<T>(
         &self,
         snapshot: &ShelfSnapshot<'_>,
@@ -156,7 +156,7 @@ impl Parsed {
         })
     }
 
-    /// Returns how many nodes the query finds from this number on.
+    /// Returns how many of the nodes that the query finds have this number or a higher one.
     fn count_from(&self, snapshot: &ShelfSnapshot<'_>, from: u64) -> Result<u64, Failure> {
         if from == 0 {
             return self.ask(snapshot, |prepared| snapshot.count_prepared(prepared));
@@ -190,7 +190,7 @@ impl Parsed {
         Ok(hits)
     }
 
-    /// Returns up to this many of the first nodes from this number on, or all of them.
+    /// Returns the nodes that the query finds from number `from` on: the first `most` of them, or all.
     fn first(&self, snapshot: &ShelfSnapshot<'_>, from: u64, most: Option<usize>) -> Result<Vec<u64>, Failure> {
         if let Some(most) = most {
             return self.ask(snapshot, |prepared| snapshot.first_prepared(prepared, from, most));
@@ -200,8 +200,8 @@ impl Parsed {
         Ok(found)
     }
 
-    /// Returns how many nodes the query finds from a number on, given that a page has this many of them and the next page begins at `more`.
-    /// The count may be known from the whole answer.
+    /// Returns how many nodes the query finds from number `from` on. The page that begins there has `page` of them, and the next
+    /// page begins at `more`. `whole` is the count, if it is already known because the whole answer was read.
     fn count_of_page(
         &mut self,
         snapshot: &ShelfSnapshot<'_>,

@@ -1,4 +1,4 @@
-//! Waiting for a commit number.
+//! Waits for commit numbers.
 
 use crate::answer::View;
 use crate::failure::Failure;
@@ -7,15 +7,15 @@ use bestore_client::wire::{self, ErrorName, Numbers};
 use std::thread;
 use std::time::{Duration, Instant};
 
-/// How long to wait by default, and at most.
+/// The default and the maximum time to wait.
 const WITHIN: Duration = Duration::from_secs(5);
 const MOST: Duration = Duration::from_secs(60);
 
 /// How often to check the journals.
 const LOOK: Duration = Duration::from_millis(2);
 
-/// Waits until each volume has the entry with its number. Later reads of the current snapshot include these entries. If a
-/// snapshot is pinned, the wait ends when it has to be unpinned.
+/// Waits until each volume has the entry with the number requested for it. Later reads of the current snapshot include these
+/// entries. If a snapshot is pinned, the wait ends when it has to be unpinned.
 pub fn reach(view: &View<'_, '_>, pressure: &Pressure, reach: &wire::Reach) -> Result<wire::Commit, Failure> {
     let wanted = numbers(&reach.commit, view.volumes())?;
     let within = reach.within.map_or(WITHIN, Duration::from_millis).min(MOST);
@@ -36,7 +36,7 @@ pub fn reach(view: &View<'_, '_>, pressure: &Pressure, reach: &wire::Reach) -> R
     }
 }
 
-/// Returns the number of each volume.
+/// Returns the requested commit number for each volume.
 fn numbers(commit: &Numbers, volumes: usize) -> Result<Vec<u64>, Failure> {
     match commit {
         Numbers::One(number) if volumes == 1 => Ok(vec![*number]),

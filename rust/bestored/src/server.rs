@@ -27,25 +27,25 @@ use std::sync::{Arc, Mutex, MutexGuard, PoisonError, TryLockError};
 use std::thread;
 use std::time::{Duration, Instant, SystemTime};
 
-/// How many connections may wait for a moment to get a pass, in addition to those that have one.
+/// How many connections may wait a moment for a pass, in addition to those that have one.
 const WAITING: usize = 16;
 
-/// How long a connection waits for a pass, since a client that is just leaving may free one.
+/// How long a connection waits for a pass. A client that is just leaving may free one.
 const FOR_PASS: Duration = Duration::from_millis(200);
 
-/// How long a connection waits for the visitors' pass when all others are taken.
+/// How long a connection waits for the visitors' pass when all other passes are taken.
 const FOR_VISIT: Duration = Duration::from_secs(10);
 
-/// How often to retry taking a pass that isn't free.
+/// How often to retry when no pass is free.
 const AGAIN: Duration = Duration::from_millis(5);
 
-/// The maximum number of bytes in a first request that asks for that place.
+/// The maximum length, in bytes, of a first request that asks for the visitors' pass.
 const GREETING: usize = 256;
 
 /// The minimum time between reports that all places are taken.
 const SAID: Duration = Duration::from_secs(10);
 
-/// What all connections share.
+/// The state that all connections share.
 #[derive(Debug)]
 pub struct Shared {
     pub options: Options,
@@ -59,9 +59,9 @@ pub struct Shared {
     pub carrying: Carrying,
     /// When the server last reported that all places are taken.
     pub is_full: Mutex<Option<Instant>>,
-    /// The pass for clients that get no other. Each has it for a moment.
+    /// The pass for clients that can't get another. Each of them may use it for a short time.
     pub visits: Mutex<ShelfPass>,
-    /// A different string for each run.
+    /// A string that is different for each run.
     pub run: String,
 }
 
@@ -100,7 +100,7 @@ pub fn run(
     shared.kept.finish()
 }
 
-/// Listens, and reports this to the process that started the server.
+/// Starts listening, and reports this to the process that started the server.
 fn listen(place: Place, starter: Option<Starter>, run: &str) -> io::Result<Socket> {
     let path = place.path().map(PathBuf::from);
     let socket = place.listen()?;
@@ -125,12 +125,12 @@ fn accept(listener: &UnixListener, notifier: &mut Notifier, signals: &File, shar
         }
         take_client(listener, shared);
     }
-    // Clients that connected before the signal are still answered.
+    // Clients that connected before the signal still get replies.
     let most = shared.options.passes as usize + WAITING;
     (0..most).take_while(|_| take_client(listener, shared)).count();
 }
 
-/// Accepts a waiting client. Returns whether there was one.
+/// Accepts a waiting client. Returns whether there was a client to accept.
 fn take_client(listener: &UnixListener, shared: &Arc<Shared>) -> bool {
     match listener.accept() {
         Ok((stream, _)) => welcome(shared, Arc::new(stream)),
@@ -145,7 +145,7 @@ fn take_client(listener: &UnixListener, shared: &Arc<Shared>) -> bool {
     true
 }
 
-/// Starts the thread of a client, or refuses the client.
+/// Starts a client's thread, or refuses the client.
 fn welcome(shared: &Arc<Shared>, stream: Arc<UnixStream>) {
     match peer_user(&stream) {
         Ok(client) if client == user() || client == 0 => {}
@@ -176,7 +176,7 @@ fn welcome(shared: &Arc<Shared>, stream: Arc<UnixStream>) {
     }
 }
 
-/// Refuses a client that there is no place for, and reports that from time to time.
+/// Refuses a client because there is no place for it, and reports this from time to time.
 fn refuse_for_now(shared: &Shared, stream: &UnixStream) {
     let failure = no_pass(shared);
     let mut said = shared.is_full.lock().unwrap_or_else(PoisonError::into_inner);
@@ -189,7 +189,7 @@ fn refuse_for_now(shared: &Shared, stream: &UnixStream) {
     refuse(stream, &failure);
 }
 
-/// Marks the end of a connection, even if it panics.
+/// Removes a client from the list when it is dropped, even if the connection's thread panics.
 struct Leaving<'a> {
     shared: &'a Shared,
     client: Arc<Client>,
@@ -214,11 +214,11 @@ fn serve(shared: &Shared, client: &Client, stream: Arc<UnixStream>) {
 }
 
 fn talk(shared: &Shared, client: &Client, stream: Arc<UnixStream>, pass: &mut ShelfPass, is_visit: bool) {
-    // An error ends the connection, and there is no one left to report it to.
+    // An error ends the connection, so there is no one left to report it to.
     let _ = Connection::new(shared, client, stream, is_visit).run(pass);
 }
 
-/// Returns whether the client's first request says that it will send a few requests and leave.
+/// Returns whether the client's first request says that the client will send only a few requests and then leave.
 fn is_visit(stream: &UnixStream) -> bool {
     let mut bytes = [0; GREETING];
     let length = os::look_ahead(stream, &mut bytes).unwrap_or(0);
@@ -244,7 +244,7 @@ fn take_pass(shared: &Shared) -> bestore::Result<ShelfPass> {
     }
 }
 
-/// Takes the visitors' pass once no one else has it.
+/// Takes the visitors' pass once it is free. Returns `None` if that takes too long.
 fn take_visit(shared: &Shared) -> Option<MutexGuard<'_, ShelfPass>> {
     let until = Instant::now() + FOR_VISIT;
     loop {
@@ -257,17 +257,17 @@ fn take_visit(shared: &Shared) -> Option<MutexGuard<'_, ShelfPass>> {
     }
 }
 
-/// Makes the error for a client when all passes are taken.
+/// Creates the error for a client that can't get a pass because all of them are taken.
 pub fn no_pass(shared: &Shared) -> Failure {
     let clients = shared.options.passes;
     let message = format!("every place for a client is taken ({clients}); try again once one is free");
     Failure::new(ErrorName::NoPass, message).with("clients", clients)
 }
 
-/// Sends the client the reason for refusing it, if the client takes it immediately.
+/// Sends the client the reason why it is refused, if the socket accepts the message immediately.
 fn refuse(stream: &UnixStream, failure: &Failure) {
     if let Ok(body) = serde_json::to_string(&failure.0) {
-        // The server doesn't wait for a client that doesn't read the reason.
+        // The server doesn't wait for a client that doesn't read the message.
         let _ = os::send_now(stream, format!("{{\"id\":null,\"error\":{body}}}\n").as_bytes());
     }
 }

@@ -11,10 +11,10 @@ use std::path::{Path, PathBuf};
 use std::thread;
 use std::time::Duration;
 
-/// How many times to retry taking a lock that another starting server holds, every 0.1 seconds.
+/// How many times to retry, every 0.1 seconds, if another server that is starting holds the lock.
 const TRIES: u32 = 50;
 
-/// A listening socket, which is removed at the end if this program made it.
+/// A listening socket. If this program created it, it is removed when dropped.
 #[derive(Debug)]
 pub struct Socket {
     pub listener: UnixListener,
@@ -26,7 +26,7 @@ pub struct Socket {
 pub enum Place {
     /// On the socket that systemd has passed.
     Passed(UnixListener),
-    /// At a path where no one is listening, in a folder that others can't change.
+    /// At a path where no one is listening yet, in a folder that other users can't change.
     Path(PathBuf),
 }
 
@@ -52,7 +52,8 @@ impl Place {
         Ok(Self::Path(path.into()))
     }
 
-    /// Listens, replacing the socket of a server that died. Clients are accepted from then on, so the store must be ready.
+    /// Starts listening, replacing the socket that a dead server left behind. Clients can connect from then on, so the store must
+    /// be ready.
     pub fn listen(self) -> io::Result<Socket> {
         match self {
             Self::Passed(listener) => {
@@ -75,7 +76,7 @@ impl Place {
 impl Socket {
     fn make(path: &Path) -> io::Result<Self> {
         let folder = folder_of(path);
-        // This is held until the end of the function.
+        // The lock is held until the function returns.
         let _lock = lock(open_folder(folder)?).map_err(|error| wrong(folder, error))?;
         if look(path)? == Found::Dead {
             fs::remove_file(path)?;
@@ -108,7 +109,7 @@ fn folder_of(path: &Path) -> &Path {
     }
 }
 
-/// Opens the folder, or creates it. Others must not be able to replace files in it.
+/// Opens the folder, creating it if necessary. Other users must not be able to replace files in it.
 fn open_folder(folder: &Path) -> io::Result<File> {
     let opened = open_or_make(folder, 0)?;
     let found = opened.metadata()?;
@@ -132,8 +133,8 @@ fn open_folder(folder: &Path) -> io::Result<File> {
     Ok(opened)
 }
 
-/// Opens the folder of a default path, or creates it. Since anyone may have created it before, it has to belong to the user.
-/// Others may not write in it, and it must not be a link to another folder.
+/// Opens the folder of a default path, creating it if necessary. Since anyone could have created it first, it must belong to this
+/// user, no one else may write to it, and it must not be a symbolic link.
 fn open_own_folder(folder: &Path) -> io::Result<File> {
     let opened = open_or_make(folder, libc::O_NOFOLLOW)?;
     let found = opened.metadata()?;
@@ -170,7 +171,7 @@ fn open_or_make(folder: &Path, flags: libc::c_int) -> io::Result<File> {
     })
 }
 
-/// Takes the lock of the folder, so that only one starting server at a time looks for a dead socket.
+/// Locks the folder, so that servers that start at the same time check for a dead socket one after another.
 fn lock(folder: File) -> io::Result<File> {
     for _ in 0..TRIES {
         match os::try_lock(&folder) {
@@ -184,11 +185,11 @@ fn lock(folder: File) -> io::Result<File> {
     ))
 }
 
-/// What is at a path where no one is listening.
+/// What was found at a path where no one is listening.
 #[derive(Clone, Copy, Debug, PartialEq, Eq)]
 enum Found {
     Nothing,
-    /// The socket of a server that died.
+    /// A socket that a dead server left behind.
     Dead,
 }
 

@@ -1,10 +1,10 @@
-//! The answer to `text`: the comparisons in a query's text. No store is read.
+//! Answers `text` requests with the comparisons in a query's text. This doesn't read a store.
 
 use crate::failure::Failure;
 use bestore::{compared, Compared, Form};
 use bestore_client::wire::{self, Comparison, Comparisons};
 
-/// Returns the comparisons in a query.
+/// Returns the comparisons in a query's text.
 pub fn comparisons(query: &str) -> Result<Comparisons, Failure> {
     let found = compared(query)?;
     Ok(Comparisons {

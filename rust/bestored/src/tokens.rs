@@ -1,44 +1,45 @@
-//! The tokens of writes: if a batch is sent again with its token, it isn't written again, but gets the first reply.
+//! Remembers the tokens of writes. If a client sends a batch again with the same token, the batch isn't written again; the client
+//! gets the first reply.
 
 use bestore::saved::TOKENS;
 use bestore_client::wire::Written;
 use std::collections::{HashMap, VecDeque};
 use std::sync::{Arc, Condvar, Mutex, MutexGuard, PoisonError};
 
-/// What is known about the write with a token.
+/// What the server knows about the write that has a token.
 #[derive(Debug)]
 enum Known {
-    /// A connection is writing it now.
+    /// A connection is currently making it.
     Writing,
-    /// It is in memory, and may be on its way into the file or the log.
+    /// It is in memory, but may not have reached the file or the log yet.
     Made(Written),
 }
 
 #[derive(Debug, Default)]
 struct Table {
     known: HashMap<Arc<str>, Known>,
-    /// The tokens of the writes that were made, in that order.
+    /// The tokens of the writes that were made, oldest first.
     made: VecDeque<Arc<str>>,
     most: usize,
 }
 
-/// The tokens of the last writes that had one: 65,536 per volume.
+/// The tokens of the most recent writes that had one: 65,536 per volume.
 #[derive(Debug)]
 pub struct Tokens {
     table: Mutex<Table>,
     changed: Condvar,
 }
 
-/// How a write with a token begins.
+/// The outcome of [`Tokens::begin`].
 #[derive(Debug)]
 pub enum Begun<'a> {
-    /// The write has to be made.
+    /// The write has not been made, so the caller must make it.
     First(Writing<'a>),
-    /// The write was made before.
+    /// The write has already been made.
     Repeated(Written),
 }
 
-/// A write in progress. If it is dropped before the write is made, the token can be used as if it were new.
+/// A write in progress. If this is dropped before the write has been made, the token counts as new again.
 #[derive(Debug)]
 pub struct Writing<'a> {
     tokens: &'a Tokens,
@@ -46,7 +47,7 @@ pub struct Writing<'a> {
 }
 
 impl Tokens {
-    /// Makes a table for a server with this many volumes.
+    /// Creates an empty table for a server with this many volumes.
     pub fn new(volumes: usize) -> Self {
         let tokens = Self {
             table: Mutex::default(),
@@ -56,7 +57,7 @@ impl Tokens {
         tokens
     }
 
-    /// Makes room for as many tokens as a server with this many volumes remembers.
+    /// Sets the table's size to the number of tokens that a server with this many volumes remembers.
     pub fn make_room(&self, volumes: usize) {
         self.lock().most = TOKENS * volumes.max(1);
     }
@@ -65,7 +66,7 @@ impl Tokens {
         self.table.lock().unwrap_or_else(PoisonError::into_inner)
     }
 
-    /// Begins the write with this token. If another connection is making it, waits for its outcome.
+    /// Begins the write that has this token. If another connection is making it, waits for the outcome.
     pub fn begin(&self, token: &str) -> Begun<'_> {
         let mut table = self.lock();
         loop {
@@ -80,7 +81,7 @@ impl Tokens {
         Begun::First(Writing { tokens: self, token })
     }
 
-    /// Returns what was written with this token, if it was written.
+    /// Returns what was written with this token, or `None` if nothing was.
     pub fn made(&self, token: &str) -> Option<Written> {
         match self.lock().known.get(token) {
             Some(Known::Made(written)) => Some(written.clone()),
@@ -88,7 +89,7 @@ impl Tokens {
         }
     }
 
-    /// Adds a write that was made by an earlier run or by another server.
+    /// Adds a write that an earlier run or another server made.
     pub fn add(&self, token: Arc<str>, written: Written) {
         let mut table = self.lock();
         if let Some(Known::Made(_)) = table.known.insert(token.clone(), Known::Made(written)) {
@@ -114,7 +115,7 @@ impl Writing<'_> {
 impl Drop for Writing<'_> {
     fn drop(&mut self) {
         let mut table = self.tokens.lock();
-        // Another server's write with this token may have arrived meanwhile.
+        // Another server's write with this token may have arrived in the meantime.
         if let Some(Known::Writing) = table.known.get(&self.token) {
             table.known.remove(&self.token);
             self.tokens.changed.notify_all();

@@ -1,4 +1,4 @@
-//! What requests mean if there are several volumes.
+//! How requests work when there are several volumes.
 
 use crate::answer::View;
 use crate::failure::Failure;
@@ -11,13 +11,14 @@ fn is_of_indices(operation: &Operation<'_>) -> bool {
     matches!(operation, Operation::MakeIndex { .. } | Operation::RemoveIndex { .. })
 }
 
-/// Returns whether the operations go to every volume: they only make and remove indices, and no volume is given.
+/// Returns whether the operations apply to every volume. They do if they only create and remove indices, and the request names no
+/// volume.
 pub fn is_for_all(write: &wire::Write, volumes: usize) -> bool {
     let mut operations = write.operations.batch.operations();
     volumes > 1 && write.volume.is_none() && operations.len() > 0 && operations.all(|one| is_of_indices(&one))
 }
 
-/// Writes the batch in one volume. Calls `made` with what was written once it is in memory.
+/// Writes the batch to one volume. Calls `made` with the reply once the batch is in memory.
 pub fn write(
     pressure: &Pressure,
     view: &View<'_, '_>,
@@ -41,7 +42,7 @@ pub fn write(
     Ok(shown(Some(volume), &written.map_err(|error| error.in_volume(volume))?))
 }
 
-/// Shows what was written, with the volume if there are several.
+/// Returns the reply for a write. `volume` is given only if there are several volumes.
 pub fn shown(volume: Option<u32>, written: &Written) -> wire::Written {
     let node = |number: &u64| match volume {
         None => *number,
@@ -59,7 +60,7 @@ pub fn shown(volume: Option<u32>, written: &Written) -> wire::Written {
     }
 }
 
-/// Returns the volume of the batch, and the batch with the volume's own node numbers.
+/// Returns the volume that the batch belongs to, and the batch with that volume's own node numbers.
 fn place(view: &View<'_, '_>, write: &wire::Write) -> Result<(u32, Batch), Failure> {
     if let Some(asked) = write.volume {
         view.pass(asked)?;
@@ -72,7 +73,7 @@ fn place(view: &View<'_, '_>, write: &wire::Write) -> Result<(u32, Batch), Failu
     }
 }
 
-/// Returns the length that the volume's journal has to have.
+/// Returns the length that the write expects the volume's journal to have.
 fn expected(write: &wire::Write, volume: u32, volumes: usize) -> Result<Option<u64>, Failure> {
     match &write.expected {
         None => Ok(None),
@@ -82,7 +83,7 @@ fn expected(write: &wire::Write, volume: u32, volumes: usize) -> Result<Option<u
     }
 }
 
-/// Makes and removes indices in each volume, one operation after another.
+/// Creates and removes indices in every volume, one operation after another.
 pub fn write_indices(snapshot: &ShelfSnapshot<'_>, batch: &Batch) -> Result<wire::Written, Failure> {
     for (index, operation) in batch.operations().enumerate() {
         let made = match operation {
@@ -100,7 +101,7 @@ pub fn write_indices(snapshot: &ShelfSnapshot<'_>, batch: &Batch) -> Result<wire
     })
 }
 
-/// Returns the numbers of the next nodes.
+/// Returns the numbers that the next new nodes will get.
 pub fn next(snapshot: &ShelfSnapshot<'_>) -> Result<wire::Next, Failure> {
     let nexts = (0..)
         .zip(snapshot.volumes())
@@ -114,7 +115,7 @@ pub fn next(snapshot: &ShelfSnapshot<'_>) -> Result<wire::Next, Failure> {
     })
 }
 
-/// Returns the indices, and the indices that some volumes lack.
+/// Returns all indices, and which of them some volumes lack.
 pub fn indices(snapshot: &ShelfSnapshot<'_>) -> Result<wire::Indices, Failure> {
     let indices = snapshot.indices()?.into_iter();
     Ok(wire::Indices {
@@ -130,7 +131,7 @@ pub fn indices(snapshot: &ShelfSnapshot<'_>) -> Result<wire::Indices, Failure> {
     })
 }
 
-/// Returns how full the volumes are, together and individually.
+/// Returns how full the volumes are, in total and individually.
 pub fn status(all: &[Status]) -> wire::Status {
     let sum = |number: fn(&Status) -> u64| all.iter().map(number).sum();
     let mut held = (0..)

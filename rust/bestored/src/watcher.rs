@@ -1,8 +1,8 @@
-//! Live queries: one thread runs them after writes, and pushes what changed.
+//! Live queries. One thread runs them after writes, and pushes the changes to the clients.
 //!
-//! They are refreshed from what was written since the last round. That is usually little, so refreshing an answer of 96 nodes or
-//! more takes less time than running the whole query. For a smaller answer, the library runs the whole query. Writers that find
-//! the lock taken meanwhile try again.
+//! A round looks only at what was written since the last one. That is usually little, so refreshing an answer of 96 nodes or more
+//! takes less time than running the whole query. For a smaller answer, the library runs the whole query. A writer that finds the
+//! lock taken during a round retries.
 
 use crate::failure::Failure;
 use crate::kept::Kept;
@@ -15,37 +15,37 @@ use std::sync::{Arc, Condvar, Mutex, MutexGuard, PoisonError};
 use std::thread;
 use std::time::{Duration, Instant};
 
-/// The maximum number of nodes on a line.
+/// The maximum number of nodes per line.
 pub const NODES: usize = wire::NODES;
 
-/// How often to retry sending lines that a client doesn't take.
+/// How often to retry sending lines that a client isn't reading.
 const AGAIN: Duration = Duration::from_millis(20);
 
-/// How long the thread rests after a round: as long as the round took, within these bounds.
+/// The bounds on how long the thread rests after a round. Within them, it rests as long as the round took.
 const REST: (Duration, Duration) = (Duration::from_millis(1), Duration::from_millis(200));
 
 fn lock<T>(mutex: &Mutex<T>) -> MutexGuard<'_, T> {
     mutex.lock().unwrap_or_else(PoisonError::into_inner)
 }
 
-/// A client's watch. It runs its query again once everything that it found has been pushed.
+/// A client's watch. Its query runs again only after all changes that it found have been pushed.
 #[derive(Debug)]
 pub struct Watch {
     pub number: u64,
-    /// The query, or `None` if each commit is pushed.
+    /// The query, or `None` if the watch pushes every commit.
     pub live: Option<ShelfLive>,
-    /// The snapshot of each volume that the changes found so far lead to.
+    /// For each volume, the number of the snapshot that the changes found so far lead to.
     pub numbers: Vec<u64>,
-    /// What hasn't been pushed yet.
+    /// The changes that haven't been pushed yet.
     pub rest: Updates,
-    /// Whether everything that was found has been pushed.
+    /// Whether all changes that were found have been pushed.
     is_pushed: bool,
     failed: Option<Refusal>,
     is_over: bool,
 }
 
 impl Watch {
-    /// Makes a watch whose answer in the snapshot with these numbers has been returned, except for the rest.
+    /// Creates a watch. The client already has the query's answer in the snapshot with these numbers, except for `rest`.
     pub fn new(number: u64, live: Option<ShelfLive>, numbers: Vec<u64>, rest: Updates) -> Self {
         Self {
             number,
@@ -58,14 +58,14 @@ impl Watch {
         }
     }
 
-    /// Returns whether the snapshot has everything that was found, and more. If the snapshot has less of a volume, it was pinned
-    /// before the watch began, and the watch's first answer has already started another round.
+    /// Returns whether the snapshot is newer than the changes found so far. If it is older in some volume, it was pinned before
+    /// the watch began, and adding the watch has already started another round.
     fn is_behind(&self, snapshot: &ShelfSnapshot<'_>) -> bool {
         let mut both = self.numbers.iter().copied().zip(snapshot.numbers());
         both.all(|(own, now)| own <= now) && snapshot.number() > self.commit()
     }
 
-    /// Returns the sum of the numbers.
+    /// Returns the sum of the volumes' numbers.
     fn commit(&self) -> u64 {
         self.numbers.iter().sum()
     }
@@ -80,20 +80,20 @@ impl Watch {
                 self.is_pushed = updates == Updates::default();
                 self.rest = updates;
             }
-            // This may succeed next time.
+            // The next round may have enough memory.
             Some(Err(Error::OutOfMemory)) => return,
             Some(Err(error)) => self.failed = Some(Failure::from(error).0),
         }
         self.numbers = snapshot.numbers().collect();
     }
 
-    /// Returns whether something has to be pushed.
+    /// Returns whether there is anything to push.
     fn has_news(&self) -> bool {
         !self.is_pushed || self.failed.is_some()
     }
 
-    /// Runs the query in this snapshot, even if it is an older one, and returns what changed. Changes that were found earlier and
-    /// haven't been pushed come first, with `more` set. An error leaves the watch unchanged.
+    /// Runs the query in this snapshot, even if the snapshot is an older one, and returns the changes. If earlier changes haven't
+    /// been pushed yet, returns those first, with `more` set. An error leaves the watch unchanged.
     pub fn refresh(&mut self, snapshot: &ShelfSnapshot<'_>) -> Result<Push, Failure> {
         let is_left = !self.is_pushed;
         if !is_left {
@@ -137,7 +137,7 @@ impl Watch {
     }
 }
 
-/// Takes the first `most` of the list.
+/// Removes the first `most` elements from the list and returns them.
 pub fn take(list: &mut Vec<u64>, most: usize) -> Vec<u64> {
     let rest = list.split_off(most.min(list.len()));
     std::mem::replace(list, rest)
@@ -162,15 +162,15 @@ impl Watches {
         lock(&self.list).len()
     }
 
-    /// Takes a watch off the list, so that none of its lines is pushed until it is added again.
+    /// Takes a watch off the list, so that nothing is pushed for it until it is added again.
     pub fn take(&self, number: u64) -> Option<Watch> {
         let mut list = lock(&self.list);
         let at = list.iter().position(|watch| watch.number == number)?;
         Some(list.swap_remove(at))
     }
 
-    /// Runs the queries in the current snapshot, and in a newer one whenever a write is waiting for pages. Returns whether something has to
-    /// be pushed.
+    /// Runs the queries in the current snapshot, switching to a newer one whenever a write is waiting for pages. Returns whether
+    /// there is anything to push.
     fn ask(&self, pass: &mut ShelfPass, pressure: &Pressure) -> bestore::Result<bool> {
         let mut list = lock(&self.list);
         let mut left = list.iter_mut().peekable();
@@ -186,7 +186,7 @@ impl Watches {
         Ok(list.iter().any(Watch::has_news))
     }
 
-    /// Pushes what was found. Returns whether something is left to push.
+    /// Pushes the changes that were found. Returns whether anything is left to push.
     fn push(&self) -> bool {
         let mut list = lock(&self.list);
         let pusher = self.outbox.pusher();
@@ -196,7 +196,7 @@ impl Watches {
     }
 }
 
-/// Pushes lines until there are none, or until the client takes no more. Returns whether there are none.
+/// Pushes lines until none are left or the client accepts no more. Returns whether none are left.
 fn push_all(list: &mut [Watch], mut pusher: Pusher<'_>) -> bool {
     for watch in list {
         while let Some(push) = watch.next_push() {
@@ -225,14 +225,14 @@ struct State {
 pub struct Watcher {
     state: Mutex<State>,
     wake: Condvar,
-    /// How many clients have watches.
+    /// The number of clients that have watches.
     clients: AtomicUsize,
 }
 
 impl Watcher {
-    /// Signals that something was written.
+    /// Begins a round after a write, if any client has watches.
     pub fn written(&self) {
-        // Either this count includes the client, or the round that its watch begins sees the write.
+        // Either this count includes a client that is just adding a watch, or the round that its watch begins sees the write.
         fence(Ordering::SeqCst);
         if self.clients.load(Ordering::Relaxed) > 0 {
             self.wake();
@@ -245,7 +245,7 @@ impl Watcher {
         self.wake.notify_one();
     }
 
-    /// Adds a watch to the client's watches, and adds the client if it is new.
+    /// Adds a watch to the client's watches, and adds the client if this is its first.
     pub fn add(&self, watches: &Arc<Watches>, watch: Watch) {
         lock(&watches.list).push(watch);
         let mut state = lock(&self.state);
@@ -258,7 +258,7 @@ impl Watcher {
         self.wake.notify_one();
     }
 
-    /// Ends a watch. Nothing more is pushed for it after the call. Returns whether there was one.
+    /// Ends a watch; nothing is pushed for it after this call. Returns whether there was a watch with this number.
     pub fn remove(&self, watches: &Watches, number: u64) -> bool {
         let mut list = lock(&watches.list);
         let before = list.len();
@@ -279,12 +279,12 @@ impl Watcher {
         clients.iter().map(|client| client.count()).sum()
     }
 
-    /// Serves the watches until the end.
+    /// Serves the watches until [`end`](Self::end) is called.
     pub fn run(&self, mut pass: ShelfPass, pressure: &Pressure, kept: &Kept) {
         let mut is_left = false;
         while let Some(clients) = self.wait(is_left) {
             let started = Instant::now();
-            // If this fails, it is tried again in the next round.
+            // If this fails, the next round tries again.
             let _ = pass.follow();
             is_left = round(&clients, &mut pass, pressure, kept);
             thread::sleep(started.elapsed().clamp(REST.0, REST.1));
@@ -297,7 +297,7 @@ impl Watcher {
         self.wake.notify_one();
     }
 
-    /// Waits until there is something to do, and returns the clients, or `None` at the end.
+    /// Waits until there is something to do, and returns the clients. Returns `None` if the thread must end.
     fn wait(&self, is_left: bool) -> Option<Vec<Arc<Watches>>> {
         let mut state = lock(&self.state);
         while !state.is_due && !state.is_ending {
@@ -313,12 +313,13 @@ impl Watcher {
     }
 }
 
-/// Serves each client once. Holds no snapshot while it waits for the file or a client. Returns whether something is left to push.
+/// Serves each client once. Holds no snapshot while it waits for the file or a client. Returns whether anything is left to push.
 fn round(clients: &[Arc<Watches>], pass: &mut ShelfPass, pressure: &Pressure, kept: &Kept) -> bool {
     let mut is_left = false;
     for client in clients {
         match client.ask(pass, pressure) {
-            // Changes that aren't in the file or the log aren't pushed. Once a log can be written to again, its thread reports that.
+            // Changes aren't pushed before they are in the file or the log. Once the log can be written to again, its thread starts
+            // another round.
             Ok(true) if kept.flush_if_each().is_err() => return false,
             Ok(_) => is_left |= client.push(),
             Err(error) => {

@@ -1,4 +1,4 @@
-//! Writes: new batches from clients, and batches that clients send again.
+//! Answers writes: new batches, and batches that a client sends again.
 
 use crate::answer::View;
 use crate::failure::Failure;
@@ -8,7 +8,7 @@ use crate::volumes;
 use bestore::Error;
 use bestore_client::wire::{self, ErrorName, Numbers, Token};
 
-/// Writes a batch, unless one with its token was written before.
+/// Writes a batch, unless a batch with the same token has already been written.
 pub fn write(shared: &Shared, mut write: wire::Write, view: &mut View<'_, '_>) -> Result<wire::Written, Failure> {
     let wire::Operations { batch, count } = &mut write.operations;
     if *count > batch.len() {
@@ -38,8 +38,8 @@ fn write_once(
     match shared.tokens.begin(token.as_str()) {
         Begun::First(first) => match write_now(shared, write, view, |made| first.made(made)) {
             Err(failure) if failure.is_conflict() => {
-                // A client takes this as proof that the batch wasn't written, not even by another server that it was sent to
-                // before.
+                // The client takes this error as proof that the batch wasn't written, not even by another server that it sent
+                // the batch to earlier.
                 shared.kept.confirm()?;
                 let made = shared.tokens.made(token.as_str());
                 made.map_or(Err(failure), |written| repeat(shared, written))
@@ -50,9 +50,9 @@ fn write_once(
     }
 }
 
-/// Returns the reply to a batch that was written before.
+/// Returns the reply to a batch that has already been written.
 fn repeat(shared: &Shared, written: wire::Written) -> Result<wire::Written, Failure> {
-    // The write may be only in memory.
+    // So far, the write may be only in memory.
     shared.kept.flush_if_each()?;
     Ok(wire::Written {
         repeated: true,
@@ -60,7 +60,7 @@ fn repeat(shared: &Shared, written: wire::Written) -> Result<wire::Written, Fail
     })
 }
 
-/// Writes a batch. Calls `made` with what was written once it is in memory, unless the batch is written in each volume.
+/// Writes a batch. Calls `made` with the reply once the batch is in memory, unless the batch goes to every volume.
 fn write_now(
     shared: &Shared,
     write: &wire::Write,
@@ -74,7 +74,7 @@ fn write_now(
         true => view.read(|snapshot| volumes::write_indices(snapshot, &write.operations.batch)),
         false => volumes::write(&shared.pressure, view, write, made),
     };
-    // Some volumes may have been written before another refused.
+    // Even if a volume refused the batch, others may already have written it.
     shared.watcher.written();
     match &written {
         Ok(_) => {
@@ -87,7 +87,7 @@ fn write_now(
     written
 }
 
-/// Refuses a batch that is for another run of the server.
+/// Returns an error if the batch was meant for another run of the server.
 fn check_run(shared: &Shared, write: &wire::Write, view: &View<'_, '_>) -> Result<(), Failure> {
     match &write.run {
         Some(run) if *run != shared.run => {}

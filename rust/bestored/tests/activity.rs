@@ -1,4 +1,4 @@
-//! Tests of a server's reports: `info`, `clients`, `kick`, and its standard error.
+//! Tests `info`, `clients` and `kick`, and what a server reports on standard error.
 
 use crate::common::{command, wait_until, Folder, Server};
 use bestore::Batch;
@@ -7,7 +7,7 @@ use std::fs::{self, File};
 use std::path::PathBuf;
 use std::process;
 
-/// A server whose output goes to a file.
+/// A server whose output is written to a file.
 struct Saying {
     _folder: Folder,
     server: Server,

@@ -1,6 +1,6 @@
-//! Compares random pages in an order with the plain way: the whole answer with its values, sorted and cut. Another client writes
-//! between pages, and cursors are kept across restarts. If a test fails, it shows its seed; `SEED=NUMBER cargo test` repeats that
-//! run.
+//! Compares random ordered pages with pages built the plain way: by reading the whole answer with its values, sorting it and cutting
+//! it. Another client writes between pages, and cursors are used across restarts. A test that fails prints its seed;
+//! `SEED=NUMBER cargo test` repeats that run.
 
 use crate::common::{Folder, Server};
 use bestore::{attribute, Batch, Cursor, Kind, Node, Order, Page, Value};
@@ -8,7 +8,7 @@ use bestore_client::wire::kind_name;
 use bestore_client::{Client, Error, ErrorName};
 use std::time::SystemTime;
 
-/// An index that is made after nodes have got the attribute, so it lacks some of them.
+/// An index that is created when some nodes already have the attribute, so it lacks these nodes.
 const LATE: &str = "late";
 
 const QUERIES: [&str; 9] = [
@@ -23,17 +23,17 @@ const QUERIES: [&str; 9] = [
     "uint32>5",
 ];
 
-/// The indices that nodes have from the beginning: one of each kind, with its name.
+/// Returns the indices that exist from the beginning: one of each kind, with its name.
 fn indices() -> impl Iterator<Item = (&'static str, Kind)> {
     let kinds = Kind::ALL.into_iter().filter(|kind| kind.is_indexable());
     kinds.map(|kind| (kind_name(kind), kind))
 }
 
-/// Numbers that follow from the first one.
+/// Pseudo-random numbers that depend only on the seed.
 struct Random(u64);
 
 impl Random {
-    /// Starts from SEED if that is set.
+    /// Starts with the seed in SEED, if it is set.
     fn begin() -> Self {
         let now = || SystemTime::UNIX_EPOCH.elapsed().unwrap().as_nanos() as u64;
         let seed = std::env::var("SEED").map_or_else(|_| now(), |seed| seed.parse().unwrap());
@@ -53,7 +53,7 @@ impl Random {
         &all[self.below(all.len() as u64) as usize]
     }
 
-    /// A value of this kind. Many nodes share a value, and some values are at the limits.
+    /// Returns a value of this kind. Many nodes share a value, and some values are at the limits of their kind.
     fn value(&mut self, kind: Kind) -> Value {
         let number = self.below(4) as i32;
         match (kind, self.below(8)) {
@@ -71,7 +71,7 @@ impl Random {
     }
 }
 
-/// A sort key that orders value and node as the index does.
+/// Returns a key that sorts values and nodes as the index does.
 fn place(value: &Value, node: u64) -> (i128, Vec<u8>, u64) {
     match value {
         Value::Text(text) => (0, text.as_bytes().to_vec(), node),
@@ -83,7 +83,7 @@ fn place(value: &Value, node: u64) -> (i128, Vec<u8>, u64) {
     }
 }
 
-/// A page's nodes, and whether there are more, taken from the whole answer. The client has to be pinned.
+/// Takes a page's nodes from the whole answer. Returns them, and whether there are more. The client must have a snapshot pinned.
 fn plain(
     client: &mut Client,
     text: &str,
@@ -162,13 +162,13 @@ impl Shop {
         server
     }
 
-    /// Ends the server, and starts it again with its file.
+    /// Shuts the server down, and starts it again with the same file.
     fn restart(&mut self) {
         assert!(self.server.end_by("TERM").success());
         self.server = Self::serve(&self.folder, &self.options);
     }
 
-    /// Makes, changes or removes a node.
+    /// Creates, changes or removes a node.
     fn write(&mut self, client: &mut Client, random: &mut Random) {
         let mut batch = Batch::new();
         let known = self.nodes.len() as u64;
@@ -180,7 +180,7 @@ impl Shop {
             1..=4 if known > 9 => {
                 let node = *random.one_of(&self.nodes);
                 set_some(&mut batch, node, random);
-                // If the batch is refused, the node stays as it is.
+                // If the batch is refused, the node is unchanged.
                 drop(client.apply(&batch));
             }
             _ => {
@@ -195,7 +195,7 @@ impl Shop {
     }
 }
 
-/// Sets some of a node's attributes, now and then to a value whose kind isn't the index's.
+/// Sets some of a node's attributes, occasionally to a value whose kind differs from the index's.
 fn set_some(batch: &mut Batch, node: u64, random: &mut Random) {
     batch.set(node, LATE, random.value(Kind::Int64));
     for (name, kind) in indices() {
@@ -209,7 +209,7 @@ fn set_some(batch: &mut Batch, node: u64, random: &mut Random) {
     }
 }
 
-/// Reads all pages of a query in an order, compares each with the plain way, and lets another client write in between.
+/// Reads all pages of a query in an order, and compares each with the page built the plain way. Another client writes in between.
 fn compare(shop: &mut Shop, random: &mut Random) {
     let all: Vec<_> = indices().chain([(LATE, Kind::Int64)]).collect();
     let (name, kind) = *random.one_of(&all);
@@ -241,7 +241,7 @@ fn compare(shop: &mut Shop, random: &mut Random) {
     }
 }
 
-/// Compares a page by number, and a few arbitrary nodes, with the whole answer. The client has to be pinned.
+/// Compares a page by number, and a few arbitrary nodes, with the whole answer. The client must have a snapshot pinned.
 fn check_parts(client: &mut Client, text: &str, random: &mut Random) {
     let whole = client.query(text).unwrap();
     let from = match random.below(3) {
@@ -283,7 +283,7 @@ fn pages_of_several_volumes_are_too() {
     (0..60).for_each(|_| compare(&mut shop, &mut random));
 }
 
-/// Changes a cursor's text: cuts it, extends it, or replaces characters.
+/// Returns a cursor's text after cutting it, extending it or replacing characters.
 fn changed(text: &str, random: &mut Random) -> String {
     const DIGITS: &[char] = &[
         'A', 'Z', 'a', 'z', '0', '9', '-', '_', '=', '+', '/', ' ', '\n', '\0', 'é', '"',
@@ -322,7 +322,7 @@ fn a_changed_cursor_is_refused() {
     }
 }
 
-/// Requests the page after a text that may not be a valid cursor.
+/// Requests the page after `after`, which may not be a valid cursor.
 fn ask_after(client: &mut Client, name: &str, after: &str) -> Result<bestore_client::wire::Page, Error> {
     use bestore_client::wire::{Command, Query};
     client.call(Command::Query(Query {

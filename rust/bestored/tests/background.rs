@@ -1,4 +1,4 @@
-//! Tests of a server in the background, and of when a server begins to listen.
+//! Tests servers that run in the background, and when a server begins to listen.
 
 use crate::common::{command, wait_until, Folder};
 use bestore::Batch;
@@ -9,11 +9,11 @@ use std::os::unix::net::UnixListener;
 use std::path::Path;
 use std::process::{Command, Output};
 
-/// A background server, which is ended with the test.
+/// A background server, which is shut down when the test ends.
 struct Background(String);
 
 impl Background {
-    /// Starts the server with this command, which has to return once the server listens.
+    /// Starts a server with this command, which must return once the server is listening.
     fn start(mut command: Command, socket: &Path) -> Self {
         let output = command.output().unwrap();
         let said = String::from_utf8(output.stdout).unwrap();
@@ -66,7 +66,7 @@ fn no_terminal_ends_it() {
     let socket = folder.join("socket");
     let server = Background::start(command(&socket, &["--background"]), &socket);
     let stat = fs::read_to_string(format!("/proc/{}/stat", server.0)).unwrap();
-    // After the name come the state, the parent, the group, the session and the terminal.
+    // The name is followed by the state, the parent, the group, the session and the terminal.
     let fields: Vec<&str> = stat.rsplit(") ").next().unwrap().split(' ').collect();
     assert_eq!((fields[3], fields[4]), (&*server.0, "0"));
     for descriptor in 0..=2 {
@@ -96,7 +96,7 @@ fn a_server_without_its_store_does_not_listen() {
     }
 }
 
-/// What a server prints if its default folder is refused.
+/// Returns what a server prints when it refuses to use its default folder.
 fn refused(folder: &Folder) -> String {
     let mut command = Command::new(env!("CARGO_BIN_EXE_bestored"));
     command.env_remove("BESTORE_SOCKET");

@@ -1,4 +1,4 @@
-//! Tests that a server that is written to for a long time frees its journal's memory while clients continue.
+//! Tests that a server that receives writes for a long time frees its journal's memory while clients keep working.
 
 use crate::common::writers::{state_of, Writers};
 use crate::common::{wait_until, Folder, Random, Server, PATIENCE};
@@ -10,16 +10,16 @@ use bestore_client::wire::{self, Command, Numbers, Write, Written};
 use bestore_client::{Client, Error, ErrorName};
 use std::process;
 
-/// A small server, which carries its store on after 128 KiB of entries.
+/// Options for a small server, which carries its store on after 128 KiB of entries.
 const SMALL: [&str; 6] = ["--pages", "64", "--passes", "16", "--journal", "128"];
 
-/// A server that has room to keep a snapshot for a while.
+/// Options for a server with enough pages to hold a snapshot for a while.
 const LARGER: [&str; 6] = ["--pages", "256", "--passes", "4", "--journal", "512"];
 
 /// How many times a server is killed.
 const KILLS: u64 = 12;
 
-/// How many entries come before the journal's first one.
+/// Returns how many entries were written before the journal's first one.
 fn begin(client: &mut Client) -> u64 {
     let first = Command::Journal(wire::JournalFrom {
         limit: Some(1),
@@ -32,7 +32,7 @@ fn begin(client: &mut Client) -> u64 {
     }
 }
 
-/// An entry of 13 KB, which sets attributes of node 1.
+/// Returns a batch that sets attributes of node 1 and takes 13 KB as an entry.
 fn long_entry() -> Batch {
     let mut batch = Batch::new();
     for number in 0..60 {
@@ -41,8 +41,8 @@ fn long_entry() -> Batch {
     batch
 }
 
-/// Writes until the journal begins later than it does now, and checks that each write has the next commit number. Returns the
-/// last one.
+/// Writes until the journal begins at a later entry than before, and checks that each write gets the next commit number. Returns
+/// the last number.
 fn write_on(client: &mut Client) -> u64 {
     let (before, entry) = (begin(client), long_entry());
     let mut last = client.status().unwrap().entries;
@@ -56,7 +56,7 @@ fn write_on(client: &mut Client) -> u64 {
     last
 }
 
-/// Writes a batch that expects this commit number of a run.
+/// Writes a batch that expects this commit number in this run.
 fn write_expecting(client: &mut Client, run: &str, expected: u64, batch: &Batch) -> Result<Written, Error> {
     client.call(Command::Batch(Write {
         operations: batch.clone().into(),
@@ -66,8 +66,9 @@ fn write_expecting(client: &mut Client, run: &str, expected: u64, batch: &Batch)
     }))
 }
 
-/// One client pins a snapshot, and another writes until the store has been carried on. A snapshot kept longer would hold too many
-/// pages. Returns what was pinned, and the number of the last write.
+/// Pins a snapshot with one client, and writes with another until the store has been carried on. The snapshot is pinned anew after
+/// every few writes, since it would otherwise hold too many pages. Returns the pinned state and its number, and the number of the
+/// last write.
 fn pin_and_write_on(reading: &mut Client, writing: &mut Client) -> ((u64, Vec<Batch>), u64, u64) {
     let before = begin(writing);
     loop {
@@ -132,7 +133,7 @@ fn check_journal(client: &mut Client, last: u64) {
     assert!(client.journal_from(last).unwrap().entries.is_empty());
 }
 
-/// A server with a node that lets clients hold a snapshot for a day, and two clients.
+/// Returns a server that has one node and lets clients hold a snapshot for a day, and two of its clients.
 fn holding(folder: &Folder) -> (Server, Client, Client) {
     let server = Server::start(folder, &[&LARGER[..], &["--hold", "86400"]].concat());
     let (reading, mut writing) = (server.client(), server.client());
@@ -159,7 +160,7 @@ fn who_keeps_earlier_memory_is_named_and_can_be_ended() {
     let (_, pinned, _) = pin_and_write_on(&mut reading, &mut writing);
     let clients = writing.clients().unwrap();
     let reader = clients.iter().find(|client| client.pinned.is_some()).unwrap().client;
-    // The other client's snapshot is newer.
+    // The other client pins a newer snapshot.
     let mut other = server.client();
     let newer = other.pin().unwrap().commit;
     let oldest = writing.info().unwrap().oldest.unwrap();
@@ -190,7 +191,8 @@ fn who_rests_keeps_no_memory() {
     resting.iter_mut().for_each(|client| drop(client.next_node().unwrap()));
     let mut watching = server.client();
     watching.watch(None).unwrap();
-    // The store can be carried on again only once nobody uses the older one's memory, not even the server's own threads.
+    // The store can be carried on again only after every pass has released the earlier memory, including those of the server's own
+    // threads.
     for _ in 0..4 {
         write_on(&mut writing);
     }
@@ -264,7 +266,7 @@ fn tokens_and_runs_stay_right() {
     assert_eq!((again.nodes, again.repeated), (first.nodes, true));
 }
 
-/// The writers add an entry of about 100 bytes each time, so a server that lives long enough carries its store on.
+/// Each write adds an entry of about 100 bytes, so a server that lives long enough carries its store on.
 #[test]
 fn servers_that_are_killed_meanwhile_lose_nothing() {
     let folder = Folder::in_memory();
@@ -278,7 +280,7 @@ fn servers_that_are_killed_meanwhile_lose_nothing() {
         writers.write(server.socket(), || {
             wait_until("the store is carried on", || begin(&mut client) > 0);
             carried += 1;
-            // Some servers are killed just before the store is carried on, some during that, and some after it.
+            // Some servers are killed just before the store is carried on, some while it is carried on, and some afterwards.
             writers.wait_for(random.below(6_000));
             server.kill();
         });

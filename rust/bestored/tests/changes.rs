@@ -7,7 +7,7 @@ use bestore_client::{Client, Error, Result};
 /// The kinds that an index can have.
 const INDEXED: [Kind; 5] = [Kind::Text, Kind::Int32, Kind::Int64, Kind::Uint32, Kind::Uint64];
 
-/// A value of each kind.
+/// Returns a value of each kind.
 fn values() -> [Value; 7] {
     [
         "5".into(),
@@ -20,7 +20,7 @@ fn values() -> [Value; 7] {
     ]
 }
 
-/// Makes a node with this attribute and one more.
+/// Creates a node with this attribute and another one.
 fn make(client: &mut Client, name: &str, value: &Value) -> Result<()> {
     client.change(|change| {
         let node = change.new_node();

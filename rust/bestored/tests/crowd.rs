@@ -1,4 +1,4 @@
-//! Tests many clients at once, half of which misbehave.
+//! Tests a server with many clients at a time, half of which misbehave.
 
 use crate::common::{Folder, Server, Talk};
 use bestore::{Batch, Kind};
@@ -8,21 +8,21 @@ use std::sync::atomic::{AtomicBool, AtomicU64, Ordering::Relaxed};
 use std::thread;
 use std::time::{Duration, Instant};
 
-/// How many clients behave well.
+/// The number of clients that behave well.
 const GOOD: u64 = 16;
 
-/// How many misbehave, besides one that does nothing and one that takes all available passes.
+/// The number of clients that misbehave, in addition to one that does nothing and one that takes all available passes.
 const BAD: u64 = 14;
 
-/// The server's passes. Now and then there are more connections than passes.
+/// The number of passes that the server has. At times, there are more connections than passes.
 const PASSES: usize = 36;
 
 const TIME: Duration = Duration::from_secs(5);
 
-/// The most memory that the server may have used, in KiB. The store takes 16 MiB of it.
+/// The maximum memory that the server may use, in KiB. The store takes 16 MiB of it.
 const MEMORY: u64 = 200 << 10;
 
-/// A client that behaves well and checks each reply. Returns how many requests it made.
+/// Runs a client that behaves well and checks each reply. Returns the number of requests that it made.
 fn good(server: &Server, number: u64, until: Instant) -> u64 {
     let mut client = server.patient_client();
     let name = format!("client{number}");
@@ -52,7 +52,7 @@ fn good(server: &Server, number: u64, until: Instant) -> u64 {
     requests
 }
 
-/// A client that misbehaves again and again.
+/// Misbehaves again and again, each time on a new connection.
 fn bad(server: &Server, number: u64, is_over: &AtomicBool) {
     while !is_over.load(Relaxed) {
         let mut stream = match UnixStream::connect(server.socket()) {
@@ -60,34 +60,34 @@ fn bad(server: &Server, number: u64, is_over: &AtomicBool) {
             Err(_) => continue,
         };
         stream.set_write_timeout(Some(TIME / 4)).unwrap();
-        // The server may close the connection at any moment. Its replies aren't checked.
+        // The server may close the connection at any moment. The replies aren't checked.
         let _ = misbehave(&mut stream, number, is_over);
     }
 }
 
 fn misbehave(stream: &mut UnixStream, number: u64, is_over: &AtomicBool) -> io::Result<()> {
     match number % 10 {
-        // Disconnects within a line.
+        // Disconnects in the middle of a line.
         0 => return stream.write_all(b"{\"id\":1,\"batch\":{\"oper"),
-        // Stalls within a line.
+        // Stalls in the middle of a line.
         1 => stream.write_all(b"{\"id\":1,\"ge")?,
         // Sends a line of 100 MB.
         2 => return (0..100).try_for_each(|_| stream.write_all(&[b'a'; 1 << 20])),
         // Sends binary data.
         3 => return (0..1000_u32).try_for_each(|at| stream.write_all(&at.wrapping_mul(0x9e37_79b9).to_le_bytes())),
-        // Sends JSON that isn't a request, and reads no reply.
+        // Sends JSON that isn't a request, and reads no replies.
         4 => return send(stream, 20_000, |at| format!("{{\"id\":{at},\"set\":[]}}\n")),
-        // Sends 10,000 requests with long replies, and reads none of the replies.
+        // Sends 10,000 requests that have long replies, and reads none of them.
         5 => send(stream, 10_000, |at| format!("{{\"id\":{at},\"journal\":{{}}}}\n"))?,
-        // Sends 10,000 writes, and reads no reply.
+        // Sends 10,000 writes, and reads no replies.
         6 => send(stream, 10_000, |at| {
             format!("{{\"id\":{at},\"batch\":{{\"operations\":[[\"set\",1,\"a\",{at}]]}}}}\n")
         })?,
-        // Starts one live query too many, and reads nothing.
+        // Starts one more live query than it may have, and reads nothing.
         7 => send(stream, 33, |at| {
             format!("{{\"id\":{at},\"watch\":{{\"query\":\"client{}>=0\"}}}}\n", at % GOOD)
         })?,
-        // Keeps a snapshot and a live query, and stalls.
+        // Pins a snapshot, starts a live query, and stalls.
         8 => stream.write_all(b"{\"id\":1,\"pin\":{}}\n{\"id\":2,\"watch\":{\"query\":\"client8>=0\"}}\n")?,
         // Connects and disconnects.
         _ => return Ok(()),
@@ -107,21 +107,21 @@ fn rest(time: Duration, is_over: &AtomicBool) {
     }
 }
 
-/// A client that does nothing until the end, and still gets a reply then.
+/// Runs a client that does nothing until the end, and then still gets a reply.
 fn idle(server: &Server, is_over: &AtomicBool) {
     let mut client = server.patient_client();
     rest(TIME * 100, is_over);
     client.hello().unwrap();
 }
 
-/// Repeatedly takes all remaining passes and tries for more. Each connection gets its reply, or `NoPass`. Returns how many got
-/// `NoPass`.
+/// Repeatedly takes all remaining passes and tries to get more. Each connection gets either its reply or `NoPass`. Returns how
+/// many got `NoPass`.
 fn surplus(server: &Server, is_over: &AtomicBool) -> u64 {
     let mut refused = 0;
     while !is_over.load(Relaxed) {
         let mut talks: Vec<Talk> = (0..PASSES).map(|_| server.talk()).collect();
         for talk in &mut talks {
-            // This fails if the server has closed the connection. The server has said why before that.
+            // This fails if the server has already closed the connection. It sends the reason before it closes one.
             let _ = talk.stream.write_all(b"{\"id\":1,\"next\":{}}\n");
             let line = talk.line();
             let is_answered = line.starts_with("{\"id\":1,\"ok\":{\"commit\":");

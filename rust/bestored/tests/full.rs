@@ -1,4 +1,4 @@
-//! Tests that the disk can fill up at any moment while clients write to a kept store.
+//! Tests that no answered write is lost when the disk fills up at any moment while clients are writing.
 
 use crate::common::disk::Disk;
 use crate::common::writers::{check_history, Writers};
@@ -10,21 +10,21 @@ use std::process::Stdio;
 use std::sync::atomic::{AtomicU64, AtomicUsize, Ordering::Relaxed};
 use std::thread;
 
-/// For each run, how many KiB are free on the disk when the writers begin.
+/// For each run, how many KiB are free on the disk when the writers start.
 const LEFT: [u64; 20] = [
     0, 4, 8, 12, 16, 24, 32, 40, 48, 64, 80, 96, 128, 160, 192, 256, 320, 384, 512, 768,
 ];
 
-/// How many nodes of 200 bytes there are, so that the state takes several pages of the file.
+/// The number of nodes of 200 bytes that the store has, so that its state takes several of the file's pages.
 const OTHERS: u64 = 60;
 
-/// How many disks there are at once.
+/// How many disks to use at a time.
 const DISKS: usize = 4;
 
-/// A size in KiB at which the disk isn't full.
+/// A size, in KiB, that leaves free space on the disk.
 const LARGE: u64 = 8 << 10;
 
-/// How many answered writes were found, and how many times there was no room to rewrite the state.
+/// How many answered writes were found, and how many times there was no space to rewrite the state.
 #[derive(Debug, Default)]
 struct Tally {
     writes: AtomicU64,
@@ -43,7 +43,7 @@ fn start(disk: &Disk, folder: &Folder, options: &[&str]) -> Option<Server> {
     server.answers().then_some(server)
 }
 
-/// A file on a disk, and the clients that write to its servers.
+/// A file on a disk, and the clients that write to the servers that open it.
 struct Kept<'a> {
     disk: &'a Disk,
     folder: Folder,
@@ -67,18 +67,18 @@ impl<'a> Kept<'a> {
         kept
     }
 
-    /// Starts a server that can use the whole disk. Returns `None` if the file can't be opened.
+    /// Starts a server that may use the whole disk. Returns `None` if the file can't be opened.
     fn start(&self) -> Option<Server> {
         start(self.disk, &self.folder, &["--spare", "0"])
     }
 
-    /// Lets the clients write until saving fails, in some runs while the state is being rewritten. On a full disk, the file can
-    /// still be opened.
+    /// Lets the clients write until saving fails, in some runs while the state is being rewritten. Even on a full disk, the file
+    /// can be opened.
     fn fill(&self, number: usize) {
         let server = match (self.start(), self.disk) {
             (Some(server), _) => server,
             (None, Disk::Mounted { .. }) => panic!("run {number}: the file can't be opened on a full disk"),
-            // To SQLite, reaching this limit isn't a full disk, so the file may fail to open.
+            // SQLite doesn't treat this limit as a full disk, so the file may fail to open.
             (None, Disk::Limited { .. }) => return,
         };
         let mut client = server.client();
@@ -88,7 +88,7 @@ impl<'a> Kept<'a> {
                 self.tally.compactions.fetch_add(compact(&mut client), Relaxed);
             }
         });
-        // Some clients may find that the server has ended.
+        // Some clients may get no reply because the server has ended.
         let are_of_saving = errors
             .iter()
             .all(|error| is_of_saving(error) || error.refusal().is_none());
@@ -102,7 +102,7 @@ impl<'a> Kept<'a> {
         }
     }
 
-    /// Makes room, and checks the file's contents.
+    /// Enlarges the disk, and checks the file's contents.
     fn end(&self) {
         self.disk.resize(LARGE);
         let server = self.start().expect("there is room");
@@ -123,7 +123,7 @@ fn is_of_saving(error: &Error) -> bool {
     error.is(ErrorName::NotSaved) || error.is(ErrorName::Stopped)
 }
 
-/// Rewrites the state again and again until saving fails. Returns how many times there was no room for it.
+/// Rewrites the state again and again until saving fails. Returns how many times there was no space for the state.
 fn compact(client: &mut Client) -> u64 {
     let mut failed = 0;
     loop {
@@ -138,7 +138,7 @@ fn compact(client: &mut Client) -> u64 {
     }
 }
 
-/// One run: the disk fills up, and then again after a restart that may have had room for the state.
+/// Runs one case: the disk fills up, and then fills up again after a restart that may have had space for the state.
 fn run(disk: &Disk, number: usize, tally: &Tally) {
     let kept = Kept::new(disk, tally);
     disk.resize(disk.used() + LEFT[number]);
@@ -182,7 +182,7 @@ fn answered_writes_outlive_a_file_that_may_not_grow() {
     run_all("a file that may not grow", disks);
 }
 
-/// A disk for a test that needs one. Otherwise prints that there is none.
+/// Returns a disk for a test that needs one, or prints that there is none.
 fn disk_of(what: &str) -> Option<Disk> {
     let disk = Disk::mounted();
     if disk.is_none() {
@@ -215,7 +215,7 @@ fn a_server_waits_for_room_on_its_disk() {
         assert!(refused.to_string().contains("nothing was written"), "{refused}");
         let trouble = client.status().unwrap().trouble.unwrap();
         assert!(trouble.contains("900 KiB free"), "{trouble}");
-        // Nobody can read the refused write, and the next write is kept once there is room.
+        // The refused write isn't visible to anyone. Once there is space, the next write is kept.
         assert_eq!(count_of(&mut server.client()), Some(count - 1));
         disk.resize(LARGE);
         set_count(&mut client, count).unwrap();
@@ -236,13 +236,13 @@ fn status_says_that_a_commit_has_failed_that_nobody_waited_for() {
     client.apply(Batch::new().new_node().set(1, "count", 1_u64)).unwrap();
     client.call::<Nothing>(Command::Flush(Nothing {})).unwrap();
     disk.resize(disk.used());
-    // This write's commit needs room in the -wal file, and there is none.
+    // Committing this write needs space for the -wal file, but there is none.
     set_count(&mut client, 2).unwrap();
     wait_until("status has the failed commit", || {
         let trouble = server.client().status().unwrap().trouble;
         trouble.map_or(false, |trouble| trouble.contains("the disk is full"))
     });
-    // The next write finds this too, and the server ends.
+    // The next write also finds that the commit has failed, and the server ends.
     set_count(&mut client, 3).unwrap_err();
     assert!(!server.wait_end().success());
 }

@@ -1,4 +1,5 @@
-//! Tests the file and memory of a server that writes for a long time: it rewrites the state and frees the journal by itself.
+//! Tests how large a server's file and memory get when it writes for a long time. It rewrites the state and frees the journal's
+//! memory by itself.
 
 use crate::common::{wait_until, Folder, Server};
 use bestore::Batch;
@@ -6,17 +7,18 @@ use bestore_client::wire::{Command, Nothing};
 use bestore_client::Client;
 use std::fs;
 
-/// How many nodes the store has.
+/// The number of nodes in the store.
 const NODES: u64 = 64;
 
-/// How many times each of them is set: 32 MB in total.
+/// How many times to write each node: 32 MB in total.
 const ROUNDS: u64 = 2_000;
 
-/// The file's maximum size: a state of a few KiB, up to 512 KiB of entries before it is rewritten, and what is written meanwhile.
+/// The file's maximum size: a state of a few KiB, up to 512 KiB of entries before the state is rewritten, and the entries that are
+/// written in the meantime.
 const MOST_BYTES: u64 = 6 << 20;
 
-/// How many KiB of memory the server may use on top of its first use: two stores of 1 MiB, as much again for entries, and up to
-/// 16 MiB for writes that wait for the file.
+/// How many KiB of memory the server may use in addition to what it uses at first: two stores of 1 MiB, the same again for
+/// entries, and up to 16 MiB for writes that are waiting for the file.
 const MOST_MEMORY: u64 = 24 << 10;
 
 fn start(folder: &Folder) -> Server {
@@ -65,7 +67,7 @@ fn file_and_memory_stay_small_and_have_everything() {
     assert!(fs::metadata(folder.join("file")).unwrap().len() < MOST_BYTES);
     let server = start(&folder);
     let mut client = server.client();
-    // The journal has the batches of the state, and fewer entries than were written.
+    // The journal consists of the state's batches and of fewer entries than were written.
     assert!(client.status().unwrap().entries < ROUNDS / 4);
     for node in [1, NODES] {
         let round = client.get(node, "round").unwrap();

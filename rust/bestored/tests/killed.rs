@@ -1,4 +1,4 @@
-//! Kills servers at any moment while clients write to kept stores.
+//! Kills servers at random moments while clients write to stores that are kept in files.
 
 use crate::common::writers::{check_history, Writers};
 use crate::common::{Folder, Random, Server};
@@ -6,23 +6,23 @@ use std::sync::atomic::{AtomicU64, Ordering::Relaxed};
 use std::thread;
 use std::time::{Duration, Instant};
 
-/// How long servers are killed for. `BESTORED_KILLS` says how many times within that time.
+/// How long the test goes on killing servers, and how many kills it makes at most. `BESTORED_KILLS` overrides the number of kills.
 const TIME: Duration = Duration::from_secs(40);
 const KILLS: u64 = 300;
 
-/// How many servers run at once, each with its own file and clients. A round mostly waits.
+/// How many servers run in parallel, each with its own file and clients. A round spends most of its time waiting.
 const SERVERS: u64 = 12;
 
-/// One kill in this many comes while the server is starting. The others come after it has answered a write.
+/// One kill in this many happens while the server is starting. The others happen after it has answered a write.
 const STARTING: u64 = 8;
 
-/// One server in this many has its history repeated. Each compares the file's entries when it starts.
+/// For one server in this many, the test replays the whole history. Every server compares the file's entries when it starts.
 const REPEATED: u64 = 4;
 
 /// A server's maximum lifetime in µs, from its start or from the first write.
 const LIFE: u64 = 15_000;
 
-/// Kills that are still to be made, and those made so far.
+/// Counts the kills that are still to come, and those made so far.
 #[derive(Debug)]
 struct Tally {
     begin: Instant,
@@ -39,13 +39,13 @@ impl Tally {
     }
 }
 
-/// How long a server lives: up to `LIFE`, and mostly less.
+/// Returns a server's lifetime: at most `LIFE`, and usually much less.
 fn life(random: &mut Random) -> Duration {
     let most = random.below(LIFE) + 1;
     Duration::from_micros(random.below(most))
 }
 
-/// A file, and the clients that write to its servers.
+/// A file, and the clients that write to the servers that open it.
 struct Kept {
     folder: Folder,
     writers: Writers,
@@ -69,7 +69,7 @@ impl Kept {
         Server::start_only(&self.folder, &options)
     }
 
-    /// Starts a server that compares each entry of the file, and checks its contents.
+    /// Starts a server, which compares each of the file's entries as it opens the file.
     fn start(&self) -> Server {
         let server = self.start_only();
         assert!(server.answers());
@@ -109,7 +109,7 @@ impl Kept {
         is_writing
     }
 
-    /// Checks the last server while clients write, and then the file after the server has ended normally.
+    /// Checks the last server while clients write, and then checks the file after the server has ended normally.
     fn end(&self) {
         let server = self.start_checked();
         self.writers.write(server.socket(), || {

@@ -1,4 +1,4 @@
-//! Tests of live queries.
+//! Tests live queries.
 
 use crate::common::{wait_until, Folder, Random, Server, Talk, PATIENCE};
 use bestore::{Batch, Kind};
@@ -17,7 +17,7 @@ fn start() -> (Folder, Server) {
     (folder, server)
 }
 
-/// Makes a node of this size.
+/// Creates a node of this size.
 fn sized(client: &mut Client, size: i64) -> u64 {
     let made = client.change(|change| {
         let node = change.new_node();
@@ -46,7 +46,7 @@ fn what_changes_is_pushed() {
     writing.apply(Batch::new().set(first, "size", 4_i64)).unwrap();
     let push = next(&mut watching);
     assert_eq!((push.created, push.removed), (vec![], vec![first]));
-    // A node outside the answer changes nothing, and nothing is pushed.
+    // A node that isn't in the answer doesn't change it, so nothing is pushed.
     sized(&mut writing, 1);
     assert_eq!(watching.next_push(Duration::from_millis(200)).unwrap(), None);
     watching.unwatch(1).unwrap();
@@ -86,7 +86,7 @@ fn a_watch_in_a_snapshot_goes_on_from_it() {
     assert!(watching.query("size>=5").unwrap().is_empty());
 }
 
-/// Applies one of the watch's lines to the nodes found so far.
+/// Applies one of the watch's pushes to the nodes found so far.
 fn take_in(found: &mut BTreeSet<u64>, push: &Push) {
     for node in &push.removed {
         assert!(found.remove(node), "{push:?}");
@@ -96,7 +96,7 @@ fn take_in(found: &mut BTreeSet<u64>, push: &Push) {
     }
 }
 
-/// Sends a request, applies what is pushed before the reply, and returns the reply's `ok`.
+/// Sends a request, applies all changes that are pushed before the reply, and returns the reply's `ok`.
 fn ask(talk: &mut Talk, request: &str, found: &mut BTreeSet<u64>) -> serde_json::Value {
     talk.send(format!("{{\"id\":1,{request}}}\n").as_bytes());
     loop {
@@ -108,7 +108,7 @@ fn ask(talk: &mut Talk, request: &str, found: &mut BTreeSet<u64>) -> serde_json:
     }
 }
 
-/// The earlier pushes and the refresh add up to the snapshot's answer, even if newer changes were pushed already.
+/// The earlier pushes and the refresh add up to the snapshot's answer, even if newer changes have already been pushed.
 #[test]
 fn a_refresh_leads_to_the_snapshot() {
     let (_folder, server) = start();
@@ -132,7 +132,7 @@ fn a_refresh_leads_to_the_snapshot() {
         std::thread::sleep(Duration::from_micros(200 * (round % 20)));
         let answer = ask(&mut talk, r#""query":{"query":"size>=5"}"#, &mut found);
         let mut refreshed = ask(&mut talk, r#""refresh":{"watch":1}"#, &mut found);
-        // If a reply was being sent, a round's changes couldn't be pushed. They come first.
+        // A round can't push its changes while a reply is being sent. The refresh returns such changes first.
         while refreshed.get("more").is_some() {
             take_in(&mut found, &serde_json::from_value(refreshed).unwrap());
             refreshed = ask(&mut talk, r#""refresh":{"watch":1}"#, &mut found);
@@ -143,17 +143,17 @@ fn a_refresh_leads_to_the_snapshot() {
         assert_eq!(found, answer);
         ask(&mut talk, r#""unpin":{}"#, &mut found);
     }
-    // The watch continues up to the last write.
+    // The watch goes on until it has pushed the last write.
     wait_until("all is pushed", || {
         ask(&mut talk, r#""status":{}"#, &mut found);
         found.len() == 100
     });
 }
 
-/// How many nodes there are at first. The queries find most of them, so they are refreshed from what was written.
+/// The initial number of nodes. The queries find most of them, so the answers are refreshed from the writes alone.
 const MANY: u64 = 300;
 
-/// Writes to nodes of a large answer, so that they join and leave it, and are made and removed.
+/// Writes at random, so that nodes join and leave a large answer, and are created and removed.
 fn write_at_random(mut client: Client, seed: u64) {
     let mut random = Random::new(seed);
     for _ in 0..200 {
@@ -174,7 +174,7 @@ fn write_at_random(mut client: Client, seed: u64) {
     }
 }
 
-/// With a large answer, pushes and refreshes add up to what the query finds, while other clients write.
+/// For a large answer, too, pushes and refreshes add up to what the query finds while other clients write.
 #[test]
 fn a_large_answer_is_followed_while_clients_write() {
     let (_folder, server) = start();
@@ -211,7 +211,7 @@ fn a_large_answer_is_followed_while_clients_write() {
     writers.into_iter().for_each(|writer| writer.join().unwrap());
 }
 
-/// A failed refresh leaves the watch as it was.
+/// A refresh that fails leaves the watch unchanged.
 #[test]
 fn a_refresh_may_fail() {
     let (_folder, server) = start();
@@ -220,7 +220,7 @@ fn a_refresh_may_fail() {
     let watch = client.watch(Some("size>=5")).unwrap().watch;
     client.apply(Batch::new().remove_index("size")).unwrap();
     client.pin().unwrap();
-    // The server may have ended the watch by now.
+    // The server may have ended the watch in the meantime.
     let error = client.refresh(watch).unwrap_err();
     assert!(
         error.is(ErrorName::NotCovered) || error.is(ErrorName::NoWatch),
@@ -261,7 +261,7 @@ fn a_connection_has_32_watches() {
     });
 }
 
-/// Adds up the pushes while the client itself writes, and compares the result with the answer at the end.
+/// Applies the pushes while the same client writes, and compares the result with the answer at the end.
 #[test]
 fn changes_add_up_to_the_answer_while_clients_write() {
     let (_folder, server) = start();
@@ -304,7 +304,7 @@ fn changes_add_up_to_the_answer_while_clients_write() {
     });
 }
 
-/// Ends the watch, and reads everything that was pushed before. Returns how many nodes joined and how many left.
+/// Ends the watch, and reads everything that was pushed before. Returns how many nodes joined the answer and how many left it.
 fn read_until_unwatched(talk: &mut Talk) -> (usize, usize) {
     talk.send(b"{\"id\":2,\"unwatch\":{\"watch\":1}}\n");
     let (mut created, mut removed) = (0, 0);
@@ -319,7 +319,7 @@ fn read_until_unwatched(talk: &mut Talk) -> (usize, usize) {
     }
 }
 
-/// A client that reads nothing gets fewer, larger pushes. The other clients get theirs in time.
+/// A client that doesn't read gets fewer and larger pushes. The other clients get theirs in time.
 #[test]
 fn a_slow_reader_gets_changes_together() {
     let (_folder, server) = start();
@@ -366,7 +366,7 @@ fn what_is_pushed_is_in_the_file() {
         let (mut watching, mut writing) = (server.client(), server.client());
         let nodes = writing.pin().unwrap().next - 1;
         let before = watching.watch(None).unwrap().commit;
-        // Each of these lines makes a node.
+        // Each of these requests creates a node.
         for _ in 0..20 {
             let operations = Batch::new().new_node().clone().into();
             let write = wire::Write {
@@ -386,20 +386,20 @@ fn what_is_pushed_is_in_the_file() {
     }
 }
 
-/// How many clients have slow live queries, and how many each has.
+/// The number of clients with slow live queries, and the number of queries that each of them has.
 const WATCHING: usize = 8;
 const WATCHES: usize = 32;
 
-/// How long these may delay a write: the time of one query on a busy machine.
+/// How long these queries may delay a write: as long as one query takes on a busy machine.
 const SOON: Duration = Duration::from_millis(500);
 
-/// A query that looks at each name 32 times and finds nothing.
+/// Returns a query that compares each name 32 times and finds nothing.
 fn long_query() -> String {
     let patterns = (0..32).map(|at| format!("name==\"*{at}z*\""));
     patterns.collect::<Vec<_>>().join(" || ")
 }
 
-/// Makes nodes with names that take most of 640 pages.
+/// Creates nodes whose names take most of 640 pages.
 fn name_nodes(client: &mut Client) {
     client.apply(Batch::new().make_index("name", Kind::Text)).unwrap();
     for first in (1..=2_000).step_by(20) {
@@ -413,7 +413,7 @@ fn name_nodes(client: &mut Client) {
     }
 }
 
-/// A round of all live queries takes seconds. A snapshot held that long would keep the pages that writes need.
+/// A round of all live queries takes seconds. A snapshot held for that long would keep pages that writes need.
 #[test]
 fn no_write_waits_for_a_round_of_live_queries() {
     let folder = Folder::new();
@@ -431,7 +431,7 @@ fn no_write_waits_for_a_round_of_live_queries() {
         let waited = begin.elapsed();
         assert!(waited < SOON, "write {count} waited for {waited:?}");
     }
-    // They still all run: changes are pushed.
+    // All queries still run, and their changes are pushed.
     client.apply(Batch::new().set(1, "name", "7z")).unwrap();
     for client in &mut watching {
         let mut found = BTreeSet::new();

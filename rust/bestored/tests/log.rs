@@ -19,20 +19,20 @@ use std::time::{Duration, Instant};
 /// How many times a leader is killed. `BESTORED_LOG_KILLS` overrides it.
 const KILLS: u64 = 50;
 
-/// The time after which no more leaders are killed.
+/// The time after which the test stops killing leaders.
 const TIME: Duration = Duration::from_secs(40);
 
-/// A leader's maximum lifetime in µs after the first write.
+/// A leader's maximum lifetime after its first write, in µs.
 const LIFE: u64 = 60_000;
 
-/// How soon a leader writes again once its database replies.
+/// The time within which a leader writes again once its database replies.
 pub const SOON: Duration = Duration::from_secs(15);
 
-/// The leader's session in the database.
+/// The part of a statement that selects the leader's session in the database.
 pub const OF_LEADER: &str = "FROM pg_locks JOIN pg_database ON database = pg_database.oid \
                          WHERE locktype = 'advisory' AND datname = current_database()";
 
-/// A database. Otherwise prints that there is none.
+/// Returns a database, or prints that there is none.
 fn database_of(server: Option<Arc<Postgres>>) -> Option<Database> {
     if server.is_none() {
         println!("a log in PostgreSQL: skipped, it isn't installed");
@@ -44,7 +44,7 @@ pub fn database() -> Option<Database> {
     database_of(Postgres::shared())
 }
 
-/// A server with the log, in its own folder.
+/// A server that shares the log, with a folder of its own.
 pub struct Member {
     folder: Folder,
     pub server: Server,
@@ -56,7 +56,7 @@ impl Member {
         Self::start_in(Folder::in_memory(), database, how)
     }
 
-    /// Starts a server of this size.
+    /// Starts a server with these options for its size.
     pub fn start_with(database: &Database, how: &str, size: &[&str]) -> Self {
         Self::run(Folder::in_memory(), &[&[how, &database.url()], size].concat())
     }
@@ -83,7 +83,7 @@ impl Member {
         Self { folder, server }
     }
 
-    /// Kills the server, and starts another at the same socket, which follows.
+    /// Kills the server, and starts a follower at the same socket.
     pub fn follow_again(self, database: &Database) -> Self {
         self.server.kill();
         Self::start_at(self.folder, &database.url_of_tcp(), "--follow")
@@ -94,7 +94,7 @@ impl Member {
         self.server.client()
     }
 
-    /// What the server has written to standard error.
+    /// Returns what the server has written to standard error.
     pub fn said(&self) -> String {
         fs::read_to_string(self.folder.join("said")).unwrap_or_default()
     }
@@ -116,7 +116,7 @@ fn status(server: &Server) -> Option<LogStatus> {
     Client::connect(server.socket()).ok()?.log().ok()
 }
 
-/// Waits until one of them leads.
+/// Waits until one of the servers leads, and returns its index.
 fn leader_of(members: &[Member]) -> usize {
     let mut leader = None;
     wait_until("one leads", || {
@@ -126,7 +126,7 @@ fn leader_of(members: &[Member]) -> usize {
     leader.unwrap()
 }
 
-/// Waits until all of them have what the leader has, and compares the states.
+/// Waits until all servers have the leader's entries, and compares their states.
 fn check_all_alike(members: &[Member], leader: usize) {
     let mut client = members[leader].client();
     let entry = client.log().unwrap().entry;
@@ -141,7 +141,7 @@ fn check_all_alike(members: &[Member], leader: usize) {
     }
 }
 
-/// Sends a signal to the process with this number.
+/// Sends a signal to the process with this ID.
 fn signal(process: &str, signal: &str) {
     let sent = process::Command::new("kill").args(["-s", signal, process]).status();
     assert!(sent.unwrap().success());
@@ -184,7 +184,7 @@ fn leaders_are_killed_and_no_answered_write_is_lost() {
     writers.go_on(&mut members[leader].client());
     check_all_alike(&members, leader);
     check_history(&mut members[leader].client());
-    // Each entry is there once, and a term's entries come before the next term's.
+    // Each entry occurs exactly once, and a term's entries come before those of the next term.
     let found = database.sql(
         "SELECT count(*) = last, min(number) = 1, max(number) = last FROM bestore_entry, bestore_log GROUP BY last;",
     );
@@ -238,7 +238,7 @@ fn followers_refuse_writes_and_wait_for_entries() {
         let found = follower.get(1, "count").unwrap().and_then(|value| value.as_u64());
         assert!(found >= Some(count));
     }
-    // Waiting for an entry that doesn't come takes the whole time, and holds no snapshot meanwhile.
+    // Waiting for an entry that never arrives takes the full time. No snapshot is held during the wait.
     let late = follower.wait_for_entry(99, Duration::from_millis(20)).unwrap_err();
     let details = &late.refusal().unwrap().details;
     assert!(
@@ -279,7 +279,7 @@ fn a_follower_lives_on_beside_a_client_that_reads_nothing() {
     let mut talk = slow::pinned(&follower.server);
     let mut batch = Batch::new();
     batch.set(1, "text0", 0_u64);
-    // The follower has used all of its pages before the last of these.
+    // Before the last of these writes, the follower has used all of its pages.
     for _ in 0..300 {
         client.apply(&batch).unwrap();
     }
@@ -295,7 +295,7 @@ fn a_wrong_outcome_is_named_with_its_entry() {
     for _ in 0..8 {
         client.apply(Batch::new().new_node()).unwrap();
     }
-    // The first follower is already running, and is stopped meanwhile. The others start later.
+    // The first follower is already running, and is stopped while the log changes. The others start later.
     let follower = Member::start(&database, "--follow");
     follower.client().wait_for_entry(8, Duration::from_secs(60)).unwrap();
     follower.server.stop();
@@ -309,7 +309,7 @@ fn a_wrong_outcome_is_named_with_its_entry() {
     assert!(said.contains(why), "{said}");
     let said = Member::start(&database, "--follow").end();
     assert!(said.contains(why), "{said}");
-    // Each case is an invalid entry: bytes that aren't a batch, an entry that the store refuses, and a missing one.
+    // Each case makes the log invalid: with bytes that aren't a batch, an entry that the store refuses, or a missing entry.
     for (change, why) in [
         (
             "UPDATE bestore_entry SET batch = 'BEC' WHERE number = 5",
@@ -343,7 +343,8 @@ fn a_leader_that_was_away_adds_nothing() {
     }
 }
 
-/// Stops a leader while a client waits for a write. Resumes it after another server has led, and perhaps been killed.
+/// Stops a leader while a client is waiting for a write. Resumes it after another server has become the leader and, if
+/// `is_next_one_killed`, has been killed.
 fn leave_leader(database: &Database, is_next_one_killed: bool) {
     let old = Member::start(database, "--log");
     old.client()
@@ -385,7 +386,7 @@ fn leave_leader(database: &Database, is_next_one_killed: bool) {
     let found = new.client().get(1, "count").unwrap().and_then(|value| value.as_u64());
     assert_eq!(found, Some(2));
     if !is_next_one_killed {
-        // A server that asks to lead a log that already has a leader is refused.
+        // A server can't start as the leader of a log that already has one.
         let said = Member::start_in(old.folder, database, "--log").end();
         assert!(said.contains("the log is led by "), "{said}");
     }
@@ -397,7 +398,7 @@ fn a_leader_without_its_term_adds_nothing() {
     let leader = Member::start(&database, "--log");
     let mut client = leader.client();
     client.apply(Batch::new().new_node().set(1, "count", 0_u64)).unwrap();
-    // Its session continues, and holds the lock.
+    // The leader's session continues, and still holds the lock.
     database.sql("UPDATE bestore_log SET term = term + 1, leader = 'another', run = 'another'");
     client.apply(&set_count(1)).unwrap_err();
     let said = leader.end();
@@ -415,7 +416,7 @@ fn a_request_or_a_reply_of_the_database_is_lost() {
     client.apply(Batch::new().new_node().set(1, "count", 0_u64)).unwrap();
     for count in 1..=6 {
         proxy.lose(if count % 2 == 0 { Lost::Requests } else { Lost::Replies });
-        // The write waits, and is made once.
+        // The write waits, and is made exactly once.
         let written = client.apply(Batch::new().new_node().set(1, "count", count)).unwrap();
         assert_eq!(written.nodes, [count + 1]);
         assert!(proxy.has_lost());
@@ -434,14 +435,14 @@ fn live_queries_get_what_was_written_while_the_log_could_not_be() {
     let leader = Member::start_at(Folder::in_memory(), &database.url_at(proxy.port), "--log");
     let (mut client, mut watching) = (leader.client(), leader.client());
     watching.watch(None).unwrap();
-    // Either the log gets the last write once it can be written, or it has the write and only the reply was lost.
+    // The last write either reaches the log once the log can be written to again, or is already there and only the reply was lost.
     for lost in [Lost::Requests, Lost::Replies] {
         client.apply(Batch::new().new_node()).unwrap();
         proxy.lose(lost);
         let writing = thread::spawn(move || {
             let refused = client.apply(Batch::new().new_node()).unwrap_err();
             assert!(refused.is(ErrorName::NotSaved), "{refused}");
-            // The live queries are refreshed, and no longer wait for the log.
+            // By now the live queries have been refreshed, and they no longer wait for the log.
             thread::sleep(Duration::from_millis(300));
             client
         });
@@ -481,11 +482,11 @@ fn the_database_is_started_again_while_clients_write() {
             thread::sleep(Duration::from_millis(300));
             let mut client = members[0].client();
             wait_until("the trouble is known", || client.log().unwrap().trouble.is_some());
-            // Reads from leaders and followers continue.
+            // Leaders and followers still answer reads.
             client.get(1, "count").unwrap().unwrap();
             members[1].client().get(1, "count").unwrap().unwrap();
             database.postgres.begin();
-            // The waiting writes are answered, and so are later ones.
+            // The waiting writes get replies, and so do later ones.
             writers.wait_for(32);
             members[0].server.kill();
         });
@@ -498,8 +499,8 @@ fn the_database_is_started_again_while_clients_write() {
     }
 }
 
-/// Lets clients write while the database hangs, until the leader has tried for its lock in another session. Soon after that it
-/// writes again, and no write is lost or made twice.
+/// Lets clients write while the database hangs, until the leader has tried to take its lock in another session. Soon after the
+/// hang ends, the leader writes again, and no write is lost or made twice.
 fn lead_through_a_hang(database: &Database, hang: impl FnOnce(), go_on: impl FnOnce()) {
     let leader = Member::start(database, "--log");
     let writers = Writers::default();
@@ -559,7 +560,7 @@ fn a_leader_whose_standby_was_away_leads_on() {
     lead_through_a_hang(&database, hang, || set("RESET synchronous_standby_names"));
 }
 
-/// A leader with the writers' nodes, and this many others.
+/// Starts a leader with the writers' nodes and this many others.
 fn leader_with_writers(database: &Database, others: u64) -> (Member, Writers) {
     let leader = Member::start(database, "--log");
     let writers = Writers::default();
@@ -594,7 +595,7 @@ fn a_full_disk_of_the_database_stops_writes_until_there_is_room() {
     assert!(client.apply(&set_count(0)).unwrap_err().is(ErrorName::Stopped));
     client.get(1, "count").unwrap().unwrap();
     database.sql("DROP TRIGGER fail ON bestore_entry");
-    // What was written in memory gets into the log, and the leader continues.
+    // The writes in memory are added to the log, and the leader continues.
     wait_until("the log is written", || client.log().unwrap().trouble.is_none());
     writers.go_on(&mut client);
     client.apply(Batch::new().new_node()).unwrap();
@@ -618,14 +619,14 @@ fn the_state_is_written_and_read() {
     });
     let entries: u64 = database.sql("SELECT entries FROM bestore_log").parse().unwrap();
     assert!(entries > 700);
-    // The entries that the state includes aren't needed.
+    // The entries that the state contains aren't needed any more.
     database.sql("DELETE FROM bestore_entry WHERE number <= (SELECT entries FROM bestore_log)");
     let members = [Member::start(&database, "--follow")];
     leader_of(&members);
     let mut client = members[0].client();
     writers.go_on(&mut client);
     check_history(&mut client);
-    // The error names the wrong state.
+    // The error says which batch of the state is wrong.
     database.sql("UPDATE bestore_state SET batch = 'BEC' WHERE place = 3");
     let said = Member::start(&database, "--follow").end();
     assert!(
@@ -660,7 +661,7 @@ fn a_server_waits_for_its_database() {
         "{}",
         waiting.said()
     );
-    // If a fault doesn't go away by itself, the server ends with an error.
+    // If a fault can't go away by itself, the server exits with an error.
     let url = database.url().replace("///test", "///none");
     let said = Member::start_at(Folder::in_memory(), &url, "--log").end();
     assert!(said.contains("does not exist (3D000)"), "{said}");
@@ -690,7 +691,7 @@ fn what_is_no_log_is_refused() {
         assert!(text.contains(why), "{text}");
     }
     database.sql("DROP TABLE bestore_log, bestore_state, bestore_entry");
-    // A follower ends if its log is replaced or goes back.
+    // A follower exits if its log is replaced or loses entries.
     for (change, why) in [
         (
             "UPDATE bestore_log SET log = 'another'",

@@ -1,6 +1,7 @@
-//! The server's tests. They form one program, so that it is linked only once, and so that tests that wait run in parallel.
+//! The server's tests. They form a single program, so that there is only one to link, and so that tests that mostly wait run in
+//! parallel.
 
-/// Unwraps what a test needs, or leaves the test. A line has already said what is missing.
+/// Unwraps something that a test needs, or returns from the test. What is missing has already been printed.
 macro_rules! present {
     ($needed:expr) => {
         match $needed {

@@ -1,9 +1,9 @@
-//! Checks that the manual page matches the command line.
+//! Checks that the manual page agrees with the command line.
 
 use std::path::{Path, PathBuf};
 use std::process::Command;
 
-/// The manual page for a program.
+/// Returns the path of a program's manual page.
 fn page(program: &str) -> PathBuf {
     Path::new(concat!(env!("CARGO_MANIFEST_DIR"), "/../../docs")).join(format!("{program}.1"))
 }

@@ -1,4 +1,4 @@
-//! Runs the server under valgrind's memcheck: it accesses only its own memory, and leaks none.
+//! Runs the server under valgrind's memcheck, to test that it accesses only its own memory and doesn't leak any.
 
 use crate::common::{command, Folder, Server};
 use std::path::Path;
@@ -13,7 +13,7 @@ const VALGRIND: [&str; 6] = [
     "--error-exitcode=9",
 ];
 
-/// Requests, each with a part of its reply.
+/// Requests, each with a part of the expected reply.
 const REQUESTS: [(&str, &str); 20] = [
     (r#""hello":{"protocol":1}"#, r#""kept":"each""#),
     (
@@ -64,7 +64,7 @@ fn talk_of_all(server: &Server) {
     talk.check(set, r#""ok":{"commit":2,"nodes":[]}"#);
     assert_eq!(watching.line(), r#"{"watch":1,"commit":2,"created":[2],"removed":[]}"#);
     watching.check(r#""unwatch":{"watch":1}"#, r#""ok":{}"#);
-    // Close the connection while it has a live query, a snapshot, and half a line.
+    // Close the connection while it has a live query, a pinned snapshot and half a line.
     watching.check(r#""watch":{}"#, r#""ok":{"watch":2,"commit":2}"#);
     watching.check(r#""pin":{}"#, r#""ok":{"commit":2,"next":3}"#);
     watching.send(b"{\"id\":1,\"ge");
@@ -80,7 +80,7 @@ fn memcheck_finds_nothing() {
     assert!(server.answers());
     talk_of_all(&server);
     assert!(server.end_by("TERM").success());
-    // A restart repeats the file's state and an entry.
+    // A restart replays the file's state and one entry.
     let server = start(&folder);
     assert!(server.answers());
     let mut talk = server.talk();

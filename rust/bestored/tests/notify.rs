@@ -1,4 +1,4 @@
-//! Tests what a service manager receives. A socket of the test takes the manager's place.
+//! Tests the messages that a service manager receives. A socket of the test's own takes the manager's place.
 
 use crate::common::{command, Folder, Server, PATIENCE};
 use bestore_client::Client;
@@ -6,7 +6,7 @@ use std::os::unix::net::UnixDatagram;
 use std::path::PathBuf;
 use std::process::Command;
 
-/// A service manager, and a server's folder.
+/// The socket of a service manager, and a server's folder.
 struct Manager {
     folder: Folder,
     socket: UnixDatagram,
@@ -44,7 +44,7 @@ fn a_server_says_that_it_is_ready_lives_and_ends() {
     command.env("WATCHDOG_USEC", "30000");
     let server = Server::run(command, &manager.place());
     assert_eq!(manager.next(), "READY=1\nSTATUS=listens");
-    // By then, the server listens.
+    // By now, the server is listening.
     Client::connect(server.socket()).unwrap().hello().unwrap();
     for _ in 0..3 {
         assert_eq!(manager.next(), "WATCHDOG=1");

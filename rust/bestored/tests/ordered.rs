@@ -1,11 +1,12 @@
-//! Tests of pages in an index's order, of arbitrary nodes, and of pages that aren't counted.
+//! Tests pages in the order of an index, pages of arbitrary nodes, and pages without a count.
 
 use crate::common::{start, Folder, Server, Talk};
 use bestore::{Batch, Kind, Value};
 use bestore_client::wire::{self, Command};
 use bestore_client::{Client, Query};
 
-/// Indices `size` and `name`, and nodes 1 to 4 with sizes 2, 1, 2 and none. The first two have names.
+/// Starts a server with the indices `size` and `name` and four nodes. Nodes 1 to 3 have sizes 2, 1 and 2, and node 4 has no size.
+/// The first two have names.
 fn four() -> (Folder, Server, Talk) {
     let (folder, server) = start(&[]);
     let mut talk = server.talk();
@@ -20,7 +21,7 @@ fn four() -> (Folder, Server, Talk) {
     (folder, server, talk)
 }
 
-/// The cursor in the reply to a request.
+/// Sends a request, and returns the cursor in its reply.
 fn cursor_of(talk: &mut Talk, request: &str) -> String {
     let line = talk.ask(&format!("{{\"id\":1,{request}}}"));
     let reply: serde_json::Value = serde_json::from_str(&line).unwrap();
@@ -87,7 +88,7 @@ fn nodes_without_a_value_are_not_in_the_order() {
     );
 }
 
-/// Requests pages of `size>0` with each of these parameters, and checks the error.
+/// Requests pages of `size>0` with each of these parameters, and checks the errors.
 fn check_errors(talk: &mut Talk, errors: &[(&str, String)]) {
     for (parameters, error) in errors {
         let request = format!(r#""query":{{"query":"size>0",{parameters}}}"#);
@@ -157,7 +158,8 @@ fn a_cursor_of_another_page_is_refused() {
     talk.check(&other, &format!(r#""error":{{{}}}"#, fault(why)));
 }
 
-/// The same query may be written in different ways.
+/// A cursor is also valid for the same query written in a different way, but not for an index that has been removed and created
+/// again.
 #[test]
 fn a_cursor_of_an_index_that_was_made_anew() {
     let (_folder, server, mut talk) = four();
@@ -183,7 +185,7 @@ fn the_server_says_that_it_orders() {
     assert!(has_all(&client) && !client.has("none"));
 }
 
-/// Reading a page from a snapshot that was taken back is an error, as with other reads; pages from a pinned one stay in it.
+/// Pages are read from the pinned snapshot for as long as it is pinned, and from the current one after that.
 #[test]
 fn pages_are_of_the_pinned_snapshot() {
     let (_folder, server, _talk) = four();
@@ -200,7 +202,7 @@ fn pages_are_of_the_pinned_snapshot() {
     assert_eq!(now.cursor.value(), Some(&Value::Int64(9)));
 }
 
-/// Rows that don't fit into a line: the page has those of the first nodes, and the cursor is at the last of them.
+/// If not all rows fit on a line, the page has the rows of the first nodes, and the cursor is at the last of these.
 #[test]
 fn long_rows_end_a_page() {
     let (_folder, server) = start(&["--pages", "16384"]);
@@ -245,7 +247,7 @@ fn long_rows_end_a_page() {
     assert_eq!((any.more, any.nodes.len()), (true, any.rows.unwrap().len()));
 }
 
-/// A page's count is that of the answer from its first node on, whatever the connection has asked before.
+/// A page's count is the number of nodes in the answer from the page's first node on, whatever the connection asked earlier.
 #[test]
 fn counts_of_pages() {
     let (_folder, server) = start(&[]);

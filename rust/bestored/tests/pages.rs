@@ -6,7 +6,7 @@ use bestore_client::wire::{Columns, ColumnsOf, Command, From, Journal, JournalFr
 use bestore_client::{Client, ErrorName, Query};
 use std::borrow::Cow;
 
-/// More nodes than fit on one line.
+/// A number of nodes that is too large for one line.
 const NODES: u64 = 60_000;
 
 fn start() -> (Folder, Server) {
@@ -15,7 +15,7 @@ fn start() -> (Folder, Server) {
     (folder, server)
 }
 
-/// Makes this many nodes with sizes from 0, several requests at a time.
+/// Creates this many nodes, with sizes from 0 up, sending several requests at a time.
 fn fill(client: &mut Client, nodes: u64) {
     client.apply(Batch::new().make_index("size", Kind::Int64)).unwrap();
     let mut sent = Vec::new();
@@ -122,7 +122,7 @@ fn long_rows_come_in_pages() {
     assert!((3..10).contains(&pages), "{pages} pages");
 }
 
-/// Copies the pinned snapshot into an empty store. Returns the index of the last page's first batch.
+/// Copies the pinned snapshot to an empty store. Returns the index of the first batch on the last page.
 fn carry_state(from: &mut Client, to: &mut Client) -> u64 {
     let mut index = 0;
     loop {
@@ -142,7 +142,7 @@ fn carry_state(from: &mut Client, to: &mut Client) -> u64 {
     }
 }
 
-/// Repeats each entry of the journal in an empty store, and compares the results.
+/// Applies each entry of the journal to an empty store, and compares the outcomes.
 fn carry_journal(from: &mut Client, to: &mut Client) {
     let mut index = 0;
     loop {

@@ -1,4 +1,4 @@
-//! Tests of the password for a log's database, and of a URL that asks for TLS.
+//! Tests where a server finds the password for a log's database, and that it refuses a URL that asks for TLS.
 
 use crate::common::{command, Folder, Server};
 use crate::log::database;
@@ -9,7 +9,7 @@ use std::process::Command;
 
 const ROLE: &str = "secretary";
 
-/// What a server prints when it can't start.
+/// Returns what a server prints when it can't start.
 #[track_caller]
 fn refusal(mut command: Command) -> String {
     let output = command.output().unwrap();
@@ -17,7 +17,7 @@ fn refusal(mut command: Command) -> String {
     String::from_utf8(output.stderr).unwrap()
 }
 
-/// A server with a log, and no password in its environment.
+/// Returns the command for a server with a log and with no password in its environment.
 fn server(folder: &Folder, url: &str, passfile: Option<&Path>) -> Command {
     let mut command = command(
         &folder.join("socket"),

@@ -1,9 +1,9 @@
-//! Tests each command, and each way to ask for something impossible.
+//! Tests each command, and each kind of request that the server refuses.
 
 use crate::common::{start, wait_until, Folder, Server, Talk};
 use std::time::{Duration, Instant};
 
-/// An index `size`, and nodes 1 to 3 with sizes 1 to 3.
+/// Starts a server with an index `size` and with nodes 1 to 3, which have sizes 1 to 3.
 fn three(options: &[&str]) -> (Folder, Server, Talk) {
     let (folder, server) = start(options);
     let mut talk = server.talk();
@@ -43,7 +43,7 @@ fn the_example_of_the_protocol() {
     }
 }
 
-/// Reads of the store that `three` makes.
+/// Requests that read the store that `three` creates, and their replies.
 const READS: &[(&str, &str)] = &[
     (
         r#""query":{"query":"size>1"}"#,
@@ -111,7 +111,7 @@ const READS: &[(&str, &str)] = &[
     ),
 ];
 
-/// A query's text is parsed without the store, even when the client's snapshot can't be read any more.
+/// Parsing a query's text doesn't need the store, so it works even when the client's snapshot can't be read any more.
 #[test]
 fn a_text_is_read_without_a_snapshot() {
     let (_folder, _server, mut talk) = three(&["--hold", "1"]);
@@ -119,7 +119,7 @@ fn a_text_is_read_without_a_snapshot() {
     wait_until("the snapshot was taken back", || {
         talk.ask(r#"{"id":1,"next":{}}"#).contains("Expired")
     });
-    // No index has to cover it.
+    // The query need not be covered by an index.
     let reply = r#""ok":{"comparisons":[{"name":"none","operator":"!=","value":"a","form":"text","offset":0,"length":7,"never":"#;
     let said = talk.ask(r#"{"id":1,"text":{"query":"none!=a"}}"#);
     assert!(said.starts_with(&format!("{{\"id\":1,{reply}")), "{said}");
@@ -168,7 +168,7 @@ fn values_lose_nothing() {
     );
 }
 
-/// Requests that the store of `three` refuses, and how the errors begin.
+/// Requests that are refused for the store that `three` creates, and how the errors begin.
 const ERRORS: &[(&str, &str)] = &[
     (r#""batch":{"operations":[["remove",9]]}"#, r#""NoNode","number":2"#),
     (r#""batch":{"operations":[]}"#, r#""BadCount","number":69"#),
@@ -283,7 +283,7 @@ fn what_is_no_request() {
     talk.check(r#""next":{}"#, r#""ok":{"commit":0,"next":1}"#);
 }
 
-/// Parameters that don't mean what they seem to: the error says what is wrong, and what would be right.
+/// Parameters that look valid but aren't are refused. The error says where the mistake is, and what would be right.
 #[test]
 fn no_parameter_is_read_loosely() {
     let (_folder, server) = start(&[]);
@@ -330,7 +330,7 @@ fn no_parameter_is_read_loosely() {
             "{line}: {said}"
         );
         assert!(error["message"].as_str().unwrap().contains(right), "{line}: {said}");
-        // For a list, the error gives the position of the byte before it.
+        // If the mistake is a list, the offset is that of the byte before the list.
         let begin = line.find(wrong).unwrap() as u64 - 1;
         let offset = error["offset"].as_u64().unwrap();
         assert!(
@@ -431,7 +431,7 @@ fn a_snapshot_is_taken_back_while_its_client_waits_for_a_commit() {
     assert!(begin.elapsed() < Duration::from_secs(50), "{:?}", begin.elapsed());
     let said = talk.ask(r#"{"id":1,"nodes":{}}"#);
     assert!(said.starts_with(r#"{"id":1,"error":{"name":"Expired","#), "{said}");
-    // Without a snapshot, it waits for the whole time.
+    // If no snapshot is pinned, the wait takes the full time.
     let begin = Instant::now();
     let said = talk.ask(r#"{"id":1,"reach":{"commit":2,"within":1500}}"#);
     assert!(said.contains("NotReached"), "{said}");
@@ -526,7 +526,7 @@ fn a_copy_is_read_without_a_pin_and_keeps_no_pages() {
         r#""state":{"from":99,"volume":1}"#,
         r#""error":{"name":"NoVolume","message":"there is no volume 1; there are 1, counted from 0","class":"mine","volume":1,"volumes":1}"#,
     );
-    // A pinned snapshot takes precedence over a copied one.
+    // A pinned snapshot takes precedence over a copy.
     talk.check(r#""pin":{}"#, r#""ok":{"commit":2,"next":4}"#);
     assert!(talk.ask(r#"{"id":1,"state":{}}"#).contains(r#""commit":2"#));
     talk.check(r#""unpin":{}"#, r#""ok":{}"#);
@@ -545,7 +545,7 @@ fn two_clients_read_copies_at_the_same_time() {
             r#"at the same time","class":"retry","most":2}"#
         ),
     );
-    // A client's second copy replaces its first.
+    // A client's second copy replaces its first one.
     for (talk, reply) in [(0, copied), (1, copied), (1, copied), (2, refused)] {
         talks[talk].check(r#""collect":{}"#, reply);
     }

@@ -1,4 +1,4 @@
-//! Tests batches that clients resend with their tokens: each is written once, even if the server is killed.
+//! Tests that a batch is written exactly once when a client sends it again with its token, even if the server is killed.
 
 use crate::common::{wait_until, Folder, Random, Server};
 use bestore::Batch;
@@ -10,18 +10,18 @@ use std::sync::atomic::{AtomicU64, Ordering::Relaxed};
 use std::thread;
 use std::time::Duration;
 
-/// How long a client keeps resending a write. The server is always back sooner.
+/// How long a client keeps sending a write. The server is always back before this time is up.
 const PATIENCE: Duration = Duration::from_secs(120);
 
-/// How many clients there are, how many batches each writes, and how many times their server is killed meanwhile.
+/// The number of clients, how many batches each of them writes, and how many times the server is killed while they do.
 const CLIENTS: u64 = 8;
 const BATCHES: u64 = 40;
 const KILLS: u64 = 12;
 
-/// A server's maximum lifetime in µs after its first write.
+/// A server's maximum lifetime after its first write, in µs.
 const LIFE: u64 = 30_000;
 
-/// Makes a node with a batch that has this token.
+/// Creates a node with a batch that has this token.
 pub fn make(client: &mut Client, token: &str) -> Result<Written, Error> {
     let mut batch = Batch::new();
     batch.new_node();
@@ -74,7 +74,7 @@ fn a_batch_that_was_refused_is_written_when_it_comes_again() {
     );
     let again = r#""batch":{"operations":[["set",1,"a",1]],"token":"a","expected":1}"#;
     talk.check(again, r#""ok":{"commit":2,"nodes":[]}"#);
-    // The expected number isn't the current one any more, but it was when the batch was written.
+    // The expected commit number is no longer the current one, but it was when the batch was written.
     talk.check(again, r#""ok":{"commit":2,"nodes":[],"repeated":true}"#);
 }
 
@@ -119,7 +119,7 @@ fn tokens_are_of_the_whole_server_and_outlive_it() {
         );
         first
     };
-    // The second time, the file's entry is part of the state.
+    // The second time, the entry has become part of the file's state.
     for _ in 0..2 {
         let server = Server::start_kept(&folder, &options);
         let mut client = server.client();
@@ -133,7 +133,7 @@ fn tokens_are_of_the_whole_server_and_outlive_it() {
     }
 }
 
-/// Writes batches, and repeats each until it is answered. Each makes a node with the writer's number and the batch's.
+/// Writes batches, and sends each one again until it gets a reply. Each batch creates a node with the writer's number and its own.
 fn write(socket: &Path, writer: u64, written: &AtomicU64) {
     let mut options = Options::new();
     options.wait(PATIENCE).repeat(PATIENCE).timeout(Some(PATIENCE));

@@ -1,4 +1,4 @@
-//! Tests clients that pin a snapshot, and then read their replies slowly or not at all.
+//! Tests clients that pin a snapshot and then read their replies slowly or not at all.
 
 use crate::common::{start, wait_until, Folder, Server, Talk};
 use bestore::Batch;
@@ -8,16 +8,16 @@ use std::sync::atomic::{AtomicBool, Ordering::Relaxed};
 use std::thread;
 use std::time::{Duration, Instant};
 
-/// Few pages, so that writes soon need those of the snapshot.
+/// The number of pages: so few that writes soon need the snapshot's pages.
 const PAGES: &str = "128";
 
-/// How long a write may wait. The server ends a snapshot that blocks writes after one second; the rest is for a busy machine.
+/// How long a write may wait. The server ends a snapshot that blocks writes after one second. The rest allows for a busy machine.
 const MOST: Duration = Duration::from_secs(2);
 
-/// How many entries there are. Their texts are six times as long in JSON, so a line holds about ten of them.
+/// The number of entries. Their strings become six times as long in JSON, so a line holds about ten entries.
 const ENTRIES: u64 = 16;
 
-/// Makes a node, and a journal that doesn't fit into the buffers between the server and a client that reads nothing.
+/// Creates a node, and a journal that doesn't fit into the buffers between the server and a client that doesn't read.
 pub fn begin(server: &Server) {
     let mut client = server.client();
     client.apply(Batch::new().new_node()).unwrap();
@@ -30,7 +30,7 @@ pub fn begin(server: &Server) {
     }
 }
 
-/// A client that has pinned a snapshot, and doesn't read the long reply that follows.
+/// Returns a client that has pinned a snapshot and doesn't read the long reply that follows.
 pub fn pinned(server: &Server) -> Talk {
     let mut talk = server.talk();
     talk.send(b"{\"id\":1,\"pin\":{}}\n{\"id\":2,\"journal\":{}}\n");
@@ -48,7 +48,7 @@ fn start_pinned(options: &[&str]) -> (Folder, Server, Talk) {
     (folder, server, talk)
 }
 
-/// Writes until all pages have been used several times. No write is refused or waits for long.
+/// Writes until all pages have been used several times. No write may be refused or wait for long.
 fn write(server: &Server) {
     let mut client = server.client();
     for count in 0..400_u64 {
@@ -59,7 +59,7 @@ fn write(server: &Server) {
     }
 }
 
-/// Reads the replies to `pinned`, and checks that they report what happened to its snapshot.
+/// Reads the replies to the requests that `pinned` sent, and checks that they say what happened to the snapshot.
 pub fn check_replies(talk: &mut Talk) {
     assert_eq!(talk.line(), r#"{"id":1,"ok":{"commit":17,"next":2}}"#);
     let line: serde_json::Value = serde_json::from_str(&talk.line()).unwrap();

@@ -1,4 +1,4 @@
-//! Tests of the socket, of who may connect, and of how the server ends.
+//! Tests the socket, who may connect to it, and how the server shuts down.
 
 use crate::common::{command, wait_until, Folder, Server, Talk, PATIENCE};
 use bestore::Batch;
@@ -12,11 +12,11 @@ use std::process::{Command, Output, Stdio};
 use std::thread;
 use std::time::{Duration, Instant};
 
-/// How long a server still answers while it ends, and how many requests have arrived by then.
+/// How long a server that is shutting down still answers, and how many requests have arrived by then.
 const LAST: Duration = Duration::from_secs(5);
 const SENT: u64 = 200;
 
-/// Runs the server until it ends by itself.
+/// Runs the server until it ends by itself, and returns its output.
 fn said(mut command: Command) -> Output {
     let mut child = command.stdout(Stdio::piped()).stderr(Stdio::piped()).spawn().unwrap();
     wait_until("the server ends", || child.try_wait().unwrap().is_some());
@@ -69,7 +69,7 @@ fn the_socket_is_of_the_user_alone_and_goes_with_the_server() {
     }
 }
 
-/// A server without `--socket`, in this environment.
+/// Returns the command for a server without `--socket` in this environment.
 fn in_environment(variables: &[(&str, &Path)]) -> Command {
     let mut command = Command::new(env!("CARGO_BIN_EXE_bestored"));
     command.env_remove("BESTORE_SOCKET").env_remove("XDG_RUNTIME_DIR");
@@ -187,7 +187,7 @@ fn another_user_cant_connect() {
         String::from_utf8(output.stdout).unwrap() + &String::from_utf8(output.stderr).unwrap()
     };
     assert!(as_nobody().contains("Permission denied"), "{}", as_nobody());
-    // Even without the files' permissions, the server itself refuses.
+    // Even if the files' permissions let others connect, the server itself refuses them.
     fs::set_permissions(folder.path(), Permissions::from_mode(0o755)).unwrap();
     fs::set_permissions(folder.join("socket"), Permissions::from_mode(0o777)).unwrap();
     assert!(as_nobody().contains("NotAllowed"), "{}", as_nobody());
@@ -225,10 +225,10 @@ fn systemd_passes_the_socket() {
     assert!(socket.exists());
 }
 
-/// The reply to a client when every place is taken.
+/// The reply that a client gets when every place is taken.
 const NO_PLACE: &str = r#"{"id":null,"error":{"name":"NoPass","number":68,"message":"every place for a client is taken (2); try again once one is free","class":"full","clients":2}}"#;
 
-/// A server with both of its two places taken.
+/// Returns a server whose two places are taken.
 fn full_server(folder: &Folder) -> (Server, [Talk; 2]) {
     let server = Server::start(folder, &["--passes", "2"]);
     let mut idle = [server.talk(), server.talk()];
@@ -270,7 +270,7 @@ fn a_visitor_is_answered_for_a_moment() {
     }
     assert_eq!(visitor.line(), NO_PLACE);
     assert_eq!(visitor.line(), "");
-    // Neither a snapshot nor repeated requests hold on to the place.
+    // A client can't extend its visit by pinning a snapshot or by sending more requests.
     let mut pinned = visiting();
     pinned.check(r#""pin":{}"#, r#""ok":{"commit":0,"next":1}"#);
     assert_eq!(pinned.line(), NO_PLACE);
@@ -313,7 +313,7 @@ fn what_was_sent_before_the_end_is_answered() {
     let is_in_time = begin.elapsed() < LAST;
     let mut replies = Vec::new();
     talk.stream.set_read_timeout(Some(PATIENCE)).unwrap();
-    // If requests are left unread this fails, but the replies before that are read.
+    // This fails if the server has left requests unread, but the replies sent before that are received.
     let _ = talk.stream.read_to_end(&mut replies);
     let answered = replies.iter().filter(|byte| **byte == b'\n').count() as u64;
     assert!(answered == SENT || !is_in_time, "{answered}");

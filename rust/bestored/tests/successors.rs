@@ -1,4 +1,4 @@
-//! Tests what one leader of a log hands to the next, and how a paused leader is replaced.
+//! Tests what one leader of a log hands over to the next, and how a paused leader is replaced.
 
 use crate::common::postgres::Database;
 use crate::common::wait_until;
@@ -8,7 +8,7 @@ use bestore::Batch;
 use bestore_client::wire::{Command, Nothing, Numbers, Token, Write, Written};
 use bestore_client::ErrorName;
 
-/// A leader with an entry, and a follower that has this entry too.
+/// Starts a leader, writes an entry, and starts a follower. Returns all three once the follower has the entry.
 fn leader_and_follower(database: &Database) -> (Member, Written, Member) {
     let leader = Member::start(database, "--log");
     let first = make(&mut leader.client(), "a").unwrap();
@@ -25,7 +25,7 @@ fn a_token_goes_from_one_leader_to_the_next() {
     let written = make(&mut client, "a").unwrap();
     client.call::<Nothing>(Command::Compact(Nothing {})).unwrap();
     let later = make(&mut client, "b").unwrap();
-    // The follower reads "a" from the log's state, and "b" from an entry.
+    // The follower gets token "a" from the log's state and token "b" from an entry.
     let following = Member::start(&database, "--follow");
     let check = |member: &Member| {
         let mut client = member.client();
@@ -62,12 +62,12 @@ fn a_leader_that_is_paused_is_replaced() {
     assert_eq!(make(&mut following.client(), "c").unwrap().nodes, [3]);
 }
 
-/// The identifier of a server's run.
+/// Returns the identifier of a server's run.
 fn run_of(member: &Member) -> String {
     member.client().hello().unwrap().run
 }
 
-/// A batch with a token that makes a node, and expects this commit number of a run.
+/// Returns a batch with a token that creates a node and expects this commit number in this run.
 fn conditional(run: &str, expected: u64) -> Command<'static> {
     let mut batch = Batch::new();
     batch.new_node();
@@ -88,7 +88,7 @@ fn a_follower_does_not_know_that_a_batch_conflicts() {
     let following = Member::start(&database, "--follow");
     let refused = following.client().call::<Written>(sent_before).unwrap_err();
     assert!(refused.is(ErrorName::NotLeader), "{refused}");
-    // A leader with another run knows that the batch conflicts.
+    // A leader that has a different run reports a conflict for the batch.
     leader.server.kill();
     wait_until("the follower leads", || following.leads());
     let sent_before = conditional(&run_of(&following), 0);
@@ -111,8 +111,8 @@ fn a_leader_that_was_replaced_does_not_know_that_a_batch_conflicts() {
     let mut client = new.client();
     let commit = client.log().unwrap().commit;
     let run = run_of(&new);
-    // The write is made, but the client gets no reply, so it sends the write to the earlier leader
-    // again.
+    // The write is made, but the client gets no reply, so it sends the write again, to the earlier
+    // leader.
     new.client().send(conditional(&run, commit)).unwrap();
     client.wait_for_entry(first.entry.unwrap() + 1, SOON).unwrap();
     let sent = waiting.send(conditional(&run, commit)).unwrap();

@@ -1,4 +1,4 @@
-//! Tests of servers with several volumes.
+//! Tests servers with several volumes.
 
 use crate::common::{command, start, wait_until, Folder, Server, PATIENCE};
 use bestore::{Batch, Kind, Node, Order};
@@ -8,7 +8,7 @@ use std::collections::BTreeSet;
 use std::thread;
 use std::time::Duration;
 
-/// A server with this many volumes and an index on `size`.
+/// Starts a server with this many volumes and an index on `size`.
 fn sizes(volumes: &str) -> (Folder, Server) {
     let (folder, server) = start(&["--volumes", volumes, "--pages", "64"]);
     server
@@ -22,7 +22,7 @@ fn node(volume: u32, number: u64) -> u64 {
     Node { volume, number }.into()
 }
 
-/// Makes a node of this size in this volume.
+/// Creates a node of this size in this volume.
 fn sized(client: &mut Client, volume: u32, size: i64) -> u64 {
     let made = client.change(|change| {
         let node = change.in_volume(volume).new_node();
@@ -293,7 +293,7 @@ fn a_volume_without_an_index_is_named() {
     assert!(client.query("name==a").unwrap_err().is(ErrorName::NotCovered));
 }
 
-/// The pushes add up to the answer over all volumes, while several clients write.
+/// While several clients write, the pushes add up to the answer over all volumes.
 #[test]
 fn live_updates_come_from_all_volumes() {
     const WRITERS: u32 = 4;
@@ -376,7 +376,7 @@ fn a_state_makes_the_volumes_again() {
     );
 }
 
-/// Writers count in nodes of all volumes while the server is killed: no answered write is lost.
+/// No write that was answered is lost when the server is killed while writers count in nodes of all volumes.
 #[test]
 fn a_killed_server_keeps_each_volume() {
     const VOLUMES: u32 = 3;
@@ -413,7 +413,7 @@ fn a_killed_server_keeps_each_volume() {
     assert!(answered.iter().all(|count| *count > 0), "{answered:?}");
 }
 
-/// Counts in each node with a separate client, starting from the answered counts, until the server is killed.
+/// Counts up in each node with a client of its own, starting from the answered counts, until the server is killed.
 fn write_until_killed(server: &Server, nodes: &[u64], mut answered: [u64; 3]) -> [u64; 3] {
     thread::scope(|scope| {
         for (node, answered) in nodes.iter().zip(&mut answered) {
@@ -519,7 +519,7 @@ fn sixty_thousand_nodes_are_in_four_volumes() {
     assert_eq!(client.attributes(named[0]).unwrap().len(), 5);
 }
 
-/// Makes this volume's share of the nodes, several to a batch.
+/// Creates this volume's share of the nodes, several per batch.
 fn fill(client: &mut Client, volume: u32, share: i64, each: i64) {
     for first in (0..share).step_by(each as usize) {
         let mut batch = Batch::new();

@@ -1,4 +1,5 @@
-//! How to reach the database of a log: its URL, and the password, which may be in a file like the one that PostgreSQL's own programs use.
+//! How to reach a log's database: its URL, and the password, which may come from a file in the format that PostgreSQL's own
+//! programs use.
 
 use super::database::Database;
 use super::error::{Error, Result};
@@ -10,19 +11,19 @@ use std::time::Duration;
 use tokio_postgres::config::Host;
 use tokio_postgres::Config;
 
-/// The port of PostgreSQL if the URL doesn't give one.
+/// PostgreSQL's port, for URLs that don't specify one.
 const PORT: u16 = 5432;
 
 /// The values of `sslmode` that don't need TLS.
 const PLAIN: [&str; 3] = ["disable", "allow", "prefer"];
 
-/// How to reach the log, and who this server is.
+/// How to reach the log, and how this server identifies itself there.
 #[derive(Clone, Debug)]
 pub struct Access {
     pub config: Config,
-    /// A readable name for this server: its machine and its socket.
+    /// This server's name for people: its machine and its socket.
     pub name: String,
-    /// A different string for each run.
+    /// A string that is different for each run.
     pub run: String,
 }
 
@@ -42,7 +43,7 @@ impl Access {
     }
 }
 
-/// Returns the machine and the path of the socket.
+/// Returns the server's name: the machine's name and the path of the socket.
 fn name(options: &Options) -> String {
     let machine = fs::read_to_string("/proc/sys/kernel/hostname").unwrap_or_default();
     format!("{}:{}", machine.trim(), options.socket().path().display())
@@ -66,7 +67,7 @@ fn config(in_log: &InLog) -> Result<Config> {
     Ok(config)
 }
 
-/// Returns the value of `sslmode` in a URL, or in words such as `host=db sslmode=require`.
+/// Returns the value of `sslmode` in a URL or in a string such as `host=db sslmode=require`.
 fn ssl_mode(url: &str) -> Option<&str> {
     let mut parameters = url.split(|character: char| "?& ".contains(character));
     parameters.find_map(|parameter| parameter.strip_prefix("sslmode="))
@@ -79,7 +80,7 @@ fn check_plain(mode: Option<&str>) -> Result<()> {
     }
 }
 
-/// Takes the password from the file, or from the file that PostgreSQL's programs would read.
+/// Adds the password from this file or, if none is given, from the file that PostgreSQL's programs would read.
 fn add_password(config: &mut Config, passfile: Option<&Path>) -> Result<()> {
     let found = match passfile {
         Some(path) => {
@@ -107,7 +108,7 @@ fn default_passfile() -> Option<PathBuf> {
     named.map(PathBuf::from).or_else(home)
 }
 
-/// Returns the text of a file that no one else may read.
+/// Returns the text of a file that no other user may read.
 fn private_text(path: &Path) -> std::result::Result<String, String> {
     let about = fs::metadata(path).map_err(|error| error.to_string())?;
     let mode = about.permissions().mode() & 0o777;
@@ -119,7 +120,7 @@ fn private_text(path: &Path) -> std::result::Result<String, String> {
     fs::read_to_string(path).map_err(|error| error.to_string())
 }
 
-/// Returns how the lines with a password for this database begin: a machine, a port, a database and a user, for each machine.
+/// Returns what a line must begin with to give this database's password: a machine, port, database and user, for each machine.
 fn wanted(config: &Config) -> Vec<String> {
     let user = config.get_user().unwrap_or_default();
     let database = config.get_dbname().unwrap_or(user);
@@ -135,7 +136,7 @@ fn wanted(config: &Config) -> Vec<String> {
     config.get_hosts().iter().enumerate().map(machine).collect()
 }
 
-/// Returns the password in the first line that fits the database.
+/// Returns the password from the first line that matches the database.
 fn password(text: &str, config: &Config) -> Option<String> {
     let wanted = wanted(config);
     let lines = text.lines().filter(|line| !line.starts_with('#'));
@@ -154,7 +155,7 @@ fn is_for(fields: &[String], wanted: &str) -> bool {
     both.all(|(field, wanted)| field == "*" || field == wanted)
 }
 
-/// Returns the fields in a line, separated by `:`. A `\` makes the character after it part of the field.
+/// Splits a line into fields at each `:`. A `\` makes the next character part of the field.
 fn fields(line: &str) -> Vec<String> {
     let mut fields = vec![String::new()];
     let mut characters = line.chars();

@@ -1,4 +1,4 @@
-//! The tables of the log in PostgreSQL. docs/SERVER.md describes them.
+//! The log's tables in PostgreSQL, which docs/SERVER.md describes.
 
 use super::error::{Error, Result};
 use bestore::saved::TOKENS;
@@ -14,20 +14,20 @@ use tokio::task::JoinHandle;
 use tokio_postgres::types::ToSql;
 use tokio_postgres::{AsyncMessage, Client, Config, NoTls, Row as SqlRow, Socket, Statement};
 
-/// The version of the tables.
+/// The version of the tables' format.
 const FORMAT: i32 = 1;
 
-/// How long a call may take. PostgreSQL gives up on a statement slightly sooner.
+/// How long a call may take. PostgreSQL cancels a statement slightly sooner.
 const LIMIT: Duration = Duration::from_secs(7);
 
 /// The maximum number of entries to read at a time.
 pub const ENTRIES: usize = 500;
 
-/// How many entries before the state stay in the log, for followers that are slightly late.
+/// How many entries from before the state to leave in the log, for followers that lag slightly.
 const SPARE: u64 = 10_000;
 
-/// PostgreSQL gives up on a leader whose machine is gone after about 11 seconds, so that another server can lead. A confirmed
-/// write is on PostgreSQL's disk, whatever the database's default is.
+/// The settings of a session. If the leader's machine disappears, PostgreSQL gives up on it after about 11 seconds, so that another
+/// server can lead. A confirmed write is on PostgreSQL's disk, whatever the database's defaults are.
 const SETTINGS: &str = "
     SET statement_timeout = '6s';
     SET tcp_keepalives_idle = 5;
@@ -57,8 +57,8 @@ const TABLES: &str = "
     );
 ";
 
-/// Adds entries if the log ends with `$2` and this term is still the last one. It is a single statement, so no other leader can
-/// add entries in between. The row in `bestore_log` is locked until the commit.
+/// Adds entries if the log ends with entry `$2` and this term is still the last one. It is a single statement, so no other leader
+/// can add entries in between. The row in `bestore_log` stays locked until the commit.
 const APPEND: &str = "
     WITH head AS (
         UPDATE bestore_log SET last = last + cardinality($3::bigint[]), touched = clock_timestamp(), touched_term = term
@@ -70,7 +70,7 @@ const APPEND: &str = "
     )
     SELECT pg_notify('bestore_log', last::text) FROM head";
 
-/// Adds columns that earlier versions lacked.
+/// Adds the columns that earlier versions of the tables lack.
 const COLUMNS: &str = "
     ALTER TABLE bestore_entry ADD COLUMN IF NOT EXISTS token text;
     ALTER TABLE bestore_log ADD COLUMN IF NOT EXISTS touched timestamptz, ADD COLUMN IF NOT EXISTS touched_term bigint;
@@ -81,13 +81,13 @@ const HEAD: &str = "
     SELECT *, CASE WHEN touched_term = term THEN extract(epoch FROM clock_timestamp() - touched)::float8 END AS silence
     FROM bestore_log";
 
-/// Reports that the leader of term `$1` is alive. The report doesn't have to be on a standby's disk.
+/// Reports that the leader of term `$1` is alive. The report need not reach a standby's disk.
 const TOUCH: &str = "
     UPDATE bestore_log SET touched = clock_timestamp(), touched_term = term
     FROM (SELECT set_config('synchronous_commit', 'local', true)) AS once
     WHERE term = $1 RETURNING bestore_log.*";
 
-/// Ends the session that holds the lock if it has done nothing for `$1` seconds. A follower that has just taken the lock keeps
+/// Ends the session that holds the lock, if it has done nothing for `$1` seconds. A follower that has just taken the lock keeps
 /// it.
 const END_LEADER: &str = "
     SELECT pg_terminate_backend(pid) FROM pg_locks JOIN pg_stat_activity USING (pid)
@@ -95,36 +95,36 @@ const END_LEADER: &str = "
         AND classid = 1650815860 AND objid = 'bestore_log'::regclass::oid
         AND state_change < clock_timestamp() - $1::float8 * interval '1 second'";
 
-/// Removes the entries up to `$1`, except for the last `$2` that have a token.
+/// Removes the entries up to `$1`, except the last `$2` entries that have a token.
 const REMOVE: &str = "
     DELETE FROM bestore_entry WHERE number <= $1 AND (token IS NULL OR number <= (
         SELECT number FROM bestore_entry WHERE token IS NOT NULL ORDER BY number DESC OFFSET $2 LIMIT 1
     ))";
 
-/// The advisory lock of a log: "best" in ASCII, and the number of its table in the database.
+/// Tries to take a log's advisory lock. Its key is "best" in ASCII and the number of the log's table in the database.
 const LOCK: &str = "SELECT pg_try_advisory_lock(1650815860, 'bestore_log'::regclass::oid::integer)";
 
-/// Also locks out other servers that make the tables.
+/// Keeps other servers from creating the tables at the same time.
 const MAKE_LOCK: &str = "SELECT pg_advisory_xact_lock(1650815860, 0)";
 
 /// What the log records about itself.
 #[derive(Clone, Debug)]
 pub struct Head {
-    /// A different string for each log.
+    /// A string that is different for each log.
     pub log: String,
     /// The number of the last entry.
     pub last: u64,
-    /// How many leaders there have been.
+    /// The number of leaders so far.
     pub term: u64,
-    /// The last leader.
+    /// The name of the last leader.
     pub leader: String,
-    /// The run of that leader.
+    /// That leader's run.
     pub run: String,
     /// The number of the last entry that the state contains.
     pub entries: u64,
-    /// The number of the next node after the state.
+    /// The number that the next new node gets after the state has been applied.
     pub next: u64,
-    /// How many seconds the leader has been silent, if that is known.
+    /// How many seconds the leader has been silent, if known.
     pub silence: Option<f64>,
 }
 
@@ -165,7 +165,7 @@ impl Entry {
     }
 }
 
-/// The next message that PostgreSQL sends on a connection without a request.
+/// A future for the next message that PostgreSQL sends without having been asked.
 struct NextMessage<'a>(&'a mut tokio_postgres::Connection<Socket, tokio_postgres::tls::NoTlsStream>);
 
 impl Future for NextMessage<'_> {
@@ -176,7 +176,7 @@ impl Future for NextMessage<'_> {
     }
 }
 
-/// Waits for the call, for a limited time.
+/// Waits for the call to finish, for a limited time.
 async fn limited<T>(call: impl Future<Output = std::result::Result<T, tokio_postgres::Error>>) -> Result<T> {
     match tokio::time::timeout(LIMIT, call).await {
         Ok(answer) => Ok(answer?),
@@ -184,12 +184,12 @@ async fn limited<T>(call: impl Future<Output = std::result::Result<T, tokio_post
     }
 }
 
-/// A connection to the database of the log.
+/// A connection to the log's database.
 pub struct Database {
     client: Client,
     news: Arc<Notify>,
     append: Option<Statement>,
-    /// Receives from PostgreSQL. The connection is closed once it has ended.
+    /// The task that receives messages from PostgreSQL. The connection is closed once the task has ended.
     receiving: JoinHandle<()>,
 }
 
@@ -206,7 +206,7 @@ impl fmt::Debug for Database {
 }
 
 impl Database {
-    /// Connects. It has to be called in a runtime.
+    /// Connects to the database. Must be called inside a tokio runtime.
     pub async fn connect(config: &Config) -> Result<Self> {
         let (client, mut connection) = limited(config.connect(NoTls)).await?;
         let news = Arc::new(Notify::new());
@@ -215,7 +215,7 @@ impl Database {
             while let Some(Ok(_)) = NextMessage(&mut connection).await {
                 of_task.notify_one();
             }
-            // The client's calls report what happened.
+            // If the connection fails, the client's calls return the error.
             of_task.notify_one();
         });
         let database = Self {
@@ -228,13 +228,13 @@ impl Database {
         Ok(database)
     }
 
-    /// Closes the connection without waiting for a reply. PostgreSQL ends the session and releases its lock once the running statement has
-    /// ended.
+    /// Closes the connection without waiting for a reply. Once the running statement has ended, PostgreSQL ends the session and
+    /// releases its lock.
     pub fn close(&self) {
         self.receiving.abort();
     }
 
-    /// Returns whether the connection has ended.
+    /// Returns whether the connection is closed.
     pub fn is_closed(&self) -> bool {
         self.client.is_closed()
     }
@@ -243,7 +243,7 @@ impl Database {
         limited(self.client.query_one(sql, parameters)).await
     }
 
-    /// Makes the tables if there are none.
+    /// Creates the tables if they don't exist.
     pub async fn make(&self) -> Result<()> {
         let make = format!("{TABLES} INSERT INTO bestore_log (format) VALUES ({FORMAT});");
         limited(self.client.batch_execute(&format!("BEGIN; {MAKE_LOCK}"))).await?;
@@ -258,7 +258,7 @@ impl Database {
         Ok(found.try_get(0)?)
     }
 
-    /// Refuses a database without a log, and a log with another format.
+    /// Returns an error if the database has no log, or if the log has a different format.
     pub async fn check_format(&self) -> Result<()> {
         if !self.has_tables().await? {
             return Err(Error::NoLog);
@@ -276,7 +276,7 @@ impl Database {
         }
     }
 
-    /// Adds the columns that a log of an earlier version lacks.
+    /// Adds the columns that a log from an earlier version lacks.
     pub async fn add_columns(&self) -> Result<()> {
         let sql = "SELECT count(*) = 2 FROM pg_attribute WHERE NOT attisdropped AND
             (attrelid, attname) IN (('bestore_entry'::regclass, 'token'), ('bestore_log'::regclass, 'touched_term'))";
@@ -286,19 +286,19 @@ impl Database {
         }
     }
 
-    /// Makes PostgreSQL send a message for new entries.
+    /// Asks PostgreSQL to send a message whenever there are new entries.
     pub async fn listen(&self) -> Result<()> {
         limited(self.client.batch_execute("LISTEN bestore_log")).await
     }
 
-    /// Stops those messages.
+    /// Asks PostgreSQL to stop sending these messages.
     pub async fn unlisten(&self) -> Result<()> {
         limited(self.client.batch_execute("UNLISTEN *")).await
     }
 
-    /// Waits until there are new entries, or for this time.
+    /// Waits until there are new entries, but no longer than `within`.
     pub async fn news(&self, within: Duration) {
-        // Either can come first.
+        // It doesn't matter which comes first.
         let _ = tokio::time::timeout(within, self.news.notified()).await;
     }
 
@@ -318,12 +318,12 @@ impl Database {
         Ok(!ended.is_empty())
     }
 
-    /// Takes the leader's lock, if nobody holds it. The lock is released when the connection ends.
+    /// Takes the leader's lock if nobody holds it, and returns whether it did. The lock is released when the connection closes.
     pub async fn try_lock(&self) -> Result<bool> {
         Ok(self.one(LOCK, &[]).await?.try_get(0)?)
     }
 
-    /// Begins the next term. From then on no other server can add entries. With `again`, the last leader has to be this run.
+    /// Begins the next term, so that no other server can add entries. With `again`, does so only if this run was the last leader.
     pub async fn take_term(&self, leader: &str, run: &str, again: bool) -> Result<Option<Head>> {
         let sql = "UPDATE bestore_log SET term = term + 1, leader = $1, run = $2, touched = clock_timestamp(),
             touched_term = term + 1 WHERE run = $2 OR NOT $3 RETURNING *";
@@ -331,8 +331,8 @@ impl Database {
         taken.as_ref().map(Head::of).transpose()
     }
 
-    /// Adds the entries, all in one commit, if the log ends with the one before them and the term is the last one. Returns
-    /// whether it did so.
+    /// Adds the entries in a single commit, if the log ends with entry `last` and `term` is the last term. Returns whether they
+    /// were added.
     pub async fn append(&mut self, term: u64, last: u64, rows: &[Row]) -> Result<bool> {
         let statement = match &self.append {
             Some(statement) => statement.clone(),
@@ -348,14 +348,14 @@ impl Database {
         Ok(limited(self.client.query_opt(&statement, &parameters)).await?.is_some())
     }
 
-    /// Returns some of the entries after this one, sorted by number.
+    /// Returns the next entries after this one, sorted by number. There may be more.
     pub async fn entries(&self, after: u64) -> Result<Vec<Entry>> {
         let sql = "SELECT number, batch, token FROM bestore_entry WHERE number > $1 ORDER BY number LIMIT $2";
         let rows = limited(self.client.query(sql, &[&(after as i64), &(ENTRIES as i64)])).await?;
         rows.iter().map(Entry::of).collect()
     }
 
-    /// Returns some of the entries after this one and up to `last` that have a token, sorted by number.
+    /// Returns the next entries that have a token, after this one and up to `last`, sorted by number. There may be more.
     pub async fn entries_with_token(&self, after: u64, last: u64) -> Result<Vec<Entry>> {
         let sql = "SELECT number, batch, token FROM bestore_entry
             WHERE token IS NOT NULL AND number > $1 AND number <= $2 ORDER BY number LIMIT $3";
@@ -364,7 +364,7 @@ impl Database {
         rows.iter().map(Entry::of).collect()
     }
 
-    /// Returns the head and the state, read together.
+    /// Returns the head and the state, both read in one transaction.
     pub async fn state(&mut self) -> Result<(Head, Vec<Vec<u8>>)> {
         let begin = "BEGIN ISOLATION LEVEL REPEATABLE READ READ ONLY; SET LOCAL statement_timeout = 0";
         self.client.batch_execute(begin).await?;
@@ -378,8 +378,8 @@ impl Database {
         Ok((head, batches?))
     }
 
-    /// Replaces the old state with this one, which contains the entries up to `number`, and removes entries from long before
-    /// it. Returns whether the term is still the last one; otherwise nothing has changed.
+    /// Replaces the log's state with this one, which contains the entries up to `number`, and removes much older entries. Returns
+    /// `false` and changes nothing if the term is no longer the last one.
     pub async fn write_state(&self, term: u64, number: u64, next: u64, batches: &[Vec<u8>]) -> Result<bool> {
         let begin =
             "BEGIN; SET LOCAL statement_timeout = 0; LOCK bestore_state IN EXCLUSIVE MODE; DELETE FROM bestore_state";
@@ -391,7 +391,7 @@ impl Database {
         }
         let spared = number.saturating_sub(SPARE) as i64;
         self.client.execute(REMOVE, &[&spared, &(TOKENS as i64)]).await?;
-        // This comes last, since no entry can be added from here to the commit.
+        // This statement comes last, because from here to the commit no entry can be added.
         let update = "UPDATE bestore_log SET entries = $1, next = $2 WHERE term = $3 AND entries <= $1 AND last >= $1";
         let parameters: [&(dyn ToSql + Sync); 3] = [&(number as i64), &(next as i64), &(term as i64)];
         let is_leading = self.client.execute(update, &parameters).await? == 1;

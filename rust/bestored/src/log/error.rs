@@ -1,4 +1,4 @@
-//! Why the log can't be read or written, and why a server stops using it.
+//! The reasons why a log can't be read or written, and why a server stops using it.
 
 use bestore::saved::Place;
 use std::error::Error as _;
@@ -8,16 +8,16 @@ use std::path::PathBuf;
 use std::sync::Arc;
 use std::time::Duration;
 
-/// Classes of PostgreSQL's errors: the connection is lost, resources are missing, or the database is starting or stopping.
+/// PostgreSQL's error classes for a lost connection, for lack of resources, and for a database that is starting or stopping.
 const NOT_NOW: [&str; 3] = ["08", "53", "57"];
 
-/// The result of a call in this module.
+/// The result type of this module.
 pub type Result<T> = std::result::Result<T, Error>;
 
 /// Why the log can't be read or written.
 #[derive(Debug, thiserror::Error)]
 pub enum Error {
-    /// The URL can't be read.
+    /// The URL isn't valid.
     #[error("the URL of the log: {}", Shown(.0))]
     Url(#[source] tokio_postgres::Error),
     /// The URL asks for TLS.
@@ -25,10 +25,10 @@ pub enum Error {
         "the connection to the log has no TLS, which sslmode={mode} asks for; use a Unix socket or a tunnel, with sslmode=disable"
     )]
     NoTls { mode: String },
-    /// The password file has no password for the URL, or others may read the file.
+    /// The password file has no password for the URL, or other users may read the file.
     #[error("{path}: {why}")]
     Passfile { path: PathBuf, why: String },
-    /// An error from PostgreSQL, or from the connection to it.
+    /// PostgreSQL, or the connection to it, returned an error.
     #[error("the database of the log: {}", Shown(.0))]
     Database(#[from] tokio_postgres::Error),
     /// PostgreSQL didn't reply within this time.
@@ -46,18 +46,18 @@ pub enum Error {
     /// Another server leads.
     #[error("the log is led by {leader}; --follow follows it")]
     Led { leader: String },
-    /// An earlier session of this server still has the lock.
+    /// An earlier session of this server still holds the lock.
     #[error("an earlier session of this server still has the leader's lock")]
     OldSession,
-    /// Another server has taken over from this one.
+    /// Another server has taken over from this one as leader.
     #[error(
         "{leader} leads the log now; {unsaved} writes of this server, none of them confirmed, may be missing there"
     )]
     Deposed { leader: String, unsaved: u64 },
-    /// The database has a different log from before.
+    /// The database no longer has the same log as before.
     #[error("the database has a different log from before")]
     Replaced,
-    /// The log has fewer entries than before, or more than anybody can have added.
+    /// The log has fewer entries than before, or more than any server can have added.
     #[error("the log has {found} entries, and {known} of them are known here")]
     Length { known: u64, found: u64 },
     /// The log contains something that no store wrote.
@@ -67,20 +67,20 @@ pub enum Error {
         #[source]
         why: Box<dyn std::error::Error + Send + Sync>,
     },
-    /// The contents of the log don't fit the limits of the store.
+    /// The log's contents don't fit within the store's limits.
     #[error("{place} of the log: it doesn't fit the limits of the store: {error}")]
     TooLarge {
         place: Place,
         #[source]
         error: bestore::Error,
     },
-    /// An error from the store.
+    /// The store returned an error.
     #[error("{0}")]
     Store(#[from] bestore::Error),
-    /// A thread or runtime for the log couldn't be made.
+    /// The log's thread or runtime couldn't be created.
     #[error("the thread of the log can't be started: {0}")]
     Thread(#[source] io::Error),
-    /// The thread of the log has panicked.
+    /// The log's thread has panicked.
     #[error("the thread of the log has panicked")]
     Fault,
 }
@@ -90,7 +90,7 @@ impl Error {
         Error::Differs { place, why: why.into() }
     }
 
-    /// Returns the error for a store that refuses the log's contents at this position.
+    /// Returns the error for a store that has refused what the log contains at this place.
     pub fn refused(place: Place, error: bestore::Error) -> Self {
         use bestore::Error::{CommitsSpent, Full, OutOfMemory};
         match error {
@@ -99,12 +99,13 @@ impl Error {
         }
     }
 
-    /// Returns whether the call may succeed later.
+    /// Returns whether the same call may succeed later.
     pub fn is_passing(&self) -> bool {
         matches!(self, Error::Database(_) | Error::Slow(_) | Error::OldSession)
     }
 
-    /// Returns whether the database is missing, or doesn't accept connections or statements for now, for example while it starts.
+    /// Returns whether the database can't be reached, or doesn't accept connections or statements at the moment, for example
+    /// because it is starting.
     pub fn is_unreachable(&self) -> bool {
         match self {
             Error::Slow(_) => true,
@@ -117,7 +118,7 @@ impl Error {
     }
 }
 
-/// Shows an error from PostgreSQL on one line, with its code.
+/// Displays an error from PostgreSQL on one line, with its code.
 struct Shown<'a>(&'a tokio_postgres::Error);
 
 impl fmt::Display for Shown<'_> {
@@ -129,16 +130,16 @@ impl fmt::Display for Shown<'_> {
     }
 }
 
-/// Why a write isn't made, or isn't confirmed.
+/// Why a write wasn't made, or can't be confirmed.
 #[derive(Clone, Debug, thiserror::Error)]
 pub enum Refused {
-    /// This server follows.
+    /// This server is a follower.
     #[error("this server follows, and {leader} leads")]
     NotLeader { leader: String },
-    /// The write was made in memory, and may or may not be in the log.
+    /// The write was made in memory, but may or may not be in the log.
     #[error("the write may be in the log or not: {0}")]
     NotSaved(Arc<Error>),
-    /// Nothing was written, because the log can't be written.
+    /// Nothing was written, because the log can't be written to.
     #[error("nothing was written: {0}")]
     Stopped(Arc<Error>),
 }

@@ -1,4 +1,4 @@
-//! Writes that are on their way into the log, and what this server knows about the log.
+//! The queue of writes that are waiting to be added to the log, and what this server knows about the log.
 
 use super::error::{Error, Refused};
 use bestore::{Batch, Keeper, MakeWrite, Written};
@@ -8,24 +8,24 @@ use std::sync::{Arc, Condvar, Mutex, MutexGuard, PoisonError};
 use std::time::{Duration, Instant};
 use tokio::sync::Notify;
 
-/// How many bytes may wait for the log before the next write waits too.
+/// How many bytes may wait for the log before further writes have to wait.
 const WAITING: usize = 16 << 20;
 
-/// How long writes wait for a log that can't be written to.
+/// How long writes wait while the log can't be written to.
 const PATIENCE: Duration = Duration::from_secs(10);
 
-/// The role of a server.
+/// A server's role.
 #[derive(Clone, Copy, Debug, PartialEq, Eq)]
 pub enum Role {
     Follower,
-    /// The term: the number of leaders so far.
+    /// The leader of this term. The term is the number of leaders so far.
     Leader {
         term: u64,
     },
 }
 
 impl Role {
-    /// Reports the server's role from now on.
+    /// Reports the server's new role.
     pub fn say(self, leader: &str) {
         match self {
             Role::Leader { term } => eprintln!("bestored: this server leads the log, in term {term}"),
@@ -34,7 +34,7 @@ impl Role {
     }
 }
 
-/// Since when the log couldn't be read or written, and why.
+/// Why the log can't be read or written, and since when.
 #[derive(Clone, Debug)]
 pub struct Trouble {
     pub since: Instant,
@@ -54,25 +54,26 @@ pub struct State {
     pub leader: String,
     /// The number of the last entry in memory.
     pub written: u64,
-    /// The number of the last entry that is in memory and in the log.
+    /// The number of the last entry that is both in memory and in the log.
     pub saved: u64,
-    /// For a follower: the number of the last entry that the log was known to have.
+    /// On a follower, the number of the last entry that the log was known to have.
     pub last: u64,
     pub trouble: Option<Trouble>,
     waiting: Vec<Row>,
     waiting_bytes: usize,
-    /// Whether the server is ending.
+    /// Whether the server is shutting down.
     is_closing: bool,
-    /// How many times someone has asked whether this server still leads, and the last question whose answer was yes.
+    /// How many times someone has asked whether this server still leads, and the number of the last question that was answered
+    /// with yes.
     asked: u64,
     confirmed: u64,
-    /// Whether reading and writing have ended.
+    /// Whether the log's thread has ended.
     is_over: bool,
     failed: Option<Arc<Error>>,
 }
 
 impl State {
-    /// Returns why nothing can be written, if that is so.
+    /// Returns why writes are refused, or `None` if they aren't.
     fn refused(&self) -> Option<Refused> {
         if let Some(error) = &self.failed {
             return Some(Refused::Stopped(error.clone()));
@@ -86,7 +87,7 @@ impl State {
         }
     }
 
-    /// Returns why the waiting writes are given up.
+    /// Returns why the waiting writes have been given up, or `None` if they haven't.
     fn given_up(&self) -> Option<Arc<Error>> {
         let trouble = self.trouble.as_ref().filter(|trouble| trouble.is_long());
         self.failed
@@ -95,18 +96,18 @@ impl State {
     }
 }
 
-/// The writes, in order. The thread of the log takes them.
+/// The queue of writes, in order. The log's thread takes them from it.
 #[derive(Debug)]
 pub struct Line {
     state: Mutex<State>,
     changed: Condvar,
     work: Notify,
-    /// What to add to a commit number of the store to get the number in the log.
+    /// The difference between an entry's number in the log and its commit number in the store.
     shift: u64,
 }
 
 impl Line {
-    /// Makes the line for a store whose last commit has the number `commit`, and which contains the log's entries up to `entry`.
+    /// Creates the queue for a store whose last commit is `commit` and which contains the log's entries up to `entry`.
     pub fn new(role: Role, leader: String, entry: u64, commit: u64) -> Self {
         role.say(&leader);
         let state = State {
@@ -141,19 +142,19 @@ impl Line {
         waited.unwrap_or_else(PoisonError::into_inner).0
     }
 
-    /// Changes the state, and wakes everyone who is waiting for a change.
+    /// Changes the state, and wakes every thread that is waiting for a change.
     pub fn change<T>(&self, change: impl FnOnce(&mut State) -> T) -> T {
         let changed = change(&mut self.lock());
         self.changed.notify_all();
         changed
     }
 
-    /// Returns the number in the log for the entry with this commit number.
+    /// Returns the log's number for the entry with this commit number.
     pub fn entry(&self, commit: u64) -> u64 {
         commit.wrapping_add(self.shift)
     }
 
-    /// Returns the commit number for this entry in the log.
+    /// Returns the commit number of this entry in the log.
     pub fn commit(&self, entry: u64) -> u64 {
         entry.wrapping_sub(self.shift)
     }
@@ -165,13 +166,13 @@ impl Line {
         mem::take(&mut state.waiting)
     }
 
-    /// Waits until there may be writes, or for this time.
+    /// Waits until there may be writes, but no longer than `within`.
     pub async fn work(&self, within: Duration) {
-        // Either can come first.
+        // It doesn't matter which comes first.
         let _ = tokio::time::timeout(within, self.work.notified()).await;
     }
 
-    /// Records that the entries up to this one are in memory and in the log.
+    /// Records that the entries up to this one are both in memory and in the log.
     pub fn saved(&self, number: u64) {
         self.change(|state| {
             state.saved = number;
@@ -180,7 +181,7 @@ impl Line {
         });
     }
 
-    /// Records that the log hasn't been readable or writable since then. Returns whether this is news.
+    /// Records that the log hasn't been readable or writable since this time. Returns whether this was unknown until now.
     pub fn trouble(&self, error: Error, since: Instant) -> bool {
         let why = Arc::new(error);
         self.change(|state| match &mut state.trouble {
@@ -195,13 +196,13 @@ impl Line {
         })
     }
 
-    /// Refuses a write if this server can't make it now.
+    /// Returns an error if this server can't make a write now.
     pub fn check(&self) -> Result<(), Refused> {
         self.lock().refused().map_or(Ok(()), Err)
     }
 
-    /// Waits until it is certain that this server led at some moment after the call, so that it knows everything that was in the log
-    /// before.
+    /// Waits until it is certain that this server was the leader at some moment after the call, and so knows every entry that was
+    /// in the log before the call.
     pub fn confirm(&self) -> Result<(), Refused> {
         let mut state = self.lock();
         state.asked += 1;
@@ -219,13 +220,13 @@ impl Line {
         Ok(())
     }
 
-    /// Returns the number of the last question, if someone is waiting for an answer.
+    /// Returns the number of the last question, if anyone is waiting for an answer.
     pub fn asked(&self) -> Option<u64> {
         let state = self.lock();
         (state.confirmed < state.asked).then_some(state.asked)
     }
 
-    /// Records that this server has led since the question with this number.
+    /// Records that this server has been the leader since the question with this number was asked.
     pub fn confirmed(&self, asked: Option<u64>) {
         if let Some(asked) = asked {
             self.change(|state| state.confirmed = state.confirmed.max(asked));
@@ -249,7 +250,8 @@ impl Line {
         Ok(state)
     }
 
-    /// Waits until this server has the entry with this number, for a limited time. Returns the last entry that it has.
+    /// Waits, but no longer than `within`, until this server has the entry with this number. Returns the number of the last entry
+    /// that it has.
     pub fn wait_for(&self, number: u64, within: Duration) -> u64 {
         let until = Instant::now() + within;
         let mut state = self.lock();
@@ -263,18 +265,18 @@ impl Line {
         state.saved
     }
 
-    /// Records that nothing more can be read or written.
+    /// Records that the log can no longer be read or written.
     pub fn fail(&self, error: Error) {
         self.change(|state| state.failed = Some(Arc::new(error)));
     }
 
-    /// Lets the thread of the log end after the waiting writes.
+    /// Lets the log's thread end once it has added the waiting writes.
     pub fn close(&self) {
         self.change(|state| state.is_closing = true);
         self.work.notify_one();
     }
 
-    /// Returns whether the thread has to end, because there is nothing left to write or the wait has been too long.
+    /// Returns whether the thread must end, because there is nothing left to write or it has been trying for too long.
     pub fn is_at_end(&self) -> bool {
         let state = self.lock();
         state.is_closing && (state.written == state.saved || state.given_up().is_some())
@@ -295,7 +297,7 @@ impl Line {
         });
     }
 
-    /// Waits for the end of the thread. Returns why it failed, if it did.
+    /// Waits until the thread has ended. Returns the error if it failed.
     pub fn wait_end(&self) -> Result<(), Arc<Error>> {
         let mut state = self.lock();
         while !state.is_over {
@@ -322,7 +324,7 @@ impl Keeper for Line {
                 state.waiting_bytes += row.batch.len();
                 state.waiting.push(row);
             }
-            // A batch that the store has accepted can be encoded, if there is memory. Nothing may follow a missing entry.
+            // A batch that the store has accepted can always be encoded, unless memory runs out. No entry may follow a missing one.
             Err(error) => {
                 let error = state.failed.insert(Arc::new(Error::Store(error)));
                 return Err(Refused::NotSaved(error.clone()).into());

@@ -1,4 +1,4 @@
-//! What the log's thread does: it follows, and it leads.
+//! The work of the log's thread: following and leading.
 
 use super::database::{Database, Entry, Head, ENTRIES};
 use super::error::{Error, Result};
@@ -18,32 +18,32 @@ use std::time::{Duration, Instant};
 /// How often a follower checks whether anyone leads.
 const LOOK: Duration = Duration::from_millis(100);
 
-/// How often a leader that has nothing to write checks whether it still leads.
+/// How often a leader with nothing to write checks whether it still leads.
 const LEADING: Duration = Duration::from_secs(1);
 
-/// A follower takes over after the leader has been silent for this many seconds, so that some server leads within 10 seconds
-/// after a leader is paused. A database call that begins one second after the leader's last report takes less time than this.
+/// How many seconds a leader may be silent before a follower takes over. When a leader is paused, some server leads again within
+/// 10 seconds. A database call that begins one second after the leader's last report ends before this time is up.
 const LEASE: f64 = 9.0;
 
-/// How long a follower gives the leader to come back after the connection to the database has broken.
+/// How long a follower waits for the leader to come back after the connection to the database has broken.
 const GRACE: Duration = Duration::from_secs(3);
 
-/// How long to retry entries that find no free page, while clients' snapshots keep pages.
+/// How long to retry an entry that finds no free page while clients' snapshots hold pages.
 const FOR_PAGES: Duration = Duration::from_secs(60);
 
-/// The leader writes the state after this many entries.
+/// The number of entries after which the leader writes the state.
 const STATE_EVERY: u64 = 100_000;
 
-/// Why a turn of the thread ends.
+/// Why following or leading has ended.
 #[derive(Clone, Copy, Debug, PartialEq, Eq)]
 enum Turn {
-    /// The role has changed.
+    /// The server's role has changed.
     Next,
-    /// The server ends.
+    /// The server is shutting down.
     End,
 }
 
-/// A server as a member of the group that shares a log.
+/// A server as a member of the group of servers that share a log.
 #[derive(Debug)]
 pub struct Member {
     access: Access,
@@ -51,20 +51,20 @@ pub struct Member {
     tokens: Arc<Tokens>,
     database: Database,
     pass: Pass,
-    /// The identity of the log.
+    /// The log's identity.
     log: String,
-    /// The writes that are being added.
+    /// The writes that are being added to the log.
     sending: Vec<Row>,
     /// The number of the last entry that the state contains, as far as this server knows.
     state: u64,
-    /// The earliest time at which a follower may lead.
+    /// The earliest time at which this server may lead, while it is a follower.
     may_lead: Instant,
-    /// When the last database call that may fail began.
+    /// When the last attempt to use the database began.
     tried: Instant,
 }
 
 impl Member {
-    /// Connects, and rebuilds the store. Leading is refused while another server leads.
+    /// Connects to the database and rebuilds the store. Fails if this server is to lead but another server already leads.
     pub async fn begin(access: Access, mut pass: Pass, tokens: Arc<Tokens>, leads: bool) -> Result<(Self, Arc<Line>)> {
         let mut database = Database::connect(&access.config).await?;
         if leads {
@@ -97,7 +97,7 @@ impl Member {
         Ok((member, line))
     }
 
-    /// Follows and leads until the server ends, or until this is no longer possible.
+    /// Follows and leads until the server shuts down or can no longer use the log.
     pub async fn run(&mut self, shared: &Arc<Shared>) -> Result<()> {
         loop {
             let role = self.line.lock().role;
@@ -119,7 +119,7 @@ impl Member {
         }
     }
 
-    /// Reports once that the log can't be read or written.
+    /// Records that the log can't be read or written, and reports this the first time.
     fn note(&self, error: Error) {
         let text = error.to_string();
         if self.line.trouble(error, self.tried) {
@@ -127,9 +127,9 @@ impl Member {
         }
     }
 
-    /// Tries to connect until it succeeds. For a leader, the log then has to be unchanged.
+    /// Tries to connect until it succeeds. If this server leads, the log must then be unchanged.
     async fn connect_again(&mut self, role: Role) -> Result<Turn> {
-        // Otherwise a session that hangs and resumes later would keep the lock.
+        // If the old session stayed open, it could hang, resume later, and still hold the lock.
         self.database.close();
         loop {
             if self.line.is_at_end() || role == Role::Follower && self.line.is_closing() {
@@ -157,7 +157,7 @@ impl Member {
         }
     }
 
-    /// Returns whether it is the same log, with all entries that this server knows.
+    /// Returns an error unless this is the same log as before and has all entries that this server knows.
     fn check(&self, head: &Head) -> Result<()> {
         let known = self.line.lock().saved;
         if head.log != self.log {
@@ -172,7 +172,7 @@ impl Member {
         }
     }
 
-    /// Gets new entries and applies them. Leads once no one does.
+    /// Reads new entries and applies them, until no other server leads and this one takes over.
     async fn follow(&mut self, shared: &Shared) -> Result<Turn> {
         self.database.listen().await?;
         let mut looked = None;
@@ -201,8 +201,8 @@ impl Member {
         Ok(Turn::End)
     }
 
-    /// Takes the lock if nobody holds it, or if its owner has been silent for too long, for example on a paused machine. Whatever such a
-    /// leader tries to add later has an old term, and so isn't added.
+    /// Takes the lock if nobody holds it, or if its owner has been silent for too long, for example because its machine is paused.
+    /// If such a leader tries to add entries later, its term is out of date, so they aren't added.
     async fn gets_lock(&self, head: &Head) -> Result<bool> {
         if head.silence.map_or(false, |silence| silence >= LEASE) && self.database.end_leader(LEASE).await? {
             eprintln!(
@@ -213,7 +213,7 @@ impl Member {
         self.database.try_lock().await
     }
 
-    /// Ends the term of the last leader, applies everything that it has added, and leads.
+    /// Ends the last leader's term, applies every entry that it has added, and makes this server the leader.
     async fn take_over(&mut self, shared: &Shared) -> Result<()> {
         let head = take_term(&self.database, &self.access, false).await?;
         self.check(&head)?;
@@ -228,12 +228,12 @@ impl Member {
         Ok(())
     }
 
-    /// Gives up a store that was carried on. If this fails, it is tried again.
+    /// Releases the earlier memory of a store that was carried on. If this fails, it is retried later.
     fn let_go(&mut self) {
         let _ = self.pass.follow();
     }
 
-    /// Applies all entries up to this one, which is in the log.
+    /// Applies the log's entries up to this one.
     async fn apply_to(&mut self, last: u64, shared: Option<&Shared>) -> Result<()> {
         self.apply_new(shared).await?;
         let known = self.line.lock().saved;
@@ -243,13 +243,13 @@ impl Member {
         }
     }
 
-    /// Applies the entries in the log.
+    /// Applies all new entries in the log.
     async fn apply_new(&mut self, shared: Option<&Shared>) -> Result<()> {
         while self.apply_some(shared).await? == ENTRIES {}
         Ok(())
     }
 
-    /// Applies some of the entries in the log. Returns how many.
+    /// Applies the next entries in the log, and returns how many there were.
     async fn apply_some(&mut self, shared: Option<&Shared>) -> Result<usize> {
         let known = self.line.lock().saved;
         let entries = self.database.entries(known).await?;
@@ -264,7 +264,7 @@ impl Member {
         Ok(entries.len())
     }
 
-    /// Applies an entry, and compares its outcome with the leader's.
+    /// Applies an entry, and compares the outcome with the leader's.
     fn apply(&self, number: u64, entry: &Entry, pressure: Option<&Pressure>) -> Result<()> {
         let place = Place::Entry(number);
         if entry.number != number {
@@ -287,14 +287,14 @@ impl Member {
         }
     }
 
-    /// Records an entry's token, for a client that sends it to this server.
+    /// Remembers an entry's token, in case a client sends the batch again to this server.
     fn add_token(&self, entry: &Entry, written: &Written) {
         if let Some(token) = &entry.token {
             self.tokens.add(token.as_str().into(), volumes::shown(None, written));
         }
     }
 
-    /// Applies a batch. If clients' snapshots hold pages, waits for a while.
+    /// Applies a batch. While clients' snapshots hold the pages that it needs, retries for a limited time.
     fn apply_with(&self, pressure: &Pressure, batch: &Batch) -> bestore::Result<Written> {
         let until = Instant::now() + FOR_PAGES;
         loop {
@@ -309,8 +309,8 @@ impl Member {
         }
     }
 
-    /// Adds writes to the log until another server leads or this one ends. By then, live queries may have stopped waiting for
-    /// entries to be in the log.
+    /// Adds writes to the log until another server leads or this one shuts down. First wakes the live queries, which may have
+    /// stopped waiting for their entries to reach the log.
     async fn lead(&mut self, term: u64, shared: &Arc<Shared>) -> Result<Turn> {
         shared.watcher.written();
         loop {
@@ -332,7 +332,7 @@ impl Member {
         }
     }
 
-    /// Adds the entries up to this one to the log.
+    /// Adds the entries up to `last` to the log.
     async fn send(&mut self, term: u64, last: u64) -> Result<()> {
         let before = self.line.lock().saved;
         let asked = self.line.asked();
@@ -348,7 +348,7 @@ impl Member {
                 let head = self.database.head().await?;
                 self.settle(&head, term)
             }
-            // PostgreSQL has refused the statement, for example because the disk is full: nothing was added.
+            // PostgreSQL has refused the statement, for example because its disk is full, so nothing was added.
             Err(error @ Error::Database(_)) if !self.database.is_closed() && is_refusal(&error) => {
                 self.note(error);
                 tokio::time::sleep(REST).await;
@@ -358,7 +358,7 @@ impl Member {
         }
     }
 
-    /// Waits for writes, and checks whether this server still leads.
+    /// Waits for writes, and checks from time to time whether this server still leads.
     async fn rest(&mut self, term: u64) -> Result<()> {
         let begin = Instant::now();
         self.line.work(LEADING).await;
@@ -381,7 +381,7 @@ impl Member {
         }
     }
 
-    /// Returns why this server no longer leads.
+    /// Returns the error that says who leads instead of this server.
     fn deposed(&self, head: &Head) -> Error {
         let state = self.line.lock();
         Error::Deposed {
@@ -390,8 +390,8 @@ impl Member {
         }
     }
 
-    /// Finds out from the head whether the entries that were sent are in the log, if this server still leads in this term. If it
-    /// does, no one else can have added any.
+    /// Finds out from the head whether the entries that were sent are in the log. Returns an error if this server no longer leads in
+    /// this term. If it does, no other server can have added entries.
     fn settle(&mut self, head: &Head, term: u64) -> Result<()> {
         self.check(head)?;
         if (&head.run, head.term) != (&self.access.run, term) {
@@ -411,7 +411,7 @@ impl Member {
         Ok(())
     }
 
-    /// Takes the lock again and ends its own term, since the old session may still add entries.
+    /// Takes the lock again and begins a new term, because the old session could still add entries in the old one.
     async fn lead_again(&mut self, database: &Database) -> Result<()> {
         if !database.try_lock().await? {
             let head = database.head().await?;
@@ -431,7 +431,7 @@ impl Member {
         Ok(())
     }
 
-    /// Has another thread write the state, if there are many entries since the last one.
+    /// Starts another thread that writes the state, if many entries have been added since the last state.
     fn write_state_if_due(&mut self, shared: &Arc<Shared>) {
         let saved = self.line.lock().saved;
         if saved - self.state < STATE_EVERY {
@@ -453,7 +453,7 @@ impl Member {
     }
 }
 
-/// Returns whether PostgreSQL has refused the statement although the connection still works.
+/// Returns whether the error comes from PostgreSQL itself, rather than from a broken connection.
 fn is_refusal(error: &Error) -> bool {
     matches!(error, Error::Database(error) if error.code().is_some())
 }
@@ -463,7 +463,7 @@ async fn take_term(database: &Database, access: &Access, again: bool) -> Result<
     taken.ok_or(Error::Foreign)
 }
 
-/// Takes the lock for a server that is starting.
+/// Takes the lock and begins a term for a server that starts as leader.
 async fn lead_first(database: &Database, access: &Access) -> Result<Role> {
     let until = Instant::now() + FOR_LOCK;
     while !database.try_lock().await? {

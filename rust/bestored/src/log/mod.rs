@@ -1,8 +1,8 @@
-//! A log in PostgreSQL that several machines share. One server leads: it writes, and adds each accepted transaction to the log before it
-//! replies. The others follow: they apply the entries in order, and compare each outcome with the leader's.
+//! A log in PostgreSQL that several machines share. One server leads: it makes the writes, and adds each accepted transaction to
+//! the log before it replies. The others follow: they apply the entries in order, and compare each outcome with the leader's.
 //!
-//! The leader holds an advisory lock in the database, so there is only one leader. But it is the statement that adds entries
-//! which ensures that no one else writes: it adds them only in the last term, and only after the last entry.
+//! The leader holds an advisory lock in the database, so that there is only one leader. What ensures that no other server writes,
+//! however, is the statement that adds entries: it adds them only in the last term, and only after the last entry.
 
 mod access;
 mod database;
@@ -32,10 +32,10 @@ use std::thread;
 use std::time::Duration;
 use tokio::runtime::{Builder, Runtime};
 
-/// How long a starting leader waits for the lock, since a killed leader's session may end slightly later.
+/// How long a starting leader waits for the lock. The session of a leader that was killed may end slightly after the leader.
 const FOR_LOCK: Duration = Duration::from_secs(5);
 
-/// How long to rest before trying again after a failure.
+/// How long to wait after a failure before retrying.
 const REST: Duration = Duration::from_millis(200);
 
 fn runtime() -> Result<Runtime> {
@@ -45,23 +45,23 @@ fn runtime() -> Result<Runtime> {
         .map_err(Error::Thread)
 }
 
-/// The store of a server that leads or follows.
+/// The log, and the store of a server that leads or follows.
 #[derive(Debug)]
 pub struct Log {
     store: Store,
-    /// The store as the one volume of the server.
+    /// The store, as the server's only volume.
     shelf: Shelf,
     line: Arc<Line>,
     access: Access,
-    /// Held while the state is written.
+    /// Locked while the state is being written.
     writing_state: Mutex<()>,
-    /// What the thread starts with.
+    /// What the thread needs when it starts.
     begun: Mutex<Option<(Runtime, Member)>>,
 }
 
 impl Log {
     /// Connects, retrying while the database can't be reached, and rebuilds the store up to the end of the log. Returns `None` if
-    /// a signal came first.
+    /// a signal arrives first.
     pub fn open(opening: Opening<'_>) -> Result<Option<Self>> {
         let options = opening.options;
         let in_log = options.log.as_ref().ok_or(Error::NoLog)?;
@@ -83,7 +83,7 @@ impl Log {
         }
     }
 
-    /// Connects once. Leading is refused while another server leads.
+    /// Connects without retrying. Fails if this server is to lead but another server already leads.
     fn begin(options: &Options, access: &Access, tokens: &Arc<Tokens>, leads: bool) -> Result<Self> {
         let store = Store::open(options.limits())?;
         let pass = store.pass()?;
@@ -99,17 +99,17 @@ impl Log {
         })
     }
 
-    /// Returns the store as the one volume of the server.
+    /// Returns the store, as the server's only volume.
     pub fn shelf(&self) -> &Shelf {
         &self.shelf
     }
 
-    /// Takes a pass, whose writes are added to the log.
+    /// Takes a pass. Writes through it are added to the log.
     pub fn pass(&self) -> bestore::Result<ShelfPass> {
         Ok(self.shelf.pass()?.kept_by(|_| self.line.clone()))
     }
 
-    /// Starts the thread of the log, which runs until `finish`. If it fails, the program ends.
+    /// Starts the log's thread, which runs until [`finish`](Self::finish) is called. If the thread fails, the program ends.
     pub fn start(shared: &Arc<Shared>) -> std::io::Result<()> {
         let shared = shared.clone();
         let thread = thread::Builder::new().name("log".into());
@@ -134,27 +134,27 @@ impl Log {
         }
     }
 
-    /// Returns the number in the log for the entry with this commit number.
+    /// Returns the log's number for the entry with this commit number.
     pub fn entry(&self, commit: u64) -> u64 {
         self.line.entry(commit)
     }
 
-    /// Refuses a write that this server can't make now, for example because it follows.
+    /// Returns an error if this server can't make a write now, for example because it follows.
     pub fn check(&self) -> std::result::Result<(), Refused> {
         self.line.check()
     }
 
-    /// Waits until it is certain that this server led after the call.
+    /// Waits until it is certain that this server was the leader at some moment after the call.
     pub fn confirm(&self) -> std::result::Result<(), Refused> {
         self.line.confirm()
     }
 
-    /// Waits until everything written is in the log.
+    /// Waits until everything written so far is in the log.
     pub fn flush(&self) -> std::result::Result<(), Refused> {
         self.line.flush()
     }
 
-    /// Waits until this server has the entry with this number, for a limited time, and returns what the server is doing.
+    /// Waits for a limited time until this server has the requested entry, and returns the server's status.
     pub fn status(&self, wanted: &wire::OfLog) -> std::result::Result<wire::LogStatus, Failure> {
         if let Some(entry) = wanted.entry {
             let found = self.line.wait_for(entry, within(wanted.within)?);
@@ -177,7 +177,7 @@ impl Log {
         })
     }
 
-    /// Returns what the server is doing, and how many entries it still lacks.
+    /// Returns the server's role, and how many entries it still lacks.
     pub fn role(&self) -> wire::Role {
         let state = self.line.lock();
         let (role, term, last) = match state.role {
@@ -192,7 +192,7 @@ impl Log {
         }
     }
 
-    /// Returns why the database can't be read or written, if that is so.
+    /// Returns why the log can't be read or written, or `None` if it can.
     pub fn trouble(&self) -> Option<String> {
         let state = self.line.lock();
         state.trouble.as_ref().map(|trouble| trouble.why.to_string())
@@ -219,7 +219,7 @@ impl Log {
         let batches = state.batches.iter().map(Batch::to_bytes);
         let batches = batches.collect::<bestore::Result<Vec<_>>>()?;
         let number = self.line.entry(state.number);
-        // The snapshot may have later writes than the log has.
+        // The snapshot may contain writes that aren't in the log yet.
         self.line.wait_for(number, FOR_LOCK);
         runtime()?.block_on(async {
             let database = self.access.connect().await?;
@@ -233,14 +233,14 @@ impl Log {
         })
     }
 
-    /// Ends the thread after the waiting writes.
+    /// Ends the thread once it has added the waiting writes.
     pub fn finish(&self) -> std::result::Result<(), Arc<Error>> {
         self.line.close();
         self.line.wait_end()
     }
 }
 
-/// Marks the end of the thread, even if it panics.
+/// Records the thread's end when it is dropped, even if the thread panics.
 struct Ending<'a>(&'a Line);
 
 impl Drop for Ending<'_> {
@@ -253,7 +253,7 @@ impl Drop for Ending<'_> {
     }
 }
 
-/// Returns how long to wait for an entry, given in milliseconds.
+/// Returns how long to wait for an entry, from a number of milliseconds.
 fn within(milliseconds: Option<u64>) -> std::result::Result<Duration, Failure> {
     match milliseconds.unwrap_or(5_000) {
         time @ 0..=60_000 => Ok(Duration::from_millis(time)),

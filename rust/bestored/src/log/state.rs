@@ -1,4 +1,4 @@
-//! The state: batches that rebuild a store, so that the server doesn't have to repeat all entries when it starts.
+//! The log's state: batches that rebuild a store, so that a server doesn't have to apply every entry when it starts.
 
 use super::database::{Database, ENTRIES};
 use super::error::{Error, Result};
@@ -7,7 +7,7 @@ use crate::volumes;
 use bestore::saved::Place;
 use bestore::{Batch, Operation, Pass, Written};
 
-/// Applies the state in the log to an empty store. Returns the number of the last entry that the state contains.
+/// Applies the log's state to an empty store. Returns the number of the last entry that the state contains.
 pub async fn load(database: &mut Database, pass: &mut Pass) -> Result<u64> {
     let (head, batches) = database.state().await?;
     for (index, bytes) in (0..).zip(&batches) {
@@ -25,7 +25,8 @@ pub async fn load(database: &mut Database, pass: &mut Pass) -> Result<u64> {
     Ok(head.entries)
 }
 
-/// Adds the tokens of entries that the state contains. `entries` is the last such entry, and `commit` is the state's commit number.
+/// Adds the tokens of the entries that the state contains. `entries` is the number of the last such entry, and `commit` is the
+/// state's commit number.
 pub async fn load_tokens(database: &Database, entries: u64, commit: u64, tokens: &Tokens) -> Result<()> {
     let mut after = 0;
     loop {

@@ -6,23 +6,23 @@ use std::io::{BufRead, BufReader};
 use std::path::{Path, PathBuf};
 use std::process::{Child, Command, Stdio};
 
-/// Mounts an in-memory file system, says so, and keeps the namespace until its input is closed.
+/// A command that mounts an in-memory file system, prints that it is mounted, and keeps the namespace until its input is closed.
 const HOLD: &str = "mount -t tmpfs -o size=8m tmpfs \"$1\" && echo mounted && exec cat";
 
-/// Runs a program whose files can have up to this many blocks of 512 bytes.
+/// A command that runs a program whose files may have up to this many blocks of 512 bytes.
 const LIMITED: &str = "trap '' XFSZ && ulimit -f \"$1\" && shift && exec \"$@\"";
 
 /// A disk whose size can be changed.
 #[derive(Debug)]
 pub enum Disk {
-    /// An in-memory file system in its own namespace. It ends with the process that keeps the namespace.
+    /// An in-memory file system in its own namespace. It exists for as long as the process that keeps the namespace runs.
     Mounted {
         folder: Folder,
         holder: Child,
-        /// Options of `nsenter`.
+        /// The options for `nsenter`.
         enter: Vec<String>,
     },
-    /// A folder whose files can have up to this many KiB.
+    /// A folder whose files may have up to this many KiB.
     Limited { folder: Folder, size: Cell<u64> },
 }
 
@@ -36,7 +36,7 @@ impl Drop for Disk {
 }
 
 impl Disk {
-    /// Mounts a file system, if this user may: root may, and so may any user who can create a user namespace.
+    /// Mounts a file system, if this user is allowed to: root is, and so is any user who can create a user namespace.
     pub fn mounted() -> Option<Self> {
         Self::held(&["--mount"], &[]).or_else(|| {
             let entered = ["--user", "--preserve-credentials"];
@@ -63,7 +63,7 @@ impl Disk {
         (said == "mounted\n" && disk.run("true").status().map_or(false, |status| status.success())).then_some(disk)
     }
 
-    /// A folder whose files can have up to 8 MiB.
+    /// Returns a folder whose files may have up to 8 MiB.
     pub fn limited() -> Self {
         Disk::Limited {
             folder: Folder::in_memory(),
@@ -77,12 +77,12 @@ impl Disk {
         }
     }
 
-    /// A file's path, as seen by a program that `run` starts.
+    /// Returns a file's path as it is seen by a program that `run` starts.
     pub fn join(&self, name: &str) -> PathBuf {
         self.folder().join(name)
     }
 
-    /// A program that sees this disk.
+    /// Returns a command for a program that can use this disk.
     pub fn run(&self, program: &str) -> Command {
         match self {
             Disk::Mounted { enter, .. } => {
@@ -112,7 +112,7 @@ impl Disk {
     /// Sets the size, in KiB.
     pub fn resize(&self, kib: u64) {
         match self {
-            // With the type and the source given, the current options needn't be repeated.
+            // Because the command gives the type and the source, it needn't repeat the current options.
             Disk::Mounted { .. } => {
                 let options = format!("remount,size={kib}k");
                 self.output("mount", &["-t", "tmpfs", "-o", &options, "tmpfs"]);
@@ -121,7 +121,7 @@ impl Disk {
         }
     }
 
-    /// How many KiB the files take.
+    /// Returns how many KiB the files take.
     pub fn used(&self) -> u64 {
         let said = self.output("du", &["-k", "-s"]);
         said.split_whitespace().next().unwrap().parse().unwrap()

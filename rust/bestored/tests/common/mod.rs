@@ -1,4 +1,4 @@
-//! A test's server, in its own folder. Not every test uses all of this.
+//! A test's server, in a folder of its own. Not every test uses everything in here.
 #![allow(dead_code)]
 
 pub mod disk;
@@ -20,7 +20,7 @@ use std::sync::{Mutex, MutexGuard, PoisonError};
 use std::thread;
 use std::time::{Duration, Instant, SystemTime};
 
-/// How long a server may take for anything. It is slow under memcheck and on a busy machine.
+/// The maximum time to wait for a server to do anything. It is slow under memcheck and on a busy machine.
 pub const PATIENCE: Duration = Duration::from_secs(300);
 
 /// A folder that is removed when the test ends.
@@ -32,7 +32,7 @@ impl Folder {
         Self::new_in(&std::env::temp_dir())
     }
 
-    /// A folder in memory if possible. Its contents outlive a killed process.
+    /// Creates a folder, in memory if possible. Its contents survive when a process is killed.
     pub fn in_memory() -> Self {
         match Path::new("/dev/shm") {
             memory if memory.is_dir() => Self::new_in(memory),
@@ -89,7 +89,7 @@ pub fn start(options: &[&str]) -> (Folder, Server) {
     (folder, server)
 }
 
-/// The command that starts a server at this socket.
+/// Returns the command that starts a server at this socket.
 pub fn command(socket: &Path, options: &[&str]) -> Command {
     let mut command = Command::new(env!("CARGO_BIN_EXE_bestored"));
     command.arg("--socket").arg(socket).args(options);
@@ -124,7 +124,7 @@ impl Drop for Server {
 }
 
 impl Server {
-    /// Starts a server in the folder, and waits until it listens.
+    /// Starts a server in the folder, and waits until it is listening.
     pub fn start(folder: &Folder, options: &[&str]) -> Self {
         let server = Self::start_only(folder, options);
         wait_until("the server listens", || UnixStream::connect(&server.socket).is_ok());
@@ -137,7 +137,7 @@ impl Server {
         Self::start(folder, &[options, &["--keep", keep.to_str().unwrap()]].concat())
     }
 
-    /// Starts a server in the folder.
+    /// Starts a server in the folder, without waiting for it.
     pub fn start_only(folder: &Folder, options: &[&str]) -> Self {
         let socket = folder.join("socket");
         Self::run(command(&socket, options), &socket)
@@ -156,7 +156,7 @@ impl Server {
         self.child.lock().unwrap_or_else(PoisonError::into_inner)
     }
 
-    /// Waits until the server answers. Returns `false` if it has ended instead.
+    /// Waits until the server answers, and returns `true`. Returns `false` if the server has ended.
     pub fn answers(&self) -> bool {
         let mut is_there = false;
         wait_until("the server answers or ends", || {
@@ -180,7 +180,7 @@ impl Server {
         Client::connect(&self.socket).unwrap()
     }
 
-    /// A client that retries while there is no free pass.
+    /// Returns a client that retries while no pass is free.
     pub fn patient_client(&self) -> Client {
         let mut client = self.client();
         wait_until("there is a pass", || match client.hello() {
@@ -197,7 +197,7 @@ impl Server {
         Talk::new(UnixStream::connect(&self.socket).unwrap())
     }
 
-    /// Kills the server, even while others use it, and waits until it has ended.
+    /// Kills the server, even while other threads are using it, and waits until it has ended.
     pub fn kill(&self) {
         let mut child = self.child();
         // This fails if the server has already ended.
@@ -212,7 +212,7 @@ impl Server {
         assert!(sent.unwrap().success());
     }
 
-    /// Stops the server, and waits until none of its threads runs. The signal CONT resumes it.
+    /// Stops the server, and waits until none of its threads is running. The signal CONT resumes it.
     pub fn stop(&self) {
         self.signal("STOP");
         let tasks = format!("/proc/{}/task", self.child().id());
@@ -237,7 +237,7 @@ impl Server {
         self.child().wait().unwrap()
     }
 
-    /// The most memory that the server has used, in KiB.
+    /// Returns the maximum memory that the server has used, in KiB.
     pub fn most_memory(&self) -> u64 {
         let status = fs::read_to_string(format!("/proc/{}/status", self.child().id())).unwrap();
         let line = status.lines().find(|line| line.starts_with("VmHWM:")).unwrap();
@@ -263,7 +263,7 @@ impl Talk {
         BufReader::new(Cursor::new(first).chain(stream.try_clone().unwrap()))
     }
 
-    /// Puts bytes that were already read from the stream before the next lines.
+    /// Continues with bytes that have already been read from the stream before it reads the next lines.
     pub fn begin_with(&mut self, first: Vec<u8>) {
         self.reader = Self::reader_of(&self.stream, first);
     }
@@ -272,7 +272,7 @@ impl Talk {
         self.stream.write_all(bytes).unwrap();
     }
 
-    /// Reads the next line, without its newline. Returns an empty text at the end of the stream.
+    /// Reads the next line, and returns it without its newline. Returns an empty string at the end of the stream.
     pub fn line(&mut self) -> String {
         let mut line = String::new();
         match self.reader.read_line(&mut line) {
@@ -288,15 +288,15 @@ impl Talk {
         self.line()
     }
 
-    /// Sends a request, given without `{"id":1,` and `}`, and checks what the reply has after its
-    /// `id`.
+    /// Sends a request, given without `{"id":1,` and `}`, and checks the part of the reply that
+    /// follows its `id`.
     #[track_caller]
     pub fn check(&mut self, request: &str, reply: &str) {
         let said = self.ask(&format!("{{\"id\":1,{request}}}"));
         assert_eq!(said, format!("{{\"id\":1,{reply}}}"), "{request}");
     }
 
-    /// Sends a request as `check` does, and checks that the reply contains each of these parts.
+    /// Sends a request, given as for `check`, and checks that the reply contains each of these parts.
     #[track_caller]
     pub fn check_parts(&mut self, request: &str, parts: &[&str]) {
         let said = self.ask(&format!("{{\"id\":1,{request}}}"));

@@ -1,4 +1,4 @@
-//! A test's PostgreSQL, in its own folder.
+//! A test's PostgreSQL server, in a folder of its own.
 
 use super::{wait_until, Folder};
 use std::fs;
@@ -9,7 +9,7 @@ use std::process::{Child, Command, Stdio};
 use std::sync::atomic::{AtomicU32, Ordering};
 use std::sync::{Arc, Mutex, PoisonError, Weak};
 
-/// The options of each database server.
+/// The options that every database server gets.
 const OPTIONS: [&str; 5] = [
     "listen_addresses=127.0.0.1",
     "max_connections=100",
@@ -35,7 +35,7 @@ impl Drop for Postgres {
     }
 }
 
-/// The folder of the latest installed version.
+/// Returns the folder of the latest installed version.
 fn programs() -> Option<PathBuf> {
     let versions = fs::read_dir("/usr/lib/postgresql").ok()?;
     let programs = versions.flatten().map(|version| version.path().join("bin"));
@@ -44,7 +44,7 @@ fn programs() -> Option<PathBuf> {
     programs.pop()
 }
 
-/// The user that runs PostgreSQL if the tests run as root, since PostgreSQL refuses to run as root.
+/// If the tests run as root, returns another user to run PostgreSQL as, since PostgreSQL refuses to run as root.
 fn other_user() -> Option<(u32, u32)> {
     let status = fs::read_to_string("/proc/self/status").ok()?;
     let ids = status.lines().find_map(|line| line.strip_prefix("Uid:"))?;
@@ -60,14 +60,14 @@ fn other_user() -> Option<(u32, u32)> {
     id_of("postgres").or_else(|| id_of("nobody"))
 }
 
-/// A port that nobody listens on.
+/// Returns a port that nobody is listening on.
 fn free_port() -> u16 {
     let listener = TcpListener::bind("127.0.0.1:0").unwrap();
     listener.local_addr().unwrap().port()
 }
 
 impl Postgres {
-    /// Starts a server in memory. A test kills only the server and not the machine, so nothing has to be on a disk. Returns
+    /// Starts a server in memory. Tests kill only the server and never the machine, so nothing needs to be on a disk. Returns
     /// `None` if PostgreSQL isn't installed.
     pub fn start() -> Option<Arc<Self>> {
         Self::start_in(Folder::in_memory(), "fsync=off")
@@ -78,7 +78,7 @@ impl Postgres {
         Self::start_in(Folder::new(), "fsync=on")
     }
 
-    /// The server that all running tests share.
+    /// Returns the server that all running tests share, and starts it if necessary.
     pub fn shared() -> Option<Arc<Self>> {
         static SHARED: Mutex<Option<Weak<Postgres>>> = Mutex::new(None);
         let mut shared = SHARED.lock().unwrap_or_else(PoisonError::into_inner);
@@ -119,7 +119,7 @@ impl Postgres {
         Some(Arc::new(postgres))
     }
 
-    /// Requires a password from this role over TCP from now on.
+    /// From now on, requires a password from this role over TCP.
     pub fn ask_for_password(&self, role: &str) {
         let path = self.data().join("pg_hba.conf");
         let rules = fs::read_to_string(&path).unwrap();
@@ -127,7 +127,7 @@ impl Postgres {
         self.sql("postgres", "SELECT pg_reload_conf()");
     }
 
-    /// Makes a database.
+    /// Creates a database.
     pub fn database(self: &Arc<Self>) -> Database {
         static LAST: AtomicU32 = AtomicU32::new(0);
         let name = format!("test{}", LAST.fetch_add(1, Ordering::Relaxed));
@@ -169,7 +169,7 @@ impl Postgres {
         });
     }
 
-    /// Ends the server with a signal: INT rolls sessions back, and QUIT acts like a crash.
+    /// Shuts the server down with a signal. INT rolls its sessions back, and QUIT acts like a crash.
     pub fn end(&self, signal: &str) {
         if let Some(mut child) = self.child.lock().unwrap().take() {
             let number = child.id().to_string();
@@ -208,23 +208,23 @@ pub struct Database {
 }
 
 impl Database {
-    /// Its URL over a Unix socket.
+    /// Returns the database's URL over a Unix socket.
     pub fn url(&self) -> String {
         let (folder, port) = (self.postgres.path().display(), self.postgres.port);
         format!("postgresql:///{}?user=bestore&host={folder}&port={port}", self.name)
     }
 
-    /// Its URL over TCP.
+    /// Returns the database's URL over TCP.
     pub fn url_of_tcp(&self) -> String {
         self.url_at(self.postgres.port)
     }
 
-    /// Its URL over TCP, for this role.
+    /// Returns the database's URL over TCP for this role.
     pub fn url_of(&self, role: &str) -> String {
         format!("postgresql://{role}@127.0.0.1:{}/{}", self.postgres.port, self.name)
     }
 
-    /// Its URL through the listener at this port.
+    /// Returns the database's URL through the listener on this port.
     pub fn url_at(&self, port: u16) -> String {
         format!("postgresql://bestore@127.0.0.1:{port}/{}", self.name)
     }

@@ -1,4 +1,4 @@
-//! A TCP connection between a server and its database that breaks when a test says so.
+//! A TCP connection between a server and its database that a test can break.
 
 use std::io::{Read, Write};
 use std::net::{Shutdown, TcpListener, TcpStream};
@@ -6,7 +6,7 @@ use std::sync::atomic::{AtomicU8, Ordering::SeqCst};
 use std::sync::Arc;
 use std::thread;
 
-/// Which bytes are lost when the connection breaks.
+/// The bytes that are lost when the connection breaks.
 #[derive(Clone, Copy, Debug, PartialEq, Eq)]
 pub enum Lost {
     Nothing = 0,
@@ -14,7 +14,7 @@ pub enum Lost {
     Replies = 2,
 }
 
-/// A listener that forwards each connection.
+/// A listener that forwards every connection.
 #[derive(Debug)]
 pub struct Proxy {
     pub port: u16,
@@ -41,18 +41,18 @@ impl Proxy {
         proxy
     }
 
-    /// Drops the next bytes of this kind, and breaks the connection.
+    /// Drops the next bytes of this kind and then breaks the connection.
     pub fn lose(&self, what: Lost) {
         self.lost.store(what as u8, SeqCst);
     }
 
-    /// Whether they have been dropped.
+    /// Returns whether these bytes have been dropped.
     pub fn has_lost(&self) -> bool {
         self.lost.load(SeqCst) == Lost::Nothing as u8
     }
 }
 
-/// Starts a thread that forwards what one side sends to the other.
+/// Starts a thread that forwards the bytes that one side sends to the other.
 fn forward(from: &TcpStream, to: &TcpStream, what: Lost, lost: &Arc<AtomicU8>) {
     let (mut from, mut to, lost) = (from.try_clone().unwrap(), to.try_clone().unwrap(), lost.clone());
     thread::spawn(move || {

@@ -1,4 +1,4 @@
-//! Clients that write until their server is gone, and what they know about their writes.
+//! Clients that write until their server is gone, and that keep track of their writes.
 
 use super::wait_until;
 use bestore::{Batch, Limits, Snapshot, Store};
@@ -9,11 +9,11 @@ use std::path::Path;
 use std::sync::atomic::{AtomicU64, Ordering::Relaxed};
 use std::thread;
 
-/// How many clients write at once.
+/// How many clients write at the same time.
 pub const WRITERS: usize = 8;
 
-/// What a writer knows about its writes: how many were answered, how many were sent, and the node made by the last answered
-/// write, or 0.
+/// What a writer knows about its writes: how many were answered, how many were sent, and the node that the last answered write
+/// created, or 0.
 #[derive(Debug, Default)]
 struct Known {
     answered: AtomicU64,
@@ -22,8 +22,8 @@ struct Known {
 }
 
 impl Known {
-    /// Writes until a write gets no reply or is refused. Each write makes a node, removes the one before, and counts up in the
-    /// writer's own node.
+    /// Writes until a write gets no reply or is refused. Each write creates a node, removes the previous one, and increments a
+    /// counter in the writer's own node.
     fn write(&self, socket: &Path, own: u64) -> Result<Infallible> {
         let mut client = Client::connect(socket)?;
         loop {
@@ -42,16 +42,16 @@ impl Known {
     }
 }
 
-/// The writers. Each has its own node, from 1 on.
+/// The writers. Each has a node of its own, numbered from 1.
 #[derive(Debug, Default)]
 pub struct Writers {
     known: [Known; WRITERS],
-    /// The next node number before they write.
+    /// The next node number before the writers begin.
     first: AtomicU64,
 }
 
 impl Writers {
-    /// Makes the writers' nodes, and others whose texts make the state fairly large.
+    /// Creates the writers' nodes, and others whose strings make the state fairly large.
     pub fn begin(&self, client: &mut Client, others: u64) {
         let mut batch = Batch::new();
         for own in 1..=WRITERS as u64 {
@@ -67,7 +67,7 @@ impl Writers {
         self.first.store(first, Relaxed);
     }
 
-    /// Lets all of them write until each gets an error, and returns these errors.
+    /// Lets all writers write until each gets an error, and returns these errors.
     pub fn write(&self, socket: &Path, meanwhile: impl FnOnce()) -> Vec<Error> {
         thread::scope(|scope| {
             let own = (1..).zip(&self.known);
@@ -79,25 +79,25 @@ impl Writers {
         })
     }
 
-    /// How many writes were answered.
+    /// Returns how many writes have been answered.
     pub fn answered(&self) -> u64 {
         self.known.iter().map(|known| known.answered.load(Relaxed)).sum()
     }
 
-    /// Waits until this many more writes are answered.
+    /// Waits until this many more writes have been answered.
     pub fn wait_for(&self, more: u64) {
         let before = self.answered();
         wait_until("writes are answered", || self.answered() >= before + more);
     }
 
-    /// Whether a write has been sent and isn't answered yet.
+    /// Returns whether a write has been sent but not answered yet.
     pub fn are_writing(&self) -> bool {
         let mut known = self.known.iter();
         known.any(|known| known.sent.load(Relaxed) > known.answered.load(Relaxed))
     }
 
-    /// Compares the store with what was answered: no write is missing, and none was made twice. Returns how many writes each
-    /// writer has.
+    /// Compares the store with the answered writes: no write may be missing, and none may have been made twice. Returns how many of
+    /// each writer's writes the store has.
     pub fn check(&self, client: &mut Client) -> Vec<u64> {
         let next = client.pin().unwrap().next;
         let mut asked = Vec::new();
@@ -114,18 +114,18 @@ impl Writers {
             let last: Option<Result<wire::Attributes>> = last.map(|last| client.receive(last));
             let (answered, sent) = (known.answered.load(Relaxed), known.sent.load(Relaxed));
             assert!(answered <= found && found <= sent, "{answered} <= {found} <= {sent}");
-            // The last answered write's node is there, unless a later write replaced it.
+            // The node of the last answered write exists, unless a later write has replaced it.
             assert!(found > answered || last.map_or(true, |last| last.is_ok()));
             found
         });
         let found: Vec<u64> = found.collect();
-        // Each write made one node.
+        // Each write has created one node.
         assert_eq!(next, self.first.load(Relaxed) + found.iter().sum::<u64>());
         client.unpin().unwrap();
         found
     }
 
-    /// Like `check`, after the server has ended and another has opened its file. From then on, the contents are known.
+    /// Calls `check` once another server has opened the file of one that has ended, and takes the contents as known from then on.
     pub fn go_on(&self, client: &mut Client) {
         for (known, found) in self.known.iter().zip(self.check(client)) {
             if found > known.answered.swap(found, Relaxed) {
@@ -136,8 +136,8 @@ impl Writers {
     }
 }
 
-/// Repeats the server's journal, from its start to the snapshot that is pinned here, in a store of this process. It has to make
-/// the same nodes and reach the same state.
+/// Pins a snapshot, and replays the server's journal up to it in a store in this process. The replay must create the same nodes
+/// and reach the same state.
 pub fn check_history(client: &mut Client) {
     let commit = client.pin().unwrap().commit;
     let limits = Limits {
@@ -167,7 +167,7 @@ fn batches_of(snapshot: &Snapshot<'_>) -> (u64, Vec<Batch>) {
     (snapshot.next_node().unwrap(), batches)
 }
 
-/// The next node number and the batches of the snapshot that the client has pinned.
+/// Returns the next node number and the batches of the snapshot that the client has pinned.
 pub fn state_of(client: &mut Client) -> (u64, Vec<Batch>) {
     let mut batches = Vec::new();
     let mut from = Some(0);
