@@ -17,7 +17,7 @@ use std::io::{self, Read};
 use std::os::unix::ffi::OsStringExt;
 use std::path::Path;
 
-/// Files of this size or larger are refused without being read. The server itself refuses values of more than 255 bytes.
+/// The size from which a file is rejected as too long for a value. The server refuses any value of more than 255 bytes.
 const READ: u64 = 1 << 16;
 
 /// The work of `addattr`, from its parsed command line.

@@ -57,7 +57,7 @@ mod tests {
     use super::*;
     use std::slice::from_ref;
 
-    /// Returns a comparison that extends from the byte `offset` to the end of the text.
+    /// Returns a comparison that takes up the text from the byte `offset` on.
     fn compared(text: &str, offset: usize, value: &str, form: Form) -> Comparison {
         Comparison {
             name: "t".into(),
