@@ -100,7 +100,7 @@ fn program(name: &str) -> Result<PathBuf> {
     Ok(folder.join(name))
 }
 
-/// The paths that `find` prints.
+/// Returns the paths that `find` prints.
 fn find(folder: &str, words: &[&str]) -> Result<BTreeSet<Vec<u8>>> {
     let output = Command::new("find").arg(folder).args(words).arg("-print0").output()?;
     Ok(split(&output.stdout))
@@ -141,7 +141,7 @@ fn compare(server: &Server, folder: &str) -> Result<()> {
     Ok(())
 }
 
-/// A file's row in a table.
+/// A file's row in the SQLite table.
 type Row = Vec<Option<Value>>;
 
 /// Reads the attributes of all files from the store.

@@ -59,7 +59,7 @@ pub enum Failure {
     /// A backup can't be written or read.
     #[error("{}", escaped(&.0.to_string()))]
     Backup(#[from] saved::Error),
-    /// The server refuses a batch of a backup.
+    /// The server refused a batch of a backup.
     #[error(
         "{place}: {}\n  the server has only what comes before; restore into another one once this is fixed",
         escaped(&.refusal.message)
@@ -84,7 +84,7 @@ pub enum Failure {
 pub struct QueryRefused {
     pub text: String,
     pub refusal: Refusal,
-    /// The byte offset of the error in the text, if it is known.
+    /// The byte offset of the error in the text, if known.
     pub offset: Option<usize>,
     /// The names of the indices, with the names of their kinds, if the query lacks an index.
     pub indices: Option<BTreeMap<String, String>>,
@@ -168,7 +168,7 @@ pub fn complain(text: &str) {
     let _ = writeln!(io::stderr(), "be: {text}");
 }
 
-/// Returns the message of an error.
+/// Returns the message for an error.
 pub fn message(error: &Error) -> String {
     match error {
         Error::Refused(refusal) => escaped(&refusal.message),

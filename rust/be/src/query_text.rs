@@ -10,7 +10,7 @@ pub enum Form {
     Word,
     /// An operator such as `==`.
     Compares,
-    /// A sign that joins or negates comparisons.
+    /// A sign that combines or negates comparisons.
     Sign,
 }
 

@@ -1,4 +1,4 @@
-//! Strings that are safe to show on a terminal.
+//! Makes strings safe to show on a terminal.
 
 use unicode_width::UnicodeWidthChar;
 

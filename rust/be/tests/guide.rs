@@ -1,4 +1,4 @@
-//! Checks that the commands in GUIDE and README do what these pages say.
+//! Checks that the commands in GUIDE and README do what those pages say.
 
 use crate::common::files::Folder;
 use crate::common::{server_program, Said, Server, BE};

@@ -250,7 +250,7 @@ fn a_comparison_that_is_never_true_is_a_warning() {
 fn dates_between_percent_signs_are_times() {
     let server = server!(Server::with_three());
     server.done(&["mkindex", "-t", "int64", "when"]);
-    // The last second of 2023 in Berlin, the first of 2024, and the first of 2025.
+    // In Berlin, these are the last second of 2023, the first of 2024, and the first of 2025.
     for (node, seconds) in [("1", "1704063599"), ("2", "1704063600"), ("3", "1735686000")] {
         server.done(&["addattr", "-t", "int64", "when", seconds, node]);
     }

@@ -87,7 +87,7 @@ pub struct Reader {
 }
 
 impl Reader {
-    /// Reads a file's attributes. Whatever can't be read is left out.
+    /// Reads a file's attributes. Anything that can't be read is left out.
     pub fn content(&self, found: &Found) -> Content {
         let Found { path, stat } = found;
         let mut content = Content::default();

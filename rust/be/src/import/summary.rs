@@ -15,7 +15,7 @@ const MOST_PAGES: u64 = 16_384;
 /// The maximum number of paths to print for each problem.
 const SHOWN: usize = 10;
 
-/// Server errors after which the same write may succeed later.
+/// Server errors after which the same write may succeed if retried later.
 const PASSING: [ErrorName; 7] = [
     ErrorName::Full,
     ErrorName::Busy,

@@ -325,7 +325,7 @@ fn volume_of(edits: &Edits) -> u32 {
     Node::from(edits.node).volume
 }
 
-/// Groups folders by depth, shallowest first.
+/// Groups folders by depth, the shallowest first.
 fn by_depth(folders: Vec<Found>) -> impl Iterator<Item = Vec<Found>> {
     let mut levels: BTreeMap<usize, Vec<Found>> = BTreeMap::new();
     for folder in folders {

@@ -29,7 +29,7 @@ macro_rules! server {
 /// The tool.
 pub const BE: &str = env!("CARGO_BIN_EXE_be");
 
-/// A server, in a folder that is removed with it.
+/// A server, in a folder that is removed along with it.
 pub struct Server {
     child: Child,
     folder: PathBuf,

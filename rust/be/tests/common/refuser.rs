@@ -54,7 +54,7 @@ impl Refuser {
         self.state.lock().unwrap()
     }
 
-    /// From now on, refuses writes that contain this operation.
+    /// Starts refusing writes that contain this operation.
     pub fn refuse(&self, operation: &'static str) {
         self.state().refuses = Some(operation);
     }

@@ -61,7 +61,7 @@ replies! {
         pub client?: u64,
         /// The process ID of the client.
         pub process?: u32,
-        /// How many milliseconds ago the snapshot was pinned.
+        /// How long ago the snapshot was pinned, in milliseconds.
         pub milliseconds?: u64,
         /// Whether the reader holds the memory that the volume used before the server freed its journal.
         #[serde(default, skip_serializing_if = "std::ops::Not::not")]
@@ -100,11 +100,11 @@ replies! {
         pub client: u64,
         /// The process ID.
         pub process: u32,
-        /// How many seconds it has been connected.
+        /// How long the client has been connected, in seconds.
         pub seconds: u64,
-        /// How many requests it has sent.
+        /// How many requests the client has sent.
         pub requests: u64,
-        /// The command that it is waiting for now.
+        /// The command for which the client is waiting now.
         pub command?: String,
         /// The snapshot that the client has pinned.
         pub pinned?: PinnedBy,
@@ -117,7 +117,7 @@ replies! {
     PinnedBy {
         /// Its number.
         pub commit: u64,
-        /// How many milliseconds ago it was pinned.
+        /// How long ago the snapshot was pinned, in milliseconds.
         pub milliseconds: u64,
     }
 }
