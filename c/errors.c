@@ -147,7 +147,7 @@ static void of_changes(void)
     RETURNS(BES_CONFLICT, bes_end_change(&pass, &draft, &number));
 }
 
-/* Makes a change of one operation in one call. */
+/* Makes a change with one operation, in one call. */
 static uint32_t change_one(bes_pass *by, uint32_t kind, uint32_t code)
 {
     bes_operation one = {0, 0, 0, 0, 0, 0, 0, 0};

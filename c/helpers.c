@@ -229,7 +229,7 @@ static void fill(char *text, size_t length)
     text[length] = 0;
 }
 
-/* Makes a batch of random operations. */
+/* Fills a batch with random operations. */
 static void any_batch(void)
 {
     static const uint32_t codes[] = {BES_STRING_TYPE, BES_INT32_TYPE, BES_INT64_TYPE, BES_MIME_STRING_TYPE, BES_RAW_TYPE,

@@ -641,7 +641,8 @@ static void long_batches(void)
         CHECK(by == 0 && number == 3);
         are_filled(&counts, size, 'x');
         OK(bes_journal(&pass, told, sizeof told, &count));
-        /* 1 by 0 new -> node 1, and twice `set 1 "NAME" RAWT "HEX"` with `; ` between, `n by 0 `, ` -> ` and `ok; ok`. */
+        /* The first line is `1 by 0 new -> node 1`. Two lines follow, each with `n by 0 `, `set 1 "NAME" RAWT "HEX"` for each
+         * value, ` -> `, and an `ok` for each value. Both lists are separated by `; `. */
         line = 7 + size * (6 + 65 + 6 + 2 + 2 * LONGEST_VALUE) + 2 * (size - 1) + 4 + 2 * size + 2 * (size - 1) + 1;
         CHECK(count == 21 + 2 * line);
         OK(bes_close(&pass));

@@ -207,7 +207,7 @@ static void most(void)
     CHECK(bes_batch_apply(&pass, &batch, 1, made, 64, &number) == BES_OK && number == 2);
     CHECK(bes_pin(&pass, &number) == BES_OK);
     LEAVES(&pass, bes_set_int32(&pass, 1, "a64", 64), BES_TOO_MANY_ATTRS);
-    /* If its last operation fails, the whole list is refused. */
+    /* If the last operation fails, the whole list is refused. */
     bes_batch_clear(&batch);
     CHECK(bes_batch_new_node(&batch) == BES_OK && bes_batch_set_int32(&batch, 1, "a64", 64) == BES_OK);
     made[0] = 7;
