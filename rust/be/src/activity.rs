@@ -6,7 +6,7 @@ use crate::output::Output;
 use bestore_client::wire::{ClientInfo, Info, Latency, OldestReader};
 use bestore_client::Client;
 
-/// Formats a time for people to read.
+/// Formats a time in a human-readable form.
 fn time(milliseconds: u64) -> String {
     let seconds = milliseconds / 1_000;
     match seconds {
@@ -18,7 +18,7 @@ fn time(milliseconds: u64) -> String {
     }
 }
 
-/// Formats a number of bytes for people to read.
+/// Formats a number of bytes in a human-readable form.
 fn size(bytes: u64) -> String {
     match bytes {
         0..=9_999 => format!("{bytes} bytes"),

@@ -20,7 +20,7 @@ use std::path::Path;
 /// The size from which a file is rejected as too long for a value. The server refuses any value of more than 255 bytes.
 const READ: u64 = 1 << 16;
 
-/// The work of `addattr`, from its parsed command line.
+/// What `addattr` is to do, parsed from its command line.
 #[derive(Debug)]
 pub struct Added {
     name: String,

@@ -28,7 +28,7 @@ pub fn make(client: &mut Client, line: &Line, output: &mut Output) -> Result<(),
     shown.print(&String::from_utf8_lossy(&file), line.json, output)
 }
 
-/// Returns the batch with node numbers as its volume uses them.
+/// Converts the node numbers in the batch to its volume's own numbers.
 fn to_volume(batch: &Batch, volume: Option<u32>) -> Result<Batch, Failure> {
     match volume {
         None => Ok(batch.clone()),

@@ -198,7 +198,7 @@ pub struct Import {
     pub folder: PathBuf,
 }
 
-/// Create an index, which includes the attributes that are set from then on
+/// Create an index of the attributes that are set from then on
 #[derive(Debug, Args)]
 pub struct MakeIndex {
     /// The type of the values that the index accepts
@@ -229,7 +229,7 @@ pub struct RemoveIndex {
     pub name: String,
 }
 
-/// Add attributes to an index that were set before it was created, by setting them again
+/// Index attributes that were set before the index was created, by setting them again
 #[derive(Debug, Args)]
 pub struct Reindex {
     /// The name of the index
@@ -275,8 +275,8 @@ pub struct Restore {
     /// Print JSON
     #[arg(long)]
     pub json: bool,
-    /// Restore the file's entries only up to N, for example because a later one is damaged. For a folder, repeat the option for each such
-    /// volume
+    /// Restore the file's entries only up to N, for example because a later one is damaged. For a folder, repeat the option for each volume
+    /// that needs it
     #[arg(long, value_name = "[VOLUME:]N", value_parser = until)]
     pub until: Vec<(u32, u64)>,
     /// The backup, or the file of a stopped server

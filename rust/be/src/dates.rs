@@ -71,7 +71,7 @@ pub struct Clock {
 }
 
 impl Clock {
-    /// Returns this machine's clock, in the time zone that `TZ` names or else in the machine's own.
+    /// Returns this machine's clock, in the time zone given by `TZ` or, without it, in the machine's own.
     pub fn of_machine() -> Self {
         let now = SystemTime::now()
             .duration_since(UNIX_EPOCH)
@@ -440,7 +440,7 @@ pub mod tests {
     use super::*;
     use std::path::Path;
 
-    /// Friday, 27 November 2026, half past four in Berlin.
+    /// Half past four on Friday, 27 November 2026, in Berlin.
     pub fn clock() -> Clock {
         Clock {
             now: shown("2026-11-27 16:30:05"),

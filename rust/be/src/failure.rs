@@ -37,7 +37,7 @@ pub enum Failure {
     /// A file has no node.
     #[error("{}: the file has no node\n  be import FOLDER makes one for each file of a folder", shown(.0))]
     NotImported(PathBuf),
-    /// The folder's path is too long for the folder to be the one that is imported.
+    /// The path is too long for an imported folder.
     #[error("{}: a path has up to 255 bytes, but this one has more", shown(.0))]
     LongPath(PathBuf),
     /// A folder can't be watched.

@@ -21,7 +21,7 @@ pub enum Found {
 }
 
 impl Found {
-    /// Runs the query of the command line on the snapshot that the client has pinned.
+    /// Runs the command line's query on the snapshot that the client has pinned.
     pub fn read(client: &mut Client, text: &str, line: &Line) -> Result<Self, Failure> {
         match (&line.sort, line.any) {
             (Some(by), _) => in_order(client, text, by, line).map(Found::Page),

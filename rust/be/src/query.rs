@@ -17,7 +17,7 @@ use serde::Serialize;
 use std::path::PathBuf;
 use std::time::Duration;
 
-/// How long each wait for a push lasts; then the next wait begins.
+/// How long to wait for a push before waiting again.
 const WAIT: Duration = Duration::from_secs(3_600);
 
 pub fn run(client: &mut Client, line: &Line, output: &mut Output) -> Result<(), Failure> {

@@ -3,7 +3,7 @@
 /// The form of a token.
 #[derive(Clone, Copy, Debug, PartialEq, Eq)]
 pub enum Form {
-    /// A date between `%` signs, where a value may stand.
+    /// A date between `%` signs, in the position of a value.
     Date,
     /// A string in quotes.
     Quoted,

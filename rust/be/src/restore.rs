@@ -84,7 +84,7 @@ impl<'b, 'c> Restoring<'b, 'c> {
         Ok(self.count)
     }
 
-    /// Checks that the restored state has the next node number that the file gives.
+    /// Checks that the restored state has the next node number given in the file.
     fn end_state(&mut self, contents: &Contents) -> Result<(), Failure> {
         self.receive_all()?;
         let next = self.client.next_node()?;

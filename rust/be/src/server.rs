@@ -16,7 +16,7 @@ const OPERATIONS: usize = 64;
 /// How many snapshots to try for a read before giving up.
 const SNAPSHOTS: u32 = 5;
 
-/// Connects to the server at the socket that the option gives, or else the environment.
+/// Connects to the server at the socket given by the option or, without the option, by the environment.
 pub fn connect(line: &ServerOptions) -> Result<Client, Failure> {
     let mut client = open(line)?;
     client.hello()?;

@@ -76,7 +76,7 @@ impl TypedQuery {
     }
 }
 
-/// Returns the comparison with the date replaced by the time that it means: after it, before it, or within it.
+/// Returns a comparison with numbers that finds the times after the date, before it, or within it.
 fn with_numbers(comparison: &Comparison<'_>, span: Span) -> String {
     let Span { begin, end } = span;
     let name = comparison.name.text;

@@ -1,4 +1,4 @@
-//! Tests of backing up a server (even while others write), of restoring backups, and of the errors.
+//! Tests of backing up a server even while others write, of restoring backups, and of the errors.
 
 use crate::common::{Said, Server};
 use bestore::saved::Options;
@@ -48,7 +48,7 @@ fn load(path: &Path) -> ShelfPass {
     Options::new().load(path).unwrap().pass().unwrap()
 }
 
-/// Starts a server that keeps its store in a file, with an index and three nodes that the file has as entries.
+/// Starts a server that keeps its store in a file, with an index and three nodes that are entries in the file.
 fn kept_with_entries() -> Option<Server> {
     let server = Server::start_with(&["--keep", "kept"])?;
     server.done(&["mkindex", "name"]);

@@ -79,7 +79,7 @@ fn nodes_are_sorted_by_an_index_page_after_page() {
     server.done(&["rmnode", "1"]);
     let third = page(&["--after", second["cursor"].as_str().unwrap()]);
     assert_eq!((&third["nodes"], third.get("more")), (&vec![3].into(), None));
-    // A node without a size isn't listed in the order of the index of sizes.
+    // A node without a size isn't listed when sorting by size.
     server.done(&["rmattr", "size", "3"]);
     assert_eq!(server.done(&["query", "--sort", "size", "name==*"]), "2\n");
 }

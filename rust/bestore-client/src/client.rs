@@ -390,7 +390,8 @@ impl Client {
     }
 
     /// Writes like [`apply`](Self::apply), but to the given volume of a server that has several. By contrast, `apply` writes to the volume
-    /// of the nodes that the batch names, or else to the volume with the most free pages. The returned commit number is the volume's.
+    /// of the nodes that the batch names or, if it names none, to the volume with the most free pages. The returned commit number is the
+    /// volume's.
     ///
     /// # Errors
     /// The same as `call`.

@@ -41,8 +41,8 @@ impl Client {
         self.options.repeat.map(|time| Instant::now() + time)
     }
 
-    /// Returns whether to make the call again after this error, which requires that the time isn't up. If a new connection is needed, this
-    /// function makes it. A client with live queries keeps its connection, because the live queries would be lost with it.
+    /// Returns whether to make the call again after this error and before that time. If a new connection is needed, makes it first. A
+    /// client with live queries keeps its connection, because the live queries would be lost with it.
     pub(crate) fn may_repeat(&mut self, error: &Error, until: Option<Instant>) -> bool {
         let until = match until {
             Some(until) if is_passing(error) && !self.has_watches && Instant::now() < until => until,

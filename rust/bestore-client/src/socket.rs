@@ -11,14 +11,14 @@ pub use crate::os::{peer_process, peer_user, user};
 /// The path of a server's socket, and whether that path was chosen explicitly.
 #[derive(Clone, Debug, PartialEq, Eq)]
 pub enum SocketPath {
-    /// A path that an option or the variable `BESTORE_SOCKET` gives.
+    /// A path given by an option or by the variable `BESTORE_SOCKET`.
     Named(PathBuf),
     /// The path where servers listen by default, used if no path is given.
     Default(PathBuf),
 }
 
 impl SocketPath {
-    /// Returns the socket that the option gives. If there is no option, returns the first of these:
+    /// Returns the socket given by the option. Without an option, returns the first of these:
     ///
     /// 1. the path in `BESTORE_SOCKET`, unless it is empty;
     /// 2. `bestore/socket` in the folder `XDG_RUNTIME_DIR`, unless that path is empty or relative;

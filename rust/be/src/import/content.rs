@@ -70,7 +70,7 @@ const NAME_LENGTH: usize = 63;
 /// How many bytes of a file to read in order to determine its type.
 const BEGIN: usize = 1 << 12;
 
-/// A file's attributes, except the one for the folder that contains it.
+/// A file's attributes, except the one that records its folder.
 #[derive(Debug, Default)]
 pub struct Content {
     pub values: BTreeMap<String, Value>,
@@ -223,7 +223,7 @@ fn begin_of(path: &Path, most: usize) -> io::Result<Vec<u8>> {
     Ok(begin)
 }
 
-/// Returns the bytes that an extended attribute with this value has. Numbers are written as digits.
+/// Returns this value as the bytes of an extended attribute. Numbers are written as digits.
 pub fn bytes_of(value: &Value) -> Vec<u8> {
     value
         .as_bytes()

@@ -44,8 +44,8 @@ pub struct Watches {
 /// What has changed since the last write.
 #[derive(Debug, Default)]
 struct Dirty {
-    /// Paths where files were added, changed or removed. The value is `true` if everything below must be read too, should the path be a
-    /// folder.
+    /// Paths where files were added, changed or removed. The value `true` means that if the path is a folder, everything below it must be
+    /// read too.
     paths: BTreeMap<PathBuf, bool>,
     /// Whether events were lost, so that the whole folder must be read.
     lost: bool,
@@ -170,7 +170,8 @@ impl Watches {
         }
     }
 
-    /// Waits up to the given time for events or for the server. Returns whether the server was heard from. A signal may end the wait early.
+    /// Waits up to the given time for events or for the server. Returns whether the server has sent something or closed the connection. A
+    /// signal may end the wait early.
     fn wait_readable(&self, server: RawFd, within: Option<Duration>) -> bool {
         let mut polled = [self.inotify.as_raw_fd(), server].map(|fd| libc::pollfd {
             fd,
@@ -236,7 +237,7 @@ impl Dirty {
 }
 
 impl Import<'_> {
-    /// Follows the folder until it is gone. `is_refused` tells whether the store refused anything during the first scan.
+    /// Follows the folder until it is gone. `is_refused` is true if the store refused anything during the first scan.
     pub fn follow(&mut self, mut watches: Watches, is_refused: bool, output: &mut Output) -> Result<(), Failure> {
         let mut again = Again::new();
         again.scanned(is_refused);

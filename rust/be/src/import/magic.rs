@@ -73,7 +73,7 @@ impl Magic {
         }
     }
 
-    /// Returns whichever of these types, which fit the name equally well, fits the content best. If several do, returns the first.
+    /// Returns the type that fits the content best, out of several that fit the name equally well. If there is a tie, returns the first.
     pub fn choose<'a>(&self, mimes: &[&'a str], begin: &[u8]) -> Option<&'a str> {
         if begin.is_empty() {
             return mimes.first().copied();

@@ -83,7 +83,7 @@ impl Left {
     }
 }
 
-/// Assigns the nodes to the files. `has_more` tells whether a node has attributes that a user has set.
+/// Assigns the nodes to the files. `has_more` returns whether a node has attributes that a user has set.
 ///
 /// 1. A file that is still at the same path keeps its node.
 /// 2. A file that is now at another path keeps its node too.

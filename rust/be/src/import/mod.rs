@@ -58,7 +58,7 @@ pub struct Import<'a> {
     volumes: Vec<Volume>,
     reader: Reader,
     tree: Tree,
-    /// Files that weren't found at their paths at the last reading.
+    /// Files that weren't at their paths when the paths were last read.
     missing: Vec<(PathBuf, Known)>,
     /// Files that were missing twice in a row but whose nodes the store has refused to remove.
     unremoved: Vec<(PathBuf, Known)>,

@@ -15,13 +15,13 @@ use std::time::Duration;
 /// The maximum number of operations in a batch.
 const OPERATIONS: usize = 64;
 
-/// The maximum number of connections, which the volumes share. A server allows up to 62.
+/// The maximum number of connections shared by the volumes. A server allows up to 62.
 const CONNECTIONS: u32 = 8;
 
 /// How many batches to write before asking again how full the volume is.
 const LOOK: u32 = 16;
 
-/// One of every this many pages is left free, so that a full volume can still be written to.
+/// One in this many pages is left free, so that a full volume can still be written to.
 const RESERVE: u64 = 64;
 
 /// How many times to retry a write while another client is writing.

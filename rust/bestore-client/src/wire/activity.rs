@@ -15,7 +15,7 @@ replies! {
         pub clients: u64,
         /// How many requests the server has received since it started.
         pub requests: u64,
-        /// How many live queries all clients together have.
+        /// The total number of live queries.
         pub watches: u64,
         /// How many writes the server has made since it started.
         pub writes: u64,
@@ -68,9 +68,9 @@ replies! {
         pub earlier: bool,
     }
 
-    /// The total sizes, in bytes, of the files of all volumes.
+    /// The total sizes of all volumes' files, in bytes.
     Files {
-        /// The size of the files themselves.
+        /// The size of the files, without the `-wal` files.
         pub bytes: u64,
         /// The size of the `-wal` files.
         pub wal_bytes: u64,

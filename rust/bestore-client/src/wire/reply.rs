@@ -32,17 +32,17 @@ replies! {
 
     /// The limits of the store, and of the requests on a connection.
     Limits {
-        /// The number of 4 KiB pages.
+        /// The number of pages, of 4 KiB each.
         pub pages: u64,
-        /// The number of clients at the same time.
+        /// The maximum number of simultaneous clients.
         pub passes: u64,
-        /// The number of journal entries.
+        /// The maximum number of journal entries.
         pub commits: u64,
-        /// The number of operations in a batch.
+        /// The maximum number of operations in a batch.
         pub operations: u64,
-        /// The length of a request in bytes.
+        /// The maximum length of a request in bytes.
         pub line: u64,
-        /// The number of live queries on a connection.
+        /// The maximum number of live queries on a connection.
         pub watches: u64,
     }
 
@@ -96,13 +96,13 @@ replies! {
     Hits {
         /// The snapshot.
         pub commit and commits,
-        /// How many nodes with a number of at least `from` the query finds. Missing if the request was uncounted.
+        /// How many nodes the query finds, starting at node number `from`. Missing if the request was uncounted.
         pub count?: u64,
         /// The nodes in this page. Missing if the request was only for the count.
         pub nodes?: Vec<u64>,
         /// Each node's values in the columns.
         pub rows?: Vec<Vec<Option<Json>>>,
-        /// Where the next page begins, if there is one.
+        /// The beginning of the next page, if there is one.
         pub more?: u64,
     }
 
@@ -163,7 +163,7 @@ replies! {
         pub commit and commits,
         /// The nodes in this page.
         pub nodes: Vec<u64>,
-        /// Where the next page begins, if there is one.
+        /// The beginning of the next page, if there is one.
         pub more?: u64,
     }
 
@@ -193,7 +193,7 @@ replies! {
         pub pages to oldest,
         /// How many clients are connected.
         pub clients: u64,
-        /// How many live queries all clients together have.
+        /// The total number of live queries.
         pub watches: u64,
         /// Why writes can't be saved at the moment, if that is the case.
         pub trouble?: String,
@@ -223,7 +223,7 @@ replies! {
         pub length: u64,
         /// The entries in this page.
         pub entries: Vec<JournalEntry>,
-        /// Where the next page begins, if there is one.
+        /// The beginning of the next page, if there is one.
         pub more?: u64,
     }
 
@@ -245,7 +245,7 @@ replies! {
         pub next: u64,
         /// The batches in this page.
         pub batches: Vec<Operations>,
-        /// Where the next page begins, if there is one.
+        /// The beginning of the next page, if there is one.
         pub more?: u64,
     }
 
@@ -283,7 +283,7 @@ replies! {
         pub number?: u32,
         /// A message for the user.
         pub message: String,
-        /// What a client can do about the error, if the server sent this. [`Refusal::class`] returns it in any case.
+        /// What a client can do about the error, if the server has sent this. [`Refusal::class`] returns it in any case.
         #[serde(default, skip_serializing_if = "Option::is_none", with = "super::error_name::class")]
         pub class: Option<Class>,
         /// The details of the error, by name.

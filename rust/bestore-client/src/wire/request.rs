@@ -51,7 +51,7 @@ parameters! {
         /// The operations.
         #[serde(with = "asked_operations")]
         pub operations: Operations,
-        /// How many entries the journal has to have.
+        /// How many entries the journal must have.
         #[serde(default, deserialize_with = "given", skip_serializing_if = "Option::is_none")]
         pub expected: Option<Numbers>,
         /// The volume to write to.
@@ -128,7 +128,7 @@ parameters! {
 
     /// The parameters of `reach`.
     Reach {
-        /// How many entries the journal has to have.
+        /// How many entries the journal must have.
         pub commit: Numbers,
         /// How long to wait, in milliseconds.
         #[serde(default, deserialize_with = "given", skip_serializing_if = "Option::is_none")]
