@@ -222,7 +222,7 @@ static void invalid(void)
     CHECK(bes_abandon_change(&it.pass, &it.draft) == BES_OK && bes_close(&it.pass) == BES_OK);
 }
 
-/* A value must be of its index's kind, as of the change's earlier operations. */
+/* A value must be of its index's kind, taking the change's earlier operations into account. */
 static void kinds(void)
 {
     user it = open_user();
@@ -240,7 +240,7 @@ static void kinds(void)
     CHECK(bes_abandon_change(&it.pass, &it.draft) == BES_OK && bes_close(&it.pass) == BES_OK);
 }
 
-/* A read returns the change's last write to the attribute or its node, or else the snapshot's value. */
+/* A read returns the change's last write to the attribute or its node if there is one, and the snapshot's value otherwise. */
 static void own_reads(void)
 {
     user it = open_user();
@@ -411,8 +411,8 @@ static void kinds_of_own_indices(void)
     CHECK(bes_close(&pass) == BES_OK);
 }
 
-/* New nodes get the next numbers of the snapshot. If another write came in between, the call returns a conflict. Errors from the
- * store are reported last. */
+/* New nodes get the snapshot's next numbers. If another write came in between, the call returns a conflict. Errors from the store
+ * are reported last. */
 static void writes_at_once(void)
 {
     bes_pass pass = open_indexed();

@@ -38,7 +38,7 @@ static const char *text_of(uint64_t n)
     return text;
 }
 
-/* Opens a store in which each node has its number as `k` and that number's string as `t`, both indexed, and a number `v`. */
+/* Opens a store in which each node has its number as `k`, a string for that number as `t`, both indexed, and a number `v`. */
 static void open_filled(void)
 {
     OK(bes_open(PAGES, 2, 1000000, &mine));
@@ -185,8 +185,8 @@ static void write_one(uint64_t times)
     OK(bes_pin(&mine, &number));
 }
 
-/* Refreshes a large result: by running the whole query, after a write to one node, and after a number of writes to one node equal
- * to the number of nodes in the result. */
+/* Refreshes a large result: by running the whole query, after one write to a node, and after one write for each node in the
+ * result, all to the same node. */
 static void live(void)
 {
     open_filled();

@@ -157,7 +157,7 @@ static void is_at_most(const char *what, double found, double most)
     }
 }
 
-/* Writes until a reader's pin holds every free page, and does so repeatedly. After that, each page has been used for something
+/* Several times over, writes until a reader's pin holds every free page. After that, each page has been used for something
  * else. */
 static void wear_out(void)
 {
@@ -181,7 +181,7 @@ static void wear_out(void)
 }
 
 /* A single write copies each of its pages back to the page that it was once copied from, which still has most of the words. This
- * is so even after many writes, when each page in the pool has been used for something else. */
+ * holds even after many writes, when each page in the pool has been used for something else. */
 static void words_stored(uint64_t pages)
 {
     static const struct kind {
@@ -377,8 +377,8 @@ static void any_few(void)
     }
 }
 
-/* A refresh from the writes makes no list of the whole answer, up to the number of writes given in bestore.h. It may request
- * memory for one journal entry, so smaller answers aren't tested. */
+/* Up to the number of writes given in bestore.h, bes_refresh_changed makes no list of the whole answer. It may request memory for
+ * one journal entry, so smaller answers aren't tested. */
 static void refreshed_by_writes(void)
 {
     for (int time = 0; time < 10; time++) {

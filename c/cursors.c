@@ -13,7 +13,7 @@ static const uint64_t numbers[5][3] = {
 static char longest[256];
 static const char *const texts[3] = { "", "a", longest };
 
-/* Returns the value of this kind that a node has. */
+/* Returns a node's value of this kind. */
 static bes_attribute value_of(int kind, int at)
 {
     bes_attribute value = { codes[kind], kind == 0 ? strlen(texts[at]) : 0, numbers[kind][at] };

@@ -99,7 +99,7 @@ static void conditional(void)
     close_three(passes);
 }
 
-/* The state of a function that increments a count, and how many times another write interferes with it. */
+/* The state of a function that increments a count, and how many times another write is to interfere with it. */
 typedef struct counting {
     bes_pass *disturber;
     unsigned disturbances, runs;

@@ -1,6 +1,6 @@
 /* Tests partial results. Pages in an index's order are compared with a naive implementation, which runs the whole query, reads
- * the values, sorts them and cuts the list. The other partial results are the first nodes by number, any few nodes, and a refresh
- * from the writes. With the argument `short`, fewer queries are run. */
+ * the values, sorts them and cuts the list. The other partial results are the first nodes by number, any few nodes, and the
+ * changes from bes_refresh_changed. With the argument `short`, fewer queries are run. */
 #include "tests.h"
 
 enum { NODES = 300, INDICES = 5, LATE = NODES / 3 };
@@ -395,8 +395,7 @@ static void errors(bes_pass *pass)
     CHECK(bes_release(&prepared) == BES_OK && bes_release(&uncovered) == BES_OK);
 }
 
-/* A refresh from the writes gives the same result as a refresh that runs the whole query, at every size and while another pass is
- * reading. */
+/* bes_refresh_changed gives the same result as bes_refresh, at every size and while another pass is reading. */
 static void refresh_changed(bes_pass *pass)
 {
     bes_prepared whole = BES_PREPARED_INIT, changed = BES_PREPARED_INIT;

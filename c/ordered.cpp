@@ -201,8 +201,8 @@ void refusals()
     refused(BES_BAD_CURSOR, [&] { later.page(query, cursor, 1); });
 }
 
-// The size of a store in which size>=0 finds at least 96 nodes, which a refresh from the writes needs, and a write to such a
-// store.
+// The size of a store in which size>=0 finds at least 96 nodes, the minimum for refreshing only what has changed, and a write to
+// such a store.
 constexpr unsigned sized = 300;
 
 void resize(bestore::Pass &pass, std::mt19937 &chance)
@@ -229,8 +229,8 @@ void compare(bestore::Live &whole, bestore::Live &changed, bestore::Snapshot &sn
     CHECK(one.created == other.created && one.removed == other.removed);
 }
 
-// A refresh from the writes returns the same as one that runs the whole query, even in another store and while another thread is
-// writing.
+// Refreshing only what has changed gives the same result as running the whole query, even in another store and while another
+// thread is writing.
 void refreshes()
 {
     std::mt19937 chance(0x11fe);

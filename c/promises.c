@@ -56,7 +56,7 @@ static uint64_t write_node(writer *it)
     return number;
 }
 
-/* Looks for the last write of the pass that created this one, then writes and reads, and leaves a witness of all this. */
+/* Looks for the last write of the pass that created this one, then writes and reads, and leaves a witness to all of this. */
 static void *run(void *arg)
 {
     writer *it = arg;

@@ -1,4 +1,4 @@
-/* Tests what a pass has seen after refreshing a query from the writes. */
+/* Tests what a pass has seen after bes_refresh_changed. */
 #include "tests.h"
 
 /* If the result of the last refresh had 96 nodes or more, a refresh at an older snapshot makes the pass see what the last refresh

@@ -170,7 +170,7 @@ static void paged(bes_pass *pass, bes_prepared *prepared, const char *index, uin
 }
 
 /* Sizes: the same nodes in the order of the index that finds them and in another index's order, as the first nodes, as any few
- * nodes, and as the nodes that a refresh from the writes adds. */
+ * nodes, and as the nodes that bes_refresh_changed adds. */
 static void nodes_in_parts(void)
 {
     bes_pass pass = BES_PASS_INIT;
@@ -199,8 +199,8 @@ static bool is_by_power(uint64_t size)
     return ((size - 1) & size) == 0 || (size & (size + 1)) == 0 || (size > 1 && ((size - 2) & (size - 1)) == 0);
 }
 
-/* Sizes: the nodes that two picks find, and the candidates of which checking another attribute leaves only one or none. Beyond
- * the first sizes, only the last of these is tested, except where lists grow. */
+/* Sizes: the nodes that two picks find, and the candidates when checking another attribute leaves only one or none of them.
+ * Beyond the first sizes, only the last of these is tested, except where lists grow. */
 static void many_candidates(void)
 {
     bes_pass pass = BES_PASS_INIT;
@@ -414,8 +414,8 @@ static void long_queries(void)
     }
 }
 
-/* Sizes: the bytes of a text in a predicate's item, which is the text that an attribute contains, begins with or ends with, or is
- * a pattern. */
+/* Sizes: the bytes of a text in a predicate's item. The text is a pattern, or is what an attribute contains, begins with or ends
+ * with. */
 static void long_items(void)
 {
     const uint32_t kinds[] = {BES_ITEM_CONTAINS, BES_ITEM_BEGINS_WITH, BES_ITEM_ENDS_WITH, BES_ITEM_EQ};
@@ -685,7 +685,7 @@ static void many_pages(void)
     }
 }
 
-/* Checks that the fields that an operation doesn't use are 0, so that everyone who reads a state gets the same bytes. */
+/* Checks that an operation's unused fields are 0, so that everyone who reads a state gets the same bytes. */
 static void has_no_more(const bes_operation *it)
 {
     const bool is_set = it->kind == BES_SET, has_name = is_set || it->kind == BES_MAKE_INDEX;

@@ -55,7 +55,7 @@ static void values()
     CHECK(!pin.get<std::string>(1, "k"));
 }
 
-// Columns of several names have the same values as get reads, even in a change, which sees what it has set.
+// Columns of several names have the values that get reads, even in a change, which sees what it has set.
 static void columns()
 {
     Store store({64, 1, 100});

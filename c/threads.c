@@ -70,7 +70,7 @@ static void *writer(void *arg)
     return NULL;
 }
 
-/* A refresh from the writes of other threads gives the same result as a refresh that runs the whole query. */
+/* While others are writing, bes_refresh_changed gives the same result as bes_refresh. */
 static void refresh_as(user *it, bes_prepared *whole, const bes_updates *updates, bes_prepared *changed)
 {
     bes_updates others = {0, 0};

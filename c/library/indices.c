@@ -1,4 +1,4 @@
-/* Counts an index's pairs, and adds attributes to an index that were set before it was created. */
+/* Counts an index's pairs, and indexes attributes that were set before their index was created. */
 #include "kinds.h"
 
 #include <string.h>

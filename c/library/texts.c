@@ -3,10 +3,10 @@
 
 #include <string.h>
 
-/* A library call that converts a text to another. */
+/* A library call that converts one text to another. */
 typedef uint32_t made_text(const uint8_t *text, size_t length, uint8_t *bytes, size_t room, uint64_t *count);
 
-/* Writes the text that a call makes from this text, ending in a zero byte and truncated to `room` bytes. */
+/* Writes the text to which a call converts this one, truncated to `room` bytes including a zero byte at the end. */
 static size_t put_text(made_text *call, const char *text, char *out, size_t room)
 {
     uint64_t count = 0;

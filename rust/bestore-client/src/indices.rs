@@ -81,7 +81,7 @@ impl Client {
         Ok(compared.into_iter().filter_map(hint).collect())
     }
 
-    /// Adds attributes that were set before the index with this name was created to that index, by setting them to the same values again.
+    /// Indexes the attributes with this name that were set before their index was created, by setting them to the same values again.
     /// Returns how many were set. The attributes are set in changes of up to 64, so no newer value is lost. This call reads every node that
     /// isn't in the index.
     ///
