@@ -49,7 +49,7 @@ pub struct Client {
     is_over: bool,
 }
 
-/// A query for [`Client::hits`], with what the reply should contain besides the nodes.
+/// A query for [`Client::hits`], and what its reply should contain besides the nodes.
 #[derive(Clone, Copy, Debug, Default)]
 pub struct Query<'a> {
     /// The text of the query.
@@ -88,7 +88,7 @@ fn wait_of(command: &Command<'_>) -> Option<Duration> {
     Some(within.map_or(WITHIN, Duration::from_millis).min(MOST_WITHIN))
 }
 
-/// Returns the query text in this command, if it has one.
+/// Returns the query text of this command, if it has one.
 fn query_of<'a>(command: &'a Command<'_>) -> Option<&'a str> {
     match command {
         Command::Query(wire::Query { query, .. }) => Some(query),
@@ -319,7 +319,7 @@ impl Client {
     }
 
     /// Returns the next line pushed for a live query, or `None` if none arrives within this time. Lines that arrive while another call
-    /// waits for its reply are buffered, up to [`Options::most_pushed`]. A push with an `error` is the last for its live query.
+    /// waits for its reply are buffered, up to [`Options::most_pushed`]. A push with an `error` is the last one for its live query.
     ///
     /// # Errors
     /// [`Error::Refused`] with the server's reason if it closed the connection. [`Error::Io`], [`Error::Closed`], [`Error::BadLine`].
@@ -366,8 +366,7 @@ impl Client {
         Ok(self.greeted(hello))
     }
 
-    /// Returns whether the server has this feature, such as `by` for pages in an order, according to the `features` in its reply to
-    /// [`hello`](Self::hello).
+    /// Returns whether the server's reply to [`hello`](Self::hello) lists this feature, such as `by` for pages in an order.
     #[must_use]
     pub fn has(&self, feature: &str) -> bool {
         self.features.iter().any(|it| it == feature)
@@ -424,8 +423,8 @@ impl Client {
     }
 
     /// Waits up to `within` for the journal of each volume to reach this number of entries; for a server with one volume, pass one number.
-    /// Later reads of the current snapshot see these entries. The error is `NotReached` if the time is up first, or if the server has to
-    /// take back a pinned snapshot.
+    /// Later reads of the current snapshot see these entries. The error is `NotReached` if the time is up first, or if the server takes
+    /// back the client's pinned snapshot.
     ///
     /// # Errors
     /// The same as `call`.
@@ -491,8 +490,8 @@ impl Client {
         Ok(attributes.map(|(name, Json(value))| (name, value)).collect())
     }
 
-    /// Returns all nodes that the query finds, in ascending order. If they take more than one page, they are guaranteed to come from one
-    /// snapshot only while the client has one pinned.
+    /// Returns all nodes that the query finds, in ascending order. If they take more than one page, they come from the same snapshot only
+    /// if the client has one pinned.
     ///
     /// # Errors
     /// The same as `call`.

@@ -14,7 +14,7 @@ const PUSHED: usize = 64 << 20;
 /// The interval between attempts to connect to a server that isn't listening yet.
 const AGAIN: Duration = Duration::from_millis(10);
 
-/// Options for connecting a client, and for how long it waits afterwards.
+/// Options for connecting a client, including how long it waits for replies.
 ///
 /// ```no_run
 /// use bestore_client::{Options, SocketPath};
