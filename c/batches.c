@@ -1,9 +1,9 @@
-/* Batches as bytes, tested against tests/batches.txt, which has the cases for every language's encoder. */
+/* Tests the encoding of batches as bytes against tests/batches.txt, which has the cases for the encoders in all languages. */
 #include "tests.h"
 
 enum { LINE = 2000, BYTES = 1000 };
 
-/* Reads a word of hexadecimal digits, or a byte and how often it repeats, such as "61*63". Returns how many bytes it wrote. */
+/* Decodes a word of hexadecimal digits, or a byte with a repeat count, such as "61*63". Returns how many bytes it wrote. */
 static size_t put_word(const char *word, uint8_t *bytes)
 {
     size_t count = 0;
@@ -19,7 +19,7 @@ static size_t put_word(const char *word, uint8_t *bytes)
     return count;
 }
 
-/* Reads the words up to a mark, and cuts the mark off. Returns how many bytes it wrote. */
+/* Decodes words separated by spaces, where "-" stands for no bytes. Changes the text. Returns how many bytes it wrote. */
 static size_t read_bytes(char *words, uint8_t *bytes)
 {
     size_t count = 0;
@@ -28,7 +28,7 @@ static size_t read_bytes(char *words, uint8_t *bytes)
     return count;
 }
 
-/* Returns the type code with these four letters, or 0 if there are none. */
+/* Returns the type code with these four letters, or 0 for "-". */
 static uint32_t code_of(const char *letters)
 {
     uint32_t code = 0;
@@ -37,7 +37,7 @@ static uint32_t code_of(const char *letters)
     return code;
 }
 
-/* Adds the operation that the words describe. */
+/* Adds the operation that the words describe to the batch. */
 static void add_operation(bes_batch *batch, const char *words)
 {
     char name_word[LINE], letters[8], number[32], value_word[LINE];
@@ -52,7 +52,8 @@ static void add_operation(bes_batch *batch, const char *words)
           BES_OK);
 }
 
-/* Checks that the batch encodes to the format's first bytes and these operations, and that they decode to the same batch. */
+/* Checks that the batch encodes to the format's first bytes followed by these operations, and that the result decodes to the same
+ * batch. */
 static void is_written(const bes_batch *batch, const uint8_t *operations, size_t length)
 {
     static uint8_t expected[5 + 64 * BYTES], bytes[BES_BATCH_BYTES];
@@ -80,7 +81,7 @@ static uint32_t error_of(const char *part)
     return strcmp(part, "kind") == 0 ? BES_NO_KIND : BES_BAD_PART;
 }
 
-/* Checks that these bytes aren't a batch. The words give the error, and the offset of the part that is wrong. */
+/* Checks that these bytes aren't accepted as a batch. The words give the error, and the offset of the invalid part. */
 static void is_refused(const uint8_t *bytes, size_t length, const char *words)
 {
     static bes_batch read;
@@ -91,7 +92,7 @@ static void is_refused(const uint8_t *bytes, size_t length, const char *words)
     CHECK(bes_batch_from_bytes(&read, bytes, length, &place) == error_of(part) && place == offset && read.count == 0);
 }
 
-/* The operations of all table lines so far, their bytes, and the number of lines with errors. */
+/* The operations of all valid lines of the table so far, their bytes, and the number of lines with errors. */
 static bes_batch together;
 static uint8_t all[64 * BYTES];
 static size_t used, refused;

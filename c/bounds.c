@@ -1,5 +1,5 @@
-/* Queries texts by a pattern and a bound, at every bound in a store of random size, and compares the results with the list
- * itself. BESTORE_SEED repeats an earlier run's size; `short` draws a smaller size. */
+/* Queries strings by a pattern and a bound, trying every bound in a store of random size, and compares the results with the list
+ * of strings. BESTORE_SEED repeats the size of an earlier run; `short` picks a smaller size. */
 #include "tests.h"
 #include <time.h>
 
@@ -8,7 +8,7 @@ enum { MOST = 700 };
 static bes_pass pass = BES_PASS_INIT;
 static uint64_t count, found[MOST], found_count, number;
 
-/* Returns a node's text. The texts sort in the order of the nodes' numbers. */
+/* Returns a node's string. The strings sort in the order of the nodes' numbers. */
 static const char *text_of(uint64_t node)
 {
     static char text[16];
@@ -16,8 +16,8 @@ static const char *text_of(uint64_t node)
     return text;
 }
 
-/* Queries the nodes whose text has this digit and is within the bound. The bound is one of the texts, or lies between two of
- * them. */
+/* Queries the nodes whose string contains this digit and is within the bound. The bound equals one of the strings, or lies
+ * between two of them. */
 static void ask(char digit, uint64_t bound, bool is_upper, int past)
 {
     char query[80], end[16];

@@ -1,6 +1,6 @@
-/* Changes between bes_begin_change and bes_end_change: what they collect and refuse, how they read their own operations, and how
- * they end. Two threads use changes to move amounts. Changes in one call, bes_apply_change: which kinds they refuse, and how they
- * end. */
+/* Tests changes between bes_begin_change and bes_end_change: what they collect and refuse, how they read their own operations,
+ * and how they end. Two threads use changes to move amounts. Also tests changes in one call, bes_apply_change: which kinds they
+ * refuse, and how they end. */
 #include "tests.h"
 #include <pthread.h>
 
@@ -54,7 +54,7 @@ static uint32_t add_remove(bes_draft *draft, uint64_t removed)
     return add_last(draft, &batch, &node);
 }
 
-/* Adds the batch's last operation, which is a set. If the kind is wrong, the error has to give the index's kind. */
+/* Adds the batch's last operation, which is a set. If the kind is wrong, the error must give the index's kind. */
 static uint32_t add_set(bes_draft *draft, const bes_batch *batch, uint32_t indexed)
 {
     uint64_t node = 7;
@@ -111,7 +111,7 @@ static uint64_t count_of(bes_draft *draft)
     return counts.operations;
 }
 
-/* Returns a node's number attribute as the change sees it, or -1 if the node has none. */
+/* Returns the value of a node's numeric attribute as the change sees it, or -1 if the node doesn't have the attribute. */
 static int64_t number_in(user *it, uint64_t node, const char *name)
 {
     bes_attribute read = {0, 0, 0};
@@ -121,7 +121,7 @@ static int64_t number_in(user *it, uint64_t node, const char *name)
     return error == BES_OK ? (int64_t)read.number : -1;
 }
 
-/* Returns a node's number attribute from the store. */
+/* Returns the value of a node's numeric attribute in the store. */
 static int64_t number_of(bes_pass *pass, uint64_t node, const char *name)
 {
     bes_attribute read = {0, 0, 0};
@@ -140,7 +140,7 @@ static bool is_pinned(bes_pass *pass)
     return bes_next(pass, &node) == BES_OK;
 }
 
-/* Tries closed handles, and a handle that is already open. */
+/* Uses closed handles, and opens a handle that is already open. */
 static void handles(void)
 {
     user it = {BES_PASS_INIT, BES_DRAFT_INIT, 7, 7};
@@ -172,7 +172,7 @@ static void handles(void)
     CHECK(bes_close(&it.pass) == BES_OK);
 }
 
-/* New nodes get their numbers, and a draft takes up to 64 operations. */
+/* New nodes get their numbers immediately, and a draft accepts up to 64 operations. */
 static void sizes(uint64_t count)
 {
     user it = open_user();
@@ -191,7 +191,7 @@ static void sizes(uint64_t count)
     CHECK(bes_close(&it.pass) == BES_OK);
 }
 
-/* An invalid operation adds nothing, and returns the same error as a batch with it would. */
+/* Adding an invalid operation leaves the draft unchanged, and returns the same error that a batch with this operation would. */
 static void invalid(void)
 {
     static const struct {
@@ -222,7 +222,7 @@ static void invalid(void)
     CHECK(bes_abandon_change(&it.pass, &it.draft) == BES_OK && bes_close(&it.pass) == BES_OK);
 }
 
-/* A value has to be of its index's kind. The change's earlier operations count. */
+/* A value must be of its index's kind, taking the change's earlier operations into account. */
 static void kinds(void)
 {
     user it = open_user();
@@ -240,7 +240,7 @@ static void kinds(void)
     CHECK(bes_abandon_change(&it.pass, &it.draft) == BES_OK && bes_close(&it.pass) == BES_OK);
 }
 
-/* A read returns the change's last write to the attribute or its node, or what the snapshot has. */
+/* A read returns the change's last write to the attribute or its node if there is one, and the snapshot's value otherwise. */
 static void own_reads(void)
 {
     user it = open_user();
@@ -268,7 +268,7 @@ static void own_reads(void)
     CHECK(bes_close(&it.pass) == BES_OK);
 }
 
-/* bes_change_batch lists the operations that were added, as far as the arrays have room. */
+/* bes_change_batch lists as many of the added operations as fit into the arrays. */
 static void batches(void)
 {
     static bes_batch added, listed;
@@ -289,7 +289,7 @@ static void batches(void)
     CHECK(bes_close(&it.pass) == BES_OK);
 }
 
-/* If another pass writes in between, nothing is written, and the next attempt builds on that write. */
+/* If another pass writes in between, nothing is written, and the next attempt sees that write. */
 static void begins_anew(void)
 {
     static view before;
@@ -309,7 +309,7 @@ static void begins_anew(void)
     CHECK(bes_close(&it.pass) == BES_OK && bes_close(&other) == BES_OK);
 }
 
-/* If the store refuses something, the change's end reports it and nothing is written. */
+/* If the store refuses an operation, ending the change reports this, and nothing is written. */
 static void refused(void)
 {
     user it = open_user();
@@ -326,7 +326,7 @@ static void refused(void)
     CHECK(bes_close(&it.pass) == BES_OK);
 }
 
-/* If the change made the pin, its end removes the pin. A pin that was there before stays. */
+/* Ending a change unpins the snapshot if the change pinned it. A snapshot that was already pinned stays pinned. */
 static void pins(void)
 {
     user it = open_user();
@@ -351,7 +351,7 @@ static void pins(void)
     CHECK(add_new(&it.draft, &node) == BES_OK);
     CHECK(bes_end_change(&it.pass, &it.draft, &number) == BES_NOT_PINNED && number == 0 && !it.draft.live && is_pinned(&it.pass));
     CHECK(bes_unpin(&it.pass) == BES_OK);
-    /* A pass's second draft uses the pin of its first. */
+    /* The second draft of a pass uses the pin made for the first. */
     begin(&it);
     CHECK(bes_begin_change(&it.pass, &second, &number, &node) == BES_OK && number == 1 && node == 2);
     CHECK(bes_abandon_change(&it.pass, &it.draft) == BES_OK && !is_pinned(&it.pass));
@@ -365,7 +365,7 @@ static uint32_t apply_change(bes_pass *pass, const bes_batch *batch, uint64_t *n
     return bes_apply_change(pass, batch->operations, batch->count, batch->bytes, batch->used, number);
 }
 
-/* Opens a store with an index "a" of texts and node 1, and pins it. */
+/* Opens a store with an index "a" of strings and with node 1, and pins it. */
 static bes_pass open_indexed(void)
 {
     bes_pass pass = open_store(1);
@@ -375,7 +375,7 @@ static bes_pass open_indexed(void)
     return pass;
 }
 
-/* The first set of the wrong kind is refused with its position in the batch, wherever it is. */
+/* Wherever the first set of the wrong kind is in the batch, the error gives its position. */
 static void places_of_wrong_kinds(void)
 {
     bes_pass pass = open_indexed();
@@ -394,7 +394,7 @@ static void places_of_wrong_kinds(void)
     CHECK(bes_close(&pass) == BES_OK);
 }
 
-/* A set is checked against the index as the batch's earlier operations leave it. A refused batch leaves no trace. */
+/* A set is checked against the index as left by the batch's earlier operations. A refused batch leaves no trace. */
 static void kinds_of_own_indices(void)
 {
     bes_pass pass = open_indexed();
@@ -411,8 +411,8 @@ static void kinds_of_own_indices(void)
     CHECK(bes_close(&pass) == BES_OK);
 }
 
-/* New nodes get the snapshot's next numbers. If another write came in between, that is a conflict. What the store refuses is
- * reported last. */
+/* New nodes get the snapshot's next numbers. If another write came in between, the call returns a conflict. Errors from the store
+ * are reported last. */
 static void writes_at_once(void)
 {
     bes_pass pass = open_indexed();
@@ -432,7 +432,7 @@ static void writes_at_once(void)
     CHECK(bes_close(&pass) == BES_OK);
 }
 
-/* One of two threads that move amounts between two nodes. */
+/* One of two threads that move amounts from one node to another. */
 typedef struct mover {
     bes_pass pass;
     uint64_t from, to;
@@ -440,7 +440,7 @@ typedef struct mover {
     unsigned rounds, attempts;
 } mover;
 
-/* Tries once to move an amount, based on what the change reads. */
+/* Makes one attempt to move an amount, based on what the change reads. */
 static uint32_t move_once(mover *it, uint64_t *number)
 {
     user change = {BES_PASS_INIT, BES_DRAFT_INIT, 0, 0};

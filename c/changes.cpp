@@ -1,4 +1,4 @@
-// Runs the cases of ../tests/changes.txt, which specify what a change does in each language.
+// Runs the cases in ../tests/changes.txt, which specify how changes behave in all languages.
 #include "bestore.hpp"
 #include "tests.hpp"
 #include <fstream>
@@ -30,7 +30,7 @@ static Kind kind_named(const std::string &name)
     throw std::invalid_argument(name);
 }
 
-// LONG64 stands for a text of 64 bytes.
+// LONG64 stands for a string of 64 bytes.
 static std::string text_of(const std::string &word)
 {
     return word.compare(0, 4, "LONG") == 0 ? std::string(std::stoul(word.substr(4)), 'x') : word;
@@ -61,7 +61,7 @@ static Value value_of(Kind kind, const std::string &word)
 static Node make(Change &change) { return change.create(); }
 static Node make(Pass &pass) { return pass.new_node(); }
 
-// Adds an operation to a change, or writes it through a pass.
+// Adds an operation to a change, or writes it directly through a pass.
 template <class Target> static void collect(Target &target, const Words &words)
 {
     const std::string &what = words[0];
@@ -81,7 +81,7 @@ template <class Target> static void collect(Target &target, const Words &words)
         throw std::invalid_argument(what);
 }
 
-// Checks that the operation is refused with the error after !, and isn't kept.
+// Checks that the operation is refused with the error after the !, and isn't added.
 static void refused(Change &change, const Words &words, std::size_t mark)
 {
     const auto size = change.batch().size();
@@ -121,8 +121,8 @@ static void step(Change &change, Pass &other, const Words &words)
     }
 }
 
-// Runs the lines up to `end` in a change, with one attempt, and checks that it ends as that line
-// says. Returns the next line.
+// Runs the lines up to `end` in a change with one attempt, and checks that the change ends as that
+// line says. Returns the index of the line after it.
 static std::size_t change_by(Pass &pass, Pass &other, const Lines &lines, std::size_t at)
 {
     std::size_t end = at;

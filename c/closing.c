@@ -1,10 +1,10 @@
-/* Closing handles: a handle pinned to an older version than it has seen, and the last handle if the caller's array is too small
- * for the journal, or the journal is long. */
+/* Closes handles: one that has seen a newer version than it has pinned, and the last one, when the caller's array is too small
+ * for the journal and when the journal is long. */
 #include "tests.h"
 #include <time.h>
 
-/* A pass that has written since it was pinned is closed and loses its pin. The store then frees the pages of the versions since,
- * and hands the pass out again. The last handle closes the store. */
+/* Closing a pass that has written since it was pinned removes its pin. The store then frees the pages of the versions since the
+ * pin, and hands out the pass again. The last handle closes the store. */
 static void with_an_old_pin(void)
 {
     bes_pass mine = BES_PASS_INIT, theirs = BES_PASS_INIT;
@@ -21,7 +21,7 @@ static void with_an_old_pin(void)
     CHECK(bes_close(&theirs) == BES_OK && bes_finish(&mine, text, sizeof text, &count) == BES_OK && count < sizeof text);
 }
 
-/* If the array is too small, the call reports that another handle is open, or how long the text is. The handle stays open. */
+/* If the array is too small, the call reports that another handle is open, or how long the text is. The handle isn't closed. */
 static void without_room(void)
 {
     bes_pass mine = BES_PASS_INIT, theirs = BES_PASS_INIT;
@@ -36,7 +36,7 @@ static void without_room(void)
     CHECK(bes_close(&mine) == BES_CLOSED);
 }
 
-/* A journal of any length is returned. A list of this many values of maximum length makes a line of over 33 KB. */
+/* A journal of any length can be returned. A list of 64 values of maximum length makes a line of over 33 KB. */
 static void with_a_long_journal(uint64_t lists)
 {
     enum { LIST = 64, LONGEST = 255, LINE = LIST * 2 * LONGEST };
@@ -61,7 +61,7 @@ static void with_a_long_journal(uint64_t lists)
     CHECK(bes_close(&mine) == BES_CLOSED);
 }
 
-/* `short` skips the journal of over 64 MiB. BESTORE_SEED repeats an earlier run's journal. */
+/* `short` skips the journal of over 64 MiB. BESTORE_SEED repeats the journal of an earlier run. */
 int main(int argc, char **argv)
 {
     const char *given = getenv("BESTORE_SEED");

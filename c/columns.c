@@ -1,4 +1,5 @@
-/* Attributes of many nodes in one call, and names that are checked once. Each cell is compared with what bes_get reads. */
+/* Reads attributes of many nodes in one call, and uses names that are checked only once. Each cell is compared with the result of
+ * bes_get. */
 #include "tests.h"
 
 enum { NODES = 40, NAMES = 6 };
@@ -26,7 +27,7 @@ static void set_attribute(uint64_t node, size_t name)
     }
 }
 
-/* Makes nodes 1 to NODES, and removes every fifth again. */
+/* Creates nodes 1 to NODES, then removes every fifth of them. */
 static void fill(bes_pass *pass)
 {
     uint64_t made[64], number = 0;
@@ -49,7 +50,7 @@ static void hold(bes_name *held, const char *name)
     CHECK(held->length == again.length && memcmp(held->bytes, again.bytes, again.length) == 0);
 }
 
-/* Checks that a cell has what bes_get reads, and that bes_get_named reads the same. */
+/* Checks that a cell contains what bes_get reads, and that bes_get_named reads the same. */
 static void compare(bes_pass *pass, uint64_t node, const char *name, const bes_name *held, const bes_cell *cell, const uint8_t *bytes)
 {
     bes_attribute told = {0, 0, 0}, again = {0, 0, 0};
@@ -67,7 +68,7 @@ static void compare(bes_pass *pass, uint64_t node, const char *name, const bes_n
     }
 }
 
-/* Reads all nodes, and some that don't exist, with the names in this order. */
+/* Reads all nodes, along with some that don't exist, with the names in this order. */
 static void read_all(bes_pass *pass, const size_t *order, size_t width)
 {
     static uint64_t nodes[NODES + 3];
@@ -88,7 +89,7 @@ static void read_all(bes_pass *pass, const size_t *order, size_t width)
     CHECK(count == end);
 }
 
-/* The call writes as many cells and bytes as fit, and its count covers all bytes. */
+/* The call writes as many cells and bytes as fit. Its count includes the bytes that don't. */
 static void too_little_room(bes_pass *pass)
 {
     static const uint64_t nodes[] = {1, 2, 5};
@@ -113,7 +114,7 @@ static void too_little_room(bes_pass *pass)
     CHECK(bes_columns(pass, nodes, 3, held, 0, cells, 6, bytes, 64, &count) == BES_OK && count == 0);
 }
 
-/* A name that no call has checked matches no attribute. */
+/* An unchecked name matches no attribute. */
 static void unchecked_names(bes_pass *pass)
 {
     static const uint64_t nodes[] = {1, 5};

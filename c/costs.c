@@ -1,5 +1,5 @@
-/* What calls cost in instructions and stores. `costs CASE SIZE` runs a case in a store of that size. tests/costs runs it under
- * valgrind's callgrind, which counts each step separately, and has the limits. */
+/* Measures what calls cost in instructions and memory writes. `costs CASE SIZE` runs a case in a store of that size. tests/costs
+ * runs this program under valgrind's callgrind, which counts each step separately, and checks the limits. */
 #include "tests.h"
 #include <valgrind/callgrind.h>
 
@@ -12,7 +12,7 @@ static bes_prepared prepared = BES_PREPARED_INIT;
 static bes_batch batch;
 static uint64_t nodes_count, turn, number, found_count, found[MOST_NODES];
 
-/* Counts this many calls under the step's name. */
+/* Makes this many calls, which are counted under the step's name. */
 static void count(const char *step, void (*call)(void), int calls)
 {
     CALLGRIND_DUMP_STATS_AT("between");
@@ -29,7 +29,7 @@ static void apply(void)
     bes_batch_clear(&batch);
 }
 
-/* Returns a text of 48 bytes. The texts sort in the order of their numbers. */
+/* Returns a string of 48 bytes. The strings sort in the order of their numbers. */
 static const char *text_of(uint64_t n)
 {
     static char text[TEXT + 10];
@@ -38,7 +38,7 @@ static const char *text_of(uint64_t n)
     return text;
 }
 
-/* Opens a store whose nodes have their number as `k` and its text as `t`, both indexed, and the number `v`. */
+/* Opens a store in which each node has its number as `k`, a string for that number as `t`, both indexed, and a number `v`. */
 static void open_filled(void)
 {
     OK(bes_open(PAGES, 2, 1000000, &mine));
@@ -53,7 +53,7 @@ static void open_filled(void)
     }
 }
 
-/* Returns the nodes out of order. Each comes once before any comes again. */
+/* Returns the nodes out of order. No node is repeated until all have been returned. */
 static uint64_t some_node(void)
 {
     turn += 1;
@@ -62,7 +62,7 @@ static uint64_t some_node(void)
 
 static void set(void) { OK(bes_set_int64(&mine, some_node(), "v", (int64_t)turn)); }
 
-/* Single writes, and the same writes after one that was refused. */
+/* Makes single writes, and the same writes again after one that was refused. */
 static void sets(void)
 {
     open_filled();
@@ -112,7 +112,7 @@ static void prepare(const char *query, uint64_t count_met)
     CHECK(found_count == count_met);
 }
 
-/* A prepared query that a range decides, and that half of the nodes match. */
+/* Runs a prepared query that is decided by a range and matched by half of the nodes. */
 static void ranges(void)
 {
     char query[40];
@@ -141,9 +141,9 @@ static void ask_any(void)
     CHECK(found_count == 1);
 }
 
-/* Prepared queries in a large store. Two find few nodes: one by a range of texts, and one with 70 nodes that have to be checked
- * for an attribute that all nodes have. The others find all nodes: a page of them, any one of them, and a page where a second
- * index finds some of them too. */
+/* Runs prepared queries in a large store. Two find few nodes: one uses a range of strings, and one must check 70 nodes for an
+ * attribute that all nodes have. The others match all nodes: one reads a page, one reads any one node, and one reads a page while
+ * a second index finds some of the nodes too. */
 static void queries(void)
 {
     char query[200], after[TEXT + 10];
@@ -176,7 +176,7 @@ static void refresh_changed(void)
     OK(bes_refresh_changed(&mine, &prepared, &updates));
 }
 
-/* Writes one node this many times, and then pins the current version. */
+/* Writes to one node this many times, and then pins the current version. */
 static void write_one(uint64_t times)
 {
     OK(bes_unpin(&mine));
@@ -185,8 +185,8 @@ static void write_one(uint64_t times)
     OK(bes_pin(&mine, &number));
 }
 
-/* Refreshes of a large result: with the whole query, after a write to one node, and after as many writes to one node as the
- * result has nodes. */
+/* Refreshes a large result: by running the whole query, after one write to a node, and after one write for each node in the
+ * result, all to the same node. */
 static void live(void)
 {
     open_filled();

@@ -1,6 +1,6 @@
-/* Counts what calls store and request: the words of pages that a write changes, the bytes that a call asks malloc for, and the
- * blocks that are freed once a handle is closed. No contract limits these. The sizes are random; BESTORE_SEED repeats those of an
- * earlier run. Linked with -Wl,--wrap=malloc,--wrap=realloc,--wrap=free, so that each of the library's requests passes through
+/* Counts what calls store and allocate: the words of pages that a write changes, the bytes that a call requests from malloc, and
+ * the blocks that are freed once a handle is closed. No contract limits these. The sizes are random; BESTORE_SEED repeats those
+ * of an earlier run. Linked with -Wl,--wrap=malloc,--wrap=realloc,--wrap=free, so that all of the library's requests pass through
  * here. */
 #include "tests.h"
 #include <time.h>
@@ -17,9 +17,9 @@ void *__wrap_realloc(void *old, size_t bytes);
 void __wrap_free(void *block);
 
 static uint64_t asked;   /* how many bytes were requested */
-static uint64_t longest; /* how many bytes the largest request was for */
-static int64_t in_use;   /* how many blocks are in use */
-static uint64_t *words;  /* the last block large enough for the words of all pages */
+static uint64_t longest; /* the size of the largest request in bytes */
+static int64_t in_use;   /* the number of blocks in use */
+static uint64_t *words;  /* the last block that is large enough for the words of all pages */
 static size_t words_count;
 
 static void ask(size_t bytes)
@@ -62,14 +62,14 @@ static void print_seed(void)
         fprintf(stderr, "BESTORE_SEED=%d draws these sizes again\n", (int)seed);
 }
 
-/* Returns a random number in this range, uniformly. */
+/* Returns a uniformly distributed random number in this range. */
 static uint64_t draw(uint64_t least, uint64_t most)
 {
     drawn = drawn * 6364136223846793005u + 1442695040888963407u;
     return least + (drawn >> 33) % (most - least + 1);
 }
 
-/* Returns a random number in this range, where small numbers are as likely as large ones. */
+/* Returns a random number in this range, in which small numbers are as likely as large ones. */
 static uint64_t draw_by_power(uint64_t least, uint64_t most)
 {
     uint64_t powers = 1, low = 0;
@@ -90,15 +90,15 @@ static void apply(void)
     bes_batch_clear(&batch);
 }
 
-/* Applies the batch if it doesn't have room for this many more operations. */
+/* Applies the batch if it has no room for this many more operations. */
 static void apply_if_full(uint64_t more)
 {
     if (batch.count + more > LIST)
         apply();
 }
 
-/* Opens a store whose nodes have the number `k`, which is indexed, the number `v`, and a text of random length. It has the
- * maximum number of indices, whose names have the maximum length. */
+/* Opens a store in which each node has an indexed number `k`, a number `v`, and a string of random length. The store has the
+ * maximum number of indices, with names of maximum length. */
 static void open_filled(uint64_t pages)
 {
     enum { INDICES = 32 };
@@ -125,7 +125,7 @@ static void set_any(void) { OK(bes_set_int64(&pass, draw(1, nodes_count), "v", (
 static void set_indexed(void) { OK(bes_set_int32(&pass, draw(1, nodes_count), "k", (int32_t)draw(1, 1 << 30))); }
 static void set_text(void) { OK(bes_set_text(&pass, draw(1, nodes_count), "t", "short")); }
 
-/* Makes writes of three kinds in turn. Each kind copies different pages. */
+/* Makes three kinds of writes in turn, each of which copies different pages. */
 static void set_in_turn(void)
 {
     static void (*const kinds[])(void) = {set_any, set_indexed, set_text};
@@ -133,7 +133,7 @@ static void set_in_turn(void)
     kinds[turn++ % 3]();
 }
 
-/* Returns how many words of pages such a write changes on average. A word is stored only if it changes. */
+/* Returns the average number of words in pages that such a write changes. A word is stored only if it changes. */
 static double words_of(void (*write)(void))
 {
     enum { TIMES = 60 };
@@ -157,7 +157,8 @@ static void is_at_most(const char *what, double found, double most)
     }
 }
 
-/* Repeatedly writes until a reader's pin holds every free page. After that, each page has been used for something else. */
+/* Several times over, writes until a reader's pin holds every free page. After that, each page has been used for something
+ * else. */
 static void wear_out(void)
 {
     bes_pass reader = BES_PASS_INIT;
@@ -179,8 +180,8 @@ static void wear_out(void)
     OK(bes_close(&reader));
 }
 
-/* A single write copies its pages to the ones that they were once copied from, which already have most of the words. This holds even
- * after many writes, when each page in the pool has been used for something else. */
+/* A single write copies each of its pages back to the page that it was once copied from, which still has most of the words. This
+ * holds even after many writes, when each page in the pool has been used for something else. */
 static void words_stored(uint64_t pages)
 {
     static const struct kind {
@@ -203,7 +204,7 @@ static void words_stored(uint64_t pages)
     }
 }
 
-/* Once everything is removed, only the empty version's page is in use, whatever readers held meanwhile. */
+/* Once everything is removed, only the empty version's page is in use, no matter what readers held in the meantime. */
 static void all_pages_are_free(uint64_t pages)
 {
     bes_pass reader = BES_PASS_INIT;
@@ -228,7 +229,7 @@ static void all_pages_are_free(uint64_t pages)
     CHECK(!usage.is_held && usage.retired == 0 && usage.free == pages - 1);
 }
 
-/* Reading an entry takes memory for that entry only, however long the journal is. */
+/* Reading an entry allocates memory only for that entry, however long the journal is. */
 static void entry_alone(void)
 {
     uint64_t by = 0, next = 0;
@@ -242,7 +243,7 @@ static void entry_alone(void)
     }
 }
 
-/* The state is read list by list, with memory for one list and one node. */
+/* The state is read one list at a time, using memory for only one list and one node. */
 static void lists_of_state(void)
 {
     bes_place place = BES_PLACE_INIT;
@@ -259,7 +260,7 @@ static void lists_of_state(void)
     bes_batch_clear(&batch);
 }
 
-/* Opens a store with as many nodes as an answer can have, each with its number as the indexed `k`. */
+/* Opens a store with the maximum number of nodes in an answer, each with its number as the indexed `k`. */
 static void open_large(void)
 {
     words_count = 0;
@@ -300,7 +301,7 @@ static void refresh(bes_prepared *query)
     found = updates.created;
 }
 
-/* A prepared query frees all its memory, however many nodes a call found. */
+/* A prepared query frees all its memory, however many nodes a call has found. */
 static void queries_are_released(void)
 {
     static void (*const calls[])(bes_prepared *) = {find, find_first, find_any, find_page, refresh};
@@ -317,7 +318,7 @@ static void queries_are_released(void)
         }
 }
 
-/* So does an abandoned change, whatever it has collected. */
+/* An abandoned change frees all its memory, whatever it has collected. */
 static void changes_are_abandoned(void)
 {
     for (int time = 0; time < 8; time++) {
@@ -338,7 +339,7 @@ static void changes_are_abandoned(void)
     bes_batch_clear(&batch);
 }
 
-/* So do a place in the state, wherever it is left, a witness, and a pass that is returned. */
+/* A place in the state, a witness and a returned pass also free all their memory. The place may be abandoned at any point. */
 static void others_are_closed(void)
 {
     for (int time = 0; time < 8; time++) {
@@ -360,8 +361,8 @@ static void others_are_closed(void)
     bes_batch_clear(&batch);
 }
 
-/* Finding a few nodes of a large answer takes memory only for these few. The list grows, which requests at most four times its
- * bytes. That is less than the whole answer takes. */
+/* Finding a few nodes of a large answer allocates memory only for those few. Growing the list requests at most four times its
+ * size, which is less than the whole answer takes. */
 static void any_few(void)
 {
     const uint64_t most = MOST_FOUND / 4;
@@ -376,8 +377,8 @@ static void any_few(void)
     }
 }
 
-/* A refresh from what was written makes no list of the whole answer, for up to as many writes as bestore.h says. It may request
- * as much as one journal entry takes, so smaller answers aren't tested. */
+/* Up to the number of writes given in bestore.h, bes_refresh_changed makes no list of the whole answer. It may request memory for
+ * one journal entry, so smaller answers aren't tested. */
 static void refreshed_by_writes(void)
 {
     for (int time = 0; time < 10; time++) {
@@ -398,7 +399,7 @@ static void refreshed_by_writes(void)
     }
 }
 
-/* A write requests a new block for the journal only if the last one is full. */
+/* A write requests a new block for the journal only when the last one is full. */
 static void blocks_of_journal(void)
 {
     uint64_t first = 0;
@@ -423,7 +424,7 @@ static uint64_t pages_for_all(void)
     return usage.pages - usage.free;
 }
 
-/* Closes the store, in one case after fetching its journal's text. All memory is free afterwards. */
+/* Closes the store, in one case after getting its journal's text. Afterwards, all memory has been freed. */
 static void end(bool is_told)
 {
     uint64_t length = 0, count = 0;

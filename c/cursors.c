@@ -1,5 +1,5 @@
-/* The helpers for positions in an index: a position that they make equals the one that bes_ordered leaves, and can be read
- * back. */
+/* Tests the helpers for positions in an index. A position made by a helper must equal the one that bes_ordered returns, and it
+ * must convert back to the value. */
 #include "tests.h"
 
 static const uint32_t codes[] = { BES_STRING_TYPE, BES_INT32_TYPE, BES_INT64_TYPE, BES_UINT32_TYPE, BES_UINT64_TYPE };
@@ -40,7 +40,7 @@ static void is_read_back(const bes_cursor *cursor, const bes_attribute *value, c
     CHECK(memcmp(bytes, text, value->length) == 0);
 }
 
-/* Tests each position in a store whose three nodes have ascending values of one kind. */
+/* Tests every position in a store whose three nodes have ascending values of one kind. */
 static void positions(int kind)
 {
     static bes_batch batch;
@@ -70,7 +70,7 @@ static void positions(int kind)
     CHECK(bes_release(&all) == BES_OK && bes_close(&pass) == BES_OK);
 }
 
-/* Values that an index can't have, and cursors that aren't positions in an index. */
+/* Tries values that an index can't have, and cursors that aren't positions in an index. */
 static void refused(void)
 {
     bes_cursor cursor = { 7, 7, { 7 } };

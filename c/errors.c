@@ -1,5 +1,5 @@
-/* Which error a call returns if two apply: the one that the header names first. Each line gives a call two reasons to be refused;
- * test.c tests each reason separately. */
+/* Tests which error a call returns if two apply: the one that the header lists first. Each line gives a call two reasons to be
+ * refused; test.c tests each reason separately. */
 #include "tests.h"
 
 #define RETURNS(error, call) CHECK((call) == (error))
@@ -19,12 +19,12 @@ static bes_operation listed[64];
 static uint8_t bytes[64 * 318];
 static const bes_item no_item = {99, 0, 0, 0};
 
-/* A text of this many bytes that isn't valid UTF-8, and a text that has a zero byte. */
+/* A text of this length that isn't valid UTF-8, and one that contains a zero byte. */
 static uint8_t no_text[LONG_TEXT], zero_text[LONG_TEXT];
 
 #define NAME(text) (const uint8_t *)(text), strlen(text)
 
-/* Makes an operation on a node. Its name and its value both begin at the first byte. */
+/* Returns an operation on a node. Its name and its value both begin at the first byte. */
 static bes_operation operation_of(uint32_t kind, uint32_t code, uint64_t node, uint32_t name_length, uint32_t value_length)
 {
     bes_operation one = {0, 0, 0, 0, 0, 0, 0, 0};
@@ -45,7 +45,7 @@ static uint32_t write_one(uint32_t kind, uint32_t code, const uint8_t *parts, ui
     return bes_apply(&pass, &one, 1, parts, LONG_TEXT, nodes, 0, &number);
 }
 
-/* Errors of handles. */
+/* Errors for handles. */
 static void of_handles(void)
 {
     RETURNS(BES_OPEN, bes_open(7, 1, 1, &pass));
@@ -65,7 +65,8 @@ static void of_handles(void)
     RETURNS(BES_OPEN, bes_prepare_items(&no_item, 0, bytes, 0, &prepared, &count));
 }
 
-/* Writes: the number of operations is checked first, then each operation's parts, and then what the store refuses. */
+/* Errors for writes: the number of operations is checked first, then the parts of each operation. The store's errors come
+ * last. */
 static void of_writes(void)
 {
     static bes_operation many[65];
@@ -88,8 +89,8 @@ static void of_writes(void)
     RETURNS(BES_NO_VALUE, write_one(BES_SET, BES_INT32_TYPE, bytes, 1, 0, 1ull << 40));
     no_text[0] = 0xff;
     zero_text[0] = 0;
-    /* If two operations are invalid, the first error is reported. An invalid operation is reported before one that the store
-     * refuses. */
+    /* If two operations are invalid, the first one's error is returned. The error for an invalid operation comes before the
+     * store's. */
     two[0].kind = BES_REMOVE_NODE;
     two[0].node = 9;
     two[1].kind = 99;
@@ -99,18 +100,18 @@ static void of_writes(void)
     two[1].node = 1;
     two[1].name_length = 1;
     RETURNS(BES_NO_NODE, bes_apply(&pass, two, 2, bytes, 1, nodes, 0, &number));
-    /* BES_CONFLICT comes after invalid operations, and before what the store refuses. */
+    /* BES_CONFLICT comes after errors for invalid operations, and before the store's errors. */
     RETURNS(BES_CONFLICT, bes_apply_if(&pass, 7, two, 2, bytes, 1, nodes, 0, &number));
     two[1].kind = 99;
     RETURNS(BES_NO_OPERATION, bes_apply_if(&pass, 7, two, 2, bytes, 1, nodes, 0, &number));
     RETURNS(BES_BAD_COUNT, bes_apply_if(&pass, 7, two, 0, bytes, 1, nodes, 0, &number));
     RETURNS(BES_CLOSED, bes_apply_if(&closed, 7, two, 0, bytes, 1, nodes, 0, &number));
-    /* The store's limits come last: first the journal's, then the pages'. */
+    /* The store's limits come last: first that of the journal, then that of the pages. */
     RETURNS(BES_NO_NODE, bes_remove_node(&single, 9));
     RETURNS(BES_COMMITS_SPENT, bes_new_node(&single, &number));
 }
 
-/* Adds an operation to a change. Its parts are checked first, then its kind, then the number of operations. */
+/* Adds an operation to a change. The operation's parts are checked first, then its kind, then the number of operations. */
 static uint32_t add_one(uint32_t kind, uint32_t code, const uint8_t *parts, uint32_t name_length, uint32_t value_length)
 {
     bes_operation one = operation_of(kind, code, 1, name_length, value_length);
@@ -139,14 +140,14 @@ static void of_changes(void)
     RETURNS(BES_NOT_PINNED, bes_change_get(&pass, &draft, 9, NAME("a"), &attribute, bytes, 0));
     RETURNS(BES_OK, bes_new_node(&pass, &number));
     RETURNS(BES_NOT_PINNED, bes_end_change(&pass, &draft, &number));
-    /* BES_CONFLICT comes before what the store refuses. */
+    /* BES_CONFLICT comes before the store's errors. */
     RETURNS(BES_OK, bes_begin_change(&pass, &draft, &number, &count));
     RETURNS(BES_OK, add_one(BES_UNSET, 0, name, 1, 0));
     RETURNS(BES_OK, bes_new_node(&pass, &number));
     RETURNS(BES_CONFLICT, bes_end_change(&pass, &draft, &number));
 }
 
-/* Makes a change of one operation in one call. */
+/* Makes a change with one operation, in one call. */
 static uint32_t change_one(bes_pass *by, uint32_t kind, uint32_t code)
 {
     bes_operation one = {0, 0, 0, 0, 0, 0, 0, 0};
@@ -157,7 +158,8 @@ static uint32_t change_one(bes_pass *by, uint32_t kind, uint32_t code)
     return bes_apply_change(by, &one, 1, bytes, 2, &number);
 }
 
-/* Changes in one call: the parts are checked first, then the pin, the kind, what others wrote, and what the store refuses. */
+/* Errors for changes in one call: the parts are checked first, then the pin, the kind, and the writes of others. The store's
+ * errors come last. */
 static void of_changes_at_once(void)
 {
     bytes[0] = 'a';
@@ -172,7 +174,7 @@ static void of_changes_at_once(void)
     RETURNS(BES_OK, bes_unpin(&pass));
 }
 
-/* Queries: the text is checked first, then the pin, then the indices. */
+/* Errors for queries: the text is checked first, then the pin, then the indices. */
 static void of_queries(void)
 {
     const bes_item alone = {BES_ITEM_ATTRIBUTE, 0, 1, 0};
@@ -202,7 +204,7 @@ static void of_queries(void)
     RETURNS(BES_NOT_PINNED, bes_refresh(&pass, &prepared, &updates));
 }
 
-/* Reads: the name is checked first, then the pin, then whether the node or attribute exists. */
+/* Errors for reads: the name is checked first, then the pin, then whether the node or attribute exists. */
 static void of_reads(void)
 {
     RETURNS(BES_CLOSED, bes_get(&closed, 9, no_text, 1, &attribute, bytes, 0));

@@ -1,7 +1,7 @@
-/* The calls and helpers for writes based on reads: conditional writes, changes, the journal's entries, batches as bytes, waiting
- * after BES_FULL, and handles in a forked child. */
+/* Tests conditional writes, changes, the journal's entries, batches as bytes, waiting after BES_FULL, and handles in a forked
+ * child. */
 #define _POSIX_C_SOURCE 199309L
-#define BES_FULL_SECONDS 60 /* so that another thread manages to unpin even on a loaded machine */
+#define BES_FULL_SECONDS 60 /* gives another thread time to unpin even on a loaded machine */
 #include "tests.h"
 #include <pthread.h>
 #include <sys/wait.h>
@@ -88,7 +88,7 @@ static void conditional(void)
     CHECK(bes_batch_apply_if(&passes[0], 3, &batch, 5, made, 2, &number) == BES_CONFLICT && number == 2);
     CHECK(bes_batch_apply_if(&passes[1], 2, &batch, 5, made, 2, &number) == BES_OK && number == 3 && made[0] == 0 && made[1] == 2);
     CHECK(bes_batch_apply_if(&passes[1], 2, &batch, 5, made, 2, &number) == BES_CONFLICT && number == 3);
-    /* This error comes before what the store refuses, and after what is invalid. */
+    /* This error comes after errors for invalid operations, and before the store's errors. */
     bes_batch_clear(&batch);
     CHECK(bes_batch_apply_if(&passes[1], 0, &batch, 1, made, 2, &number) == BES_BAD_COUNT && number == 0);
     CHECK(bes_batch_remove_node(&batch, 99) == BES_OK);
@@ -99,7 +99,7 @@ static void conditional(void)
     close_three(passes);
 }
 
-/* What a changer that counts up uses, and how many times another write interferes with it. */
+/* The state of a function that increments a count, and how many times another write is to interfere with it. */
 typedef struct counting {
     bes_pass *disturber;
     unsigned disturbances, runs;
@@ -164,7 +164,7 @@ static void changes(void)
     close_three(passes);
 }
 
-/* Applies each of the journal's entries to an empty store, which then has the same journal. */
+/* Replays the journal's entries in an empty store, which then has the same journal. */
 static void replay(bes_pass *pass)
 {
     static uint8_t mine[1 << 16], theirs[1 << 16];
@@ -229,7 +229,7 @@ static void fill(char *text, size_t length)
     text[length] = 0;
 }
 
-/* Makes a batch of random operations. */
+/* Fills a batch with random operations. */
 static void any_batch(void)
 {
     static const uint32_t codes[] = {BES_STRING_TYPE, BES_INT32_TYPE, BES_INT64_TYPE, BES_MIME_STRING_TYPE, BES_RAW_TYPE,
@@ -260,7 +260,7 @@ static bool are_same(const bes_batch *a, const bes_batch *b)
            memcmp(a->operations, b->operations, a->count * sizeof *a->operations) == 0;
 }
 
-/* The written bytes decode to the same batch. If they are cut off anywhere, the error has an offset within them. If a byte is
+/* The encoded bytes decode to the same batch. If they are truncated anywhere, the error has an offset within them. If a byte is
  * changed, they are either refused or decode to a different batch. */
 static void bytes_come_back(void)
 {
@@ -315,7 +315,8 @@ static void bytes_by_hand(void)
     CHECK(bes_batch_to_bytes(&batch, bytes, 64, &count) == BES_BAD_PART && count == 1);
 }
 
-/* With arrays: the counts say how much space is needed, and nothing is written past an array's end. */
+/* Encodes into arrays and decodes into arrays: the counts tell how much space is needed, and nothing is written past the end of
+ * an array. */
 static void bytes_into_arrays(void)
 {
     uint8_t bytes[200], parts[16], name[64] = {'n'};
@@ -351,7 +352,7 @@ static double seconds_since(const struct timespec *begin)
     return (double)(now.tv_sec - begin->tv_sec) + (double)(now.tv_nsec - begin->tv_nsec) / 1e9;
 }
 
-/* Unpins a pass a little later. */
+/* Unpins a pass after a short time. */
 static void *unpin_later(void *pass)
 {
     const struct timespec rest = {0, 50000000};
@@ -373,7 +374,7 @@ static void fill_up(bes_pass *pass)
     CHECK(error == BES_FULL);
 }
 
-/* While another pass pins an older snapshot, a write is retried until its tries or its seconds run out. */
+/* While another pass has an older snapshot pinned, a write is retried until it runs out of tries or time. */
 static void waits_only_so_long(bes_pass *pass, uint64_t number)
 {
     bes_retry retry = {2, 1, 0}, late = {2, 1, time(NULL) - BES_FULL_SECONDS - 2};
@@ -384,7 +385,7 @@ static void waits_only_so_long(bes_pass *pass, uint64_t number)
     CHECK(!bes_again(pass, BES_OK, 0, &late) && !bes_again(pass, BES_CONFLICT, 0, &late));
 }
 
-/* After BES_FULL, a write waits for another pass's pin, but not for ever. It doesn't wait for its own pin, or if no pin holds
+/* After BES_FULL, a write waits for another pass to unpin, but not for ever. It doesn't wait for its own pass, or if no pin holds
  * pages. */
 static void waiting(void)
 {
@@ -415,7 +416,7 @@ static void waiting(void)
     close_three(passes);
 }
 
-/* If no page is free and no older snapshot is pinned, waiting can't help. */
+/* If no page is free and no older snapshot is pinned, waiting doesn't help. */
 static void full_for_good(void)
 {
     bes_pass pass = BES_PASS_INIT;
@@ -459,7 +460,7 @@ static void moves(void)
     CHECK(bes_leave(&place) == BES_OK && bes_leave(&elsewhere) == BES_OK && bes_close(&pass) == BES_OK);
 }
 
-/* A forked child clears the handles that its parent opened, and opens its own store. */
+/* A forked child clears the handles that its parent opened, and opens a store of its own. */
 static void in_child(void)
 {
     bes_pass passes[3];

@@ -1,6 +1,6 @@
-// Changes, typed attributes, the journal's entries, batches as bytes, and texts of queries, with the objects of bestore.hpp. Also
-// objects in a forked child.
-#define BES_FULL_SECONDS 60 // so that another thread manages to unpin even on a loaded machine
+// Tests the objects of bestore.hpp: changes, typed attributes, the journal's entries, batches as bytes, query texts, and objects
+// in a forked child.
+#define BES_FULL_SECONDS 60 // gives another thread time to unpin even on a loaded machine
 #include "bestore.hpp"
 #include "tests.hpp"
 #include <chrono>
@@ -39,7 +39,7 @@ static void change_writes_on_what_it_read()
     refused(BES_CONFLICT, [&] { store.apply_if(3, Batch().remove_node(3)); });
 }
 
-// Another pass writes in between, once for each of the first runs.
+// During each of the first runs, another pass writes in between.
 static void change_begins_again()
 {
     Store store({256, 2, 1000});
@@ -155,7 +155,7 @@ static void nodes_are_reserved()
     refused(BES_BAD_COUNT, [&] { store.new_nodes(65); });
 }
 
-// An index that is made late has all values of its kind once they are set again. Values of other kinds stay out of it.
+// An index that is created late has all values of its kind once they are set again. Values of other kinds are left out.
 static void reindexed()
 {
     Store store({2048, 2, 10000});
@@ -199,12 +199,12 @@ static void journal_is_read()
     CHECK(first[1].value == Value(std::int64_t{-5}) && first[1].kind == Kind::int64 && first[1].node == 1);
     CHECK(second.size() == 4 && second[0].value == Value(Raw{0, 255}) && second[1].action == Action::unset && !second[1].kind);
     CHECK(second[2].action == Action::remove_node && second[2].node == 2 && second[3].action == Action::remove_index);
-    // Read from a number on, and then continue with what was written since.
+    // Read from a number on, and then continue with the entries added since.
     auto rest = store.journal_from(2);
     CHECK(rest.begin()->number == 3 && rest.begin() == rest.end());
     other.new_node();
     CHECK(rest.begin()->number == 4 && rest.begin() == rest.end() && store.journal_from(99).begin() == rest.end());
-    // Applied one by one, the entries make the same store.
+    // Replaying the entries one by one creates the same store.
     Store next({256, 1, 1000});
     for (const Entry &entry : store.journal_from())
         CHECK(next.apply(Batch::from_bytes(entry.batch.to_bytes())).number == entry.number);
@@ -254,7 +254,7 @@ static void texts()
     CHECK(Refusal(BES_FULL).error_class() == ErrorClass::full && Refusal(63).error_class() == ErrorClass::mine);
 }
 
-// A text finds texts that are equal apart from case, whatever letters they have.
+// A text finds all texts that differ only in case, whatever letters they have.
 static void any_case_finds()
 {
     Store store({512, 1, 100000});
@@ -298,7 +298,7 @@ static void questions()
     CHECK(never[1].value == "2024-01-01" && never[1].op == B_NE && pin.never_true(small).empty());
 }
 
-// At BES_FULL, a write waits for another pass's pin, but not for its own.
+// After BES_FULL, a write waits for another pass to unpin, but not for its own.
 static void full_store_waits()
 {
     Store store({16, 2, 10000});
@@ -334,7 +334,8 @@ static void full_store_waits()
     CHECK(std::chrono::steady_clock::now() - begin < std::chrono::seconds(BES_FULL_SECONDS));
 }
 
-// In a forked child, the parent's objects throw, and their destructors do nothing. The child's own store works as usual.
+// In a forked child, using the parent's objects throws an exception, and their destructors do nothing. The child's own store
+// works as usual.
 static void forked()
 {
     Store store({64, 3, 100});

@@ -1,6 +1,6 @@
-/* What calls return if malloc returns NULL, and if they are made in the middle of another call. Linked with -Wl,--wrap=malloc,
- * --wrap=realloc,--wrap=sched_yield, so that each of the library's requests passes through here, and each time a write yields
- * too. */
+/* Tests what calls return if malloc returns NULL, and if they are made in the middle of another call. Linked with
+ * -Wl,--wrap=malloc, --wrap=realloc,--wrap=sched_yield, so that all of the library's requests for memory, and all its yields,
+ * pass through here. */
 #include "tests.h"
 
 void *__real_malloc(size_t size);
@@ -9,8 +9,8 @@ void *__wrap_malloc(size_t size);
 void *__wrap_realloc(void *old, size_t size);
 int __wrap_sched_yield(void);
 
-static unsigned requests, refused; /* how many requests there were, and which one is refused, counted from 1 */
-static void (*between)(void);      /* is called at each request */
+static unsigned requests, refused; /* the number of requests so far, and the one to refuse, counting from 1 */
+static void (*between)(void);      /* called at each request */
 
 static bool is_refused(void)
 {
@@ -33,7 +33,7 @@ void *__wrap_realloc(void *old, size_t size)
     return is_refused() ? NULL : __real_realloc(old, size);
 }
 
-static unsigned turns; /* how many times a write yielded */
+static unsigned turns; /* how many times writes have yielded */
 
 int __wrap_sched_yield(void)
 {
@@ -47,7 +47,7 @@ static bes_place place, elsewhere;
 static bes_witness witness, handed;
 static uint64_t journal_length;
 
-/* What calls write. */
+/* The outputs of calls. */
 typedef struct outs {
     uint64_t number, count, nodes[4], more[4];
     bes_updates updates;
@@ -79,7 +79,7 @@ static uint32_t call_apply_if(void)
 {
     return bes_apply_if(&mine, journal_length, list, 2, parts, 11, out.nodes, 4, &out.number);
 }
-/* A whole change, on a pass that isn't pinned before or after it. */
+/* Makes a whole change on a pass that isn't pinned before or afterwards. */
 static uint32_t call_change(void)
 {
     bes_draft draft = BES_DRAFT_INIT;
@@ -99,7 +99,7 @@ static uint32_t call_change(void)
     bes_abandon_change(&theirs, &draft);
     return error;
 }
-/* A change in one call, on a pass that is pinned for it. */
+/* Makes a change in one call, on a pass that is pinned for it. */
 static uint32_t call_change_at_once(void)
 {
     uint64_t number = 0;
@@ -173,7 +173,7 @@ static uint32_t call_move_witness(void)
 }
 static uint32_t call_move(void) { return bes_move(&mine, &opened) == BES_OK ? bes_move(&opened, &mine) : BES_OPEN; }
 
-/* Returns whether the call wrote nothing, except 0 as its number or count. */
+/* Returns whether the call wrote nothing except 0 as its number or count. */
 static bool is_untouched(void)
 {
     outs seen = out;
@@ -184,8 +184,8 @@ static bool is_untouched(void)
     return memcmp(&seen, &untouched, sizeof seen) == 0;
 }
 
-/* Refuses each of a call's requests in turn. The call then does nothing, or, if it may go on, succeeds without the memory. At the
- * end it gets all its memory. Returns how many requests it made. */
+/* Refuses each of a call's requests in turn. The call must then do nothing or, if it may go on, succeed without that memory. In
+ * the last round it gets all its memory. Returns how many requests it made. */
 static unsigned refuse_each_of(uint32_t (*call)(void), bool may_go_on)
 {
     look(&mine, &before);
@@ -240,8 +240,8 @@ static void refuse_all(void)
 
 enum { MADE = 100, MOST = 4 * MADE };
 
-/* Reads a whole state. Each first attempt to read a list has this request refused. Returns how many operations there were. `vain`
- * counts the attempts that failed. */
+/* Reads a whole state, refusing this request in the first attempt to read each list. Returns how many operations there were.
+ * `vain` counts the failed attempts. */
 static size_t read_state(bes_pass *pass, unsigned request, bes_operation *told, unsigned *vain)
 {
     static bes_batch batch;
@@ -266,7 +266,7 @@ static size_t read_state(bes_pass *pass, unsigned request, bes_operation *told, 
     return count;
 }
 
-/* If memory is refused between two lists, no operation is lost or repeated. */
+/* If an allocation fails between two lists, no operation is lost or repeated. */
 static void refuse_between_lists(void)
 {
     static bes_operation plain[MOST], told[MOST];
@@ -287,8 +287,8 @@ static void refuse_between_lists(void)
 
 static unsigned accepted, busy;
 
-/* A write is retried `retries` times, and yields `left` times in total: once before the second try, and twice as often before
- * each further one, up to 1,024 times. */
+/* A write is retried `retries` times, and yields `left` times in total: once before the second try, and twice as many times
+ * before each further try, up to 1,024. */
 static void tries_again(uint32_t retries, unsigned left)
 {
     uint64_t number = 7, nodes[4];
@@ -297,7 +297,7 @@ static void tries_again(uint32_t retries, unsigned left)
     CHECK(turns == left);
 }
 
-/* A change's end is a single attempt. It doesn't yield, and leaves nothing of the change. */
+/* Ending a change makes only one attempt. It doesn't yield, and nothing of the change remains. */
 static void ends_busy(void)
 {
     bes_draft draft = BES_DRAFT_INIT;
@@ -309,7 +309,7 @@ static void ends_busy(void)
     CHECK(turns == 0 && bes_next(&theirs, &next) == BES_NOT_PINNED);
 }
 
-/* A change in one call is also a single attempt, and its pin stays. */
+/* A change in one call also makes only one attempt, and its pass stays pinned. */
 static void change_is_busy(void)
 {
     uint64_t number = 7;
@@ -319,8 +319,8 @@ static void change_is_busy(void)
     CHECK(turns == 0 && bes_unpin(&theirs) == BES_OK);
 }
 
-/* Makes calls through another pass. While the first pass is writing, writes return BES_BUSY with that pass's number, 1. Reads
- * return what they always do. */
+/* Makes calls through another pass while the first pass is writing. Writes return BES_BUSY with the number of the first pass, 1.
+ * Reads work as usual. */
 static void go_between(void)
 {
     uint64_t number = 7, count = 7, nodes[4];
@@ -345,7 +345,7 @@ static void go_between(void)
     CHECK(count == 1 && nodes[0] == 1 && bes_unpin(&theirs) == BES_OK);
 }
 
-/* While the journal's text is made, its pass holds the lock. A write makes some of its requests before it takes the lock. */
+/* A pass holds the lock while it produces the journal's text. A write makes some of its requests before taking the lock. */
 static void meet_busy(void)
 {
     between = go_between;
@@ -369,7 +369,7 @@ static void meet_between(void)
     met++;
 }
 
-/* bes_meet takes no lock: it returns while another pass holds the lock. */
+/* bes_meet takes no lock: it returns even while another pass holds the lock. */
 static void meet_while_locked(void)
 {
     bes_pass first = BES_PASS_INIT, third = BES_PASS_INIT;
@@ -383,7 +383,7 @@ static void meet_while_locked(void)
     CHECK(met > 0 && bes_close(&first) == BES_OK && bes_close(&second) == BES_OK);
 }
 
-/* Until there is memory for the journal's text, the last handle stays open and its store works. */
+/* As long as there is no memory for the journal's text, the last handle stays open and its store works. */
 static void finish_later(void)
 {
     bes_pass pass = BES_PASS_INIT, other = BES_PASS_INIT;
@@ -403,7 +403,7 @@ static void finish_later(void)
     CHECK(count == 21 && memcmp(text, "1 by 0 new -> node 1\n", 21) == 0 && bes_close(&other) == BES_CLOSED);
 }
 
-/* A state without a pin: the memory for its place is requested first. */
+/* Reads a state without a pin. The memory for the place in it is requested first. */
 static void state_without_pin(void)
 {
     bes_pass pass = BES_PASS_INIT;
@@ -429,7 +429,7 @@ int main(void)
     finish_later();
     CHECK(bes_release(&kept) == BES_OK && bes_release(&by_text) == BES_OK && bes_release(&by_items) == BES_OK);
     CHECK(bes_dismiss(&witness) == BES_OK);
-    /* If there is no memory for its handle, a returned pass can still be taken later. */
+    /* A returned pass can still be taken later if there is no memory for its handle now. */
     CHECK(bes_close(&theirs) == BES_OK && refuse_each(call_another) > 0);
     CHECK(bes_close(&mine) == BES_OK && bes_close(&theirs) == BES_OK);
     puts("ok");

@@ -1,11 +1,11 @@
-/* Parts of results. Pages in an index's order are compared with the plain way, which runs the whole query, reads the values,
- * sorts them and cuts the list. The other parts are the first nodes by number, any few nodes, and a refresh from what was
- * written. With the argument `short`, fewer queries run. */
+/* Tests partial results. Pages in an index's order are compared with a naive implementation, which runs the whole query, reads
+ * the values, sorts them and cuts the list. The other partial results are the first nodes by number, any few nodes, and the
+ * changes from bes_refresh_changed. With the argument `short`, fewer queries are run. */
 #include "tests.h"
 
 enum { NODES = 300, INDICES = 5, LATE = NODES / 3 };
 
-/* An index of each kind. "word" is made after a third of the nodes have their words, so these have no pair in it. */
+/* One index of each kind. "word" is created after a third of the nodes have got their words, so these have no pair in it. */
 static const char *const names[INDICES] = {"big", "count", "size", "when", "word"};
 static const uint32_t kinds[INDICES] = {BES_UINT64_TYPE, BES_UINT32_TYPE, BES_INT32_TYPE, BES_INT64_TYPE, BES_STRING_TYPE};
 static const char *const texts[] = {"size>=-1000", "size<0", "when>=0 && size>-3", "word==\"*a*\" || count<5", "count==7", "size==99"};
@@ -19,7 +19,7 @@ typedef struct row {
 static bes_batch batch;
 static uint64_t state = 88172645463325252u;
 static bool word_has_index;
-static bool has_word[2 * NODES + 1]; /* whether the node's word was set after its index was made */
+static bool has_word[2 * NODES + 1]; /* whether the node's word was set after the index was created */
 static bool is_gone[2 * NODES + 1];
 static uint64_t last_node;
 
@@ -32,7 +32,7 @@ static uint64_t below(uint64_t bound)
     return state % bound;
 }
 
-/* Sets or unsets each of a node's attributes at random. Many nodes share a value. */
+/* Sets or removes each of a node's attributes at random. Many nodes have the same value. */
 static void set_some(bes_pass *pass, uint64_t node)
 {
     char text[4];
@@ -83,7 +83,7 @@ static void prepare(bes_prepared *prepared, const char *text)
     CHECK(bes_prepare((const uint8_t *)text, strlen(text), prepared, &place) == BES_OK);
 }
 
-/* Compares two values of one kind. Returns less than 0, 0, or more. */
+/* Compares two values of one kind. Returns a negative number, 0, or a positive number. */
 static int compare_values(const row *a, const row *b)
 {
     size_t shorter = a->value.length < b->value.length ? a->value.length : b->value.length;
@@ -107,7 +107,8 @@ static int compare_reversed(const void *left, const void *right)
     return compare_rows(right, left);
 }
 
-/* The plain way: lists the query's nodes that have a pair in the index, in the index's order. Returns how many there are. */
+/* The naive implementation: lists the query's nodes that have a pair in the index, in the index's order. Returns how many there
+ * are. */
 static size_t plain(bes_pass *pass, bes_prepared *prepared, size_t index, bool descending, row *rows)
 {
     static uint64_t nodes[2 * NODES];
@@ -126,7 +127,7 @@ static size_t plain(bes_pass *pass, bes_prepared *prepared, size_t index, bool d
     return kept;
 }
 
-/* Checks that the handle keeps what a call wrote. */
+/* Checks that the handle holds the nodes that a call wrote. */
 static void check_kept(bes_prepared *prepared, const uint64_t *nodes, uint64_t count)
 {
     uint64_t again[2 * NODES], kept = 0;
@@ -134,7 +135,7 @@ static void check_kept(bes_prepared *prepared, const uint64_t *nodes, uint64_t c
     CHECK(memcmp(again, nodes, (size_t)count * sizeof *again) == 0);
 }
 
-/* All pages of one size, put together, are the plain list. */
+/* All pages of one size together must equal the naive list. */
 static void read_pages(bes_pass *pass, bes_prepared *prepared, size_t index, bool descending, size_t room)
 {
     static row rows[2 * NODES];
@@ -176,7 +177,8 @@ static void all_pages(bes_pass *pass, bool is_short)
     }
 }
 
-/* A cursor from one direction works in the other too. The nodes after it in both directions, and its own node, are all nodes. */
+/* A cursor from one direction also works in the other. The nodes after it in both directions, together with its own node, are all
+ * the nodes. */
 static void both_ways(bes_pass *pass)
 {
     bes_prepared prepared = BES_PREPARED_INIT;
@@ -194,7 +196,7 @@ static void both_ways(bes_pass *pass)
     CHECK(bes_release(&prepared) == BES_OK);
 }
 
-/* A page at a later snapshot continues from the position, whatever was written in between. */
+/* A page from a later snapshot continues from the position, whatever was written in between. */
 static void writes_between(bes_pass *pass)
 {
     bes_prepared prepared = BES_PREPARED_INIT;
@@ -211,7 +213,7 @@ static void writes_between(bes_pass *pass)
     CHECK(nodes[0] == node + 5 && nodes[1] == node + 4 && nodes[2] == node + 3);
     CHECK(bes_unpin(pass) == BES_OK);
     CHECK(bes_set_int32(pass, node, "size", 160) == BES_OK);     /* moved before the cursor: missed */
-    CHECK(bes_set_int32(pass, node + 5, "size", 105) == BES_OK); /* returned, and moved after the cursor: comes again */
+    CHECK(bes_set_int32(pass, node + 5, "size", 105) == BES_OK); /* returned, then moved after the cursor: returned again */
     CHECK(bes_remove_node(pass, node + 3) == BES_OK);            /* the cursor's own node */
     CHECK(bes_pin(pass, &number) == BES_OK);
     CHECK(bes_ordered(pass, &prepared, &by, 1, &cursor, nodes, 8, &count, &more) == BES_OK && count == 3 && more == 0);
@@ -220,7 +222,7 @@ static void writes_between(bes_pass *pass)
     CHECK(bes_unpin(pass) == BES_OK && bes_release(&prepared) == BES_OK);
 }
 
-/* Changes some nodes' values. Now and then removes a node and makes another. */
+/* Changes some nodes' values. Occasionally removes a node and creates another. */
 static void write_some(bes_pass *pass)
 {
     for (int write = 0; write < 3; write++) {
@@ -235,7 +237,7 @@ static void write_some(bes_pass *pass)
     }
 }
 
-/* Returns the index of the first row after `last`, or 0 if `last` is empty. */
+/* Returns the index of the first row after `last`, or 0 if there is no `last`. */
 static size_t begin_after(const row *rows, size_t count, const row *last, bool descending)
 {
     size_t at = 0;
@@ -244,7 +246,7 @@ static size_t begin_after(const row *rows, size_t count, const row *last, bool d
     return at;
 }
 
-/* Checks that each page is what its own snapshot's plain list has after the cursor. */
+/* Checks that each page equals the part after the cursor in the naive list for the page's own snapshot. */
 static void pages_between_writes(bes_pass *pass, bes_prepared *prepared, size_t index, bool descending)
 {
     static row rows[2 * NODES], last;
@@ -288,7 +290,7 @@ static int compare_numbers(const void *left, const void *right)
     return (*a > *b) - (*a < *b);
 }
 
-/* The first nodes by number, continued until there are no more, and any few nodes. */
+/* Reads the first nodes by number, then continues until there are no more. Also reads any few nodes. */
 static void first_and_any(bes_pass *pass, const char *text)
 {
     bes_prepared prepared = BES_PREPARED_INIT;
@@ -318,7 +320,7 @@ static void first_and_any(bes_pass *pass, const char *text)
     CHECK(bes_release(&prepared) == BES_OK);
 }
 
-/* Checks what a refused call leaves: no number of nodes, and everything else unchanged. */
+/* Checks the outputs of a refused call: the number of nodes is 0, and everything else is unchanged. */
 static void refuse_page(uint32_t error, bes_pass *pass, bes_prepared *prepared, const bes_name *by, const bes_cursor *from, size_t room)
 {
     uint64_t nodes[4] = {1, 2, 3, 4}, count = 7, kept = 7;
@@ -349,7 +351,7 @@ static bes_cursor cursor_of(uint32_t kind, uint32_t length)
     return cursor;
 }
 
-/* Each error, and which error is returned if two apply. The pass is pinned. */
+/* Tests each error, and which error is returned if two apply. The pass is pinned. */
 static void errors(bes_pass *pass)
 {
     static const bes_name no_name = {3, "\xff=!"}, too_long = {UINT64_MAX, "size"};
@@ -393,8 +395,7 @@ static void errors(bes_pass *pass)
     CHECK(bes_release(&prepared) == BES_OK && bes_release(&uncovered) == BES_OK);
 }
 
-/* A refresh from what was written finds the same as a refresh with the whole query, at every size and while another pass
- * reads. */
+/* bes_refresh_changed gives the same result as bes_refresh, at every size and while another pass is reading. */
 static void refresh_changed(bes_pass *pass)
 {
     bes_prepared whole = BES_PREPARED_INIT, changed = BES_PREPARED_INIT;

@@ -1,4 +1,4 @@
-// Pages in an index's order, in C++, compared with the whole answer, sorted and cut.
+// Compares pages in an index's order, in C++, with the whole answer after sorting and cutting it.
 #include "tests.hpp"
 #include <algorithm>
 #include <atomic>
@@ -14,7 +14,7 @@ using bestore::Order;
 
 namespace {
 
-// A value as an index compares it: a number and its sign, or a text.
+// A value in the form that an index compares: a number with its sign, or a string.
 using Rank = std::tuple<bool, std::uint64_t, std::string>;
 using Keys = std::vector<std::pair<Rank, Node>>;
 
@@ -31,7 +31,7 @@ Rank rank(const bestore::Value &value)
     return {false, std::get<std::uint64_t>(value), ""};
 }
 
-// Values of each kind, which several nodes share.
+// Returns a value of this kind. Several nodes have the same values.
 bestore::Value value_of(Kind kind, unsigned at)
 {
     static const char *const texts[] = {"", "a", "ab", "b", "\xc3\xa4"};
@@ -57,14 +57,14 @@ void set(bestore::Batch &batch, Node node, const char *name, const bestore::Valu
     std::visit([&](const auto &held) { batch.set(node, name, held); }, value);
 }
 
-// A store, the generator of its values, and its nodes.
+// A store, the generator for its values, and its nodes.
 struct Written {
     bestore::Store pass;
     std::mt19937 chance{5};
     std::vector<Node> nodes;
 };
 
-// Makes a node with some values, or changes a node's values, or removes a node.
+// Creates a node with some values, changes a node's values, or removes a node.
 void write(Written &store)
 {
     auto &[pass, chance, nodes] = store;
@@ -99,7 +99,7 @@ Keys plain(bestore::Snapshot &snapshot, bestore::Prepared &query, const Order &o
     return keys;
 }
 
-// Returns the page after a cursor, cut from the whole answer, and whether there is more.
+// Returns the page after a cursor, cut from the whole answer, and whether more nodes follow.
 std::pair<std::vector<Node>, bool> cut(const Keys &keys, const Cursor &after, std::size_t most)
 {
     std::vector<Node> nodes;
@@ -116,7 +116,7 @@ std::pair<std::vector<Node>, bool> cut(const Keys &keys, const Cursor &after, st
     return {nodes, more};
 }
 
-// Reads all pages of a query in an order, and writes in between.
+// Reads all pages of a query in an order, writing in between.
 void page_on(Written &store, bestore::Prepared &query, const Order &order)
 {
     Cursor after(query, order);
@@ -155,7 +155,7 @@ void pages()
     }
 }
 
-// The first nodes by number, and any nodes.
+// Reads the first nodes by number, and any nodes.
 void parts()
 {
     bestore::Store pass;
@@ -201,7 +201,8 @@ void refusals()
     refused(BES_BAD_CURSOR, [&] { later.page(query, cursor, 1); });
 }
 
-// A store in which size>=0 finds at least 96 nodes, which a refresh from what was written needs, and a write to it.
+// The size of a store in which size>=0 finds at least 96 nodes, the minimum for refreshing only what has changed, and a write to
+// such a store.
 constexpr unsigned sized = 300;
 
 void resize(bestore::Pass &pass, std::mt19937 &chance)
@@ -228,8 +229,8 @@ void compare(bestore::Live &whole, bestore::Live &changed, bestore::Snapshot &sn
     CHECK(one.created == other.created && one.removed == other.removed);
 }
 
-// A refresh from what was written returns the same as one with the whole query, even in another store and while another thread
-// writes.
+// Refreshing only what has changed gives the same result as running the whole query, even in another store and while another
+// thread is writing.
 void refreshes()
 {
     std::mt19937 chance(0x11fe);

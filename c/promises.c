@@ -1,11 +1,12 @@
-/* Checks three of the library's promises while threads write:
+/* Checks three promises of the library while threads are writing:
  *
- * - a new handle sees what the handle that made it had written before;
+ * - a new handle sees everything that the handle that created it had written before;
  * - a pinned handle reads one prefix of the journal until it is unpinned;
- * - everything that a handle wrote is in the journal that bes_finish returns, at its commit number, if the last handle has joined its
- *   witness.
+ * - everything that a handle wrote is in the journal that bes_finish returns, at its commit number, provided that the last handle
+ *   has joined the writer's witness.
  *
- * Each round opens a store, checks all three, and closes it. The argument is the number of rounds; `short` means a few. */
+ * Each round opens a store, checks all three promises, and closes the store. The argument is the number of rounds; `short` means just a
+ * few. */
 #include "tests.h"
 #include <pthread.h>
 
@@ -14,11 +15,11 @@ enum { WRITERS = 3, WRITES = 8, TEXT = 1 << 16 };
 typedef struct writer {
     bes_pass pass;
     bes_witness seen;
-    uint64_t made, number;          /* the commit number of its maker's last write before it was made; its own pass's number */
+    uint64_t made, number;          /* the commit number of its creator's last write before its creation; the number of its own pass */
     uint64_t written[WRITES];       /* the commit number of each of its writes */
 } writer;
 
-/* Counts the pinned snapshot's nodes in three ways: by a query, by listing them page by page, and by the next node's number. */
+/* Counts the pinned snapshot's nodes in three ways: with a query, by listing them page by page, and from the next node number. */
 static uint64_t nodes_counted(bes_pass *pass)
 {
     uint64_t nodes[8 * WRITERS * WRITES], found = 0, listed = 0, next = 0;
@@ -28,7 +29,7 @@ static uint64_t nodes_counted(bes_pass *pass)
     return found;
 }
 
-/* Reads one snapshot several times while others write. Entry 1 makes an index, and each later one makes a node. */
+/* Reads one snapshot several times while others are writing. Entry 1 creates an index, and each later entry creates a node. */
 static void read_one_prefix(bes_pass *pass, uint64_t least)
 {
     uint64_t pinned = 0;
@@ -38,7 +39,7 @@ static void read_one_prefix(bes_pass *pass, uint64_t least)
     CHECK(bes_unpin(pass) == BES_OK);
 }
 
-/* Makes a node that holds the writer's number, and returns the commit number. */
+/* Creates a node that holds the writer's number, and returns the commit number. */
 static uint64_t write_node(writer *it)
 {
     bes_batch batch;
@@ -55,7 +56,7 @@ static uint64_t write_node(writer *it)
     return number;
 }
 
-/* Looks for the write of the pass that made it, then writes and reads, and leaves a witness of all this. */
+/* Looks for the last write of the pass that created this one, then writes and reads, and leaves a witness to all of this. */
 static void *run(void *arg)
 {
     writer *it = arg;
@@ -76,7 +77,7 @@ static bool is_by(const char *journal, uint64_t commit, uint64_t number)
     return strstr(journal, line) != NULL;
 }
 
-/* Closes the store, and looks for each write in its journal. */
+/* Closes the store, and looks for every write in its journal. */
 static void find_writes(bes_pass *last, writer *writers)
 {
     static char journal[TEXT];
@@ -91,7 +92,7 @@ static void find_writes(bes_pass *last, writer *writers)
             CHECK(is_by(journal, writers[i].written[j], writers[i].number));
 }
 
-/* Plays one store. Each handle is made after another write by its maker, while the earlier threads are already writing. */
+/* Runs one round. Each handle is created after another write by its creator, while the earlier threads are already writing. */
 static void play(void)
 {
     static writer writers[WRITERS];

@@ -1,4 +1,4 @@
-/* Comparisons in a query's text, and texts that are escaped for a query. */
+/* Tests the comparisons in a query's text, and the escaping of texts for queries. */
 #include "tests.h"
 
 #define OK(call) CHECK((call) == BES_OK)
@@ -13,7 +13,7 @@ static uint32_t compare(const char *text)
     return bes_query_comparisons((const uint8_t *)text, strlen(text), &counts, found, 256, bytes, sizeof bytes, &place);
 }
 
-/* Returns whether these bytes of a text, or of `bytes`, are the word. */
+/* Returns whether the bytes from `from` to `to` are this word. */
 static bool is_at(const void *text, uint64_t from, uint64_t to, const char *word)
 {
     return to - from == strlen(word) && memcmp((const char *)text + from, word, to - from) == 0;
@@ -43,7 +43,7 @@ static void kinds(void)
         CHECK(found[i].kind == kind[i] && found[i].kind_in_text == in_text[i] && found[i].form == form[i]);
 }
 
-/* Returns for which of the four kinds a comparison is never true, as bits that start with int32. */
+/* Returns the kinds for which a comparison is never true, as a bit for each of the four kinds, beginning with int32. */
 static unsigned never(const char *text)
 {
     OK(compare(text));
@@ -75,7 +75,7 @@ static void errors(void)
     }
 }
 
-/* If the arrays are too small, the first comparisons and bytes are written, and the counts cover all of them. */
+/* If the arrays are too small, the first comparisons and bytes are written, and the counts include the rest. */
 static void little_room(void)
 {
     const char *text = "ab=1||cd=2";
@@ -110,7 +110,7 @@ static void made(void)
     CHECK(bes_any_case_bytes((const uint8_t *)"a\xc3", 2, bytes, 8, &count) == BES_NOT_UTF8 && count == 0);
 }
 
-/* A text matched in any case finds itself. */
+/* A text that is matched in any case finds itself. */
 static void finds(void)
 {
     const char *names[] = {"G\u00fcnther", "G\u00dcNTHER", "g\u00fcnther.txt", "Gunther"};

@@ -1,4 +1,4 @@
-/* Two threads write to a store, each through its own pass, and both write to an unguarded variable. That is a race.
+/* Two threads write to a store, each through its own pass, and both also write to an unguarded variable, which is a data race.
  * ThreadSanitizer must report this race and none in the library; test.sh checks its report. */
 #include "tests.h"
 #include <pthread.h>

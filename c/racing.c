@@ -1,5 +1,6 @@
-/* Four threads make nodes with attributes and count them in one shared attribute. With a guessed number and a plain write, nodes
- * get other nodes' attributes and counts are lost, although each write is accepted. With bes_change, neither happens. */
+/* Four threads create nodes with attributes, and count them in one shared attribute. When they guess node numbers and use plain
+ * writes, nodes get other nodes' attributes and counts are lost, even though every write is accepted. With bes_change, neither
+ * happens. */
 #include "tests.h"
 #include <pthread.h>
 
@@ -10,7 +11,7 @@ typedef struct racer {
     uint64_t number, rounds, mixed;
 } racer;
 
-/* Adds a node that names its maker, and adds 1 to node 1's count. */
+/* Adds a node that names its creator, and adds 1 to node 1's count. */
 static uint32_t add_node(bes_pass *pass, bes_batch *batch, uint64_t next, void *with)
 {
     racer *it = with;
@@ -22,8 +23,8 @@ static uint32_t add_node(bes_pass *pass, bes_batch *batch, uint64_t next, void *
     return BES_OK;
 }
 
-/* What a program without conditional writes does: it guesses which node it will get, and writes whatever was committed in
- * between. */
+/* Does what a program without conditional writes does: guesses which node it will get, and writes even if others have committed
+ * in between. */
 static void guess(racer *it)
 {
     bes_batch batch;
@@ -52,7 +53,7 @@ static void *changer(void *with)
     return NULL;
 }
 
-/* Returns whether each entry, from this index on, made a node that names the entry's pass as its maker. */
+/* Returns whether each entry from this index on created a node that names the entry's pass as its creator. */
 static bool are_own(bes_pass *pass, uint64_t from)
 {
     bes_batch batch;
@@ -67,7 +68,7 @@ static bool are_own(bes_pass *pass, uint64_t from)
     }
 }
 
-/* Runs four of them. Returns how many of their nodes were mixed up, and how many counts were lost. */
+/* Runs four threads. Returns how many of their nodes were mixed up, and how many counts were lost. */
 static void race(void *(*run)(void *), uint64_t rounds, uint64_t *mixed, uint64_t *lost)
 {
     static racer racers[THREADS];

@@ -1,5 +1,5 @@
-// Like racing.c: four threads make nodes and count them, with a guessed number and with Pass::change. Also fills an index while
-// another thread writes.
+// Like racing.c: four threads create nodes and count them, once with guessed node numbers and once with Pass::change. Also fills
+// an index while another thread is writing.
 #include "bestore.hpp"
 #include "tests.hpp"
 #include <atomic>
@@ -11,7 +11,7 @@ using namespace bestore;
 static const Attribute<std::int64_t> total{"count"};
 static const Attribute<std::uint64_t> maker{"maker"};
 
-// Returns whether the node got a different number than was guessed.
+// Returns whether the node got a different number from the guessed one.
 static bool guess(Pass &pass)
 {
     Batch batch;
@@ -67,7 +67,7 @@ template <class Write> Damage race(Write write, std::uint64_t rounds)
     return {mixed, 4 * rounds - static_cast<std::uint64_t>(pin.get(1, total).value())};
 }
 
-// An index is made and filled while another thread sets the attributes: no value is lost, and the index has them all.
+// Creates and fills an index while another thread sets the attributes. No value is lost, and the index gets them all.
 static void reindex_beside_writer()
 {
     constexpr Node nodes = 200;

@@ -1,8 +1,8 @@
-/* What a pass has seen after it refreshed a query from what was written. */
+/* Tests what a pass has seen after bes_refresh_changed. */
 #include "tests.h"
 
-/* If the last refresh's result had 96 nodes or more, a refresh at an older snapshot shows the pass what the last refresh had
- * seen. */
+/* If the result of the last refresh had 96 nodes or more, a refresh at an older snapshot makes the pass see what the last refresh
+ * had seen. */
 static void at_an_older_pin(int32_t count)
 {
     bes_pass writer = BES_PASS_INIT, reader = BES_PASS_INIT, other = BES_PASS_INIT;

@@ -1,6 +1,6 @@
-/* Tests each list, text and number that a call takes or writes, at the sizes that tests/sizes gives. The arguments are what
- * grows, and then ascending sizes or ranges, such as `sizes nodes 1-255 256 511-513`. malloc refuses nothing here, so no call has
- * a reason to return BES_NO_MEMORY. */
+/* Tests each list, text and number that a call takes or writes, at the sizes given by tests/sizes. The arguments are the name of
+ * what grows, followed by ascending sizes or ranges, such as `sizes nodes 1-255 256 511-513`. malloc never fails here, so no call
+ * has a reason to return BES_NO_MEMORY. */
 #include "tests.h"
 
 #define OK(call) CHECK((call) == BES_OK)
@@ -13,7 +13,7 @@ static uint8_t told[MOST_BYTES];
 static bes_batch batch;
 static bes_operation listed[LONGEST_BATCH];
 
-/* The size under test, which a failed check prints last. */
+/* The size being tested, which a failed check prints last. */
 static uint64_t tried;
 
 #define AT_EACH_SIZE for (uint64_t at_ = 0, size; at_ < sizes_count && (tried = size = sizes[at_], true); at_++)
@@ -41,7 +41,7 @@ static bool are_from_one(const uint64_t *list, uint64_t count)
     return true;
 }
 
-/* Checks a query that `count` nodes match: as a text, as items, prepared and refreshed. */
+/* Checks a query that `count` nodes match: as text, as items, prepared, and refreshed. */
 static void found(bes_pass *pass, const char *query, const bes_item *items, size_t items_count, uint64_t count)
 {
     bes_prepared prepared = BES_PREPARED_INIT, other = BES_PREPARED_INIT;
@@ -74,7 +74,7 @@ static void found(bes_pass *pass, const char *query, const bes_item *items, size
     OK(bes_unpin(pass));
 }
 
-/* Appends a comparison to the query in `text`, joined with ||, and to `expected`. */
+/* Appends a comparison to the query in `text`, joining it with ||, and to `expected`. */
 static void add_comparison(const char *attribute, uint64_t value)
 {
     size_t at = strlen(text), length = strlen(expected);
@@ -82,7 +82,7 @@ static void add_comparison(const char *attribute, uint64_t value)
     snprintf(expected + length, sizeof expected - length, "%s\"%s\"==\"%d\"", at > 0 ? " || " : "", attribute, (int)value);
 }
 
-/* Checks what bes_explain returns for the query in `text`: its expected canonical text, and this score. */
+/* Checks that bes_explain returns the expected canonical text and this score for the query in `text`. */
 static void explained(bes_pass *pass, uint64_t score)
 {
     bes_prepared prepared = BES_PREPARED_INIT;
@@ -101,8 +101,8 @@ static void explained(bes_pass *pass, uint64_t score)
 
 static const bes_item K = {BES_ITEM_ATTRIBUTE, 0, 1, 0}, EQ = {BES_ITEM_EQ, 0, 0, 0}, OR = {BES_ITEM_OR, 0, 0, 0};
 
-/* Opens a store in which node i has the number i as `k`, and the first node has 1 as `j`. So `k<=n` finds n nodes. With `d`, node
- * i has -i as `d` in a second index, instead of `j`. */
+/* Opens a store in which node i has the number i as `k`, so that `k<=n` finds n nodes, and the first node has 1 as `j`. If
+ * `has_d`, there is no `j`; instead, node i has -i as `d` in a second index. */
 static void open_numbered(bes_pass *pass, bool has_d)
 {
     OK(bes_open(16384, 1, 2000, pass) || bes_make_index(pass, "k", BES_INT32_TYPE));
@@ -116,7 +116,7 @@ static void open_numbered(bes_pass *pass, bool has_d)
     }
 }
 
-/* Checks what a prepared query finds, what its first refresh finds, and what it loses in an empty store. */
+/* Checks the nodes that a prepared query finds, those that its first refresh finds, and those that it loses in an empty store. */
 static void came_and_went(bes_pass *pass, bes_pass *empty, const char *query, uint64_t count)
 {
     bes_prepared live = BES_PREPARED_INIT;
@@ -132,7 +132,7 @@ static void came_and_went(bes_pass *pass, bes_pass *empty, const char *query, ui
     CHECK(are_from_one(others, count));
 }
 
-/* Nodes in a result, and nodes that a live query finds and loses. */
+/* Sizes: the nodes in a result, and the nodes that a live query gains and loses. */
 static void many_nodes(void)
 {
     bes_pass pass = BES_PASS_INIT, empty = BES_PASS_INIT;
@@ -152,7 +152,7 @@ static void many_nodes(void)
     OK(bes_close(&pass) || bes_close(&empty));
 }
 
-/* Checks a prepared query's nodes in an index's order, in one page and in two. */
+/* Checks a prepared query's nodes in an index's order, both in one page and in two. */
 static void paged(bes_pass *pass, bes_prepared *prepared, const char *index, uint32_t descending, uint64_t size)
 {
     bes_name by = {0, {0}};
@@ -169,8 +169,8 @@ static void paged(bes_pass *pass, bes_prepared *prepared, const char *index, uin
     CHECK(front + count == size && more == 0 && are_from_one(nodes, size));
 }
 
-/* The same nodes in the order of the index that finds them and in another's, as the first nodes, as any few, and as what a
- * refresh from what was written adds. */
+/* Sizes: the same nodes in the order of the index that finds them and in another index's order, as the first nodes, as any few
+ * nodes, and as the nodes that bes_refresh_changed adds. */
 static void nodes_in_parts(void)
 {
     bes_pass pass = BES_PASS_INIT;
@@ -193,14 +193,14 @@ static void nodes_in_parts(void)
     OK(bes_close(&pass));
 }
 
-/* Returns whether a size is at most one away from a power of two. Lists grow there. */
+/* Returns whether a size is at most one away from a power of two, where lists grow. */
 static bool is_by_power(uint64_t size)
 {
     return ((size - 1) & size) == 0 || (size & (size + 1)) == 0 || (size > 1 && ((size - 2) & (size - 1)) == 0);
 }
 
-/* Nodes that two picks find, and candidates of which checking another attribute leaves one or none. Past the first sizes, only
- * the last of these is tested, except where lists grow. */
+/* Sizes: the nodes that two picks find, and the candidates when checking another attribute leaves only one or none of them.
+ * Beyond the first sizes, only the last of these is tested, except where lists grow. */
 static void many_candidates(void)
 {
     bes_pass pass = BES_PASS_INIT;
@@ -220,7 +220,7 @@ static void many_candidates(void)
     OK(bes_close(&pass));
 }
 
-/* Lists the last nodes of a store, and the first nodes. */
+/* Sizes: the last nodes of a store in a list, and the first nodes. */
 static void listed_nodes(void)
 {
     bes_pass pass = BES_PASS_INIT;
@@ -230,7 +230,7 @@ static void listed_nodes(void)
         OK(bes_new_node(&pass, &number));
     OK(bes_pin(&pass, &number));
     AT_EACH_SIZE {
-        /* Both lists have the same length, so past the first sizes one of them is enough. */
+        /* Both lists have the same length, so beyond the first sizes, one of them is enough. */
         uint64_t first = size > 1024 && size % 2 == 0 ? 1 : MOST_NODES + 1 - size;
         OK(bes_nodes(&pass, first, nodes, size, &count));
         CHECK(count == size && nodes[0] == first && nodes[count - 1] == first + size - 1);
@@ -242,14 +242,14 @@ static void listed_nodes(void)
     OK(bes_close(&pass));
 }
 
-/* Returns a name of three bytes. It stays in `name` until the next call. */
+/* Returns a name of three bytes, which is valid until the next call. */
 static const char *name_of(char letter, uint64_t number)
 {
     snprintf(name, sizeof name, "%c%02d", letter, (int)number);
     return name;
 }
 
-/* Checks that a call wrote `size` names with this letter to `listed` and `told`. */
+/* Checks that a call has written `size` names with this letter to `listed` and `told`. */
 static void are_listed(const bes_counts *counts, uint32_t kind, char letter, uint64_t size)
 {
     CHECK(counts->operations == size && counts->bytes == 3 * size);
@@ -259,7 +259,7 @@ static void are_listed(const bes_counts *counts, uint32_t kind, char letter, uin
     }
 }
 
-/* Sets this many attributes of node 1 again, in a change on a pinned pass. */
+/* Sets this many attributes of node 1 again, through a change on a pinned pass. */
 static void set_by_change(bes_pass *pass, uint64_t size)
 {
     bes_draft draft = BES_DRAFT_INIT;
@@ -277,7 +277,7 @@ static void set_by_change(bes_pass *pass, uint64_t size)
     CHECK(number == 3);
 }
 
-/* Sets these attributes once more, with a change in one call. */
+/* Sets these attributes once more, through a change in one call. */
 static void set_at_once(bes_pass *pass, uint64_t size)
 {
     uint64_t number = 0;
@@ -288,7 +288,7 @@ static void set_at_once(bes_pass *pass, uint64_t size)
     CHECK(number == 4);
 }
 
-/* Operations in a list, and a node's attributes. */
+/* Sizes: the operations in a list, and the attributes of a node. */
 static void many_operations(void)
 {
     AT_EACH_SIZE {
@@ -318,7 +318,7 @@ static void many_operations(void)
     }
 }
 
-/* Checks the comparisons in a text `k==1||k==2..`, and each one's position. */
+/* Checks the comparisons in a text `k==1||k==2..` and the position of each. */
 static void compared(uint64_t size)
 {
     static bes_compared found[256];
@@ -343,7 +343,7 @@ static void compares_with(uint32_t form, uint64_t length)
     CHECK(found.plain_end == found.plain_value_at + length && counts.bytes == found.plain_end);
 }
 
-/* Comparisons in a query, all of which are picked. */
+/* Sizes: the comparisons in a query, all of which are picked. */
 static void many_comparisons(void)
 {
     static bes_item items[4 * 256];
@@ -369,7 +369,7 @@ static void many_comparisons(void)
     }
 }
 
-/* Bytes of a text that is escaped, or made a pattern that matches any case. */
+/* Sizes: the bytes of a text that is escaped, or converted to a pattern that ignores case. */
 static void long_made_texts(void)
 {
     AT_EACH_SIZE {
@@ -383,7 +383,7 @@ static void long_made_texts(void)
     }
 }
 
-/* Bytes of a query. */
+/* Sizes: the bytes of a query. */
 static void long_queries(void)
 {
     AT_EACH_SIZE {
@@ -414,7 +414,8 @@ static void long_queries(void)
     }
 }
 
-/* Bytes of a text in a predicate's item: as what an attribute contains, begins with or ends with, and as a pattern. */
+/* Sizes: the bytes of a text in a predicate's item. The text is a pattern, or is what an attribute contains, begins with or ends
+ * with. */
 static void long_items(void)
 {
     const uint32_t kinds[] = {BES_ITEM_CONTAINS, BES_ITEM_BEGINS_WITH, BES_ITEM_ENDS_WITH, BES_ITEM_EQ};
@@ -435,7 +436,7 @@ static void long_items(void)
     OK(bes_close(&pass));
 }
 
-/* Bytes of a name. */
+/* Sizes: the bytes of a name. */
 static void long_names(void)
 {
     AT_EACH_SIZE {
@@ -461,7 +462,7 @@ static void long_names(void)
     }
 }
 
-/* Bytes of a value, of each kind that has bytes. */
+/* Sizes: the bytes of a value, for each kind whose values consist of bytes. */
 static void long_values(void)
 {
     AT_EACH_SIZE {
@@ -494,7 +495,7 @@ static void long_values(void)
     }
 }
 
-/* A change finds the index with this name, so it refuses another kind. */
+/* A change finds the index with this name, so it refuses values of another kind. */
 static void refuse_by_index(bes_pass *pass)
 {
     bes_draft draft = BES_DRAFT_INIT;
@@ -506,7 +507,7 @@ static void refuse_by_index(bes_pass *pass)
     OK(bes_abandon_change(pass, &draft));
 }
 
-/* Indices, all of which a query picks. */
+/* Sizes: the indices of a store, all of which a query picks. */
 static void many_indices(void)
 {
     AT_EACH_SIZE {
@@ -532,8 +533,8 @@ static void many_indices(void)
     }
 }
 
-/* Takes all other passes of a store, and writes and reads with each. One more is refused. Unused passes wait with the first
- * handle; any handle may hand out the others. */
+/* Takes all other passes of a store, and writes and reads through each. Taking one more is refused. Unused passes are held by the
+ * first handle; the others can be taken through any handle. */
 static void take_all(bes_pass *passes, uint64_t size, bool are_unused, uint64_t node, uint64_t *written)
 {
     bes_pass none = BES_PASS_INIT;
@@ -550,8 +551,8 @@ static void take_all(bes_pass *passes, uint64_t size, bool are_unused, uint64_t 
     CHECK(bes_another(&passes[0], &none) == BES_NO_PASS);
 }
 
-/* Passes that are taken, returned in another order, met and taken again. Closing the last pass frees the store; closing any other
- * doesn't. */
+/* Sizes: the passes of a store. They are taken, returned in another order, met and taken again. Closing the last pass frees the
+ * store; closing any other pass doesn't. */
 static void many_passes(void)
 {
     static bes_pass passes[64];
@@ -577,7 +578,7 @@ static void many_passes(void)
     }
 }
 
-/* Checks that this value in `told` has this length, and only this letter. */
+/* Checks that this value in `told` has this length and consists of this letter. */
 static void are_all(const bes_operation *part, uint8_t letter, uint64_t length)
 {
     CHECK(part->value_length == length);
@@ -585,7 +586,7 @@ static void are_all(const bes_operation *part, uint8_t letter, uint64_t length)
         CHECK(told[part->value_at + i] == letter);
 }
 
-/* Fills the batch with this many values of 255 bytes, with names of 63 bytes. */
+/* Fills the batch with this many values of 255 bytes, each with a name of 63 bytes. */
 static void fill_batch(uint64_t size, uint8_t letter)
 {
     uint8_t value[LONGEST_VALUE];
@@ -597,7 +598,7 @@ static void fill_batch(uint64_t size, uint8_t letter)
     }
 }
 
-/* Checks that a call wrote fill_batch's values to `listed` and `told`. */
+/* Checks that a call has written the values from fill_batch to `listed` and `told`. */
 static void are_filled(const bes_counts *counts, uint64_t size, uint8_t letter)
 {
     CHECK(counts->operations == size && counts->bytes == size * (LONGEST_NAME + LONGEST_VALUE));
@@ -605,7 +606,7 @@ static void are_filled(const bes_counts *counts, uint64_t size, uint8_t letter)
         are_all(&listed[i], letter, LONGEST_VALUE);
 }
 
-/* Reads the state of a pinned pass, which is one node with `size` long values. */
+/* Checks the state of a pinned pass, which is one node with `size` long values. */
 static void state_is_filled(bes_pass *pass, uint64_t size)
 {
     bes_place reading = BES_PLACE_INIT;
@@ -620,8 +621,8 @@ static void state_is_filled(bes_pass *pass, uint64_t size)
     OK(bes_leave(&reading));
 }
 
-/* A list with names and values of maximum length, in each call that takes or writes such lists: bes_apply, bes_apply_if,
- * bes_attributes, bes_state, bes_journal_from and bes_journal. The journal's lines have up to 38 KB. */
+/* Sizes: a list with names and values of maximum length, in each call that takes or writes such lists: bes_apply, bes_apply_if,
+ * bes_attributes, bes_state, bes_journal_from and bes_journal. The journal's lines are up to 38 KB long. */
 static void long_batches(void)
 {
     AT_EACH_SIZE {
@@ -640,14 +641,15 @@ static void long_batches(void)
         CHECK(by == 0 && number == 3);
         are_filled(&counts, size, 'x');
         OK(bes_journal(&pass, told, sizeof told, &count));
-        /* 1 by 0 new -> node 1, and twice `set 1 "NAME" RAWT "HEX"` with `; ` between, `n by 0 `, ` -> ` and `ok; ok`. */
+        /* The first line is `1 by 0 new -> node 1`. Two lines follow, each with `n by 0 `, `set 1 "NAME" RAWT "HEX"` for each
+         * value, ` -> `, and an `ok` for each value. Both lists are separated by `; `. */
         line = 7 + size * (6 + 65 + 6 + 2 + 2 * LONGEST_VALUE) + 2 * (size - 1) + 4 + 2 * size + 2 * (size - 1) + 1;
         CHECK(count == 21 + 2 * line);
         OK(bes_close(&pass));
     }
 }
 
-/* Names of indices, with 63 bytes each. */
+/* Sizes: the names of indices, with 63 bytes each. */
 static void long_index_names(void)
 {
     AT_EACH_SIZE {
@@ -667,7 +669,7 @@ static void long_index_names(void)
     }
 }
 
-/* Pages of a store with one pass, and of one with 64 passes. */
+/* Sizes: the pages of a store with one pass, and of a store with 64. */
 static void many_pages(void)
 {
     AT_EACH_SIZE {
@@ -683,7 +685,7 @@ static void many_pages(void)
     }
 }
 
-/* Fields that an operation doesn't use are 0, so everyone who reads a state gets the same bytes. */
+/* Checks that an operation's unused fields are 0, so that everyone who reads a state gets the same bytes. */
 static void has_no_more(const bes_operation *it)
 {
     const bool is_set = it->kind == BES_SET, has_name = is_set || it->kind == BES_MAKE_INDEX;
@@ -693,7 +695,7 @@ static void has_no_more(const bes_operation *it)
     CHECK(is_set || (it->number == 0 && it->value_length == 0));
 }
 
-/* Attributes of each node in a state, which is read whole. */
+/* Sizes: the attributes of each node in a state, which is read whole. */
 static void many_states(void)
 {
     AT_EACH_SIZE {
@@ -730,7 +732,7 @@ static void met(bes_pass *pass, uint64_t written)
     CHECK(seen == written);
 }
 
-/* The journal during many writes: its text, each entry, and a pass that is met then. */
+/* Sizes: the entries of the journal. Reads its text and each entry during many writes, and meets a pass then. */
 static void many_entries(void)
 {
     bes_pass pass = BES_PASS_INIT;
@@ -762,7 +764,7 @@ static void many_entries(void)
     CHECK(count == length && memcmp(told, expected, length) == 0);
 }
 
-/* What grows, under the names that tests/growth.txt uses. */
+/* The names of what grows, as used in tests/growth.txt, with their tests. */
 static const struct row {
     const char *name;
     void (*run)(void);

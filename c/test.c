@@ -1,10 +1,10 @@
-/* Every export and every kind of wrong use, from one thread; threads.c tests calls from four. Each error that bestore.h lists is
- * tested here, except that memory.c tests BES_NO_MEMORY, and BES_BUSY where it has to be returned. */
+/* Tests every export and every kind of misuse from one thread; threads.c makes calls from four. Every error that bestore.h lists
+ * is tested here, except that memory.c tests BES_NO_MEMORY and the cases that must return BES_BUSY. */
 #include "tests.h"
 
 static view before;
 
-/* Checks that a call returns this error, and leaves the store and the pin as they were. */
+/* Checks that a call returns this error, and leaves the store and the pin unchanged. */
 #define LEAVES(pass, call, answer) do { \
         look(pass, &before); \
         CHECK((call) == (answer) && is_as_it_was(pass, &before)); \
@@ -38,7 +38,7 @@ static void closed_handle(void)
     CHECK(bes_apply_or_retry(&pass, &op, 1, bytes, 0, 1, nodes, 2, &number) == BES_CLOSED && nodes[0] == 7);
 }
 
-/* A prepared query whose handle is closed, or that is run through a closed pass. */
+/* Uses a closed handle of a prepared query, and runs a query through a closed pass. */
 static void closed_prepared(void)
 {
     bes_pass pass = BES_PASS_INIT;
@@ -93,8 +93,8 @@ static void opening(void)
     CHECK(bes_close(&third) == BES_CLOSED);
 }
 
-/* Any handle of a store hands out its returned passes, which have no pin. Passes that wait with one handle are handed out only by
- * it. */
+/* A returned pass, which has no pin, can be taken through any handle of the store. Passes that a handle holds can be taken only
+ * through that handle. */
 static void giving_back(void)
 {
     bes_pass mine = BES_PASS_INIT, theirs = BES_PASS_INIT, third = BES_PASS_INIT, fourth = BES_PASS_INIT;
@@ -108,7 +108,7 @@ static void giving_back(void)
     CHECK(bes_close(&third) == BES_OK && bes_close(&mine) == BES_OK && bes_close(&theirs) == BES_OK);
 }
 
-/* Through a returned pass, a pass sees what another has seen. */
+/* By meeting a returned pass, a pass sees what that pass has seen. */
 static void meeting(void)
 {
     bes_pass mine = BES_PASS_INIT, theirs = BES_PASS_INIT, third = BES_PASS_INIT;
@@ -123,8 +123,8 @@ static void meeting(void)
     CHECK(bes_close(&mine) == BES_OK && bes_close(&theirs) == BES_OK);
 }
 
-/* Writes `count` operations: the first `right` are valid, and all others are `op`. Returns the error. If the list is invalid, the
- * error gives the index of the first invalid operation. */
+/* Writes `count` operations, of which the first `right` are valid and all others are `op`. Returns the error. If the list is
+ * invalid, checks that the error gives the index of the first invalid operation. */
 static uint32_t wrong_behind(bes_pass *pass, size_t right, bes_operation op, size_t count, size_t size)
 {
     static const uint8_t bytes[300] = "k\0\xff";
@@ -171,7 +171,7 @@ static void wrong_writes(void)
     CHECK(bes_open(64, 1, 100, &pass) == BES_OK);
     CHECK(wrong(&pass, new_node, 0, 0) == BES_BAD_COUNT);
     CHECK(wrong(&pass, new_node, 65, 0) == BES_BAD_COUNT);
-    /* Their number is checked before they are read. */
+    /* The number of operations is checked before they are read. */
     CHECK(wrong(&pass, none, 65, 0) == BES_BAD_COUNT);
     CHECK(bes_apply(&pass, &none, (size_t)1 << 40, (const uint8_t *)"", 0, &made, 1, &number) == BES_BAD_COUNT && number == 0);
     CHECK(wrong(&pass, none, 1, 300) == BES_NO_OPERATION);
@@ -191,7 +191,7 @@ static void wrong_writes(void)
     CHECK(bes_close(&pass) == BES_OK);
 }
 
-/* A node with as many attributes as allowed, and a store with as many indices as allowed. */
+/* A node with the maximum number of attributes, and a store with the maximum number of indices. */
 static void most(void)
 {
     static bes_batch batch;
@@ -207,7 +207,7 @@ static void most(void)
     CHECK(bes_batch_apply(&pass, &batch, 1, made, 64, &number) == BES_OK && number == 2);
     CHECK(bes_pin(&pass, &number) == BES_OK);
     LEAVES(&pass, bes_set_int32(&pass, 1, "a64", 64), BES_TOO_MANY_ATTRS);
-    /* If its last operation fails, the whole list is refused. */
+    /* If the last operation fails, the whole list is refused. */
     bes_batch_clear(&batch);
     CHECK(bes_batch_new_node(&batch) == BES_OK && bes_batch_set_int32(&batch, 1, "a64", 64) == BES_OK);
     made[0] = 7;
@@ -227,7 +227,7 @@ static void most(void)
     CHECK(bes_close(&pass) == BES_OK);
 }
 
-/* What doesn't fit into a batch. */
+/* Operations that don't fit into a batch. */
 static void full_batch(void)
 {
     static bes_batch batch;
@@ -256,7 +256,7 @@ static void no_page_is_free(void)
     CHECK(answer == BES_FULL);
     LEAVES(&pass, bes_new_node(&pass, &count), BES_FULL);
     CHECK(count == 7);
-    /* The error comes with the number of the pinned snapshot. */
+    /* The number of the pinned snapshot is returned with the error. */
     bes_batch_clear(&batch);
     CHECK(bes_batch_new_node(&batch) == BES_OK);
     LEAVES(&pass, bes_batch_apply(&pass, &batch, 1, &count, 1, &number), BES_FULL);
@@ -391,7 +391,7 @@ static void queries(void)
     CHECK(bes_close(&pass) == BES_OK);
 }
 
-/* A text that isn't a query: each call that reads it returns the error, and writes nothing but the byte offset. */
+/* Passes an invalid query text to each call that takes one. Each call must return the error, and write only the byte offset. */
 static void no_query(bes_pass *pass, const char *text, size_t length, uint32_t answer, uint64_t byte)
 {
     const uint8_t *query = (const uint8_t *)text;
@@ -404,7 +404,7 @@ static void no_query(bes_pass *pass, const char *text, size_t length, uint32_t a
     CHECK(bes_prepare(query, length, &prepared, &place) == answer && place == byte && bes_release(&prepared) == BES_CLOSED);
 }
 
-/* The same for items: `item` is the index of the wrong one. */
+/* Does the same with items. `item` is the index of the invalid one. */
 static void no_items(bes_pass *pass, const bes_item *items, size_t items_count, const char *bytes, uint32_t answer, uint64_t item)
 {
     const uint8_t *parts = (const uint8_t *)bytes;
@@ -416,7 +416,7 @@ static void no_items(bes_pass *pass, const bes_item *items, size_t items_count, 
     CHECK(bes_release(&prepared) == BES_CLOSED);
 }
 
-/* Opens and pins a store with one node of size 0. */
+/* Opens and pins a store with one node, which has size 0. */
 static void open_size(bes_pass *pass)
 {
     uint64_t number = 0;
@@ -454,7 +454,7 @@ static void no_queries(void)
     CHECK(bes_close(&pass) == BES_OK);
 }
 
-/* Wrong items: a value that isn't a valid pattern, 65 nested ones, 257 comparisons, and parts that aren't within the bytes. */
+/* Invalid items: a value that isn't a valid pattern, 65 nested items, 257 comparisons, and parts that aren't within the bytes. */
 static void no_query_of_items(void)
 {
     static const bes_item size = {BES_ITEM_ATTRIBUTE, 0, 4, 0}, one = {BES_ITEM_UINT64, 0, 0, 1}, less = {BES_ITEM_LT, 0, 0, 0};
@@ -484,7 +484,7 @@ static void no_query_of_items(void)
         items[4 * i] = size, items[4 * i + 1] = one, items[4 * i + 2] = less;
         items[4 * i + 3] = (bes_item){BES_ITEM_OR, 0, 0, 0};
     }
-    /* The first item has nothing before it to be joined with. */
+    /* There is nothing before the first comparison to join it with, so negate it instead. */
     items[3] = (bes_item){BES_ITEM_NOT, 0, 0, 0};
     CHECK(bes_query_items(&pass, items, 4 * 256, (const uint8_t *)bytes, 64, nodes, 2, &count) == BES_OK && count == 1);
     no_items(&pass, items, 4 * 257, bytes, BES_TOO_MANY, 0);
@@ -504,7 +504,7 @@ static void prepare_less(bes_prepared *prepared)
     CHECK(bes_prepare_items(less, 3, (const uint8_t *)"size", 4, prepared, &place) == BES_OPEN && place == 0);
 }
 
-/* Reads again, in parts, what a prepared query found. A refresh doesn't change it. */
+/* Rereads the nodes that a prepared query found, a part at a time. A refresh doesn't change them. */
 static void read_found(bes_pass *pass, bes_prepared *query)
 {
     bes_prepared uncovered = BES_PREPARED_INIT;
@@ -523,7 +523,7 @@ static void read_found(bes_pass *pass, bes_prepared *query)
     CHECK(bes_found(query, 1, nodes, 1, &count) == BES_OK && count == 3 && nodes[0] == 2);
     CHECK(bes_release(&uncovered) == BES_OK);
 }
-/* Queries that are parsed once, as text or as items, and the nodes that join and leave their results. */
+/* Queries that are parsed once, from text or from items, and the nodes that enter and leave their results. */
 static void prepared_queries(void)
 {
     bes_pass pass = BES_PASS_INIT;
@@ -563,7 +563,7 @@ static void prepared_queries(void)
     CHECK(bes_release(&small) == BES_OK && bes_release(&other) == BES_OK);
 }
 
-/* All nodes, list by list, whatever attributes they have. */
+/* Lists all nodes, one list at a time, whatever attributes they have. */
 static void nodes_by_number(void)
 {
     static bes_batch batch;
@@ -598,7 +598,7 @@ static void nodes_by_number(void)
 
 enum { MOST_BYTES = 64 * (63 + 255) };
 
-/* The operations that rebuild a snapshot. If there isn't room for a list, the next call returns it. */
+/* Reads the operations that recreate a snapshot. If there is no room for a list, the next call returns it. */
 static void states(void)
 {
     static const uint8_t expected[] = "nameannsizesize";
@@ -637,7 +637,7 @@ static void states(void)
     CHECK(bes_leave(&place) == BES_OK && bes_new_node(&next, &number) == BES_OK && number == 3 && bes_close(&next) == BES_OK);
 }
 
-/* A witness shows one pass what another has seen, and outlives their store. */
+/* With a witness, a pass sees what another pass has seen. The witness outlives their store. */
 static void joining(void)
 {
     bes_pass mine = BES_PASS_INIT, theirs = BES_PASS_INIT;
@@ -668,7 +668,7 @@ static void joining(void)
     CHECK(bes_dismiss(&later) == BES_CLOSED && bes_dismiss(&moved) == BES_OK && bes_dismiss(&moved) == BES_CLOSED);
 }
 
-/* Which pages are free, which wait for a pin, and which pass has that pin. */
+/* Counts the pages that are free and those that a pin holds, and finds the pass with that pin. */
 static void usage(void)
 {
     bes_pass mine = BES_PASS_INIT, theirs = BES_PASS_INIT;
@@ -709,7 +709,7 @@ static void journal(void)
     CHECK(bes_close(&pass) == BES_OK);
 }
 
-/* The last handle closes the store, pinned or not, but only if there is room for the whole journal. */
+/* The last handle closes the store, whether pinned or not, but only if there is room for the whole journal. */
 static void finishing(void)
 {
     static const char all[] = "1 by 2 new -> node 1\n2 by 1 new -> node 2\n3 by 2 new -> node 3\n";
@@ -734,7 +734,7 @@ static void finishing(void)
     CHECK(bes_close(&mine) == BES_CLOSED);
 }
 
-/* If two errors apply, the one that bestore.h lists first is returned. */
+/* If two errors apply, the call returns the one that bestore.h lists first. */
 static void order_of_reads(void)
 {
     static const uint8_t long_text[4097] = {0xff};
@@ -803,7 +803,7 @@ static void spent(void)
     CHECK(bes_version() == BES_VERSION_NUMBER && strcmp(BES_VERSION, "0.4.0") == 0);
 }
 
-/* Closing or meeting loses no pass: 64 are taken, closed and taken again, through the first handle and through another. */
+/* No pass is lost by closing or meeting: 64 are taken, closed and taken again, through the first handle and through another. */
 static void all_passes(void)
 {
     static bes_pass taken[65];
@@ -825,14 +825,14 @@ static void all_passes(void)
     CHECK(take_passes(&last, taken) == 63);
     close_passes(taken, 63);
     CHECK(bes_close(&last) == BES_OK);
-    /* Unused passes are returned along with the handle that they wait with. */
+    /* When a handle is closed, the unused passes that it holds are returned with it. */
     CHECK(bes_open(64, 64, 10, &first) == BES_OK && bes_another(&first, &last) == BES_OK && bes_close(&first) == BES_OK);
     CHECK(take_passes(&last, taken) == 63);
     close_passes(taken, 63);
     CHECK(bes_close(&last) == BES_OK);
 }
 
-/* Whichever of 64 passes is the last, it closes the store, and the journal has everyone's writes. */
+/* Whichever of 64 passes is the last, it closes the store, and the journal has the writes of all of them. */
 static void finishing_all(void)
 {
     static bes_pass taken[65];

@@ -1,4 +1,4 @@
-// The objects of bestore.hpp: what they return, what they throw, and that they close themselves.
+// Tests the objects of bestore.hpp: what they return, what they throw, and whether they close themselves.
 #include "bestore.hpp"
 #include "tests.hpp"
 #include <limits>
@@ -22,7 +22,7 @@ static void c_header()
     CHECK(bes_close(&pass) == BES_OK && bes_version() == BES_VERSION_NUMBER);
 }
 
-// Checks that a value of each kind comes back as it was.
+// Checks that a value is read back unchanged.
 template <class T> void comes_back(Pass &pass, const Input &value, const T &expected)
 {
     pass.set(1, "k", value);
@@ -55,7 +55,7 @@ static void values()
     CHECK(!pin.get<std::string>(1, "k"));
 }
 
-// The columns of several names: the same as get reads, even in a change, which sees what it has set.
+// Columns of several names have the values that get reads, even in a change, which sees what it has set.
 static void columns()
 {
     Store store({64, 1, 100});
@@ -114,7 +114,7 @@ static void writes()
     CHECK(journal.substr(journal.rfind('\n', journal.size() - 2) + 1) == "8 by 0 new -> node 3\n");
 }
 
-// Makes three hundred nodes with the numbers 1 to 300.
+// Creates three hundred nodes with the numbers 1 to 300.
 static Store numbered()
 {
     Store store({1024, 2, 1000});
@@ -207,7 +207,7 @@ static void live_queries()
     refused(BES_NOT_PINNED, [&] { moved.refresh(pin); });
 }
 
-// A pin ends with its scope, and can still be read if its pass is moved.
+// A pin ends with its scope, and can still be read after its pass is moved.
 static void pins()
 {
     Store store({64, 2, 100});
@@ -253,7 +253,8 @@ static void finishing()
     other.close();
 }
 
-// A witness shows a pass what another has seen, even in another thread. It outlives its store, and no other store accepts it.
+// With a witness, a pass sees what another pass has seen, even in another thread. The witness outlives its store, and no other
+// store accepts it.
 static void witnesses()
 {
     Store next({64, 1, 100});
@@ -302,7 +303,8 @@ static void nodes_and_status()
     refused(BES_NOT_PINNED, [&] { pin.nodes(); });
 }
 
-// A store's state, carried on to another store in batches: the same nodes, attributes and indices, and the same next number.
+// A store's state is copied to another store in batches, which then has the same nodes, attributes and indices, and the same next
+// node number.
 static void states()
 {
     Store store({256, 1, 1000}), next({256, 1, 1000});
@@ -337,7 +339,7 @@ static void states()
     refused(BES_NOT_PINNED, [&] { (void)pin.state(); });
 }
 
-// BES_FULL comes with the number of the pinned snapshot.
+// With BES_FULL, the number of the pinned snapshot is returned.
 static void full()
 {
     Store store({8, 1, 1000});
@@ -350,7 +352,7 @@ static void full()
     });
 }
 
-// The store closes with its last pass, which doesn't have to be its first.
+// The store closes with its last pass, which need not be the first one opened.
 static void last_pass()
 {
     Pass other = Store({64, 2, 100}).another();
@@ -371,7 +373,7 @@ static void threads()
     CHECK(store.pin().number() == 2 * writes);
 }
 
-// A query that is parsed here and run in another thread through that thread's pass, and a live query that moves there and back.
+// A query is parsed here and run in another thread through that thread's pass. A live query is moved there and back.
 static void threads_hand_on_queries()
 {
     Store store({64, 2, 100});

@@ -1,14 +1,14 @@
 #!/usr/bin/env bash
-# Builds and runs the tests in C and C++, plain and with tools that find memory and thread errors. Then runs the examples and the
-# tests in Python. tests/packages tests what is installed and packed. Needs libbestore.a and libbestore.so in this folder.
-# Whatever else is missing is skipped, and a line says so.
+# Builds and runs the tests in C and C++, both plain and with tools that find memory and thread errors. Then runs the examples and
+# the tests in Python. tests/packages tests what is installed and packaged. Needs libbestore.a and libbestore.so in this folder.
+# Tests that need anything else that is missing are skipped, and a line says so.
 set -euo pipefail
 cd "$(dirname "$0")"
 warn=(-Wall -Wextra -pedantic -Werror)
 work=$(mktemp -d)
 trap 'rm -rf "$work"' EXIT
 
-# run WHAT COMMAND...: runs the command, which has to succeed, and reports it as WHAT.
+# run WHAT COMMAND...: runs the command, which must succeed, and reports it as WHAT.
 run() {
     local what=$1 said
     shift
@@ -17,7 +17,7 @@ run() {
     echo "$what: ${said:-ok}"
 }
 
-# Like run, if the command exists.
+# Like run, but skips a command that doesn't exist.
 run_if_there() {
     if command -v "$2" >/dev/null; then
         run "$@"
@@ -26,12 +26,12 @@ run_if_there() {
     fi
 }
 
-# Runs a command under valgrind, which runs one thread at a time. --fair-sched gives each thread its turn.
+# Runs a command under valgrind, which runs only one thread at a time. --fair-sched lets the threads take turns.
 leaks() { run_if_there "$1" valgrind -q --fair-sched=try --leak-check=full --error-exitcode=9 "${@:2}"; }
 
 echo 'int main(void) { return 0; }' >"$work/empty.c"
 
-# Returns whether a compiler has this sanitizer, and a program built with it runs.
+# Returns whether a compiler has this sanitizer and a program built with it runs.
 sanitizes() {
     "$2" -x c "-fsanitize=$3" "$work/empty.c" -o "$work/empty" 2>/dev/null && "$work/empty" 2>/dev/null && return
     echo "$1, $3: skipped, $2 has no such sanitizer"
@@ -53,8 +53,8 @@ fi
 
 build() { cc -std=c11 "${warn[@]}" -I../include "$@" libbestore.a -lpthread; }
 build_cpp() { c++ -std=c++17 "${warn[@]}" -I../include "$@" libbestore.a -lpthread; }
-# Compiles the library's helpers with a sanitizer, which otherwise sees none of the library, and prints the folder with the
-# objects.
+# Compiles the library's helpers with a sanitizer, which otherwise sees nothing of the library, and prints the folder with the
+# object files.
 marked_helpers() {
     local it folder=$work/helpers-$1
     mkdir -p "$folder"
@@ -64,7 +64,7 @@ marked_helpers() {
     echo "$folder"
 }
 
-# The tests, and those of them that run threads.
+# The tests, and the ones among them that start threads.
 tests=(test columns cursors ordered changes batches closing refreshes errors threads witness helpers texts query_texts bounds racing promises)
 tests_cpp=(test helpers changes ordered racing)
 with_threads=(changes threads witness helpers racing promises)
@@ -85,8 +85,8 @@ if sanitizes C cc address,undefined; then
         run "C, $test, address,undefined" "$work/sanitized" short
     done
 fi
-# This sanitizer can't follow the library's own steps, including its lock. So it uses tsan.supp, the list that ships with the
-# library. It then looks only at the test's own memory, where it still finds a race.
+# This sanitizer can't follow the library's own steps, including its lock, so it is given tsan.supp, the list that ships with the
+# library. It then checks only the test's own memory, where it must still find a race.
 listed=(env LD_LIBRARY_PATH=. TSAN_OPTIONS=suppressions="$PWD/tsan.supp")
 if sanitizes C cc thread; then
     helpers=$(marked_helpers thread)
@@ -133,7 +133,7 @@ if [ -n "$has_cpp" ]; then
     done
 fi
 
-# Memory requests can be refused if the linker can pass them through the test.
+# Requests for memory can be refused only if the linker can route them through the test.
 wrap=(-Wl,--wrap=malloc,--wrap=realloc,--wrap=sched_yield)
 if cc "${wrap[@]}" "$work/empty.c" -o "$work/empty" 2>/dev/null; then
     build -g -O1 "${wrap[@]}" memory.c -o "$work/memory"
@@ -150,7 +150,7 @@ else
     echo "C, memory and counts: skipped, the linker has no --wrap"
 fi
 
-# How many instructions the calls take, which valgrind counts.
+# Checks how many instructions the calls take, as counted by valgrind.
 if echo '#include <valgrind/callgrind.h>' | cc -E - >"$work/said" 2>&1; then
     build -O2 costs.c -o "$work/costs"
     run_if_there "C, costs" python3 ../tests/costs "$work/costs"
@@ -175,7 +175,7 @@ build -O2 ../examples/c/mailbox.c -o "$work/mailbox"
 build -O2 ../examples/c/counter.c -o "$work/counter"
 "$work/counter" | cmp - <(printf '%s\n' "MAIL:from==ann 1000" "MAIL:from==bob 1000" "letters==2000 1")
 
-# The headers aren't UTF-8, are cut inside a character, are too long, are repeated, contain a zero byte, or end with the file.
+# Headers that aren't UTF-8, are cut off inside a character, too long or repeated, contain a zero byte, or end with the file.
 {
     printf 'From a\nFrom: B\366b\nSubject: %0254d\303\251\nDate: nonsense\n\nFrom: body\n' 0
     printf 'From b\nFrom: \0zero\nSubject: \377\376\nTo: %09000d\n\n' 0
@@ -185,7 +185,7 @@ build -O2 ../examples/c/counter.c -o "$work/counter"
 "$work/mailbox" "$work/broken.mbox" 'MAIL:from=="*"' 'MAIL:subject=="?" || MAIL:subject=="??"' 'MAIL:subject=="no end"' \
     'MAIL:subject=="0*0" && MAIL:from=="B?b"' 'MAIL:subject==again1 && MAIL:from==first' 'MAIL:from==" zero"' >"$work/said"
 sed -n '/^  /!s/.*: //p' "$work/said" | tr '\n' ' ' | cmp - <(printf '3 3 1 1 1 1 1 ')
-# A full store ends the reading, and the mails read so far can be found.
+# When the store is full, reading stops, and the mails read so far can be found.
 awk 'BEGIN { for (i = 0; i < 6000; i++) printf "From x\nFrom: ann%d\nTo: bob%d\nSubject: Letter %d\nDate: Mon, 3 Mar 2025 09:12:00 +0000\n\nText\n", i, i, i }' \
     >"$work/many.mbox"
 if timeout -k 10 900 "$work/mailbox" "$work/many.mbox" 'MAIL:from=="ann*"' >"$work/said" 2>"$work/warned"; then
@@ -208,7 +208,7 @@ if [ -n "$has_cpp" ]; then
     printf 123456789 >"$work/files/nine.c"
     "$work/catalogue" "$work/files" 'size>5' 'kind==text' |
         cmp - <(printf '2 files\nsize>5: 1\n  nine.c 9\nkind==text: 1\n  five.txt 5\n')
-    # File names that aren't valid UTF-8 or that mean something in a pattern, and a comparison that is never true.
+    # File names that aren't valid UTF-8 or have a meaning in a pattern, and a comparison that is never true.
     : >"$work/files/"$'bad\xff\xc3.txt' >"$work/files/[draft].txt"
     "$work/catalogue" "$work/files" 'name=="bad*"' 'name==\[draft].txt' 'size>1.5' 2>"$work/warned" |
         cmp - <(printf '4 files\nname=="bad*": 1\n  bad??.txt 0\nname==\\[draft].txt: 1\n  [draft].txt 0\nsize>1.5: 0\n')
@@ -244,7 +244,7 @@ python3 manual.py | cmp - ../docs/bestore.3
 
 run "examples in Python" "${python[@]}" -m unittest discover -q -s ../examples/python
 
-# Tests the query window on a display in memory, and the modules that it uses. rust/test.sh tests it with a server.
+# Tests the query window on an in-memory display, and the modules that it uses. rust/test.sh tests it with a server.
 window="what the query window uses"
 if ! command -v Xvfb >/dev/null; then
     echo "the query window: skipped, there is no Xvfb"

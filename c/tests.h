@@ -1,4 +1,4 @@
-/* What the C tests share. */
+/* Definitions shared by the C tests. */
 #ifndef TESTS_H
 #define TESTS_H
 
@@ -26,7 +26,7 @@ static inline void look(bes_pass *pass, view *seen)
     CHECK(bes_journal(pass, seen->journal, sizeof seen->journal, &seen->length) == BES_OK && seen->length <= sizeof seen->journal);
 }
 
-/* Reads again, and compares. */
+/* Reads everything again, and compares. */
 static inline bool is_as_it_was(bes_pass *pass, const view *before)
 {
     static view after;
@@ -34,7 +34,7 @@ static inline bool is_as_it_was(bes_pass *pass, const view *before)
     return memcmp(before, &after, sizeof after) == 0;
 }
 
-/* Takes as many passes as this pass can get. Returns how many that was. */
+/* Takes passes until there are no more. Returns how many were taken. */
 static inline int take_passes(bes_pass *pass, bes_pass *taken)
 {
     for (int i = 0;; i++) {
@@ -45,7 +45,7 @@ static inline int take_passes(bes_pass *pass, bes_pass *taken)
     }
 }
 
-/* Closes all these passes. */
+/* Closes these passes. */
 static inline void close_passes(bes_pass *taken, int count)
 {
     for (int i = 0; i < count; i++)

@@ -1,4 +1,4 @@
-// What the C++ tests share.
+// Definitions shared by the C++ tests.
 #ifndef TESTS_HPP
 #define TESTS_HPP
 
@@ -16,12 +16,12 @@
 
 using Carried = std::optional<std::uint64_t>;
 
-// A refusal's details.
+// The details of an error.
 struct With {
     Carried offset = {}, item = {}, operation = {}, least = {}, pass_number = {}, length = {};
 };
 
-// Checks that the call is refused with this number and these details.
+// Checks that the call fails with this error number and these details.
 template <class Call> void refused(std::uint32_t number, const With &with, Call call)
 {
     try {

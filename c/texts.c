@@ -1,4 +1,4 @@
-/* Tests the helpers for indices and query texts on random texts, against what the library parses and finds. */
+/* Tests the helpers for indices and query texts with random texts, comparing them with what the library parses and finds. */
 #include "tests.h"
 
 static uint64_t seed = 7;
@@ -9,7 +9,7 @@ static uint64_t below(uint64_t most)
     return (seed >> 33) % most;
 }
 
-/* Appends one of these texts, which are separated by blanks. */
+/* Appends one of these choices, which are separated by spaces. */
 static void append_one(char *text, size_t room, const char *choices)
 {
     size_t count = 1, length;
@@ -39,7 +39,7 @@ static void append_comparison(char *text, size_t room)
     append_one(text, room, "1 -5 abc \"a*\" '&&' \"\" [a-d] \"[^\\\"]\" \\* \"x\\\\\" 'a\"b' \xc3\xa9? \"||\" \\>\\= 12x");
 }
 
-/* Makes a random text that is a query, or nearly one. */
+/* Produces a random text that is a query, or nearly one. */
 static void random_query(char *text, size_t room)
 {
     size_t count = 1 + below(6), open = 0;
@@ -63,7 +63,7 @@ static void random_query(char *text, size_t room)
         text[below(strlen(text))] = "()!=<>&|\"'\\ a"[below(13)];
 }
 
-/* Writes a query's canonical text. Returns its length, or 0 if the text isn't a query. */
+/* Writes the canonical text of a query. Returns its length, or 0 if the text isn't a query. */
 static size_t canonical_of(const char *text, size_t length, char *canonical, size_t room)
 {
     bes_prepared prepared = BES_PREPARED_INIT;
@@ -81,7 +81,8 @@ static uint32_t opposite(uint32_t kind)
     return kinds[kind - BES_ITEM_EQ];
 }
 
-/* Checks that a comparison in the user's text means the same as in the canonical text, except for a ! before the first. */
+/* Checks that a comparison in the user's text means the same as the one in the canonical text, except for a ! before the
+ * former. */
 static void is_same_comparison(const char *text, const bes_comparison *mine, const char *canonical, const bes_comparison *theirs)
 {
     static char alone[4096];
@@ -116,7 +117,7 @@ static void comparisons(void)
     CHECK(accepted > 5000);
 }
 
-/* A text that isn't a query is read up to its end, and not past it. */
+/* A text that isn't a query is read up to its end but not beyond. */
 static void any_bytes(void)
 {
     for (int round = 0; round < 20000; round++) {
@@ -199,7 +200,7 @@ typedef struct whole {
     uint64_t magnitude;
 } whole;
 
-/* Reads a number with an optional - and 1 to 20 digits. Backslashes are skipped. */
+/* Parses a number with an optional - and 1 to 20 digits. Backslashes are skipped. */
 static bool spells_number(const char *text, whole *number)
 {
     size_t digits = 0;
@@ -216,7 +217,7 @@ static bool spells_number(const char *text, whole *number)
     return digits > 0 && digits <= 20 && (!number->is_negative || number->magnitude <= (uint64_t)1 << 63);
 }
 
-/* Returns whether every integer of a kind with this many bits is above the number, or every one is below it. */
+/* Returns whether all integers of a kind with this many bits are above the number, or all are below it. */
 static bool is_out_of_range(whole number, unsigned bits, bool is_signed)
 {
     uint64_t greatest = UINT64_MAX >> (64 - bits + is_signed);
@@ -225,8 +226,8 @@ static bool is_out_of_range(whole number, unsigned bits, bool is_signed)
     return number.magnitude > greatest;
 }
 
-/* A value that isn't a number makes any comparison with an integer false. A value that is one makes either <= or >= true. The
- * helper finds comparisons that are false for every integer of the index's kind. */
+/* If a comparison's value isn't a number, it is false for every integer. If it is a number, either <= or >= is true. The helper
+ * finds comparisons that are false for every integer of the index's kind. */
 static void never_true(void)
 {
     static const char *const by_hand[] = {
@@ -284,7 +285,7 @@ static void pairs(void)
     CHECK(bes_close(&pass) == BES_OK);
 }
 
-/* An index that is made late has all values of its kind after bes_reindex. */
+/* An index that is created late has all values of its kind after bes_reindex. */
 static void reindexed(void)
 {
     static const char *const names[] = {"a", "b"};
@@ -309,7 +310,7 @@ static void reindexed(void)
     CHECK(bes_read(&pass, 7, "a", &read, bytes, 0) == BES_OK && read.code == BES_INT32_TYPE && bes_close(&pass) == BES_OK);
 }
 
-/* Makes a text of up to 12 characters, including those that are special in queries. */
+/* Produces a text of up to 12 characters, including those with a special meaning in queries. */
 static void random_text(char *text)
 {
     size_t length = 1 + below(12);
@@ -344,7 +345,7 @@ static void escapes(void)
         bes_escape(other, escaped, sizeof escaped);
         snprintf(query, sizeof query, "text==\"%s\"", escaped);
         CHECK(found(&pass, query) == (strcmp(value, other) == 0));
-        /* Use the text as a name: it is parsed, and has no index. */
+        /* Use the text as a name. The query is parsed, but the name has no index. */
         snprintf(query, sizeof query, "%s==1", escaped);
         uncovered_at(&pass, query, 0);
     }
@@ -377,7 +378,7 @@ static void any_case(void)
     CHECK(bes_close(&pass) == BES_OK);
 }
 
-/* Any bytes become a text that the library accepts. A text that it already accepts stays as it is. */
+/* Any bytes become a text that the library accepts. A text that it already accepts is left unchanged. */
 static void valid_texts(void)
 {
     static char bytes[400 + 1], valid[256], again[256];

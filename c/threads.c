@@ -1,11 +1,12 @@
-/* What calls from several threads return, and what other threads read meanwhile. */
+/* Tests what calls from several threads return, and what other threads read in the meantime. */
 #define _POSIX_C_SOURCE 199309L
 #include "tests.h"
 #include <pthread.h>
 #include <time.h>
 
 /* Four threads with one pass each: two write, and two run queries. Each writer has its own pairs of nodes, one from ann and one
- * from bob, and swaps a pair in one write. So every snapshot has as many nodes from ann as from bob. */
+ * from bob, and swaps the nodes of a pair in one write. Every snapshot therefore has the same number of nodes from ann and from
+ * bob. */
 enum { PAIRS = 100, NODES = 4 * PAIRS };
 
 static double seconds = 3; /* fewer with the argument `short` */
@@ -21,11 +22,11 @@ static bool is_over(void)
 
 typedef struct user {
     bes_pass pass;
-    uint64_t first;  /* of a writer's nodes */
-    uint64_t rounds; /* writes that were accepted, or snapshots that were queried */
+    uint64_t first;  /* the first of a writer's nodes */
+    uint64_t rounds; /* accepted writes, or queried snapshots */
 } user;
 
-/* Writes a pair, whose first node is then from ann if `ann` is set, otherwise from bob. Another thread's pin may hold all free
+/* Writes a pair whose first node is from ann if `ann` is true, and from bob otherwise. Another thread's pin may hold all free
  * pages for a while. */
 static uint64_t write_pair(bes_pass *pass, uint64_t node, bool is_new, bool ann)
 {
@@ -59,7 +60,7 @@ static void *writer(void *arg)
         written = write_pair(&it->pass, node, false, ann[pair]);
         if (it->rounds % 16 != 0)
             continue;
-        /* A pin includes everything that its pass wrote. Then rest, since the journal keeps every write. */
+        /* The pinned snapshot includes everything that its pass has written. Then rest, because the journal keeps every write. */
         CHECK(bes_pin(&it->pass, &number) == BES_OK && number >= written);
         CHECK(bes_read(&it->pass, node + 1, "MAIL:from", &told, from, 3) == BES_OK && told.length == 3);
         CHECK(memcmp(from, ann[pair] ? "bob" : "ann", 3) == 0);
@@ -69,7 +70,7 @@ static void *writer(void *arg)
     return NULL;
 }
 
-/* A refresh from what is being written finds the same as a refresh with the whole query. */
+/* While others are writing, bes_refresh_changed gives the same result as bes_refresh. */
 static void refresh_as(user *it, bes_prepared *whole, const bes_updates *updates, bes_prepared *changed)
 {
     bes_updates others = {0, 0};
@@ -146,7 +147,7 @@ static void threads(void)
            (unsigned long long)(users[2].rounds + users[3].rounds), seconds);
 }
 
-/* Repeatedly takes a pass that no thread has, writes through it and returns it. Counts the writes. */
+/* Repeatedly takes a pass that no thread has, writes through it, and returns it. Counts the writes. */
 static void *taker(void *arg)
 {
     user *it = arg;
@@ -165,7 +166,7 @@ static void *taker(void *arg)
     return NULL;
 }
 
-/* Four threads take `count` passes in turn, each after another has returned it. In the end, all passes are there. */
+/* Four threads take `count` passes in turn, each after another thread has returned it. In the end, no pass has been lost. */
 static void takers(int count)
 {
     static user users[4];
@@ -191,7 +192,7 @@ static void takers(int count)
 }
 
 /* Repeatedly takes a pass and returns it. There are many more passes than threads, so one is always free. If another thread is
- * using a pass, the next place is tried. */
+ * using a pass, tries the next place. */
 static void *hander(void *arg)
 {
     user *it = arg;
@@ -216,7 +217,8 @@ static void always_one_waits(void)
         CHECK(pthread_join(running[i], NULL) == 0 && bes_close(&users[i].pass) == BES_OK);
 }
 
-/* Repeatedly sets its node's number and makes a node, in one write. Another thread's pin may hold all free pages for a while. */
+/* Repeatedly sets its node's number and creates a node, in one write. Another thread's pin may hold all free pages for a
+ * while. */
 static void *grower(void *arg)
 {
     user *it = arg;
@@ -250,7 +252,7 @@ static void carry_on(bes_pass *pass, bes_pass *next)
     CHECK(bes_leave(&place) == BES_OK);
 }
 
-/* Returns whether the same operations rebuild both pinned snapshots. */
+/* Returns whether both pinned snapshots are recreated by the same operations. */
 static bool are_alike(bes_pass *mine, bes_pass *theirs)
 {
     bes_batch one, other;
@@ -265,7 +267,7 @@ static bool are_alike(bes_pass *mine, bes_pass *theirs)
     return alike;
 }
 
-/* Carries the state on to a new store and closes that store, while a pinned pass still reads the old store as before. */
+/* Copies the state to a new store and closes that store, while a pinned pass still reads the old store as before. */
 static void carry_and_compare(bes_pass *pass)
 {
     bes_pass next = BES_PASS_INIT;
@@ -278,7 +280,7 @@ static void carry_and_compare(bes_pass *pass)
     CHECK(bes_unpin(pass) == BES_OK && bes_close(&next) == BES_OK);
 }
 
-/* Two threads write while a third carries the state on. At the end, a live query continues in the new store. */
+/* Two threads write while a third copies the state to new stores. At the end, a live query continues in the new store. */
 static void carrying(void)
 {
     static user users[3];
@@ -338,7 +340,7 @@ static void *releaser(void *arg)
     return NULL;
 }
 
-/* A query that is prepared here, refreshed in a second thread, and released in a third. */
+/* Prepares a query here, refreshes it in a second thread, and releases it in a third. */
 static void handed_on(void)
 {
     static handed it;

@@ -1,13 +1,13 @@
-/* Two threads tell each other through pipes what they have written, by a commit number and a witness. The receiver joins the
- * witness, and finds the sender's write in its next snapshot. Its next write has a later number. A third thread writes
- * meanwhile. */
+/* Two threads report their writes to each other through pipes, sending a commit number and a witness for each. The receiver joins
+ * the witness, and must find the sender's write in its next snapshot. Its next write must have a later number. A third thread
+ * writes in the meantime. */
 #define _POSIX_C_SOURCE 200112L
 #include "tests.h"
 #include <pthread.h>
 #include <sched.h>
 #include <unistd.h>
 
-/* The message sent through a pipe. It carries the witness's memory along. */
+/* The message sent through a pipe. It hands over the witness's memory. */
 typedef struct message {
     uint64_t number, node;
     bes_witness *witness;
@@ -20,7 +20,7 @@ typedef struct user {
 
 static unsigned rounds = 2000; /* fewer with the argument `short` */
 
-/* Makes a node of this size, and returns the commit number. */
+/* Creates a node of this size, and returns the commit number. */
 static uint64_t write_node(bes_pass *pass, uint64_t size, uint64_t *node)
 {
     bes_batch batch;
@@ -37,7 +37,7 @@ static uint64_t write_node(bes_pass *pass, uint64_t size, uint64_t *node)
     return number;
 }
 
-/* Writes, and sends the commit number with a witness of the write. Returns the number. */
+/* Makes a write, and sends its commit number with a witness. Returns the number. */
 static uint64_t send_write(user *it, unsigned round)
 {
     message sent = {0, 0, malloc(sizeof *sent.witness)};
@@ -50,7 +50,7 @@ static uint64_t send_write(user *it, unsigned round)
     return sent.number;
 }
 
-/* Receives the other thread's message, joins its witness, and looks for its write. Returns the write's number. */
+/* Receives the other thread's message, joins its witness, and looks for its write. Returns the write's commit number. */
 static uint64_t receive(user *it, unsigned round)
 {
     message got;

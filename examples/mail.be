@@ -1,11 +1,11 @@
-# A mail folder. Each letter is a node, and what a mail program shows are the node's attributes.
+# A mail folder. Each letter is a node, and what a mail program shows of it are the node's attributes.
 
-# An index takes the attributes that are set after it was made, so the indices come first.
+# An index includes only attributes that are set after it was created, so the indices come first.
 mkindex MAIL:from CSTR
 mkindex MAIL:when LLNG
 mkindex MAIL:status CSTR
 
-# A letter arrives with all its attributes at once, or not at all.
+# A letter arrives atomically, with all its attributes or not at all.
 begin
 new
 set 1 MAIL:from CSTR "Ada <ada@example.org>"
@@ -36,11 +36,11 @@ query MAIL:from=="Ada*"
 query MAIL:from=="Ada*" && MAIL:when>1700000000
 explain MAIL:from=="Ada*" && MAIL:when>1700000000
 
-# Subjects have no index, so a query for a subject by itself is refused. Together with a comparison that has an index, it works.
+# Subjects have no index, so a query for a subject alone is refused. Combined with an indexed comparison, it works.
 query MAIL:subject=="*engine*"
 query MAIL:status==New && MAIL:subject=="*engine*"
 
-# One letter is read, and another is thrown away.
+# One letter is read, and another is deleted.
 set 1 MAIL:status CSTR Read
 drop 2
 query MAIL:status==New

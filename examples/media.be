@@ -25,26 +25,26 @@ set 3 Media:Year ULNG 1927
 set 3 Media:Length LONG 9180
 set 3 Media:Type MIMS video/quicktime
 
-# Titles with Blue, the fifties, and everything that isn't long.
+# Titles that contain Blue, titles from the fifties, and everything that isn't long.
 query Media:Title=="*Blue*"
 query Media:Year>=1950 && Media:Year<1960
 query !(Media:Length>=600)
 
-# Only sound, from any known year.
+# Only audio, from any known year.
 query Media:Year>0 && Media:Type=="audio/*"
 
-# A set of characters, any single character, and a character that a backslash makes literal.
+# Patterns with a set of characters, any single character, and a character that a backslash makes literal.
 query Media:Title=="[BK]*"
 query Media:Title=="Metropoli?"
 query Media:Title=="Blue\*"
 
-# A node's length becomes a text. The index holds numbers, so the node leaves the index.
+# A node's length becomes a string. The index holds numbers, so the node leaves the index.
 set 3 Media:Length CSTR "2 h 33 min"
 query Media:Length>0
 get 3 Media:Length
 get 1 Media:Cover
 
-# A year is removed. An index is removed and made again, so it is empty.
+# A year is removed. An index is removed and created again, so it is empty.
 unset 3 Media:Year
 rmindex Media:Title
 mkindex Media:Title CSTR

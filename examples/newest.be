@@ -20,7 +20,7 @@ new
 set 5 MAIL:to CSTR ann
 commit
 
-# The first page. Its last line says that there are more letters, and the position that they come after.
+# The first page. Its last line says that there are more letters, and gives the position after which they come.
 page by MAIL:when descending limit 2 MAIL:to==ann
 
 # A new letter arrives. It comes before that position, so the second page continues as if the letter weren't there.
@@ -31,7 +31,7 @@ set 6 MAIL:when LLNG 1700000180
 commit
 page by MAIL:when descending after LLNG 1700000120 3 limit 2 MAIL:to==ann
 
-# The first page, read again, begins with the new letter.
+# When read again, the first page begins with the new letter.
 page by MAIL:when descending limit 2 MAIL:to==ann
 
 # All letters since a given second, oldest first.
@@ -40,6 +40,6 @@ page by MAIL:when limit 3 MAIL:when>=1700000060
 # A letter without a time isn't on any page, but a query finds it.
 query MAIL:to==ann
 
-# An order needs an index with its name. A value that a page begins after has to be of that index's kind.
+# An order needs an index with its name. If a page begins after a value, the value must be of that index's kind.
 page by MAIL:subject limit 2 MAIL:to==ann
 page by MAIL:when after LONG 5 1 limit 2 MAIL:to==ann

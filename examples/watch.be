@@ -1,4 +1,4 @@
-# A window of unread letters, kept up to date by a live query, and a listing that reads one version while letters come in.
+# A window of unread letters, kept up to date by a live query, and a listing that reads one version while letters arrive.
 mkindex MAIL:from CSTR
 mkindex MAIL:status CSTR
 
@@ -6,7 +6,7 @@ new
 set 1 MAIL:from CSTR "Ada <ada@example.org>"
 set 1 MAIL:status CSTR New
 
-# The window runs its query once. From then on, each refresh returns what joined the result and what left it.
+# The window runs its query once. From then on, each refresh returns what has entered the result and what has left it.
 live MAIL:status==New
 refresh
 
@@ -27,7 +27,7 @@ query MAIL:from=="*"
 get 1 MAIL:status
 refresh
 
-# The listing is finished. Now each line reads the current version, and the window gets what has changed.
+# The listing is finished. From now on, each line reads the current version, and the window gets what has changed.
 unpin
 query MAIL:from=="*"
 refresh

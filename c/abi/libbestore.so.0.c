@@ -1,6 +1,7 @@
-/* What programs built with an earlier libbestore.so.0 rely on: its calls, the layout of the structs that they take, and the
- * values of its constants. tests/abi compiles this with the header and links it with the library. Lines may be added when the
- * library gets a call or a constant. If a line has to change or go, the library needs a new soname, and so a new file. */
+/* The interface that programs built with an earlier libbestore.so.0 rely on: its calls, the layout of the structs that they take,
+ * and the values of its constants. tests/abi compiles this file with the header and links it with the library. When the library
+ * gains a call or a constant, a line may be added. If a line must be changed or removed, the library needs a new soname, and
+ * therefore a new file. */
 #include "bestore.h"
 
 #define CALL(name, ...) \

@@ -1,7 +1,7 @@
-/* Batches as bytes, in the format that bestore's KEPT.md describes. */
+/* Encodes batches as bytes and decodes them, in the format described in bestore's KEPT.md. */
 #include "kinds.h"
 
-/* The array for the written bytes, and how many bytes there are so far. Bytes that don't fit are only counted. */
+/* The array for the written bytes, and the number of bytes so far. Bytes that don't fit are counted but not written. */
 typedef struct sink {
     uint8_t *bytes;
     size_t room;
@@ -15,7 +15,7 @@ static void put_bytes(sink *to, const uint8_t *bytes, size_t length)
             to->bytes[to->count] = bytes[i];
 }
 
-/* Writes the low `length` bytes of a number, starting with the lowest. */
+/* Writes the low `length` bytes of a number, lowest first. */
 static void put_number(sink *to, uint64_t number, size_t length)
 {
     for (size_t i = 0; i < length; i++, number >>= 8) {
@@ -29,13 +29,13 @@ static bool has_code(uint64_t kind)
     return kind == BES_SET || kind == BES_MAKE_INDEX;
 }
 
-/* Returns whether a part lies within the bytes. */
+/* Returns whether a part lies within the given bytes. */
 static bool has_part(size_t count, uint32_t at, uint32_t length)
 {
     return at <= count && length <= count - at;
 }
 
-/* Returns the error if the format can't hold an operation, otherwise BES_OK. */
+/* Returns BES_OK if the format can represent an operation, and the error otherwise. */
 static uint32_t unwritable(const bes_operation *it, size_t parts_count)
 {
     if (!has_part(parts_count, it->name_at, it->name_length) || !has_part(parts_count, it->value_at, it->value_length))
@@ -90,14 +90,14 @@ uint32_t bes_operations_to_bytes(const bes_operation *operations, size_t operati
     return BES_OK;
 }
 
-/* Bytes to read, and how many have been read. */
+/* The bytes to read, and how many of them have been read. */
 typedef struct source {
     const uint8_t *bytes;
     size_t length;
     size_t at;
 } source;
 
-/* Reads a number of `length` bytes, stored lowest byte first, unless the number is cut off. */
+/* Reads a number of `length` bytes, stored lowest byte first. Returns false if the number is cut off. */
 static bool take_number(source *from, size_t length, uint64_t *number)
 {
     if (from->length - from->at < length)
@@ -109,7 +109,7 @@ static bool take_number(source *from, size_t length, uint64_t *number)
     return true;
 }
 
-/* Reads a one-byte length, and copies that many bytes to the parts, unless they are cut off. */
+/* Reads a one-byte length, and copies that many bytes to the parts. Returns false if they are cut off. */
 static bool take_part(source *from, sink *parts, uint32_t *at, uint32_t *length)
 {
     uint64_t count = 0;
@@ -125,14 +125,14 @@ static bool take_part(source *from, sink *parts, uint32_t *at, uint32_t *length)
     return true;
 }
 
-/* Returns the error, and moves back to the beginning of the invalid part. */
+/* Moves back to the beginning of the invalid part, and returns the error. */
 static uint32_t wrong_at(source *from, size_t begin, uint32_t error)
 {
     from->at = begin;
     return error;
 }
 
-/* Reads an operation's kind and its node. After an error the source is at the invalid part. */
+/* Reads an operation's kind and its node. After an error, the source is at the invalid part. */
 static uint32_t take_head(source *from, bes_operation *it)
 {
     uint64_t kind = 0;
@@ -153,7 +153,7 @@ static bool take_value(source *from, bes_operation *it, sink *parts)
     return take_part(from, parts, &it->value_at, &it->value_length);
 }
 
-/* Reads an operation. After an error the source is at the invalid part. */
+/* Reads an operation. After an error, the source is at the invalid part. */
 static uint32_t take_operation(source *from, bes_operation *it, sink *parts)
 {
     uint64_t code = 0;
@@ -176,7 +176,7 @@ static uint32_t take_operation(source *from, bes_operation *it, sink *parts)
     return it->kind == BES_SET && !take_value(from, it, parts) ? BES_BAD_PART : BES_OK;
 }
 
-/* Reads the format's first bytes and the number of operations. After an error the source is at the invalid byte. */
+/* Reads the format's first bytes and the number of operations. After an error, the source is at the invalid byte. */
 static uint32_t take_beginning(source *from, uint64_t *count)
 {
     for (; from->at < 4; from->at++)

@@ -1,21 +1,21 @@
-/* Positions in an index's order: made from a value and a node, and read back. */
+/* Converts a value and a node to a position in an index's order, and back. */
 #include "kinds.h"
 
 #include <string.h>
 
-/* Returns how many bytes a number with this type code takes in an index's key; 0 if the code's values aren't numbers. */
+/* Returns how many bytes a number with this type code takes in an index's key, or 0 if the code's values aren't numbers. */
 static size_t key_size(uint32_t code)
 {
     return bits_of(code) / 8;
 }
 
-/* Returns what to add to a number in an index's key, so that the bytes sort as the numbers do. */
+/* Returns the amount to add to a number in an index's key so that the bytes sort in the order of the numbers. */
 static uint64_t key_shift(uint32_t code)
 {
     return is_signed(code) ? (uint64_t)1 << (bits_of(code) - 1) : 0;
 }
 
-/* Writes a number's low bytes, starting with the highest of these. */
+/* Writes the low `length` bytes of a number, highest first. */
 static void put_high_first(uint8_t *bytes, uint64_t number, size_t length)
 {
     for (size_t at = length; at > 0; number >>= 8)
@@ -30,7 +30,7 @@ static uint64_t take_high_first(const uint8_t *bytes, size_t length)
     return number;
 }
 
-/* Returns the error if no index key can have this value, otherwise BES_OK. */
+/* Returns BES_OK if an index key can have this value, and the error otherwise. */
 static uint32_t unkeyable(const bes_attribute *value, const void *bytes)
 {
     uint64_t shifted = value->number + key_shift(value->code);

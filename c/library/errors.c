@@ -1,4 +1,4 @@
-/* What is known about each error. */
+/* The class, name and meaning of each error. */
 #include "bestore.h"
 
 typedef struct meaning {
@@ -118,7 +118,7 @@ static const meaning meanings[] = {
     /* surface.toml: end */
 };
 
-/* Returns the entry for an error, or NULL if the number is unknown. */
+/* Returns the entry for an error, or NULL if the number isn't known. */
 static const meaning *meaning_of(uint32_t error)
 {
     for (size_t i = 0; i < sizeof meanings / sizeof *meanings; i++)

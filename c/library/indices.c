@@ -1,4 +1,4 @@
-/* Counts an index's pairs, and sets attributes again that were set before the index was made. */
+/* Counts an index's pairs, and indexes attributes that were set before their index was created. */
 #include "kinds.h"
 
 #include <string.h>
@@ -8,7 +8,7 @@ bool bes_is_number_code(uint32_t code)
     return bits_of(code) > 0;
 }
 
-/* Finds an index in a list of the pinned snapshot's indices, which it fills. */
+/* Fills the list with the indices of the pinned snapshot, and finds an index in it. */
 static uint32_t find_index(bes_pass *pass, const char *name, bes_index_list *list, const bes_operation **index)
 {
     uint32_t error = bes_list_indices(pass, list);
@@ -41,16 +41,16 @@ uint32_t bes_pairs(bes_pass *pass, const char *name, uint64_t *count)
     return bes_query_items(pass, items, 3, bytes, 1 + index->name_length, &none, 0, count);
 }
 
-/* State for reindex_some: the index, and the node to start from. */
+/* State for reindex_some: the index, and the node to start at. */
 typedef struct reindexing {
     const char *name;
     uint32_t code;
     uint64_t from;
-    uint64_t after; /* where to continue, or 0 after the last node */
+    uint64_t after; /* where to continue, or 0 if there are no more nodes */
     uint64_t count;
 } reindexing;
 
-/* Sets the index's attribute again on up to 64 nodes. */
+/* Sets the index's attribute to its present value on up to 64 nodes. */
 static uint32_t reindex_some(bes_pass *pass, bes_batch *batch, uint64_t next, void *with)
 {
     reindexing *it = (reindexing *)with;

@@ -1,10 +1,10 @@
-/* Facts about type codes. Only the helpers in this folder use them. */
+/* Properties of type codes, used only by the helpers in this folder. */
 #ifndef BESTORE_LIBRARY_KINDS_H
 #define BESTORE_LIBRARY_KINDS_H
 
 #include "bestore.h"
 
-/* Whether a kind has this type code. */
+/* Returns whether this is the type code of a kind. */
 static inline bool is_code(uint32_t code)
 {
     switch (code) {
@@ -23,7 +23,7 @@ static inline bool is_code(uint32_t code)
     }
 }
 
-/* Whether values of this type code are integers with a sign. */
+/* Returns whether the values of this type code are signed integers. */
 static inline bool is_signed(uint32_t code)
 {
     switch (code) {
@@ -37,7 +37,7 @@ static inline bool is_signed(uint32_t code)
     }
 }
 
-/* How many bits the integers of this type code have, or 0 if its values aren't integers. */
+/* Returns how many bits the integers of this type code have, or 0 if its values aren't integers. */
 static inline unsigned bits_of(uint32_t code)
 {
     switch (code) {

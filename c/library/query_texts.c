@@ -1,4 +1,4 @@
-/* Reads the comparisons in a query's text one after another. */
+/* Reads the comparisons in a query's text, one after another. */
 #include "bestore.h"
 
 static void read_compared(const bes_compared *it, bes_comparison *read)
@@ -12,7 +12,7 @@ static void read_compared(const bes_compared *it, bes_comparison *read)
     read->value_length = (size_t)(it->value_end - it->value_at);
 }
 
-/* Reads the first comparison at or after an offset. If indices are given, it considers only comparisons that no node can match. */
+/* Reads the first comparison at or after an offset. If indices are given, skips every comparison that a node could match. */
 static bool next_of(const bes_index_list *indices, const char *text, size_t length, size_t *at, bes_comparison *found)
 {
     bes_comparison_list list;

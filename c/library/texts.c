@@ -1,12 +1,12 @@
-/* Prepares texts for use in a query or a value, and prints a caret under an error. */
+/* Prepares strings for use in a query or a value, and prints a caret below an error. */
 #include "bestore.h"
 
 #include <string.h>
 
-/* A library call that makes a text from another text. */
+/* A library call that converts one text to another. */
 typedef uint32_t made_text(const uint8_t *text, size_t length, uint8_t *bytes, size_t room, uint64_t *count);
 
-/* Writes the text that a call makes from a text, with a zero byte, cut to `room` bytes. */
+/* Writes the text to which a call converts this one, truncated to `room` bytes including a zero byte at the end. */
 static size_t put_text(made_text *call, const char *text, char *out, size_t room)
 {
     uint64_t count = 0;
@@ -28,7 +28,7 @@ size_t bes_any_case(const char *text, char *out, size_t room)
     return put_text(bes_any_case_bytes, text, out, room);
 }
 
-/* Returns how many bytes the UTF-8 character at the start of a text has, or 0 if no character begins there. A zero byte isn't a
+/* Returns the length in bytes of the UTF-8 character at the start of a text, or 0 if no character begins there. A zero byte isn't a
  * character. */
 static size_t character(const char *text, size_t length)
 {
@@ -62,7 +62,7 @@ size_t bes_to_utf8(const char *text, size_t length, char *out, size_t room)
     return at;
 }
 
-/* Returns how many columns the UTF-8 characters before a byte offset take, at one column each. */
+/* Returns how many columns the text before a byte offset takes, counting one column for each UTF-8 character. */
 static size_t columns_of(const char *text, size_t bytes)
 {
     size_t columns = 0;

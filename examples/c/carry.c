@@ -1,5 +1,5 @@
-/* A long-running process: two threads write more letters than one store's journal can hold. When a store is full, its state is
- * carried on to a new store, and the threads continue there. A snapshot of the first store can still be read. */
+/* A long-running process: two threads write more letters than the journal of one store can hold. When a store is full, its state is
+ * copied to a new store, in which the threads continue. A snapshot of the first store remains readable. */
 #include "bestore.h"
 #include <pthread.h>
 #include <stdio.h>
@@ -7,15 +7,15 @@
 
 enum { WRITERS = 2, LETTERS = 500, COMMITS = 500 };
 
-/* The writers' passes, and what they wait on for a new store. */
+/* The writers' passes, and the condition on which writers wait for a new store. */
 typedef struct office {
     bes_pass passes[WRITERS];
     bes_pass first; /* a pass of the first store, pinned to that store's last snapshot */
     pthread_mutex_t lock;
     pthread_cond_t moved;
-    int at_work; /* how many writers have letters left */
-    int waiting; /* how many of these writers wait for a new store */
-    int stores;  /* how many stores there were */
+    int at_work; /* the number of writers with letters left */
+    int waiting; /* how many of these are waiting for a new store */
+    int stores;  /* the number of stores so far */
 } office;
 
 typedef struct writer {
@@ -46,7 +46,7 @@ static void carry_on(bes_pass *old, bes_pass *next)
     bes_leave(&place);
 }
 
-/* Gives the writers passes of a new store while none of them writes. */
+/* Gives the writers passes of a new store. No writer may be writing. */
 static void move(office *it)
 {
     bes_pass next = BES_PASS_INIT;
@@ -65,7 +65,7 @@ static void move(office *it)
     pthread_cond_broadcast(&it->moved);
 }
 
-/* Waits for a new store, as the other writers do; the last writer to arrive makes it. */
+/* Waits for a new store, along with the other writers. The last writer to arrive opens it. */
 static void wait_for_store(office *it)
 {
     pthread_mutex_lock(&it->lock);
@@ -77,7 +77,7 @@ static void wait_for_store(office *it)
     pthread_mutex_unlock(&it->lock);
 }
 
-/* Ends a writer that has no letters left. If all other writers are waiting, nobody else would make the new store. */
+/* Ends a writer that has no letters left. If all other writers are waiting, this one must open the new store for them. */
 static void go_home(office *it)
 {
     pthread_mutex_lock(&it->lock);
@@ -86,7 +86,7 @@ static void go_home(office *it)
     pthread_mutex_unlock(&it->lock);
 }
 
-/* Makes a letter with its sender. */
+/* Creates a letter with its sender. */
 static uint32_t letter_from(bes_pass *pass, bes_batch *batch, uint64_t next, void *name)
 {
     uint32_t error = bes_batch_new_node(batch);
@@ -94,7 +94,7 @@ static uint32_t letter_from(bes_pass *pass, bes_batch *batch, uint64_t next, voi
     return error != BES_OK ? error : bes_batch_set_text(batch, next, "MAIL:from", name);
 }
 
-/* Writes each letter by itself. If this store is full, writes the letter again in the next one. */
+/* Writes each letter in its own change. If the store is full, writes the letter again to the next one. */
 static void *write_letters(void *arg)
 {
     writer *it = arg;

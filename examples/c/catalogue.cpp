@@ -1,9 +1,9 @@
-// A catalogue of files: walks a folder, writes a node for each file with its name, size, time and kind, and answers queries.
+// A catalogue of files: walks a folder, writes a node for each file with its name, size, modification time and kind, and answers queries.
 //
 //     catalogue FOLDER QUERY..      e.g. catalogue ~/music 'size>1000000 && kind==audio'
 //
-// A file that can't be read is skipped. Files that don't fit in the store are counted, and the program then returns 1. A query with an
-// error is printed with a caret under the error.
+// Files that can't be read are skipped. Files that don't fit into the store are counted, and the program then returns 1. If a query has an
+// error, it is printed with a caret below the error.
 #include "bestore.hpp"
 #include <cstdio>
 #include <exception>
@@ -30,7 +30,7 @@ std::string kind_of(const fs::path &path)
     return found == kinds.end() ? "other" : found->second;
 }
 
-// Files one node with its attributes, in one write. A file name may have any bytes, but a text must be UTF-8.
+// Adds a node with its attributes in one write. A file name can contain any bytes, but a string must be UTF-8.
 void write_file(bestore::Pass &pass, const fs::path &path)
 {
     struct stat about;
@@ -45,7 +45,7 @@ void write_file(bestore::Pass &pass, const fs::path &path)
     });
 }
 
-// Returns how many files there are, and how many of these don't fit in the store.
+// Returns how many files there are, and how many of them don't fit into the store.
 std::pair<std::size_t, std::size_t> write_folder(bestore::Pass &pass, const fs::path &folder)
 {
     std::size_t files = 0, left = 0;
@@ -69,7 +69,8 @@ std::pair<std::size_t, std::size_t> write_folder(bestore::Pass &pass, const fs::
     return {files, left};
 }
 
-// The caller supplies the query's text, so errors in the text are printed, not thrown. Returns whether there was no error.
+// Prints the nodes that a query finds. The user has typed the query, so its errors are printed, not thrown. Returns whether there was no
+// error.
 bool print(bestore::Pin &pin, const char *query)
 {
     try {

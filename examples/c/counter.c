@@ -1,5 +1,5 @@
-/* Reads and writes as one: two threads file letters, each a node with its sender, and count them in one attribute of node 1. No letter
- * gets another's sender, and no count is lost. */
+/* Atomic reading and writing: two threads file letters, each a node with its sender, and count them in one attribute of node 1. No letter
+ * gets another letter's sender, and no count is lost. */
 #include "bestore.h"
 #include <pthread.h>
 #include <stdio.h>
@@ -20,8 +20,8 @@ static void stop_at(const char *what, uint32_t error)
     }
 }
 
-/* Makes a letter, which gets the number next, and adds one to the snapshot's count. If another write comes in between, bes_change calls
- * this function again, with the next snapshot. */
+/* Creates a letter, whose number will be `next`, and adds one to the snapshot's count. If another write comes in between, bes_change calls
+ * this function again with the next snapshot. */
 static uint32_t file_letter(bes_pass *pass, bes_batch *batch, uint64_t next, void *with)
 {
     const clerk *it = with;

@@ -1,5 +1,5 @@
-// Reads and writes as one: two threads file letters, each a node with its sender, and count them in one attribute of node 1. No letter
-// gets another's sender, and no count is lost.
+// Atomic reading and writing: two threads file letters, each a node with its sender, and count them in one attribute of node 1. No letter
+// gets another letter's sender, and no count is lost.
 #include "bestore.hpp"
 #include <iostream>
 #include <thread>
@@ -10,7 +10,7 @@ constexpr int letters = 1000;
 const bestore::Attribute<std::string> from{"MAIL:from"};
 const bestore::Attribute<std::int64_t> count{"letters"};
 
-// Returns the letter's node. If another write comes in between, the function runs again, on the next snapshot.
+// Returns the letter's node. If another write comes in between, the function runs again with the next snapshot.
 bestore::Node file_letter(bestore::Pass &pass, const char *name)
 {
     const auto [number, letter] = pass.change([&](bestore::Change &change) {

@@ -1,8 +1,8 @@
-/* A first program of the library for C: files a letter, runs a query for its sender, and prints the nodes that match. */
+/* A first program that uses the C library: files a letter, queries letters by sender, and prints the nodes that match. */
 #include "bestore.h"
 #include <stdio.h>
 
-/* Makes a letter from Ann, which gets the number next. */
+/* Creates a letter from Ann, whose number will be `next`. */
 static uint32_t letter_from_ann(bes_pass *pass, bes_batch *batch, uint64_t next, void *with)
 {
     uint32_t error = bes_batch_new_node(batch);

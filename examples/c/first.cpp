@@ -1,4 +1,4 @@
-// The same program with the objects of bestore.hpp.
+// The same program as first.c, with the objects of bestore.hpp.
 #include "bestore.hpp"
 #include <iostream>
 

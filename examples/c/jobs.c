@@ -1,4 +1,4 @@
-/* A queue: threads claim one job at a time, each in a change, until no job is left. No two threads claim the same job. */
+/* A queue: threads claim one job at a time, each in a change, until no jobs are left. No two threads claim the same job. */
 #include "bestore.h"
 #include <pthread.h>
 #include <stdio.h>
@@ -11,12 +11,12 @@ typedef struct worker {
     bes_prepared waiting;
     pthread_t thread;
     uint32_t error;
-    uint64_t job; /* the last job that the thread claimed, or 0 */
+    uint64_t job; /* the job that the thread claimed last, or 0 */
     uint64_t claimed[JOBS];
     size_t count;
 } worker;
 
-/* Claims any waiting job. */
+/* Claims any one of the waiting jobs. */
 static uint32_t claim(bes_pass *pass, bes_batch *batch, uint64_t next, void *with)
 {
     worker *it = with;
@@ -54,7 +54,7 @@ static uint32_t add_jobs(bes_pass *pass)
     return error;
 }
 
-/* Gives a worker its own handle and the query. */
+/* Gives a worker its own handle and query. */
 static uint32_t equip(bes_pass *pass, worker *it)
 {
     uint64_t place = 0;
@@ -62,7 +62,7 @@ static uint32_t equip(bes_pass *pass, worker *it)
     return error != BES_OK ? error : bes_prepare_text("job:state==waiting", &it->waiting, &place);
 }
 
-/* Runs the workers, and waits for them. */
+/* Runs the workers, and waits until they have finished. */
 static uint32_t run_workers(worker *workers)
 {
     uint32_t error = BES_OK;
@@ -77,7 +77,7 @@ static uint32_t run_workers(worker *workers)
     return begun < WORKERS ? BES_NO_MEMORY : error;
 }
 
-/* How many jobs were claimed, each counted once. The jobs are the nodes 1 to JOBS. */
+/* Returns how many different jobs were claimed. The jobs are nodes 1 to JOBS. */
 static int count_claimed(const worker *workers)
 {
     bool is_claimed[JOBS + 1] = { false };

@@ -1,10 +1,10 @@
-/* Reads an mbox file into a store, with the attribute names of BeOS mail, and answers queries.
+/* Reads an mbox file into a store, using the attribute names of BeOS mail, and answers queries.
  *
  *     mailbox FILE QUERY..      e.g. mailbox letters.mbox 'MAIL:from=="*ann*"'
  *
- * One thread writes a node for each mail; meanwhile a second thread follows the first query, each time in one snapshot. The other queries
- * run once all mails are written. If a mail doesn't fit in the store, reading stops: the queries find the mails before it, and the program
- * returns 1. */
+ * One thread writes a node for each mail. Meanwhile, a second thread follows the first query from snapshot to snapshot. The other queries
+ * run once all mails have been written. If a mail doesn't fit into the store, reading stops: the queries find only the mails before it,
+ * and the program returns 1. */
 #include "bestore.h"
 #include <pthread.h>
 #include <stdio.h>
@@ -23,12 +23,12 @@ static void stop_at(const char *what, uint32_t error)
 typedef struct watch {
     bes_pass pass;
     const char *query;
-    uint64_t last; /* 0 while the writer is at work; then the number of its last write */
+    uint64_t last; /* 0 while the writer is working, then the number of its last write */
     pthread_mutex_t lock;
     size_t found;
 } watch;
 
-/* Refreshes the query until it has seen the last write, and counts the mails that came. */
+/* Refreshes the query until it has seen the last write, and counts the mails that have appeared. */
 static void *watcher(void *arg)
 {
     watch *it = arg;
@@ -53,7 +53,7 @@ static void *watcher(void *arg)
     return NULL;
 }
 
-/* A mail's fields that are kept. A header may have any bytes and any length; a text has only what a value may have. */
+/* The fields of a mail that are stored. A header may have any length and contain any bytes; a text has only what a value can hold. */
 typedef struct mail {
     char texts[TEXTS][256];
     bool has_text[TEXTS];
@@ -64,7 +64,7 @@ static const char *const headers[TEXTS][2] = {
     {"From: ", "MAIL:from"}, {"To: ", "MAIL:to"}, {"Subject: ", "MAIL:subject"}
 };
 
-/* Returns a header line's text after its name, or NULL if the line has another name. */
+/* Returns the text after the name of a header line, or NULL if the line has another name. */
 static const char *after(const char *line, const char *name)
 {
     size_t length = strlen(name);
@@ -84,14 +84,14 @@ static int64_t seconds(const char *date)
     found = strstr(months, name);
     if (!found || strlen(name) != 3)
         return -1;
-    month = (found - months) / 3 - 2; /* counted from March, so that a leap day comes last in its year */
+    month = (found - months) / 3 - 2; /* counted from March, so that a leap day is the last day of its year */
     year = month < 0 ? shown_year - 1 : shown_year;
     month = month < 0 ? month + 12 : month;
     days = 365 * year + year / 4 - year / 100 + year / 400 + (153 * month + 2) / 5 + day - 719469;
     return ((days * 24 + hour) * 60 + minute - zone / 100 * 60 - zone % 100) * 60 + second;
 }
 
-/* Keeps a header line's contents. Only the first line with each name counts. */
+/* Stores the contents of a header line. Only the first line with each name counts. */
 static void read_header(mail *it, const char *line)
 {
     const char *date = after(line, "Date: ");
@@ -106,7 +106,7 @@ static void read_header(mail *it, const char *line)
     }
 }
 
-/* Makes a mail's node, which gets the number next. */
+/* Creates the node for a mail, whose number will be `next`. */
 static uint32_t make_mail(bes_pass *pass, bes_batch *batch, uint64_t next, void *with)
 {
     const mail *it = with;
@@ -122,7 +122,7 @@ static uint32_t make_mail(bes_pass *pass, bes_batch *batch, uint64_t next, void 
     return error;
 }
 
-/* Reads a line without its line end, cut to the array's size. A zero byte becomes a blank. Returns whether there is a line. */
+/* Reads a line without its newline, truncated to the array's size. A zero byte becomes a space. Returns whether there was a line. */
 static bool read_line(FILE *file, char *line, size_t room)
 {
     size_t length = 0;
@@ -136,7 +136,7 @@ static bool read_line(FILE *file, char *line, size_t room)
     return true;
 }
 
-/* Writes the mails up to the first that the store refuses. Returns the error, and puts the last write's number into *number. */
+/* Writes the mails up to the first that the store refuses. Returns the error, and stores the number of the last write in *number. */
 static uint32_t read_mails(bes_pass *pass, FILE *file, uint64_t *mails, uint64_t *number)
 {
     char line[4096] = "";
@@ -177,7 +177,7 @@ static void print(bes_pass *pass, const char *query)
             printf("  %llu %.*s\n", (unsigned long long)nodes[i], (int)read.length, (const char *)subject);
 }
 
-/* Opens a store with the indices, and a pass for the watcher. */
+/* Opens a store, creates the indices, and opens a pass for the watcher. */
 static void open_store(bes_pass *pass, bes_pass *other)
 {
     stop_at("open", bes_open(4096, 2, 1000000, pass));

@@ -1,10 +1,11 @@
-/* The newest 20 letters of a mailbox, and then the next 20. A letter that arrives in between doesn't move others to another page. */
+/* Prints the newest 20 letters of a mailbox, and then the next 20. A letter that arrives in between doesn't move others to another
+ * page. */
 #include "bestore.h"
 #include <stdio.h>
 
 enum { PAGE = 20 };
 
-/* Files a letter with this subject, one minute after the last letter. */
+/* Files a letter with this subject, dated one minute after the previous letter. */
 static uint32_t file_letter(bes_pass *pass, bes_batch *batch, uint64_t next, void *minute_of)
 {
     int64_t minute = *(int64_t *)minute_of;
@@ -36,7 +37,7 @@ static void print_subject(bes_pass *pass, uint64_t letter)
         printf("%.*s", (int)subject.length, (const char *)text);
 }
 
-/* Prints a page in the pinned snapshot, and moves the cursor to where the next page begins. */
+/* Prints a page from the pinned snapshot, and moves the cursor to where the next page begins. */
 static uint32_t print_page(bes_pass *pass, bes_prepared *letters, bes_cursor *cursor)
 {
     bes_name when;

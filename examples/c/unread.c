@@ -1,8 +1,8 @@
-/* A live query: prints which letters join its result and which leave it, snapshot by snapshot. */
+/* A live query: prints which letters enter its result and which leave it, snapshot by snapshot. */
 #include "bestore.h"
 #include <stdio.h>
 
-/* Refreshes the query in the current snapshot, and prints what changed since the last time. */
+/* Refreshes the query with the current snapshot, and prints what has changed since the last time. */
 static uint32_t print_changes(bes_pass *pass, bes_prepared *query)
 {
     uint64_t number = 0, created[100], removed[100];
@@ -22,7 +22,7 @@ static uint32_t print_changes(bes_pass *pass, bes_prepared *query)
     return BES_OK;
 }
 
-/* Makes a letter that nobody has read yet, and keeps its number. */
+/* Creates an unread letter, and saves its number. */
 static uint32_t unread_letter(bes_pass *pass, bes_batch *batch, uint64_t next, void *letter)
 {
     uint32_t error = bes_batch_new_node(batch);

@@ -1,7 +1,7 @@
-# Completion of be for bash, with the functions of the package bash-completion. Source it, or install it as be in
+# Bash completion for be, using the functions of the package bash-completion. Source this file, or install it as be in
 # /usr/share/bash-completion/completions.
 
-# Prints the names of the indices on the server that the words name, if the server replies.
+# Prints the names of the indices on the server that the command line specifies, if that server replies.
 _be_indices() {
     local at socket=()
     for ((at = 1; at < cword - 1; at++)); do
@@ -10,7 +10,7 @@ _be_indices() {
     be lsindex "${socket[@]}" 2>/dev/null
 }
 
-# Prints the command among the words before the cursor, if there is one.
+# Prints the subcommand before the cursor, if there is one.
 _be_command() {
     local at
     for ((at = 1; at < cword; at++)); do
@@ -44,7 +44,7 @@ _be_options() {
     printf '%s\n' --socket --wait --timeout --help
 }
 
-# Offers the lines that begin with the word at the cursor.
+# Offers those input lines that begin with the word at the cursor.
 _be_offer() {
     local line
     while IFS= read -r line; do

@@ -1,5 +1,5 @@
-//! Measures how long `be import` takes for a folder, compared with inserting the same attributes into an SQLite table, and how
-//! soon a follower has written a change.
+//! Measures how long `be import` takes for a folder, compared with inserting the same attributes into an SQLite table, and how soon `be
+//! import --follow` has written a change.
 //!
 //! `cargo build --release && cargo run --release -p be --example import_rate [FOLDER [VOLUMES]]`. The default folder is
 //! /usr/share, with one volume for every 10,000 files. Rows are printed in the form that docs/MEASURED.md uses.
@@ -14,9 +14,9 @@ use std::{env, fs, thread};
 
 type Result<T> = std::result::Result<T, Box<dyn std::error::Error>>;
 
-/// How many files there are per volume.
+/// The number of files per volume.
 const FILES: usize = 10_000;
-/// How many times each change to a followed folder is made.
+/// How many times to make each change to a followed folder.
 const ROUNDS: usize = 30;
 const COLUMNS: [&str; 8] = [
     "name",
@@ -29,7 +29,7 @@ const COLUMNS: [&str; 8] = [
     "FILE:root",
 ];
 
-/// A server in its own folder. Both are removed at the end.
+/// A server with its own folder. Dropping this stops the server and removes the folder.
 struct Server {
     child: Child,
     folder: PathBuf,
@@ -70,7 +70,7 @@ impl Server {
         Ok(command)
     }
 
-    /// Imports the folder. Returns how many seconds that took, and the counts as JSON.
+    /// Imports the folder. Returns how many seconds this took, and the counts as JSON.
     fn import(&self, folder: &str) -> Result<(f64, serde_json::Value)> {
         let begun = Instant::now();
         let output = self
@@ -90,7 +90,7 @@ impl Drop for Server {
     }
 }
 
-/// Finds a program that cargo has built next to this one.
+/// Returns the path of a program that cargo has built next to this one.
 fn program(name: &str) -> Result<PathBuf> {
     let here = env::current_exe()?;
     let folder = here
@@ -100,7 +100,7 @@ fn program(name: &str) -> Result<PathBuf> {
     Ok(folder.join(name))
 }
 
-/// The paths that `find` prints.
+/// Returns the paths that `find` prints.
 fn find(folder: &str, words: &[&str]) -> Result<BTreeSet<Vec<u8>>> {
     let output = Command::new("find").arg(folder).args(words).arg("-print0").output()?;
     Ok(split(&output.stdout))
@@ -111,7 +111,7 @@ fn split(list: &[u8]) -> BTreeSet<Vec<u8>> {
     paths.map(<[u8]>::to_vec).collect()
 }
 
-/// Checks that queries find the same files as `find`.
+/// Checks that queries return the same files as `find`.
 fn compare(server: &Server, folder: &str) -> Result<()> {
     for (query, words) in [
         ("name==*", &[][..]),
@@ -141,7 +141,7 @@ fn compare(server: &Server, folder: &str) -> Result<()> {
     Ok(())
 }
 
-/// A file's row in a table.
+/// A file's row in the SQLite table.
 type Row = Vec<Option<Value>>;
 
 /// Reads the attributes of all files from the store.
@@ -165,8 +165,7 @@ fn rows(server: &Server) -> Result<Vec<(u64, Row)>> {
     }
 }
 
-/// Measures how long SQLite takes to insert the rows in one transaction, with an index for each attribute that the store has
-/// indexed.
+/// Measures how long SQLite takes to insert the rows in one transaction, with an index for each attribute that is indexed in the store.
 fn sqlite(rows: &[(u64, Row)], file: Option<&Path>) -> Result<f64> {
     let mut base = match file {
         Some(file) => rusqlite::Connection::open(file)?,
@@ -209,7 +208,7 @@ fn shown(what: &str, (seconds, counts): &(f64, serde_json::Value)) {
     );
 }
 
-/// Measures how many milliseconds pass until the query finds this many files.
+/// Returns how many milliseconds pass until the query finds this many files.
 fn until(client: &mut Client, query: &str, count: u64) -> Result<u128> {
     let begun = Instant::now();
     while client.count(query)? != count {
@@ -218,7 +217,7 @@ fn until(client: &mut Client, query: &str, count: u64) -> Result<u128> {
     Ok(begun.elapsed().as_millis())
 }
 
-/// Makes, changes, renames and removes a file in a followed folder, and returns how long each took.
+/// Creates, changes, renames and removes a file in a followed folder, and returns how long each change took to appear.
 fn change_file(client: &mut Client, folder: &Path, round: usize) -> Result<[u128; 4]> {
     let (name, other) = (format!("round-{round}"), format!("other-{round}"));
     let size = 7_000_000 + round;
@@ -233,7 +232,7 @@ fn change_file(client: &mut Client, folder: &Path, round: usize) -> Result<[u128
     Ok([new, changed, renamed, removed])
 }
 
-/// Measures how long it takes until the store has a change made in a followed folder.
+/// Measures how long it takes until a change made in a followed folder is in the store.
 fn follow(server: &Server) -> Result<()> {
     let folder = server.folder.join("followed");
     fs::create_dir(&folder)?;

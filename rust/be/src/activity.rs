@@ -1,4 +1,4 @@
-//! `info`, `clients` and `kick`: what the server is doing.
+//! `info`, `clients` and `kick`: the server's activity.
 
 use crate::command_line::{Activity, Kick};
 use crate::failure::Failure;
@@ -6,7 +6,7 @@ use crate::output::Output;
 use bestore_client::wire::{ClientInfo, Info, Latency, OldestReader};
 use bestore_client::Client;
 
-/// Returns a time in a readable form.
+/// Formats a time in a human-readable form.
 fn time(milliseconds: u64) -> String {
     let seconds = milliseconds / 1_000;
     match seconds {
@@ -18,7 +18,7 @@ fn time(milliseconds: u64) -> String {
     }
 }
 
-/// Returns a number of bytes in a readable form.
+/// Formats a number of bytes in a human-readable form.
 fn size(bytes: u64) -> String {
     match bytes {
         0..=9_999 => format!("{bytes} bytes"),

@@ -17,10 +17,10 @@ use std::io::{self, Read};
 use std::os::unix::ffi::OsStringExt;
 use std::path::Path;
 
-/// A file of this size or more can't be a value. The server refuses values of more than 255 bytes.
+/// The size from which a file is rejected as too long for a value. The server refuses any value of more than 255 bytes.
 const READ: u64 = 1 << 16;
 
-/// What `addattr` has to do, once its command line has been parsed.
+/// What `addattr` is to do, parsed from its command line.
 #[derive(Debug)]
 pub struct Added {
     name: String,
@@ -30,7 +30,7 @@ pub struct Added {
 }
 
 impl Added {
-    /// Parses the command line, and reads the value. If the command line is wrong, the error is a string.
+    /// Parses the command line, and reads the value. The outer error is a message about an invalid command line.
     pub fn read(line: AddAttribute) -> Result<Result<Self, Failure>, String> {
         let AddAttribute {
             r#type,
@@ -99,7 +99,7 @@ pub fn add(client: &mut Client, added: &Added, output: &mut Output) -> Result<()
     output.line(node.to_string().as_bytes())
 }
 
-/// Prints a warning if the index with this name will omit the value.
+/// Warns if the index with this name won't include the value.
 fn warn_of_index(client: &mut Client, name: &str, value: &Value) -> Result<(), Failure> {
     let indices = server::indices(client)?;
     let taken = indices
@@ -247,7 +247,7 @@ fn list_node(
     output.line(format!("\n{total} bytes total in attributes").as_bytes())
 }
 
-/// Returns the value's bytes as BeOS stores them: numbers are little-endian.
+/// Returns the value's bytes as BeOS stores them, with numbers in little-endian order.
 fn bytes_of(value: &Value) -> Vec<u8> {
     match value.as_bytes() {
         Some(bytes) => bytes.to_vec(),

@@ -9,7 +9,7 @@ use bestore_client::{Client, Error};
 use bestore_types::saved::Backup;
 use bestore_types::Batch;
 
-/// Writes a snapshot into a file.
+/// Writes a snapshot to a file.
 pub fn make(client: &mut Client, line: &Line, output: &mut Output) -> Result<(), Failure> {
     let hello = client.hello()?;
     let mut backup = Backup::create(&line.file, hello.volumes)?;
@@ -28,7 +28,7 @@ pub fn make(client: &mut Client, line: &Line, output: &mut Output) -> Result<(),
     shown.print(&String::from_utf8_lossy(&file), line.json, output)
 }
 
-/// Returns the batch with its volume's own node numbers.
+/// Converts the node numbers in the batch to its volume's own numbers.
 fn to_volume(batch: &Batch, volume: Option<u32>) -> Result<Batch, Failure> {
     match volume {
         None => Ok(batch.clone()),
@@ -39,8 +39,7 @@ fn to_volume(batch: &Batch, volume: Option<u32>) -> Result<Batch, Failure> {
     }
 }
 
-/// Waits until the server has saved everything in the snapshot, so that a backup is never ahead of
-/// the server's file.
+/// Waits until the server has saved everything in the snapshot, so that the backup is never ahead of the server's file.
 fn flush(client: &mut Client, hello: &Hello) -> Result<(), Error> {
     match hello.kept.as_str() {
         "no" => Ok(()),

@@ -23,10 +23,10 @@ pub struct ServerOptions {
     /// The server's socket. The default is $BESTORE_SOCKET, or bestored's own default if that isn't set
     #[arg(long, value_name = "PATH", global = true)]
     pub socket: Option<PathBuf>,
-    /// Wait up to this time for a server that is starting
+    /// Wait up to this long for a server that is starting
     #[arg(long, value_name = "SECONDS", global = true, value_parser = seconds)]
     pub wait: Option<Duration>,
-    /// How long the server may take to reply, 60 by default
+    /// How long to wait for each reply from the server; 60 by default
     #[arg(long, value_name = "SECONDS", global = true, value_parser = seconds)]
     pub timeout: Option<Duration>,
 }
@@ -45,13 +45,13 @@ pub enum Command {
     Rmindex(RemoveIndex),
     Reindex(Reindex),
     Status(Status),
-    /// Print what the server is doing: how much it writes, and who keeps an old snapshot
+    /// Print what the server is doing: how much it writes, and who holds an old snapshot
     Info(Activity),
-    /// List who is connected, and what each client is doing
+    /// List the connected clients and what each of them is doing
     Clients(Activity),
     Kick(Kick),
     Backup(Backup),
-    /// Print a snapshot of the server as JSON: a line about it, and the batches that rebuild it
+    /// Print a snapshot of the server as JSON: a line about it, then the batches that recreate it
     Dump,
     Restore(Restore),
 }
@@ -65,25 +65,25 @@ pub struct Query {
     /// Print only the first N nodes
     #[arg(short = 'n', long, value_name = "N")]
     pub limit: Option<u64>,
-    /// Print the nodes in the order of their values in this index, lowest first. Nodes that have no value in it are omitted
+    /// Sort the nodes by their values in this index, lowest first. Nodes without a value in it are omitted
     #[arg(short, long, value_name = "NAME")]
     pub sort: Option<String>,
-    /// With --sort: print the highest first
+    /// With --sort, print the highest first
     #[arg(short, long, requires = "sort")]
     pub reverse: bool,
-    /// With --sort: continue after the page that --json printed with this cursor
+    /// With --sort, continue after the page that --json printed with this cursor
     #[arg(long, value_name = "CURSOR", requires = "sort")]
     pub after: Option<String>,
     /// Print any N of the nodes, whichever are found fastest
     #[arg(long, value_name = "N", conflicts_with_all = ["limit", "sort"])]
     pub any: Option<u64>,
-    /// Print how many nodes there are, not which ones
+    /// Print only the number of nodes
     #[arg(long, conflicts_with_all = ["columns", "limit", "sort", "any"])]
     pub count: bool,
-    /// Keep running. Print nodes that join the answer as +NODE, and nodes that leave it as -NODE
+    /// Keep running, and print nodes that enter the answer as +NODE and nodes that leave it as -NODE
     #[arg(short, long, conflicts_with_all = ["limit", "sort", "any"])]
     pub watch: bool,
-    /// Escape control characters even in a pipe or a file
+    /// Escape control characters even when the output is a pipe or a file
     #[arg(short, long, conflicts_with = "json")]
     pub escape: bool,
     /// Print JSON
@@ -112,7 +112,7 @@ pub struct AddAttribute {
     /// Read the value from a file; - is standard input
     #[arg(short, long, value_name = "FILE")]
     pub file: Option<PathBuf>,
-    /// Make a node with the attribute, and print its number
+    /// Create a node with the attribute, and print its number
     #[arg(long)]
     pub new: bool,
     /// The name of the attribute
@@ -125,15 +125,15 @@ pub struct AddAttribute {
 /// Print an attribute
 #[derive(Debug, Args)]
 pub struct ShowAttribute {
-    /// Print only the value, as it is
+    /// Print only the value, unchanged
     #[arg(short, long)]
     pub raw: bool,
-    /// Print a line of JSON for each node
+    /// Print one line of JSON for each node
     #[arg(long, conflicts_with = "raw")]
     pub json: bool,
     /// The name of the attribute
     pub name: String,
-    /// The nodes, or files by their paths
+    /// The nodes, by number, or the files, by path
     #[arg(required = true, value_name = "NODE", value_parser = places())]
     pub nodes: Vec<Place>,
 }
@@ -144,13 +144,13 @@ pub struct ListAttributes {
     /// Also print the values
     #[arg(short, long)]
     pub long: bool,
-    /// Also print the values, in hexadecimal digits
+    /// Also print the values, in hexadecimal
     #[arg(short = 'x', long)]
     pub hexdump: bool,
-    /// Print a line of JSON for each node
+    /// Print one line of JSON for each node
     #[arg(long, conflicts_with_all = ["long", "hexdump"])]
     pub json: bool,
-    /// The nodes, or files by their paths
+    /// The nodes, by number, or the files, by path
     #[arg(required = true, value_name = "NODE", value_parser = places())]
     pub nodes: Vec<Place>,
 }
@@ -160,26 +160,26 @@ pub struct ListAttributes {
 pub struct RemoveAttribute {
     /// The name of the attribute
     pub name: String,
-    /// The nodes, or files by their paths
+    /// The nodes, by number, or the files, by path
     #[arg(required = true, value_name = "NODE", value_parser = places())]
     pub nodes: Vec<Place>,
 }
 
-/// Remove nodes with their attributes
+/// Remove nodes and their attributes
 #[derive(Debug, Args)]
 pub struct RemoveNode {
-    /// The nodes, or files by their paths
+    /// The nodes, by number, or the files, by path
     #[arg(required = true, value_name = "NODE", value_parser = places())]
     pub nodes: Vec<Place>,
 }
 
-/// Make a node for each file in a folder
+/// Create a node for each file in a folder
 #[derive(Debug, Args)]
 pub struct Import {
     /// Keep running, and follow changes in the folder
     #[arg(short, long)]
     pub follow: bool,
-    /// Write attributes that were set on nodes to their files, as extended attributes
+    /// Write the attributes that were set on nodes to their files as extended attributes
     #[arg(short = 'a', long)]
     pub xattr: bool,
     /// Don't read folders on other file systems
@@ -198,13 +198,13 @@ pub struct Import {
     pub folder: PathBuf,
 }
 
-/// Make an index of the attributes that are set from then on
+/// Create an index of the attributes that are set from then on
 #[derive(Debug, Args)]
 pub struct MakeIndex {
-    /// The type of the values that it takes
+    /// The type of the values that the index accepts
     #[arg(short, long, value_enum, default_value = "string")]
     pub r#type: Type,
-    /// The name of the attributes
+    /// The name of the attributes to index
     pub name: String,
 }
 
@@ -225,18 +225,18 @@ pub struct ListIndices {
 /// Remove an index
 #[derive(Debug, Args)]
 pub struct RemoveIndex {
-    /// Its name
+    /// The name of the index
     pub name: String,
 }
 
-/// Set attributes again if the index lacks them because they were set before it was made
+/// Index attributes that were set before the index was created, by setting them again
 #[derive(Debug, Args)]
 pub struct Reindex {
     /// The name of the index
     pub name: String,
 }
 
-/// Print how full the store is, and who keeps an old snapshot
+/// Print how full the store is, and who holds an old snapshot
 #[derive(Debug, Args)]
 pub struct Status {
     /// Print JSON
@@ -254,39 +254,39 @@ pub struct Activity {
 /// Disconnect a client
 #[derive(Debug, Args)]
 pub struct Kick {
-    /// The number of the client, as be clients lists it
+    /// The number of the client, as listed by be clients
     #[arg(value_name = "CLIENT")]
     pub client: u64,
 }
 
-/// Write a snapshot of the server into a file that bestored can open
+/// Write a snapshot of the server to a file that bestored can open
 #[derive(Debug, Args)]
 pub struct Backup {
     /// Print JSON
     #[arg(long)]
     pub json: bool,
-    /// The file, which may not exist yet; a folder, if the server has several volumes
+    /// The file, or the folder if the server has several volumes. It must not exist yet
     pub file: PathBuf,
 }
 
-/// Write a backup into a server whose store is empty
+/// Restore a backup to a server whose store is empty
 #[derive(Debug, Args)]
 pub struct Restore {
     /// Print JSON
     #[arg(long)]
     pub json: bool,
-    /// Restore only the file's entries up to N, for example because a later one is damaged. For a folder, repeat the option for
-    /// each such volume
+    /// Restore the file's entries only up to N, for example because a later one is damaged. For a folder, repeat the option for each volume
+    /// that needs it
     #[arg(long, value_name = "[VOLUME:]N", value_parser = until)]
     pub until: Vec<(u32, u64)>,
     /// The backup, or the file of a stopped server
     pub file: PathBuf,
 }
 
-/// The longest time that an option takes, in seconds: a day.
+/// The longest time that an option accepts, in seconds: a day.
 const MOST_SECONDS: f64 = 86_400.0;
 
-/// Reads a time.
+/// Parses a time.
 fn seconds(text: &str) -> Result<Duration, String> {
     match text.parse() {
         Ok(seconds) if (0.0..=MOST_SECONDS).contains(&seconds) => Ok(Duration::from_secs_f64(seconds)),
@@ -294,7 +294,7 @@ fn seconds(text: &str) -> Result<Duration, String> {
     }
 }
 
-/// Reads a volume, which is 0 if none is given, and the number of an entry.
+/// Parses an optional volume, 0 by default, and the number of an entry.
 fn until(text: &str) -> Result<(u32, u64), String> {
     let (volume, entry) = text.split_once(':').unwrap_or(("0", text));
     match (volume.parse(), entry.parse()) {
@@ -303,7 +303,7 @@ fn until(text: &str) -> Result<(u32, u64), String> {
     }
 }
 
-/// Reads a word that names a node: digits are the node's number, and anything else is a path.
+/// Parses a word that identifies a node: digits are the node's number, and anything else is a file's path.
 fn places() -> impl TypedValueParser<Value = Place> {
     OsStringValueParser::new().map(Place::from)
 }

@@ -1,4 +1,4 @@
-//! Dates as people type them: 2024-01-31, 24 Dec 2024, yesterday, last week, 2 days ago, monday 9:30. The query window takes the same
+//! Dates as people type them: 2024-01-31, 24 Dec 2024, yesterday, last week, 2 days ago, monday 9:30. The query window accepts the same
 //! forms, and its tests read the same table.
 
 use chrono::{Datelike, Duration, NaiveDate, NaiveDateTime, NaiveTime};
@@ -36,17 +36,17 @@ const NO_YEAR: &str = "it is outside the calendar";
 const NO_MONTH: &str = "a year has 12 months";
 const NO_DAY: &str = "that month doesn't have so many days";
 
-/// The most seconds by which a clock is put back.
+/// The maximum number of seconds by which a clock is ever put back.
 const TURNED: i64 = 86_400;
 
-/// The time that a date means, in seconds since 1970: from `begin` on, and before `end`.
+/// The time that a date means, in seconds since 1970, from `begin` up to but not including `end`.
 #[derive(Clone, Copy, Debug, PartialEq, Eq)]
 pub struct Span {
     pub begin: i64,
     pub end: i64,
 }
 
-/// A text that isn't a date.
+/// An error for text that isn't a date.
 #[derive(Debug, PartialEq, Eq)]
 pub struct NotADate {
     text: String,
@@ -63,7 +63,7 @@ impl fmt::Display for NotADate {
     }
 }
 
-/// What a clock shows now, and how many seconds it is ahead of UTC at a time in seconds since 1970.
+/// A clock: what it shows now, and a function that returns how many seconds it is ahead of UTC at a given time, in seconds since 1970.
 #[derive(Clone, Copy, Debug)]
 pub struct Clock {
     now: NaiveDateTime,
@@ -71,7 +71,7 @@ pub struct Clock {
 }
 
 impl Clock {
-    /// Returns the clock of this machine in the zone that `TZ` names, or in the machine's zone.
+    /// Returns this machine's clock, in the time zone given by `TZ` or, without it, in the machine's own.
     pub fn of_machine() -> Self {
         let now = SystemTime::now()
             .duration_since(UNIX_EPOCH)
@@ -84,8 +84,8 @@ impl Clock {
         }
     }
 
-    /// Returns when the clock shows this. If the clock shows it twice, the first time counts. If the clock never shows it because
-    /// it was put forward, the result is the time that it would have been without the change.
+    /// Returns the time at which the clock shows this. If the clock shows it twice, the first time counts. If the clock was put forward and
+    /// never shows it, returns the time at which it would have shown it without the change.
     fn seconds(&self, shown: NaiveDateTime) -> i64 {
         let shown = shown.timestamp();
         let near = shown - (self.ahead)(shown);
@@ -97,9 +97,9 @@ impl Clock {
     }
 }
 
-/// Returns how many seconds the local time is ahead of UTC.
+/// Returns how many seconds local time is ahead of UTC.
 fn ahead_here(seconds: i64) -> i64 {
-    // SAFETY: all bytes of the structure may be zero, and localtime_r reads and writes only these two values.
+    // SAFETY: the structure may be all zeros, and localtime_r reads and writes only these two values.
     unsafe {
         let mut parts: libc::tm = std::mem::zeroed();
         let seconds: libc::time_t = seconds;
@@ -110,7 +110,7 @@ fn ahead_here(seconds: i64) -> i64 {
     }
 }
 
-/// A part of the calendar.
+/// A unit of the calendar.
 #[derive(Clone, Copy, Debug, PartialEq, Eq)]
 enum Unit {
     Second,
@@ -137,18 +137,18 @@ impl Unit {
     }
 }
 
-/// A time, and the part of the calendar that it means.
+/// A time, and the calendar unit that it stands for.
 #[derive(Clone, Copy, Debug)]
 struct Moment {
     at: NaiveDateTime,
     unit: Unit,
 }
 
-/// A moment if the words have this form, or the reason why they can't be one.
+/// A moment if the words have the expected form, or the reason why they aren't a valid date.
 type Read = Result<Option<Moment>, Option<&'static str>>;
 
-/// Returns the time that a typed date means on this clock. A day means the whole day, a month the whole month, and a time of day
-/// one minute.
+/// Returns the time that a typed date means on this clock. A day means the whole day, a month means the whole month, and a time of day
+/// means one minute.
 pub fn span_of(text: &str, clock: &Clock) -> Result<Span, NotADate> {
     let words = text.to_lowercase();
     let words: Vec<&str> = words.split_whitespace().collect();
@@ -174,7 +174,7 @@ fn moment(words: &str, now: NaiveDateTime) -> Read {
     with_time(words, now)
 }
 
-/// Reads a day and a time on that day: today if no day is named.
+/// Parses a day and a time on that day, which is today if none is given.
 fn with_time(words: &str, now: NaiveDateTime) -> Read {
     let before = words.trim_end_matches(|sign: char| sign == ':' || sign.is_ascii_digit());
     let (day, time) = words.split_at(before.len());
@@ -200,7 +200,7 @@ fn with_time(words: &str, now: NaiveDateTime) -> Read {
     }))
 }
 
-/// Returns the words without an "at" at their end.
+/// Returns the words without a trailing "at".
 fn without_at(words: &str) -> &str {
     match words.strip_suffix("at") {
         Some(day) if !day.ends_with(char::is_alphanumeric) => day,
@@ -208,7 +208,7 @@ fn without_at(words: &str) -> &str {
     }
 }
 
-/// Reads 9:30 or 9:30:05, and returns the time and whether it means a minute or a second.
+/// Parses 9:30 or 9:30:05. Returns the time, and whether it means a minute or a second.
 fn time_of_day(text: &str) -> Result<Option<(NaiveTime, Unit)>, Option<&'static str>> {
     let parts: Vec<&str> = text.split(':').collect();
     let (hour, minute, second, unit) = match parts[..] {
@@ -230,7 +230,7 @@ fn time_of_day(text: &str) -> Result<Option<(NaiveTime, Unit)>, Option<&'static 
     Ok(Some((time, unit)))
 }
 
-/// Returns the number that these digits form, if there are this many digits.
+/// Returns the number that these digits form, if their count is within the range.
 fn digits(text: &str, count: RangeInclusive<usize>) -> Option<u32> {
     let fits = count.contains(&text.len()) && text.bytes().all(|byte| byte.is_ascii_digit());
     text.parse().ok().filter(|_| fits)
@@ -247,7 +247,7 @@ fn day(year: i32, month: u32, day: u32) -> Result<NaiveDateTime, Option<&'static
     Ok(date.ok_or(Some(wrong))?.and_time(NaiveTime::default()))
 }
 
-/// Returns the beginning of the part of the calendar that contains this time.
+/// Returns the beginning of the calendar unit that contains this time.
 fn start_of(unit: Unit, at: NaiveDateTime) -> Result<NaiveDateTime, Option<&'static str>> {
     let midnight = at.date().and_time(NaiveTime::default());
     let since = at - midnight;
@@ -262,7 +262,7 @@ fn start_of(unit: Unit, at: NaiveDateTime) -> Result<NaiveDateTime, Option<&'sta
     })
 }
 
-/// Returns a time this many units later. A day beyond the end of the month becomes its last day.
+/// Returns the time this many units later. A day beyond the end of a month becomes the month's last day.
 fn moved(at: NaiveDateTime, unit: Unit, count: i64) -> Result<NaiveDateTime, Option<&'static str>> {
     let by = match unit {
         Unit::Second => Duration::seconds(count),
@@ -292,7 +292,7 @@ fn moved_by_months(at: NaiveDateTime, count: i64) -> Result<NaiveDateTime, Optio
         .and_time(at.time()))
 }
 
-/// Reads now, today, yesterday, tomorrow, this week, last month, next year.
+/// Parses now, today, yesterday, tomorrow, this week, last month, next year.
 fn word(words: &str, now: NaiveDateTime) -> Read {
     let (which, unit) = match words {
         "now" => {
@@ -321,7 +321,7 @@ fn word(words: &str, now: NaiveDateTime) -> Read {
     }
 }
 
-/// Reads 2 days ago: that moment, and not the whole day.
+/// Parses 2 days ago, which means that moment and not the whole day.
 fn ago(words: &str, now: NaiveDateTime) -> Read {
     let (count, unit) = match words.strip_suffix(" ago").and_then(|words| words.split_once(' ')) {
         Some(("a" | "an" | "one", unit)) => (Some(1), unit),
@@ -337,13 +337,13 @@ fn ago(words: &str, now: NaiveDateTime) -> Read {
     }
 }
 
-/// Returns the position of the only name in the list that begins like this.
+/// Returns the position of the only name in the list that begins with this text.
 fn named_so(names: &[&str], begin: &str) -> Option<usize> {
     let mut places = (0..names.len()).filter(|place| begin.len() >= 3 && names[*place].starts_with(begin));
     places.next().filter(|_| places.next().is_none())
 }
 
-/// Reads a day of the week: the last one before today. `next monday` is the first one after it.
+/// Parses a day of the week, which means the last such day before today. `next monday` is the first one after today.
 fn weekday(words: &str, now: NaiveDateTime) -> Read {
     let (which, name) = words.rsplit_once(' ').unwrap_or(("", words));
     let wanted = match named_so(&DAYS, name) {
@@ -362,7 +362,7 @@ fn weekday(words: &str, now: NaiveDateTime) -> Read {
     }))
 }
 
-/// Reads a day, a month or a year from its numbers.
+/// Builds a day, a month or a year from its numbers.
 fn date(year: u32, month: Option<u32>, of_month: Option<u32>) -> Read {
     let unit = match (month, of_month) {
         (_, Some(_)) => Unit::Day,
@@ -373,7 +373,7 @@ fn date(year: u32, month: Option<u32>, of_month: Option<u32>) -> Read {
     Ok(Some(Moment { at, unit }))
 }
 
-/// Reads 2024, 2024-01, 2024-01-31.
+/// Parses 2024, 2024-01, 2024-01-31.
 fn iso(words: &str, _: NaiveDateTime) -> Read {
     let parts: Vec<&str> = words.split('-').collect();
     let year = digits(parts[0], 4..=4);
@@ -386,7 +386,7 @@ fn iso(words: &str, _: NaiveDateTime) -> Read {
     }
 }
 
-/// Reads 31.1.2024. A date with `/` has two meanings, and is refused.
+/// Parses 31.1.2024. A date with `/` is ambiguous, so it is refused.
 fn dotted(words: &str, _: NaiveDateTime) -> Read {
     let parts: Vec<&str> = words.split('/').collect();
     if parts.len() == 3 && parts.iter().all(|part| digits(part, 1..=4).is_some()) {
@@ -403,7 +403,7 @@ fn dotted(words: &str, _: NaiveDateTime) -> Read {
     }
 }
 
-/// Reads 31 Jan 2024, Jan 31, 2024, Jan 2024, 31 Jan. Without a year, it is the last such day that isn't after today.
+/// Parses 31 Jan 2024, Jan 31, 2024, Jan 2024, 31 Jan. Without a year, this means the last such day that isn't after today.
 fn named(words: &str, now: NaiveDateTime) -> Read {
     let mut words: &[&str] = &words.split(' ').collect::<Vec<_>>();
     let mut next = |read: &dyn Fn(&str) -> Option<u32>| {
@@ -440,7 +440,7 @@ pub mod tests {
     use super::*;
     use std::path::Path;
 
-    /// 27 November 2026, a Friday, at half past four in Berlin.
+    /// Half past four on Friday, 27 November 2026, in Berlin.
     pub fn clock() -> Clock {
         Clock {
             now: shown("2026-11-27 16:30:05"),
@@ -452,7 +452,7 @@ pub mod tests {
         NaiveDateTime::parse_from_str(text, "%Y-%m-%d %H:%M:%S").unwrap()
     }
 
-    /// One hour, and two from the last Sunday of March to the last one of October.
+    /// One hour in winter, and two from the last Sunday in March to the last Sunday in October.
     fn ahead_in_berlin(seconds: i64) -> i64 {
         let year = NaiveDateTime::from_timestamp_opt(seconds, 0).unwrap().year();
         let turned = |month: u32| {
@@ -465,7 +465,7 @@ pub mod tests {
         }
     }
 
-    /// The lines of tests/dates.txt, each as its parts.
+    /// The lines of tests/dates.txt, split into their parts.
     fn lines() -> Vec<Vec<String>> {
         let path = Path::new(env!("CARGO_MANIFEST_DIR")).join("../../tests/dates.txt");
         let text = std::fs::read_to_string(path).unwrap();
@@ -502,7 +502,7 @@ pub mod tests {
             let span = span_of(day, &clock()).unwrap();
             assert_eq!(span.end - span.begin, hours * 3_600, "{day}");
         }
-        // The clock shows the first one twice, and never the second one.
+        // The clock shows the first of these times twice, and never shows the second.
         for (time, seconds) in [("2026-10-25 2:30", 1_792_888_200), ("2026-03-29 2:30", 1_774_747_800)] {
             assert_eq!(span_of(time, &clock()).unwrap().begin, seconds, "{time}");
         }

@@ -1,4 +1,4 @@
-//! Why a command failed, and how that is reported.
+//! Why a command failed, and how the failure is reported.
 
 use crate::import::follow;
 use crate::kind::shown_name;
@@ -16,10 +16,10 @@ use std::{fmt, io};
 /// Why a command failed.
 #[derive(Debug, thiserror::Error)]
 pub enum Failure {
-    /// No server answers at the socket.
+    /// No server is listening at the socket.
     #[error("no server answers at {}: {1}\n  {} starts one", shown(.0.path()), start_of(.0))]
     NoServer(SocketPath, io::Error),
-    /// The server refused, or the connection failed.
+    /// The server refused a request, or the connection failed.
     #[error("{}", message(.0))]
     Server(#[from] Error),
     /// A query was refused.
@@ -37,16 +37,16 @@ pub enum Failure {
     /// A file has no node.
     #[error("{}: the file has no node\n  be import FOLDER makes one for each file of a folder", shown(.0))]
     NotImported(PathBuf),
-    /// The path of a folder is too long to be imported by itself.
+    /// The path is too long for an imported folder.
     #[error("{}: a path has up to 255 bytes, but this one has more", shown(.0))]
     LongPath(PathBuf),
     /// A folder can't be watched.
     #[error("{}", follow::shown(.0, .1))]
     Watch(PathBuf, io::Error),
-    /// The folder that is imported is gone.
+    /// The imported folder is gone.
     #[error("{} is gone, and nothing was removed from the store", shown(.0))]
     Gone(PathBuf),
-    /// The folder isn't the same one as before, and has no files.
+    /// The folder isn't the same one as before, and is empty.
     #[error(
         "{} isn't the same folder as before, and is empty\n  nothing was removed from the store; be import --reread removes the \
          nodes of its files",
@@ -59,22 +59,22 @@ pub enum Failure {
     /// A backup can't be written or read.
     #[error("{}", escaped(&.0.to_string()))]
     Backup(#[from] saved::Error),
-    /// The server refuses a batch of a backup.
+    /// The server refused a batch of a backup.
     #[error(
         "{place}: {}\n  the server has only what comes before; restore into another one once this is fixed",
         escaped(&.refusal.message)
     )]
     Restore { place: Place, refusal: Box<Refusal> },
-    /// A backup has a different number of volumes from the server.
+    /// The backup and the server have different numbers of volumes.
     #[error("the backup has {backup} volumes, and the server has {server}\n  start a server with --volumes {backup}")]
     Volumes { backup: usize, server: u32 },
-    /// A backup is restored into a store that isn't empty.
+    /// A backup can't be restored because the store isn't empty.
     #[error(
         "the server's store isn't empty: its journal has {entries} entries\n  a backup is restored into a new store; bestored --keep \
          also opens a copy of it"
     )]
     NotEmpty { entries: u64 },
-    /// Something failed for some nodes, and was reported.
+    /// The command failed for some nodes, which have already been reported.
     #[error("")]
     Reported,
 }
@@ -84,14 +84,14 @@ pub enum Failure {
 pub struct QueryRefused {
     pub text: String,
     pub refusal: Refusal,
-    /// The byte offset of the error in the text, if it is known.
+    /// The byte offset of the error in the text, if known.
     pub offset: Option<usize>,
-    /// The names of the kinds, by the names of the indices, if the query lacks an index.
+    /// The names of the indices, with the names of their kinds, if the query lacks an index.
     pub indices: Option<BTreeMap<String, String>>,
 }
 
 impl Failure {
-    /// Returns whether the server is gone or has no place for the client. If so, connecting later may succeed.
+    /// Returns whether the server is gone or full. If so, connecting later may succeed.
     pub fn is_of_connection(&self) -> bool {
         match self {
             Failure::NoServer(..) | Failure::Server(Error::Io(_) | Error::Closed | Error::TimedOut(_)) => true,
@@ -100,7 +100,7 @@ impl Failure {
         }
     }
 
-    /// Prints the reason, if it hasn't been printed yet, and returns the exit status.
+    /// Prints the reason unless it has already been printed, and returns the exit status.
     pub fn report(&self) -> ExitCode {
         match self {
             Failure::Output(error) if error.kind() == io::ErrorKind::BrokenPipe => return ExitCode::SUCCESS,
@@ -126,7 +126,7 @@ impl fmt::Display for QueryRefused {
         if let Some(offset) = self.offset {
             f.write_str(&pointed(&self.text, offset))?;
         }
-        // The message about an order already has the name.
+        // A message about an order already contains the name.
         let missing = self.refusal.details.get("missing").filter(|_| self.offset.is_some());
         if let Some(missing) = missing.and_then(|name| name.as_str()) {
             write!(f, "\n  {} has no index", escaped(missing))?;
@@ -143,7 +143,7 @@ impl fmt::Display for QueryRefused {
     }
 }
 
-/// Returns the command that starts a server at the socket.
+/// Returns the command that starts a server at this socket.
 fn start_of(socket: &SocketPath) -> String {
     match socket {
         SocketPath::Named(path) => format!("bestored --background --socket {}", shown(path)),
@@ -155,7 +155,7 @@ fn shown(path: &Path) -> String {
     escaped(&path.to_string_lossy())
 }
 
-/// Returns why bytes aren't a value of a type.
+/// Returns the message for bytes that aren't a value of this type.
 fn value_fault(kind: &str) -> String {
     match kind {
         "string" | "mime" => format!("the value isn't valid UTF-8, as a {kind} is; the type raw takes any bytes"),
@@ -163,12 +163,12 @@ fn value_fault(kind: &str) -> String {
     }
 }
 
-/// Prints to standard error. If that fails, nothing can be done about it.
+/// Prints to standard error. If that fails, there is nothing left to do about it.
 pub fn complain(text: &str) {
     let _ = writeln!(io::stderr(), "be: {text}");
 }
 
-/// Returns the message of an error.
+/// Returns the message for an error.
 pub fn message(error: &Error) -> String {
     match error {
         Error::Refused(refusal) => escaped(&refusal.message),

@@ -1,4 +1,4 @@
-//! What a query finds: nodes by number, in the order of an index, or any nodes.
+//! What a query finds: nodes in the order of their numbers or of an index, or any nodes.
 
 use crate::command_line::Query as Line;
 use crate::failure::Failure;
@@ -7,21 +7,21 @@ use bestore_client::{Client, Query};
 use serde::Serialize;
 use std::borrow::Cow;
 
-/// The values in a node's columns.
+/// A node's values in the columns.
 pub type Row = Vec<Option<Json>>;
 
-/// What was found, as one page of the protocol.
+/// The nodes found, in the form of one page of the protocol.
 #[derive(Debug, Serialize)]
 #[serde(untagged)]
 pub enum Found {
-    /// Nodes by number.
+    /// Nodes in the order of their numbers.
     Hits(Hits),
-    /// Nodes in an order, or any nodes.
+    /// Nodes in the order of an index, or any nodes.
     Page(Page),
 }
 
 impl Found {
-    /// Reads what the command line asks for, in the snapshot that the client has pinned.
+    /// Runs the command line's query on the snapshot that the client has pinned.
     pub fn read(client: &mut Client, text: &str, line: &Line) -> Result<Self, Failure> {
         match (&line.sort, line.any) {
             (Some(by), _) => in_order(client, text, by, line).map(Found::Page),
@@ -30,7 +30,7 @@ impl Found {
         }
     }
 
-    /// Returns the nodes, and their rows if columns were asked for.
+    /// Returns the nodes, and their rows if columns were requested.
     pub fn into_rows(self) -> (Vec<u64>, Vec<Row>) {
         let (nodes, rows) = match self {
             Found::Hits(hits) => (hits.nodes.unwrap_or_default(), hits.rows),
@@ -40,7 +40,7 @@ impl Found {
     }
 }
 
-/// Returns how many nodes the next page has, if the earlier pages had this many, or `None` if there is no next page.
+/// Returns the limit for the next page, given how many nodes the earlier pages had, or `None` if there is no next page.
 fn left(limit: Option<u64>, had: usize) -> Option<Option<u64>> {
     match limit.map(|limit| limit.saturating_sub(had as u64)) {
         Some(0) => None,
@@ -81,7 +81,7 @@ fn joined(rows: Option<Vec<Row>>, more: Option<Vec<Row>>) -> Option<Vec<Row>> {
     })
 }
 
-/// Returns the columns from the command line, in the form of a request.
+/// Returns the command line's columns in the form that a request uses.
 fn columns_of(line: &Line) -> Option<Columns<'_>> {
     let names: Vec<_> = line.columns.iter().map(Cow::from).collect();
     (!names.is_empty()).then_some(Columns(names))
@@ -112,7 +112,7 @@ fn in_order(client: &mut Client, text: &str, by: &str, line: &Line) -> Result<Pa
     Ok(all)
 }
 
-/// Returns as many of the wanted nodes as one page can have.
+/// Caps the number of requested nodes at the maximum for one page.
 fn of_a_page(limit: u64) -> u64 {
     limit.min(NODES as u64)
 }

@@ -1,4 +1,5 @@
-//! Warnings about comparisons that are true for no node: the name has an integer index, and the value isn't an integer or is out of range.
+//! Warnings about comparisons that can't be true for any node: the name has an integer index, but the value isn't an integer or is out of
+//! range.
 
 use crate::dates::{span_of, Clock};
 use crate::kind::kind_name;
@@ -6,16 +7,16 @@ use bestore_client::wire::{Comparison, Form};
 use bestore_types::Kind;
 use std::collections::BTreeMap;
 
-/// A comparison that is never true.
+/// A comparison that can't be true.
 #[derive(Debug, PartialEq, Eq)]
 pub struct Hint {
-    /// Why it is never true, and what would be right.
+    /// Why it can't be true, and what would be right.
     pub message: String,
     /// The byte offset in the text at which the comparison begins.
     pub offset: usize,
 }
 
-/// Returns the comparisons in this text that are true for no node, if the indices have these kinds.
+/// Returns the comparisons in this text that can't be true for any node, given indices of these kinds.
 pub fn hints(text: &str, compared: &[Comparison], indices: &BTreeMap<String, Kind>) -> Vec<Hint> {
     let hint = |one: &Comparison| {
         let kind = *indices.get(&one.name).filter(|kind| one.is_never(**kind))?;
@@ -56,7 +57,7 @@ mod tests {
     use super::*;
     use std::slice::from_ref;
 
-    /// Returns a comparison in the whole text, from the byte `offset` on.
+    /// Returns a comparison that takes up the text from the byte `offset` on.
     fn compared(text: &str, offset: usize, value: &str, form: Form) -> Comparison {
         Comparison {
             name: "t".into(),
@@ -96,7 +97,7 @@ mod tests {
         let hints = |name: &str, kind| hints("t>1.5", from_ref(&one), &[(name.to_string(), kind)].into());
         assert_eq!(hints("t", Kind::Int64).len(), 1);
         assert!(hints("t", Kind::Text).is_empty() && hints("u", Kind::Int64).is_empty());
-        // An offset from the server that is past the end of the text gives no hint.
+        // If the server sends an offset past the end of the text, there is no hint.
         let beyond = Comparison {
             offset: 9,
             ..one.clone()

@@ -1,4 +1,4 @@
-//! The types of values, with the tools' names for them.
+//! The types of values, with their names in the tools.
 
 use crate::failure::Failure;
 use bestore_types::{Kind, Value};
@@ -24,7 +24,7 @@ pub enum Type {
 }
 
 impl Type {
-    /// Returns the library's kind for the type.
+    /// Returns the library's kind for this type.
     pub fn kind(self) -> Kind {
         match self {
             Type::String => Kind::Text,
@@ -37,7 +37,7 @@ impl Type {
         }
     }
 
-    /// Reads the bytes as a value of this type. Numbers are decimal digits, and may have blanks around them.
+    /// Parses the bytes as a value of this type. Numbers are in decimal digits, and may have spaces around them.
     pub fn value(self, bytes: Vec<u8>) -> Result<Value, Failure> {
         let value = match self {
             Type::String => String::from_utf8(bytes).ok().map(Value::Text),
@@ -51,7 +51,7 @@ impl Type {
     }
 }
 
-/// Returns the name of a kind in the tools, which is the protocol's name except for strings.
+/// Returns a kind's name in the tools, which is its name in the protocol except for strings.
 pub fn kind_name(kind: Kind) -> &'static str {
     match kind {
         Kind::Text => "string",
@@ -59,7 +59,7 @@ pub fn kind_name(kind: Kind) -> &'static str {
     }
 }
 
-/// Returns the tools' name for a kind with this name in the protocol.
+/// Returns the tools' name for the kind that has this name in the protocol.
 pub fn shown_name(protocol: &str) -> &str {
     match bestore_client::wire::kind_named(protocol) {
         Some(kind) => kind_name(kind),
@@ -67,7 +67,7 @@ pub fn shown_name(protocol: &str) -> &str {
     }
 }
 
-/// Returns how many bytes a value has in BeOS.
+/// Returns the size of a value in BeOS, in bytes.
 pub fn size(value: &Value) -> usize {
     let bytes = value.as_bytes().unwrap_or_default();
     value.kind().width().unwrap_or(bytes.len())

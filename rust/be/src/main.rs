@@ -68,7 +68,7 @@ fn run(command: Command, server: &ServerOptions, output: &mut Output) -> Result<
     }
 }
 
-/// Returns what `addattr` has to do. A wrong command line ends the program with status 2.
+/// Returns what `addattr` is to do. If the command line is invalid, exits with status 2.
 fn read_added(line: AddAttribute) -> Result<Added, Failure> {
     Added::read(line).unwrap_or_else(|wrong| {
         let mut all = CommandLine::command();

@@ -1,4 +1,4 @@
-//! Standard output: what is printed is escaped on a terminal, and unchanged in a pipe or a file.
+//! Standard output. Text is escaped on a terminal, and printed unchanged to a pipe or a file.
 
 use crate::failure::Failure;
 use crate::text::{escaped, escaped_bytes, escaped_json, width};
@@ -13,14 +13,14 @@ use std::path::Path;
 #[derive(Debug)]
 pub struct Output {
     out: BufWriter<StdoutLock<'static>>,
-    /// Whether it is a terminal, where columns are aligned and have headings.
+    /// Whether the output is a terminal, where columns are aligned and have headings.
     terminal: bool,
     escapes: bool,
 }
 
 impl Output {
     pub fn standard() -> Self {
-        // SAFETY: isatty reads no memory of the program.
+        // SAFETY: isatty doesn't access the program's memory.
         let terminal = unsafe { libc::isatty(libc::STDOUT_FILENO) } == 1;
         Self {
             out: BufWriter::new(io::stdout().lock()),
@@ -62,7 +62,7 @@ impl Output {
         }
     }
 
-    /// Returns the printed form of the value: a string, digits, or bytes.
+    /// Returns the printed form of the value: text, digits, or bytes.
     pub fn value(&self, value: &Value) -> Vec<u8> {
         match value.as_bytes() {
             Some(bytes) if !self.escapes => bytes.to_vec(),
@@ -74,7 +74,7 @@ impl Output {
         }
     }
 
-    /// Prints rows: aligned below headings on a terminal, otherwise with tabs between the columns.
+    /// Prints rows, aligned below headings on a terminal, or with tabs between the columns otherwise.
     pub fn rows(&mut self, headings: &[&str], rows: &[Vec<Vec<u8>>]) -> Result<(), Failure> {
         if !self.terminal || headings.len() < 2 {
             return rows.iter().try_for_each(|row| self.line(&row.join(&b'\t')));
@@ -111,7 +111,7 @@ impl Output {
         Ok(())
     }
 
-    /// Prints a path on a line.
+    /// Prints a path on its own line.
     pub fn path(&mut self, path: &Path) -> Result<(), Failure> {
         let path = self.path_bytes(path);
         self.line(&path)
@@ -127,7 +127,7 @@ impl Output {
         }
     }
 
-    /// Flushes everything that was printed.
+    /// Flushes everything printed so far.
     pub fn flush(&mut self) -> Result<(), Failure> {
         Ok(self.out.flush()?)
     }

@@ -1,4 +1,4 @@
-//! Files and their nodes. `be import` makes a node for each file. These functions find a file's node, and a node's file.
+//! Files and their nodes. `be import` creates a node for each file; these functions find the node for a file, and the file for a node.
 
 use crate::failure::Failure;
 use crate::import::content::{name_in, NAME, PARENT, ROOT, STAT};
@@ -13,23 +13,23 @@ use std::fs;
 use std::os::unix::ffi::OsStringExt;
 use std::path::{Path, PathBuf};
 
-/// The maximum number of folders in a path: more would be a cycle, made by another program.
+/// The maximum number of folders in a path. More would mean a cycle, which only another program can have made.
 const DEPTH: usize = 4_096;
 
-/// The attributes that paths are made from.
+/// The attributes from which paths are built.
 pub const COLUMNS: [&str; 4] = ["name", NAME, PARENT, ROOT];
 
-/// What a word on the command line names.
+/// What a word on the command line stands for.
 #[derive(Clone, Debug, PartialEq, Eq)]
 pub enum Place {
-    /// A node by its number.
+    /// A node, by its number.
     Node(u64),
-    /// A file by its path.
+    /// A file, by its path.
     File(PathBuf),
 }
 
 impl From<OsString> for Place {
-    /// Reads a word: digits are a node, and any other word is a path.
+    /// Parses a word: digits are a node's number, and anything else is a path.
     fn from(word: OsString) -> Self {
         let number = word
             .to_str()
@@ -41,7 +41,7 @@ impl From<OsString> for Place {
     }
 }
 
-/// Returns the nodes that the words name. A path that isn't an imported file is an error.
+/// Returns the nodes that the words stand for. A path that isn't that of an imported file is an error.
 pub fn nodes_of(client: &mut Client, places: &[Place]) -> Result<Vec<u64>, Failure> {
     let node = |place: &Place| match place {
         Place::Node(node) => Ok(*node),
@@ -50,7 +50,7 @@ pub fn nodes_of(client: &mut Client, places: &[Place]) -> Result<Vec<u64>, Failu
     places.iter().map(node).collect()
 }
 
-/// Returns the node of a file. If two nodes have the same name and inode, this is the one with the same path.
+/// Returns the node of a file. If two nodes have its name and inode, returns the one with its path.
 fn node_of(client: &mut Client, path: &Path) -> Result<u64, Failure> {
     let failed = |error| Failure::File(path.into(), error);
     let about = fs::symlink_metadata(path).map_err(failed)?;
@@ -59,7 +59,7 @@ fn node_of(client: &mut Client, path: &Path) -> Result<u64, Failure> {
     let identity = Stat::from(&about).identity;
     let text = format!("name==\"{name}\" && {STAT}==\"{identity}:*\"");
     let found = pinned(client, |client| match client.query(&text) {
-        // If the index of names is missing, nothing was imported.
+        // If there is no index of names, nothing was imported.
         Err(error) if error.is(ErrorName::NotCovered) => Ok(Vec::new()),
         answer => {
             let nodes = answer?;
@@ -74,7 +74,7 @@ fn node_of(client: &mut Client, path: &Path) -> Result<u64, Failure> {
     found.first().copied().ok_or_else(|| Failure::NotImported(path.into()))
 }
 
-/// Returns the absolute path, without symlinks in its folders. If the file itself is a symlink, it isn't followed.
+/// Returns the absolute path, with symlinks to folders resolved. If the file itself is a symlink, it isn't followed.
 fn whole_path(path: &Path) -> std::io::Result<PathBuf> {
     match (path.parent(), path.file_name()) {
         (Some(folder), Some(name)) => {
@@ -94,7 +94,7 @@ pub struct Step {
 }
 
 impl Step {
-    /// Takes the values of [`COLUMNS`]. Returns `None` if the node has no name.
+    /// Builds a step from the values of [`COLUMNS`]. Returns `None` if the node has no name.
     pub fn read<'a>(mut value: impl FnMut(&str) -> Option<&'a Value>) -> Option<Self> {
         let bytes = |value: &Value| value.as_bytes().map(|bytes| OsString::from_vec(bytes.to_vec()));
         Some(Self {
@@ -108,14 +108,14 @@ impl Step {
     }
 }
 
-/// The paths of nodes. The paths of folders are kept, so that each is asked for only once.
+/// Finds the paths of nodes. The paths of folders are cached, so that each is requested only once.
 #[derive(Debug, Default)]
 pub struct Paths {
     folders: HashMap<u64, Option<PathBuf>>,
 }
 
 impl Paths {
-    /// Returns the path of a node in the store, if it is a file's node.
+    /// Returns the path of a node, or `None` if the node isn't a file's.
     pub fn of(&mut self, client: &mut Client, node: u64) -> Result<Option<PathBuf>, Failure> {
         self.found(node, |node| match client.attributes(node) {
             Err(error) if error.is(ErrorName::NoNode) => Ok(None),
@@ -126,7 +126,7 @@ impl Paths {
         })
     }
 
-    /// Returns the path of a node; the closure finds each step.
+    /// Returns the path of a node, calling the closure to look up each step.
     pub fn found<E>(
         &mut self,
         node: u64,
@@ -164,13 +164,13 @@ impl Paths {
     }
 }
 
-/// Returns the paths of these nodes in the order of the nodes.
+/// Returns the paths of these nodes, in the same order.
 pub fn paths_of(client: &mut Client, nodes: &[u64]) -> Result<Vec<Option<PathBuf>>, Failure> {
     let mut paths = Paths::default();
     nodes.iter().map(|node| paths.of(client, *node)).collect()
 }
 
-/// Calls the closure with each node that has a name, and with its values in the columns, on one snapshot.
+/// Calls the closure for each node that has a name, passing the node and its values in the columns, all from one snapshot.
 pub fn each_named(
     client: &mut Client,
     columns: &[&str],

@@ -1,4 +1,4 @@
-//! `query`: once, counted, or watched.
+//! `query`: runs a query once, counts its nodes, or watches it.
 
 use crate::command_line::Query as Line;
 use crate::dates::Clock;
@@ -17,7 +17,7 @@ use serde::Serialize;
 use std::path::PathBuf;
 use std::time::Duration;
 
-/// How long each wait for a push lasts before the next one begins.
+/// How long to wait for a push before waiting again.
 const WAIT: Duration = Duration::from_secs(3_600);
 
 pub fn run(client: &mut Client, line: &Line, output: &mut Output) -> Result<(), Failure> {
@@ -36,10 +36,10 @@ pub fn run(client: &mut Client, line: &Line, output: &mut Output) -> Result<(), 
     })
 }
 
-/// Prints which comparisons in an accepted query are true for no node.
+/// Warns about comparisons in a valid query that can't be true for any node.
 fn warn(client: &mut Client, query: &TypedQuery) -> Result<(), Failure> {
     let compared = match client.comparisons(&query.sent) {
-        // The server is an older one that doesn't report the comparisons.
+        // The server is too old to report the comparisons.
         Err(error) if error.is(ErrorName::BadRequest) => return Ok(()),
         compared => compared?,
     };
@@ -56,7 +56,7 @@ fn warn(client: &mut Client, query: &TypedQuery) -> Result<(), Failure> {
     Ok(())
 }
 
-/// Adds details to a query's error that help to find the reason.
+/// Adds details to a query's error that help to find its cause.
 fn refused(client: &mut Client, query: &TypedQuery, refusal: wire::Refusal) -> Failure {
     let lacks_index = matches!(refusal.name, ErrorName::NotCovered | ErrorName::NoIndex);
     if !lacks_index && !matches!(refusal.name, ErrorName::Syntax | ErrorName::BadPattern) {
@@ -111,8 +111,8 @@ fn find(client: &mut Client, query: &TypedQuery, line: &Line, output: &mut Outpu
     output.rows(&headings(line), &rows)
 }
 
-/// Returns the contents of the first column: the numbers of the nodes, or the paths of their files. A node that isn't a file is shown by
-/// its number.
+/// Returns the contents of the first column: the nodes' numbers, or the paths of their files. If a node isn't a file's, its number is shown
+/// instead of a path.
 fn names_of(client: &mut Client, nodes: &[u64], line: &Line, output: &Output) -> Result<Vec<Vec<u8>>, Failure> {
     let number = |node: &u64| node.to_string().into_bytes();
     if !line.path {
@@ -139,7 +139,7 @@ fn cells(node: Vec<u8>, row: &Row, output: &Output) -> Vec<Vec<u8>> {
     std::iter::once(node).chain(values).collect()
 }
 
-/// A push as a line of JSON, with the columns of the nodes that joined the answer.
+/// A push as a line of JSON, with the columns of the nodes that entered the answer.
 #[derive(Serialize)]
 struct Change<'a> {
     #[serde(flatten)]
@@ -148,7 +148,7 @@ struct Change<'a> {
     rows: Option<Vec<Row>>,
 }
 
-/// Prints what the query finds, and then the nodes that join and leave the answer, until the server or the watch ends.
+/// Prints the nodes that the query finds, and then those that enter or leave the answer, until the server or the watch ends.
 fn watch(client: &mut Client, query: &TypedQuery, line: &Line, output: &mut Output) -> Result<(), Failure> {
     let begun = client.watch(Some(&query.sent))?;
     warn(client, query)?;
@@ -213,7 +213,7 @@ fn show_change(client: &mut Client, push: &Push, line: &Line, output: &mut Outpu
     Ok(())
 }
 
-/// Returns the columns of the nodes as they are now. A node that is gone has no columns.
+/// Returns the nodes' current values in the columns. A node that is gone has no values.
 fn columns_of(client: &mut Client, nodes: &[u64], columns: &[String]) -> Result<Vec<Row>, Failure> {
     let row = |node: &u64| {
         let mut attributes = match client.attributes(*node) {

@@ -1,20 +1,20 @@
-//! The tokens and comparisons of a query as it was typed, with dates between `%`. The server never sees the dates.
+//! The tokens and comparisons of a query as typed, with dates between `%` signs. The server never sees these dates.
 
-/// What a token is.
+/// The form of a token.
 #[derive(Clone, Copy, Debug, PartialEq, Eq)]
 pub enum Form {
-    /// A date between `%`, at a position where a value may be.
+    /// A date between `%` signs, in the position of a value.
     Date,
     /// A string in quotes.
     Quoted,
     Word,
     /// An operator such as `==`.
     Compares,
-    /// A sign that joins or negates comparisons.
+    /// A sign that combines or negates comparisons.
     Sign,
 }
 
-/// A token, and the byte offset at which it begins.
+/// A token, with the byte offset at which it begins.
 #[derive(Clone, Copy, Debug, PartialEq, Eq)]
 pub struct Token<'a> {
     pub form: Form,
@@ -35,7 +35,7 @@ impl<'a> Token<'a> {
         self.start + self.text.len()
     }
 
-    /// The text without the marks around it.
+    /// Returns the token's text without its quotes or `%` signs.
     pub fn inner(&self) -> &'a str {
         match self.form {
             Form::Quoted | Form::Date => &self.text[1..self.text.len() - 1],
@@ -48,7 +48,7 @@ impl<'a> Token<'a> {
     }
 }
 
-/// Returns the tokens in a text, up to the first character that doesn't begin one.
+/// Returns the tokens in a text, up to the first character that can't begin a token.
 pub fn tokens(text: &str) -> Vec<Token<'_>> {
     let mut found: Vec<Token<'_>> = Vec::new();
     let mut at = 0;
@@ -67,7 +67,7 @@ pub fn tokens(text: &str) -> Vec<Token<'_>> {
     }
 }
 
-/// Returns the form and the length of the token that the text begins with.
+/// Returns the form and the length of the token at the start of the text.
 fn first_token(text: &str, may_be_date: bool) -> Option<(Form, usize)> {
     let rest = text.get(1..).unwrap_or_default();
     match text.as_bytes() {
@@ -87,7 +87,7 @@ fn first_token(text: &str, may_be_date: bool) -> Option<(Form, usize)> {
     }
 }
 
-/// Returns how many bytes come before the first character of this sort. A backslash protects the next character.
+/// Returns how many bytes precede the first character for which `is_end` is true. A backslash escapes the character after it.
 fn length_until(text: &str, is_end: impl Fn(char) -> bool) -> Option<usize> {
     let mut characters = text.char_indices();
     while let Some((at, character)) = characters.next() {
@@ -100,13 +100,13 @@ fn length_until(text: &str, is_end: impl Fn(char) -> bool) -> Option<usize> {
     None
 }
 
-/// Returns the length of a text, without a final backslash that protects nothing.
+/// Returns the length of a text, not counting a final backslash that escapes nothing.
 fn whole_length(text: &str) -> usize {
     let backslashes = text.len() - text.trim_end_matches('\\').len();
     text.len() - backslashes % 2
 }
 
-/// Returns the comparisons in a text that is a query, from left to right.
+/// Returns the comparisons in a valid query, from left to right.
 pub fn comparisons(text: &str) -> Vec<Comparison<'_>> {
     let tokens = tokens(text);
     let three = tokens.windows(3).filter_map(|tokens| match tokens {

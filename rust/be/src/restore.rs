@@ -10,10 +10,10 @@ use bestore_types::saved::{self, Contents, Place};
 use bestore_types::{Batch, Node, Operation};
 use std::collections::VecDeque;
 
-/// How many batches are sent before the reply to the first one is read.
+/// How many batches are sent before the reply to the first is read.
 const AHEAD: usize = 64;
 
-/// Writes a backup into the server, whose store has to be empty. If anyone else writes in the meantime, this fails.
+/// Restores a backup to the server, whose store must be empty. Fails if anyone else writes in the meantime.
 pub fn restore(client: &mut Client, line: &Line, output: &mut Output) -> Result<(), Failure> {
     // The whole backup is read and checked before anything is written.
     let backup = saved::read_until(&line.file, &line.until.iter().copied().collect())?;
@@ -37,14 +37,14 @@ pub fn restore(client: &mut Client, line: &Line, output: &mut Output) -> Result<
     shown.print(&String::from_utf8_lossy(&file), line.json, output)
 }
 
-/// A batch that was sent, and whose reply hasn't come yet.
+/// A batch that has been sent but not yet answered.
 struct Sent<'b> {
     id: u64,
     place: Place,
     batch: &'b Batch,
 }
 
-/// A volume to write to.
+/// A volume that is being restored.
 struct Restoring<'b, 'c> {
     client: &'c mut Client,
     volume: Option<u32>,
@@ -62,7 +62,7 @@ impl<'b, 'c> Restoring<'b, 'c> {
         }
     }
 
-    /// Writes the batches of the volume. Returns how many.
+    /// Writes the volume's batches, and returns how many there were.
     fn write(mut self, contents: &'b Contents) -> Result<u64, Failure> {
         let mut is_state = true;
         for (place, batch) in contents.batches() {
@@ -84,7 +84,7 @@ impl<'b, 'c> Restoring<'b, 'c> {
         Ok(self.count)
     }
 
-    /// Checks whether the state makes the next node that the file says.
+    /// Checks that the restored state has the next node number given in the file.
     fn end_state(&mut self, contents: &Contents) -> Result<(), Failure> {
         self.receive_all()?;
         let next = self.client.next_node()?;
@@ -108,7 +108,7 @@ impl<'b, 'c> Restoring<'b, 'c> {
         Ok(())
     }
 
-    /// Reads the reply to the oldest batch that was sent, and compares the nodes that it made with those in the file.
+    /// Reads the reply to the oldest unanswered batch, and compares the nodes that it created with those in the file.
     fn receive(&mut self) -> Result<(), Failure> {
         let Sent { id, place, batch } = match self.sent.pop_front() {
             Some(sent) => sent,
@@ -139,7 +139,7 @@ fn differs(place: Place, why: &str) -> Failure {
     saved::Error::differs(place, why).into()
 }
 
-/// Sends a batch, which is written only if the volume has this many entries.
+/// Sends a batch, which is written only if the volume's journal has this many entries.
 fn send(client: &mut Client, volume: Option<u32>, expected: u64, batch: Batch) -> Result<u64, Error> {
     let batch = match volume {
         None => batch,

@@ -1,4 +1,4 @@
-//! The server: where it is, and requests that several commands send to it.
+//! The connection to the server, and requests that several commands use.
 
 use crate::command_line::ServerOptions;
 use crate::failure::{complain, message, Failure};
@@ -7,24 +7,24 @@ use bestore_client::{Client, Error, ErrorName, Options, SocketPath};
 use bestore_types::Batch;
 use std::collections::BTreeMap;
 
-/// How many times to retry a write if another client is writing.
+/// How many times to retry a write while another client is writing.
 const TRIES: u32 = 100;
 
 /// The maximum number of operations in a batch.
 const OPERATIONS: usize = 64;
 
-/// How many snapshots to try a read on before giving up.
+/// How many snapshots to try for a read before giving up.
 const SNAPSHOTS: u32 = 5;
 
-/// Connects to the server at the socket that the option names, or in the environment if there is no option.
+/// Connects to the server at the socket given by the option or, without the option, by the environment.
 pub fn connect(line: &ServerOptions) -> Result<Client, Failure> {
     let mut client = open(line)?;
     client.hello()?;
     Ok(client)
 }
 
-/// Connects like [`connect`], for a command that sends a few requests and ends. The server serves it for a moment even when it
-/// has no place for another client.
+/// Connects like [`connect`], but for a command that sends a few requests and exits. The server serves it for a moment even when it is
+/// full.
 pub fn visit(line: &ServerOptions) -> Result<Client, Failure> {
     match connect(line) {
         Err(Failure::Server(error)) if error.is(ErrorName::NoPass) => {
@@ -49,13 +49,13 @@ fn open(line: &ServerOptions) -> Result<Client, Failure> {
     }
 }
 
-/// Returns the names of kinds by the names of the indices.
+/// Returns the names of the indices, with the names of their kinds.
 pub fn indices(client: &mut Client) -> Result<BTreeMap<String, String>, Error> {
     let read: Indices = client.call(Command::Indices(Nothing {}))?;
     Ok(read.indices)
 }
 
-/// Writes the batch, and retries while another client is writing.
+/// Writes the batch, retrying while another client is writing.
 pub fn apply(client: &mut Client, batch: &Batch) -> Result<(), Error> {
     let mut left = TRIES;
     loop {
@@ -67,8 +67,8 @@ pub fn apply(client: &mut Client, batch: &Batch) -> Result<(), Error> {
     }
 }
 
-/// Writes an operation for each node, with as many in a batch as fit. If a batch is refused, its operations are written individually, and
-/// refused ones are reported.
+/// Writes an operation for each node, in batches as large as possible. If a batch is refused, its operations are written individually, and
+/// any that are refused again are reported.
 pub fn apply_each(client: &mut Client, nodes: &[u64], add: impl Fn(&mut Batch, u64)) -> Result<(), Failure> {
     let mut all = true;
     for nodes in nodes.chunks(OPERATIONS) {
@@ -82,7 +82,7 @@ pub fn apply_each(client: &mut Client, nodes: &[u64], add: impl Fn(&mut Batch, u
     all_done(all)
 }
 
-/// Fails if something has been reported.
+/// Returns a failure unless everything has succeeded. The reasons have already been reported.
 pub fn all_done(all: bool) -> Result<(), Failure> {
     match all {
         true => Ok(()),
@@ -90,7 +90,7 @@ pub fn all_done(all: bool) -> Result<(), Failure> {
     }
 }
 
-/// Returns whether all were written.
+/// Writes the operations individually. Returns whether all were written.
 fn apply_one_by_one(client: &mut Client, nodes: &[u64], add: impl Fn(&mut Batch, u64)) -> Result<bool, Failure> {
     let mut all = true;
     for node in nodes {
@@ -107,12 +107,12 @@ fn apply_one_by_one(client: &mut Client, nodes: &[u64], add: impl Fn(&mut Batch,
     Ok(all)
 }
 
-/// Reports why something failed for a node.
+/// Reports why the command failed for a node.
 pub fn report(node: u64, why: &str) {
     complain(&format!("node {node}: {why}"));
 }
 
-/// Runs the closure while the client keeps one snapshot. If the server ends the snapshot, the closure runs again on the next one.
+/// Runs the closure with a snapshot pinned. If the server takes the snapshot back, runs the closure again on a newer one.
 pub fn pinned<T>(client: &mut Client, read: impl Fn(&mut Client) -> Result<T, Failure>) -> Result<T, Failure> {
     let mut left = SNAPSHOTS;
     loop {

@@ -1,4 +1,4 @@
-//! The state of a snapshot: the batches that rebuild it on an empty store.
+//! The state of a snapshot: the batches that recreate it in an empty store.
 
 use crate::failure::Failure;
 use crate::output::Output;
@@ -8,16 +8,16 @@ use bestore_types::saved::About;
 use bestore_types::{Batch, Node};
 use serde::Serialize;
 
-/// A snapshot of a server, for people and programs.
+/// A snapshot of a server, as printed for people or programs.
 #[derive(Debug, Serialize)]
 pub struct Shown {
-    /// The run of the server that the commit numbers belong to.
+    /// The server's run, to which the commit numbers belong.
     pub run: String,
     pub commit: u64,
-    /// The number of each volume, if there are several.
+    /// The commit number of each volume, if there are several.
     #[serde(skip_serializing_if = "Vec::is_empty")]
     pub commits: Vec<u64>,
-    /// How many batches rebuild it.
+    /// How many batches recreate the snapshot.
     pub batches: u64,
 }
 
@@ -31,7 +31,7 @@ impl Shown {
         }
     }
 
-    /// Prints the snapshot, preceded by these words.
+    /// Prints this description of the snapshot, preceded by the words in `what`.
     pub fn print(&self, what: &str, is_json: bool, output: &mut Output) -> Result<(), Failure> {
         match is_json {
             true => output.json(self),
@@ -45,13 +45,13 @@ impl Shown {
     }
 }
 
-/// Returns the volumes of the server, as requests name them.
+/// Returns the server's volumes in the form that requests use.
 pub fn volumes(hello: &Hello) -> impl Iterator<Item = Option<u32>> {
     let count = hello.volumes;
     (0..count).map(move |volume| (count > 1).then_some(volume))
 }
 
-/// Passes each of the collected snapshot's batches for this volume to the closure. Returns the volume's numbers.
+/// Calls the closure with each of this volume's batches in the collected snapshot. Returns the volume's numbers.
 pub fn each_batch(
     client: &mut Client,
     volume: Option<u32>,

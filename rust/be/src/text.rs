@@ -1,12 +1,12 @@
-//! Strings that are safe to show on a terminal.
+//! Makes strings safe to show on a terminal.
 
 use unicode_width::UnicodeWidthChar;
 
-/// The maximum number of columns that an error shows of a query.
+/// The maximum width, in columns, of the part of a query that an error shows.
 const WIDTH: usize = 72;
 
-/// Returns the text with escapes for whatever a terminal would obey or hide: control characters and direction marks. Backslashes are
-/// escaped too, so that different texts look different.
+/// Escapes everything in the text that a terminal would obey or hide: control characters and direction marks. Backslashes are escaped too,
+/// so that different strings look different.
 pub fn escaped(text: &str) -> String {
     let mut shown = String::with_capacity(text.len());
     for character in text.chars() {
@@ -35,7 +35,7 @@ fn push_visible(shown: &mut String, character: char) {
     }
 }
 
-/// Returns the same JSON, with escapes for whatever a terminal would obey or hide. Outside of strings, JSON has no such characters.
+/// Escapes everything in the JSON that a terminal would obey or hide. Such characters can occur only in its strings.
 pub fn escaped_json(json: &str) -> String {
     let mut shown = String::with_capacity(json.len());
     for character in json.chars() {
@@ -47,12 +47,12 @@ pub fn escaped_json(json: &str) -> String {
     shown
 }
 
-/// Returns whether the character is invisible but changes how others look: direction marks and line ends.
+/// Returns whether the character is invisible but affects how others are shown, like direction marks and line separators.
 fn is_hidden(character: char) -> bool {
     matches!(character, '\u{200b}'..='\u{200f}' | '\u{2028}'..='\u{202e}' | '\u{2060}'..='\u{206f}' | '\u{feff}')
 }
 
-/// Returns the bytes, with escapes for everything but visible ASCII.
+/// Escapes all bytes except visible ASCII characters.
 pub fn escaped_bytes(bytes: &[u8]) -> String {
     let mut shown = String::with_capacity(bytes.len());
     for byte in bytes {
@@ -65,18 +65,18 @@ pub fn escaped_bytes(bytes: &[u8]) -> String {
     shown
 }
 
-/// Returns how many columns a terminal needs for the text.
+/// Returns how many columns the text takes on a terminal.
 pub fn width(text: &str) -> usize {
     text.chars().map(|character| character.width().unwrap_or(0)).sum()
 }
 
-/// Returns two lines to show below a message: the part of the text around the byte, and a caret under it.
+/// Returns two lines to show below a message: the part of the text around this byte, and a caret below the byte.
 pub fn pointed(text: &str, offset: usize) -> String {
     let (line, column) = excerpt(text, offset);
     format!("\n  {line}\n  {:column$}^", "")
 }
 
-/// Returns the part of the text around the byte, on one line, and the column of the byte in it.
+/// Returns the part of the text around this byte, on one line, and the byte's column in it.
 fn excerpt(text: &str, offset: usize) -> (String, usize) {
     let pieces: Vec<(usize, String)> = text
         .char_indices()
@@ -108,7 +108,7 @@ fn visible(character: char) -> String {
     shown
 }
 
-/// Returns the bytes, 16 on a line: their offset, hexadecimal digits, and the ASCII among them.
+/// Returns a hex dump of the bytes, 16 per line: the offset, the bytes in hexadecimal, and their ASCII characters.
 pub fn hexadecimal(bytes: &[u8]) -> Vec<String> {
     let line = |(index, part): (usize, &[u8])| {
         let digits: Vec<_> = part.iter().map(|byte| format!("{byte:02x}")).collect();

@@ -1,10 +1,10 @@
-//! A typed query, in the form that is sent to the server: dates between `%` become numbers. Errors are shown at their position in the typed
-//! text.
+//! Converts a typed query to the form that is sent to the server, in which dates between `%` signs become numbers. Errors are shown at
+//! their position in the typed text.
 
 use crate::dates::{span_of, Clock, NotADate, Span};
 use crate::query_text::{comparisons, Comparison, Form};
 
-/// A comparison with a date, and what is sent instead of it.
+/// A comparison with a date, and the text that is sent instead of it.
 #[derive(Debug)]
 struct Part {
     start: usize,
@@ -12,7 +12,7 @@ struct Part {
     sent: String,
 }
 
-/// A query as it was typed, and as it is sent.
+/// A query as typed and as sent.
 #[derive(Debug)]
 pub struct TypedQuery {
     pub typed: String,
@@ -20,17 +20,17 @@ pub struct TypedQuery {
     parts: Vec<Part>,
 }
 
-/// A date in a query isn't valid.
+/// An error for an invalid date in a query.
 #[derive(Debug)]
 pub struct BadDate {
     pub typed: String,
-    /// The byte offset in the typed text where the date begins.
+    /// The byte offset at which the date begins in the typed text.
     pub offset: usize,
     pub why: NotADate,
 }
 
 impl TypedQuery {
-    /// Reads a query, with dates by this clock.
+    /// Parses a query, reading its dates by this clock.
     pub fn read(typed: &str, clock: &Clock) -> Result<Self, BadDate> {
         let with_date = |comparison: &Comparison<'_>| comparison.value.form == Form::Date;
         let parts: Vec<Part> = comparisons(typed)
@@ -60,8 +60,8 @@ impl TypedQuery {
         Ok(Self { typed, sent, parts })
     }
 
-    /// Returns the byte in the typed text that a byte in the sent text comes from. For a date, this is the first byte of its
-    /// comparison.
+    /// Returns the offset in the typed text for an offset in the sent text. Within a comparison with a date, this is where the comparison
+    /// begins.
     pub fn place_of(&self, mut offset: usize) -> usize {
         for part in &self.parts {
             if offset < part.start {
@@ -76,7 +76,7 @@ impl TypedQuery {
     }
 }
 
-/// Returns the comparison with the time that a date means: after the date, before it, or within it.
+/// Returns a comparison with numbers that finds the times after the date, before it, or within it.
 fn with_numbers(comparison: &Comparison<'_>, span: Span) -> String {
     let Span { begin, end } = span;
     let name = comparison.name.text;

@@ -1,11 +1,12 @@
-//! Checks that the tools don't load libbestore: they ask the server.
+//! Checks that the tools don't load libbestore, but ask the server.
 
 use crate::common::{server_program, Server, BE};
 use std::fs;
 use std::path::Path;
 use std::process::Command;
 
-/// Whether a program contains the names of the library's calls, as any program linked with it does, stripped or not.
+/// Returns whether a program contains the names of the library's calls. Every program that is linked with the library contains them, even
+/// if stripped.
 fn has_calls(program: &Path) -> bool {
     let bytes = fs::read(program).unwrap();
     let text = String::from_utf8_lossy(&bytes);
@@ -29,7 +30,7 @@ fn the_tool_is_linked_with_nothing_of_the_library() {
 fn the_tool_does_all_without_a_library() {
     let server = server!(Server::with_three());
     let said = |words: &[&str]| {
-        // Make the loader look only in folders without the library.
+        // Let the loader search only folders that don't contain the library.
         let output = server
             .command(words)
             .env("LD_LIBRARY_PATH", "/nonexistent")

@@ -1,4 +1,4 @@
-//! Tests of server backups, even while others write, of restoring them, and of what is refused.
+//! Tests of backing up a server even while others write, of restoring backups, and of the errors.
 
 use crate::common::{Said, Server};
 use bestore::saved::Options;
@@ -12,10 +12,10 @@ use std::path::{Path, PathBuf};
 use std::sync::atomic::{AtomicBool, AtomicU64, Ordering::SeqCst};
 use std::thread;
 
-/// How many clients write, each to its own node.
+/// The number of clients that write, each to its own node.
 const WRITERS: u64 = 4;
 
-/// How many backups are made while they write.
+/// The number of backups made while they write.
 const BACKUPS: u64 = 5;
 
 fn refused(said: &Said, why: &str) {
@@ -23,7 +23,7 @@ fn refused(said: &Said, why: &str) {
     assert!(said.error.starts_with("be: ") && said.error.contains(why), "{said:?}");
 }
 
-/// The path of a file in the server's folder.
+/// Returns the path of a file in the server's folder.
 fn file(server: &Server, name: &str) -> PathBuf {
     server.socket().with_file_name(name)
 }
@@ -32,12 +32,12 @@ fn text(path: &Path) -> &str {
     path.to_str().unwrap()
 }
 
-/// Makes a backup, and returns the tool's report about it.
+/// Makes a backup, and returns what the tool reports about it.
 fn back_up(server: &Server, path: &Path) -> Value {
     serde_json::from_str(&server.done(&["backup", "--json", text(path)])).unwrap()
 }
 
-/// Returns the line about the snapshot, and the lines that rebuild it.
+/// Returns the line about the snapshot, and the lines that recreate it.
 fn dump(server: &Server) -> (Value, String) {
     let said = server.done(&["dump"]);
     let (about, batches) = said.split_once('\n').unwrap();
@@ -48,7 +48,7 @@ fn load(path: &Path) -> ShelfPass {
     Options::new().load(path).unwrap().pass().unwrap()
 }
 
-/// A server that keeps its store, with an index and three nodes that are entries in the file.
+/// Starts a server that keeps its store in a file, with an index and three nodes that are entries in the file.
 fn kept_with_entries() -> Option<Server> {
     let server = Server::start_with(&["--keep", "kept"])?;
     server.done(&["mkindex", "name"]);
@@ -73,7 +73,7 @@ fn a_backup_is_a_file_that_a_server_opens_and_another_restores() {
     let (of_copy, batches_of_copy) = dump(&opened);
     assert_eq!(batches_of_copy, batches);
     assert_ne!(of_copy["run"], about["run"]);
-    // New nodes get the numbers that they would have got in the first server.
+    // New nodes get the same numbers as they would on the first server.
     assert_eq!(opened.done(&["addattr", "--new", "name", "d"]), "4\n");
 
     let restored = server!(Server::start());
@@ -124,11 +124,11 @@ fn what_is_no_backup_is_not_restored() {
     assert_eq!(Client::connect(server.socket()).unwrap().status().unwrap().entries, 0);
 }
 
-/// A server's own file has entries after its state. Their nodes keep their numbers too.
+/// A server's own file has entries after its state. The nodes in those entries keep their numbers too.
 #[test]
 fn a_kept_file_with_entries_is_restored() {
     let mut server = server!(kept_with_entries());
-    // Reopening writes the state; everything after that is an entry.
+    // Reopening the file writes its state; every later write is an entry.
     server.end();
     server.start_again();
     Client::connect(server.socket())
@@ -145,7 +145,7 @@ fn a_kept_file_with_entries_is_restored() {
     assert_eq!(restored.done(&["addattr", "--new", "name", "e"]), "5\n");
 }
 
-/// Converts a file to the first format, whose rows have no checksums.
+/// Converts a file to the first version of the format, whose rows have no checksums.
 const REMOVE_CHECKSUMS: &str = "
     ALTER TABLE about DROP COLUMN checksum;
     ALTER TABLE state DROP COLUMN checksum;
@@ -153,7 +153,7 @@ const REMOVE_CHECKSUMS: &str = "
     PRAGMA user_version = 1;
 ";
 
-/// Changes a backup of three nodes, and checks that restoring it is refused. Returns how many entries the target server has then.
+/// Changes a backup of three nodes, and checks that restoring it is refused. Returns how many entries the target server has afterwards.
 fn restore_changed(change: &str, why: &str) -> Option<u64> {
     let server = Server::with_three()?;
     let path = file(&server, "backup");
@@ -251,7 +251,7 @@ fn what_comes_before_a_damaged_entry_is_restored() {
     assert_eq!(restored.done(&["query", "name==\"*\""]), "1\n");
 }
 
-/// What the writing clients know: how many writes each has had answered.
+/// What the writing clients know: for each of them, how many of its writes have been acknowledged.
 #[derive(Default)]
 struct Writers {
     answered: [AtomicU64; WRITERS as usize],
@@ -259,7 +259,7 @@ struct Writers {
 }
 
 impl Writers {
-    /// Makes the writers' nodes. Returns the commit number before the first write.
+    /// Creates the writers' nodes. Returns the commit number before the first write.
     fn begin(client: &mut Client) -> u64 {
         let mut batch = Batch::new();
         for node in 1..=WRITERS {
@@ -268,7 +268,7 @@ impl Writers {
         client.apply(&batch).unwrap().number
     }
 
-    /// Counts up in the writer's node, by one with each write.
+    /// Increments a count in the writer's node by one with each write.
     fn write(&self, socket: &Path, node: u64) {
         let mut client = Client::connect(socket).unwrap();
         let answered = &self.answered[node as usize - 1];
@@ -279,7 +279,8 @@ impl Writers {
         }
     }
 
-    /// Makes a backup while they write. It has the state at the commit it names, which includes every write answered before.
+    /// Makes a backup while they write. It must have the state at the commit that it names, including every write acknowledged before the
+    /// backup.
     fn check_backup(&self, server: &Server, path: &Path, begin: u64) {
         let before: Vec<_> = self.answered.iter().map(|count| count.load(SeqCst)).collect();
         let about = back_up(server, path);
@@ -287,7 +288,7 @@ impl Writers {
         let snapshot = pass.pin().unwrap();
         let counts = (1..=WRITERS).map(|node| snapshot.get(node, "count").unwrap().unwrap().as_u64().unwrap());
         let counts: Vec<_> = counts.collect();
-        // Each write is one commit, and counts up by one.
+        // Each write is one commit, and increments a count by one.
         assert_eq!(about["commit"], begin + counts.iter().sum::<u64>());
         assert!(counts.iter().zip(&before).all(|(count, before)| count >= before));
     }

@@ -19,7 +19,7 @@ fn answer(mut stream: UnixStream, bytes: &[u8]) {
     let _ = stream.read_to_end(&mut Vec::new());
 }
 
-/// What the tool says when a server sends these bytes to each client and closes the connection.
+/// Returns what the tool prints when a server sends these bytes to each client and closes the connection.
 fn told(number: usize, bytes: Vec<u8>, words: &[&str]) -> Said {
     let path = std::env::temp_dir().join(format!("be-broken-{}-{number}", std::process::id()));
     let listener = UnixListener::bind(&path).unwrap();
@@ -122,7 +122,7 @@ fn a_snapshot_that_was_taken_back_is_followed_by_another() {
         format!("{HELLO}\n{}", lines.collect::<String>()).into_bytes()
     };
     let nothing = r#""ok":{}"#;
-    // The last reply answers the request about the query's text.
+    // The last reply is for the request about the query's text.
     let bytes = lines(&[pin, expired, nothing, pin, hits, nothing, r#""ok":{"comparisons":[]}"#]);
     let said = told(201, bytes, &["query", "a==1"]);
     assert_eq!((said.status, said.out.as_str(), said.error.as_str()), (0, "1\n", ""));

@@ -1,4 +1,4 @@
-//! Tests of `import --follow`: how it handles changes.
+//! Tests of how `import --follow` handles changes.
 
 use crate::common::files::Folder;
 use crate::common::refuser::Refuser;
@@ -13,24 +13,24 @@ use std::sync::mpsc::{channel, Receiver};
 use std::thread;
 use std::time::{Duration, Instant};
 
-/// How long a change may take on a busy machine.
+/// The maximum time for a change on a busy machine.
 const WITHIN: Duration = Duration::from_secs(20);
 
 /// An import that follows its folder.
 struct Follower {
     child: Child,
     out: BufReader<ChildStdout>,
-    /// The lines that it writes to standard error.
+    /// The lines that the import writes to standard error.
     error: Receiver<String>,
 }
 
 impl Follower {
-    /// Starts it, and returns once the folder has been read.
+    /// Starts an import, and returns once it has read the folder.
     fn start(server: &Server, folder: &Folder) -> Self {
         Self::run(server.command(&["import", "--follow", "--json", &folder.all()]))
     }
 
-    /// Starts this import.
+    /// Starts the import with this command.
     fn run(mut command: Command) -> Self {
         let mut child = command.stdout(Stdio::piped()).stderr(Stdio::piped()).spawn().unwrap();
         let mut out = BufReader::new(child.stdout.take().unwrap());
@@ -43,12 +43,12 @@ impl Follower {
         Self { child, out, error }
     }
 
-    /// Reads its standard error up to a line that contains these words.
+    /// Reads the import's standard error up to a line that contains these words.
     fn wait_until_it_says(&self, words: &str) {
         while !self.error.recv_timeout(WITHIN).expect(words).contains(words) {}
     }
 
-    /// Ends the import, and returns what it has printed since it read the folder.
+    /// Ends the import, and returns what it has printed since reading the folder.
     fn said(mut self) -> String {
         self.child.kill().unwrap();
         let mut said = String::new();
@@ -64,7 +64,7 @@ impl Follower {
         assert!(sent.unwrap().success());
     }
 
-    /// Waits until the import ends by itself.
+    /// Waits until the import ends of its own accord.
     fn end(mut self) -> Said {
         let begun = Instant::now();
         while self.child.try_wait().unwrap().is_none() {
@@ -88,7 +88,7 @@ impl Drop for Follower {
     }
 }
 
-/// Sends on each line of a process as it arrives.
+/// Forwards each line of a process as it arrives.
 fn lines_of(error: ChildStderr) -> Receiver<String> {
     let (sender, receiver) = channel();
     thread::spawn(move || {
@@ -100,7 +100,7 @@ fn lines_of(error: ChildStderr) -> Receiver<String> {
     receiver
 }
 
-/// Waits until the condition holds, and prints how long that took.
+/// Waits until the condition is true, and prints how long that took.
 fn soon(what: &str, is_so: impl Fn() -> bool) {
     let begun = Instant::now();
     while !is_so() {
@@ -164,7 +164,7 @@ fn a_followed_file_keeps_its_node_when_an_editor_saves() {
         server.paths("size==18").len() == 1 && same(&server, &folder)
     });
     assert_eq!(server.value("mark", &folder.path("y")), "x");
-    // Rename faster than the names can be read.
+    // Rename files faster than their names can be read.
     for round in 0..200 {
         folder.rename("y", &format!("y{round}"));
         folder.rename(&format!("y{round}"), "y");
@@ -212,7 +212,7 @@ fn many_changes_at_once_are_followed() {
     soon("many changes", || same(&server, &folder));
     thread::sleep(Duration::from_millis(700));
     assert!(same(&server, &folder));
-    // A full import finds no new files and no removed ones.
+    // A full import finds no new files and no removed files.
     let [new, _, _, removed] = server.import(&folder);
     assert_eq!((new, removed), (0, 0));
 }
@@ -231,7 +231,7 @@ fn events_that_were_lost_are_made_good() {
     folder.file("b", "");
     let follower = Follower::start(&server, &folder);
     follower.signal("-STOP");
-    // Alternate two events, since the kernel merges identical ones.
+    // Alternate between two events, because the kernel merges identical ones.
     for number in 0..most {
         let mode = fs::Permissions::from_mode(0o600 + (number / 2 % 2) as u32 * 0o44);
         fs::set_permissions(folder.path(["a", "b"][number % 2]), mode).unwrap();
@@ -258,7 +258,7 @@ fn a_follower_ends_if_its_folder_is_gone() {
     assert!(said.error.contains("is gone, and nothing was removed"), "{said:?}");
     assert_eq!(server.done(&["query", "--count", "name==\"*\""]), "2\n");
 
-    // Do the same while it waits for its server.
+    // Do the same while the import is waiting for its server.
     folder.rename("other", "inner");
     let follower = Follower::start(&server, &inner);
     server.end();
@@ -286,7 +286,7 @@ fn a_follower_waits_for_its_server_and_catches_up() {
         let follower = Follower::start(&server, &folder);
         server.done(&["addattr", "mark", "x", &folder.word("renamed"), &folder.word("a/b")]);
         server.end();
-        // It notices this even if nothing has changed in the folder.
+        // The import notices this even if nothing has changed in the folder.
         follower.wait_until_it_says("the server closed the connection; waiting for the server");
         folder.file("changed", "more of it");
         folder.file("a/new", "");
@@ -413,7 +413,7 @@ fn a_file_system_that_is_mounted_later_is_not_read() {
 struct Mount(PathBuf);
 
 impl Mount {
-    /// Mounts it, if this user may do that.
+    /// Mounts the file system, if this user is allowed to.
     fn over(folder: &Path) -> Option<Self> {
         let mut command = Command::new("mount");
         command.args(["-t", "tmpfs", "tmpfs"]).arg(folder).stderr(Stdio::null());

@@ -1,14 +1,14 @@
-//! Checks that the commands in GUIDE and README do what these pages say.
+//! Checks that the commands in GUIDE and README do what those pages say.
 
 use crate::common::files::Folder;
 use crate::common::{server_program, Said, Server, BE};
 use std::io::Write;
 use std::process::{Command, Stdio};
 
-/// How many times README's commands are pasted.
+/// How many times to paste README's commands.
 const TIMES: usize = 50;
 
-/// A shell in a home folder, which finds the tools.
+/// Returns a shell in a home folder, with the tools on its path.
 fn shell(home: &Folder) -> Command {
     let tools = std::path::Path::new(BE).parent().unwrap();
     let path = format!("{}:{}", tools.display(), std::env::var("PATH").unwrap_or_default());
@@ -24,7 +24,7 @@ fn run(server: &Server, home: &Folder, line: &str) -> Said {
     command.args(["-c", line]).output().unwrap().into()
 }
 
-/// Gives all commands to a shell at once.
+/// Pastes all commands into a shell at once.
 fn paste(home: &Folder, lines: &str) -> Said {
     let mut command = shell(home);
     command

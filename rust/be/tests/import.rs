@@ -1,4 +1,4 @@
-//! Tests of `import`: what it makes of files, and what it keeps.
+//! Tests of how `import` turns files into nodes, and what it preserves.
 
 use crate::common::files::{counts, name_of_bytes, Folder};
 use crate::common::refuser::Refuser;
@@ -14,7 +14,7 @@ use std::sync::atomic::{AtomicBool, Ordering};
 use std::thread;
 use std::time::Duration;
 
-/// A folder with a few files.
+/// Creates a folder with a few files.
 fn small() -> Folder {
     let folder = Folder::new();
     folder.folder("a/b");
@@ -79,7 +79,7 @@ fn a_second_import_writes_what_has_changed_alone() {
     folder.file("a/x.txt", "hello again");
     fs::remove_file(folder.path("z")).unwrap();
     folder.file("a/b/new", "");
-    // The two folders whose entries changed count as changed too.
+    // The two folders whose entries have changed count as changed too.
     assert_eq!(server.import(&folder), [1, 3, 0, 1]);
     assert_eq!(server.value("size", &folder.path("a/x.txt")), "11");
     assert_eq!(server.paths("name==\"*\""), folder.paths());
@@ -91,7 +91,7 @@ fn a_second_import_writes_what_has_changed_alone() {
     );
 }
 
-/// The number of a file's node.
+/// Returns the number of a file's node.
 fn node_of(server: &Server, folder: &Folder, name: &str) -> u64 {
     let printed = server.done(&["listattr", "--json", &folder.word(name)]);
     let read: serde_json::Value = serde_json::from_str(&printed).unwrap();
@@ -133,12 +133,12 @@ fn what_a_user_has_set_stays_when_an_editor_saves() {
             fs::metadata(file).unwrap().len().to_string()
         );
     };
-    // Another file takes its place.
+    // A different file takes its place.
     folder.file("a/.x.swp", "saved");
     folder.rename("a/.x.swp", "a/x.txt");
     assert_eq!(server.import(&folder)[0], 0);
     stays();
-    // This works even if the other file has a node by then.
+    // This works even if the other file has already got a node.
     folder.file("a/.x.swp", "saved again");
     server.import(&folder);
     folder.rename("a/.x.swp", "a/x.txt");
@@ -278,8 +278,8 @@ fn files_that_come_and_go_meanwhile_do_no_harm() {
     assert_eq!(server.paths("name==\"*\""), folder.paths());
 }
 
-/// Gives a file's path a second node, as an import does when another file is renamed onto this one meanwhile. One of the two
-/// nodes belongs to a file that is gone. Returns the file's own node, and the other.
+/// Gives a file's path a second node, as an import does if another file is renamed onto this one at the same time. One of the two nodes
+/// belongs to a file that is gone. Returns the file's own node and the other one.
 fn double(server: &Server, folder: &Folder, name: &str, is_own_first: bool) -> [u64; 2] {
     let first = node_of(server, folder, name);
     let mut client = Client::connect(server.socket()).unwrap();
@@ -308,7 +308,7 @@ fn double(server: &Server, folder: &Folder, name: &str, is_own_first: bool) -> [
 fn of_two_nodes_at_one_path_one_is_removed() {
     let server = server!(Server::start());
     let folder = small();
-    // Each case says on which of the two nodes a user has set something, and which of them stays.
+    // Each case specifies on which of the two nodes a user has set an attribute, and which node is kept.
     let cases = [
         ([false, false], 0),
         ([true, false], 0),
@@ -386,7 +386,7 @@ fn a_store_that_is_full_says_what_would_help() {
             "be: the store is full: {files} files are in it, and {left} are not\n  bestored --pages 1024 has room for all\n"
         )
     );
-    // The store can still be written, and has room again once files are removed.
+    // The store can still be written to, and has room again once files are removed.
     server.done(&["addattr", "mark", "x", &folder.word("a")]);
     let roomy = server!(Server::start_with(&["--pages", "1024"]));
     assert_eq!(roomy.import(&folder)[0], 506);
@@ -467,7 +467,7 @@ fn extended_attributes_are_read_and_written() {
     assert_eq!(server.paths("rating==5"), [file.clone()].into());
     assert_eq!(server.value("name", &file), "x.txt");
 
-    // Attributes set on the node are written into the file, and don't count as a change at the next import.
+    // Attributes set on the node are written to the file, and the next import doesn't count this as a change.
     server.done(&["addattr", "-t", "int32", "rating", "3", &folder.word("a/x.txt")]);
     server.done(&["addattr", "mark", "x", &folder.word("a/b"), &folder.word("a/x.txt")]);
     let json = server.be(&["import", "--json", "--xattr", &folder.all()]).out;
@@ -553,7 +553,7 @@ fn mails_have_the_attributes_of_their_heads() {
         "From: =?iso-8859-1?q?J=FCrgen?= <j@example.org>\nTo: ann@example.org\nSubject: =?utf-8?b?R3LDvMOfZQ==?=\n\
                 Date: Fri, 27 Nov 2026 10:00:00 +0100\n\n";
     folder.file("cur/1:2,S", head);
-    // Make a mail that is too large to be read whole.
+    // Create a mail that is too large to be read whole.
     let huge = File::create(folder.path("cur/2:2,")).unwrap();
     fs::write(folder.path("cur/2:2,"), head).unwrap();
     huge.set_len(1 << 40).unwrap();
@@ -576,7 +576,7 @@ fn mails_have_the_attributes_of_their_heads() {
     assert_eq!(server.value("MAIL:name", &folder.path("mail.eml")), "Jürgen");
     assert_eq!(server.value("MAIL:subject", &folder.path("new/4")), "=?utf-8?q?=zz?= ü");
     assert_eq!(server.value("MAIL:subject", &folder.path("new/3")).len(), 255);
-    // A mail that was read gets another name, and keeps its node.
+    // A mail that has been read is renamed, but keeps its node.
     server.done(&["addattr", "mark", "x", &folder.word("new/5")]);
     folder.rename("new/5", "cur/5:2,S");
     assert_eq!(server.import(&folder)[2], 1);
@@ -584,7 +584,7 @@ fn mails_have_the_attributes_of_their_heads() {
     assert_eq!(server.value("MAIL:status", &folder.path("cur/5:2,S")), "Read");
 }
 
-/// Contents of files whose names fit several types, with each one's type.
+/// Names that fit several types, with file contents and the right type for each.
 const CONTENTS: [(&str, &[u8], &str); 28] = [
     (
         "vorbis.ogg",
@@ -652,7 +652,7 @@ const CONTENTS: [(&str, &[u8], &str); 28] = [
     ("run.service", b"[Unit]\n", "text/x-systemd-unit"),
 ];
 
-/// Packets of 188 bytes that begin with a `G`.
+/// Packets of 188 bytes, each beginning with a `G`.
 const TRANSPORT: [u8; 752] = {
     let mut bytes = [0; 752];
     let mut at = 0;
@@ -762,7 +762,7 @@ fn what_one_volume_has_no_room_for_the_others_take() {
     );
 }
 
-/// Makes files with many names and sizes in 35 folders, and a few symlinks.
+/// Creates files with many names and sizes in 35 folders, and a few symlinks.
 fn many() -> Folder {
     let folder = Folder::new();
     for number in 0..700_usize {

@@ -1,5 +1,4 @@
-//! The tests of the tools. They form one program, so that it is linked only
-//! once.
+//! The tests of the tools. They form one program, so that they are linked only once.
 
 #[macro_use]
 mod common;

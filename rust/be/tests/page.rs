@@ -13,7 +13,7 @@ fn page() -> PathBuf {
     PathBuf::from(concat!(env!("CARGO_MANIFEST_DIR"), "/../../docs/be.1"))
 }
 
-/// The long options of a command, from its help.
+/// Returns the long options of a command, from its help.
 fn options(command: &str) -> Vec<String> {
     let said: Said = Command::new(BE).args([command, "--help"]).output().unwrap().into();
     let words = said

@@ -1,4 +1,4 @@
-//! Tests of queries: run once, counted, watched, refused, and on a terminal.
+//! Tests of queries that are run once, counted, watched, refused, or printed on a terminal.
 
 use crate::common::{Said, Server};
 use std::io::{BufRead, BufReader};
@@ -79,7 +79,7 @@ fn nodes_are_sorted_by_an_index_page_after_page() {
     server.done(&["rmnode", "1"]);
     let third = page(&["--after", second["cursor"].as_str().unwrap()]);
     assert_eq!((&third["nodes"], third.get("more")), (&vec![3].into(), None));
-    // A node without a size isn't listed in the order of sizes.
+    // A node without a size isn't listed when sorting by size.
     server.done(&["rmattr", "size", "3"]);
     assert_eq!(server.done(&["query", "--sort", "size", "name==*"]), "2\n");
 }
@@ -192,7 +192,7 @@ fn a_caret_shows_the_fault_of_a_query() {
     assert_eq!(lines[2].len(), lines[1].chars().count());
 }
 
-/// What the tool says about a query, with the clock in Berlin.
+/// Returns what the tool prints about a query, in Berlin's time zone.
 fn said(server: &Server, words: &[&str]) -> Said {
     let mut command = server.command(&[&["query"], words].concat());
     command.env("TZ", "CET-1CEST,M3.5.0,M10.5.0/3").output().unwrap().into()
@@ -250,7 +250,7 @@ fn a_comparison_that_is_never_true_is_a_warning() {
 fn dates_between_percent_signs_are_times() {
     let server = server!(Server::with_three());
     server.done(&["mkindex", "-t", "int64", "when"]);
-    // The last second of 2023 in Berlin, the first of 2024, and the first of 2025.
+    // In Berlin, these are the last second of 2023, the first of 2024, and the first of 2025.
     for (node, seconds) in [("1", "1704063599"), ("2", "1704063600"), ("3", "1735686000")] {
         server.done(&["addattr", "-t", "int64", "when", seconds, node]);
     }
@@ -280,7 +280,7 @@ fn dates_between_percent_signs_are_times() {
         error.contains("\n  kind==%2024%\n  ^\n  kind has no index\n"),
         "{error}"
     );
-    // In quotes a percent sign is just a character.
+    // Within quotes, a percent sign is an ordinary character.
     server.done(&["addattr", "name", "%x%", "3"]);
     assert_eq!(said(&server, &["name==\"%x%\""]).out, "3\n");
 }
@@ -316,7 +316,7 @@ fn other_errors_of_a_query_have_one_line() {
     assert_eq!(fault(&server, &format!("{}name==a", "(".repeat(65))).len(), 1);
 }
 
-/// Starts a watch, and returns its process and its lines as they arrive.
+/// Starts a watch. Returns its process, and a channel that receives its lines.
 fn watched(server: &Server, words: &[&str]) -> (std::process::Child, Receiver<String>) {
     let mut all = vec!["query", "--watch"];
     all.extend(words);

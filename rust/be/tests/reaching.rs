@@ -1,4 +1,4 @@
-//! Tests of how the tool reaches its server: where it looks, whose server it accepts, and how long it may take.
+//! Tests of how the tool reaches its server: where it looks, whose server it accepts, and how long it waits.
 
 use crate::common::files::Folder;
 use crate::common::{server_program, Said, Server, BE};
@@ -11,10 +11,10 @@ use std::path::Path;
 use std::process::{Child, Command, Stdio};
 use std::thread;
 
-/// A user who is neither root nor the one who runs the tests.
+/// A user who is neither root nor the user running the tests.
 const NOBODY: u32 = 65_534;
 
-/// The tool in an environment that names no server.
+/// Returns the tool, in an environment that doesn't specify a server.
 fn be(words: &[&str]) -> Command {
     let mut command = Command::new(BE);
     command.env_remove("BESTORE_SOCKET").env_remove("XDG_RUNTIME_DIR");
@@ -26,7 +26,7 @@ fn said(command: &mut Command) -> Said {
     command.output().unwrap().into()
 }
 
-/// A process that is killed at the end.
+/// A process that is killed when this is dropped.
 struct Running(Child);
 
 impl Drop for Running {
@@ -48,7 +48,7 @@ fn a_server_that_starts_is_waited_for() {
         let socket = socket.clone();
         move || said(&mut be(&["--socket", &socket, "--wait", "60", "status"]))
     });
-    // Without --wait, the tool reports at once that there is no server. By the time it ends, the other one is waiting.
+    // Without --wait, the tool reports immediately that there is no server. By the time it exits, the other tool is waiting.
     assert_eq!(said(&mut be(&["--socket", &socket, "status"])).status, 1);
     let _server = Running(Command::new(program).args(["--socket", &socket]).spawn().unwrap());
     let waited = waiting.join().unwrap();
@@ -98,7 +98,7 @@ fn a_server_without_a_place_answers_short_commands() {
     idle.hello().unwrap();
 }
 
-/// A server run by the user `NOBODY`. Otherwise `None`, after printing why that isn't possible.
+/// Starts a server as the user `NOBODY`. If that isn't possible, prints why and returns `None`.
 fn server_of_nobody(socket: &Path) -> Option<Running> {
     let skip = |why| {
         println!("be, a server of another user: skipped, {why}");
@@ -144,7 +144,7 @@ fn another_users_server_at_a_default_path_is_refused() {
         socket.display()
     );
     assert_eq!((found.status, found.error), (1, why));
-    // If the user names the socket, any owner's server is accepted.
+    // If the user gives the socket, its server is accepted no matter who owns it.
     let named = said(be(&["--socket"]).arg(&socket).arg("status"));
     assert_eq!((named.status, named.error.as_str()), (0, ""));
 }

@@ -1,4 +1,4 @@
-//! Tests each command with its own server.
+//! Tests of each command, each with its own server.
 
 use crate::common::{Said, Server, BE};
 use bestore_client::Client;
@@ -164,7 +164,7 @@ fn nodes_are_removed_with_their_attributes() {
     server.done(&["rmnode", "1"]);
     assert_eq!(server.done(&["query", "name==*"]), "2\n3\n");
     refused(&server, &["listattr", "1"], "be: node 1: there is no such node\n");
-    // A node that is gone, or given twice, doesn't stop the others.
+    // A node that is gone or given twice doesn't prevent the others from being changed.
     refused(
         &server,
         &["rmnode", "2", "1", "2"],

@@ -1,4 +1,4 @@
-//! Changes: reading and writing as one.
+//! Changes that read and write atomically.
 
 use crate::wire::{self, kind_named, Command, ErrorName, Indices, Nothing, Numbers};
 use crate::{Client, Error, Result};
@@ -6,41 +6,41 @@ use bestore_types::{Batch, Kind, Node, Operation};
 use std::collections::BTreeMap;
 use std::time::Instant;
 
-/// A change in progress. The closure of [`Client::change`] reads through it, and collects operations in it.
+/// A change in progress, through which the closure of [`Client::change`] reads and collects operations.
 ///
-/// Reads see the pinned snapshot, and none of the collected operations.
+/// Reads see the pinned snapshot but not the collected operations.
 #[derive(Debug)]
 pub struct Change<'a> {
     client: &'a mut Client,
     batch: Batch,
     next: u64,
-    /// The next node of each volume, if there are several.
+    /// The next node number in each volume, if there are several volumes.
     nexts: Vec<u64>,
-    /// The volume that the batch has to be in, if it is known yet.
+    /// The volume that the batch must go to, if known yet.
     volume: Option<u32>,
     checks_kinds: bool,
 }
 
 impl Change<'_> {
-    /// Returns the client, which is pinned: its reads see one snapshot.
+    /// Returns the client, which has a snapshot pinned for all its reads.
     pub fn client(&mut self) -> &mut Client {
         self.client
     }
 
-    /// Returns the operations. Add to them, but make nodes only with [`new_node`](Self::new_node).
+    /// Returns the batch of collected operations. You can add any operation to it, but create nodes only with [`new_node`](Self::new_node).
     pub fn batch(&mut self) -> &mut Batch {
         &mut self.batch
     }
 
-    /// Accepts values of any kind. Without this call, setting a value whose kind differs from its index's kind is an error, since no query
-    /// would find the value.
+    /// Accepts values of any kind. By default, setting a value whose kind differs from its index's kind is an error, because no query would
+    /// find that value.
     pub fn any_kind(&mut self) -> &mut Self {
         self.checks_kinds = false;
         self
     }
 
-    /// From now on, makes nodes in this volume instead of the volume with the most free pages. A batch has one volume, so call this before
-    /// the first [`new_node`](Self::new_node). If the volume doesn't exist, writing the change fails.
+    /// Creates all nodes in this volume instead of the one with the most free pages. A batch belongs to one volume, so call this before the
+    /// first [`new_node`](Self::new_node). If the volume doesn't exist, writing the change fails.
     pub fn in_volume(&mut self, volume: u32) -> &mut Self {
         if let Some(next) = self.nexts.get(volume as usize) {
             self.next = *next;
@@ -49,7 +49,7 @@ impl Change<'_> {
         self
     }
 
-    /// Makes a node, and returns the number that it will have.
+    /// Creates a node, and returns the number that it will have.
     pub fn new_node(&mut self) -> u64 {
         let node = self.next;
         self.next += 1;
@@ -62,24 +62,24 @@ impl Change<'_> {
 }
 
 impl Client {
-    /// Reads and writes atomically: runs the closure on the current snapshot, and writes the operations that it collects if there was no
-    /// other write in between. Otherwise it runs the closure again, up to 1,000 times.
+    /// Reads and writes atomically: runs the closure on the current snapshot, then writes the operations that it has collected, unless
+    /// another write came first. In that case it runs the closure again, up to 1,000 times.
     ///
-    /// If the server has several volumes, all operations are in one volume, and there was no other write to that volume in between. Data
-    /// that the closure reads from other volumes may have changed.
+    /// If the server has several volumes, all operations must be in one volume, and only writes to that volume count. Data that the closure
+    /// has read from other volumes may have changed by the time of the write.
     ///
-    /// If an attribute is set, this call asks the server for its indices, which takes one more request.
+    /// If the closure sets an attribute, this call asks the server for its indices, which takes one more request.
     ///
     /// # Errors
-    /// The closure's errors; [`Error::KindMismatch`] if an attribute has a kind that its name's index doesn't take, unless the closure has
-    /// called [`any_kind`](Change::any_kind); [`Error::Refused`].
+    /// Any error that the closure returns; [`Error::KindMismatch`] if the kind of an attribute isn't the kind of the index with its name,
+    /// unless the closure has called [`any_kind`](Change::any_kind); [`Error::Refused`].
     pub fn change<T>(&mut self, mut change: impl FnMut(&mut Change<'_>) -> Result<T>) -> Result<T> {
         let mut left = 1_000_u32;
         let until = self.repeats_until().filter(|_| !self.is_pinned);
         loop {
             match self.try_change(&mut change, until) {
                 Err(error) if error.is(ErrorName::Conflict) && left > 0 => left -= 1,
-                // A write is sent again until that time, so a failure before then means that nothing was written.
+                // A write is retried until that time, so a failure before then means that nothing was written.
                 Err(error) if self.may_repeat(&error, until) => {}
                 answer => return answer,
             }
@@ -128,14 +128,14 @@ impl Client {
             _ => Ok(None),
         };
         match self.unpin_quietly() {
-            // If this fails, the connection's next call reports it. The write has been made.
+            // The write has succeeded. If unpinning failed, the connection's next call reports it.
             Err(error) if matches!(written, Ok(Some(_))) && error.refusal().is_none() => {}
             unpinned => unpinned?,
         }
         value.and_then(|value| written.map(|_| value))
     }
 
-    /// Fails if the batch sets an attribute whose value isn't of its index's kind at that point in the batch.
+    /// Fails if the batch sets an attribute to a value that isn't of its index's kind at that point in the batch.
     fn check_kinds(&mut self, batch: &Batch) -> Result<()> {
         if !batch
             .operations()
@@ -166,7 +166,7 @@ impl Client {
         Ok(())
     }
 
-    /// Unpins. It isn't an error if the closure has already unpinned, or if the server has ended the snapshot.
+    /// Unpins the snapshot. It isn't an error if the closure has already unpinned it, or if the server has taken it back.
     fn unpin_quietly(&mut self) -> Result<()> {
         match self.unpin() {
             Err(error) if error.is(ErrorName::NotPinned) => Ok(()),

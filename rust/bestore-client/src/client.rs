@@ -18,38 +18,38 @@ use std::time::{Duration, Instant};
 /// The maximum number of bytes in a line from the server.
 const LINE: usize = 2 << 20;
 
-/// How long a command waits in the server by default, and at most.
+/// How long a command may wait in the server: the default and the maximum.
 const WITHIN: Duration = Duration::from_secs(5);
 const MOST_WITHIN: Duration = Duration::from_secs(60);
 
-/// A connection to the server. It has its own pass of the server's store.
+/// A connection to the server, with its own pass of the server's store.
 #[derive(Debug)]
 pub struct Client {
     stream: UnixStream,
-    /// The socket of the server, for connecting again.
+    /// The server's socket, for reconnecting.
     pub(crate) socket: Option<SocketPath>,
-    /// The server's run, once the server has named it.
+    /// The server's run, once the server has sent it.
     pub(crate) run: Option<String>,
-    /// Whether a snapshot is pinned, and whether there were live queries. A new connection has neither.
+    /// Whether a snapshot is pinned, and whether there were live queries. A new connection starts without either.
     pub(crate) is_pinned: bool,
     pub(crate) has_watches: bool,
     pub(crate) options: Options,
     last: u64,
     received: Vec<u8>,
-    /// How many of the received bytes have been searched without finding the end of a line.
+    /// How many of the received bytes have already been searched for the end of a line.
     searched: usize,
     pushes: Pushes,
-    /// How long each request may wait in the server, for requests that may wait.
+    /// How long the server may wait before replying, for each request that lets it wait.
     waits: BTreeMap<u64, Duration>,
-    /// The queries in requests whose replies haven't come yet.
+    /// The query texts of requests that are still waiting for a reply.
     queries: BTreeMap<u64, String>,
-    /// The features that the server has listed.
+    /// The features that the server's reply to `hello` listed.
     features: Vec<String>,
-    /// Whether a call has timed out. What the server sends afterwards doesn't belong to any call.
+    /// Whether a call has timed out. Anything that the server sends afterwards belongs to no call.
     is_over: bool,
 }
 
-/// A query, and what the reply should contain besides the nodes. For [`Client::hits`].
+/// A query for [`Client::hits`], and what its reply should contain besides the nodes.
 #[derive(Clone, Copy, Debug, Default)]
 pub struct Query<'a> {
     /// The text of the query.
@@ -58,13 +58,14 @@ pub struct Query<'a> {
     pub columns: &'a [&'a str],
     /// The maximum number of nodes.
     pub limit: Option<u64>,
-    /// The lowest node.
+    /// The lowest node number to return.
     pub from: u64,
-    /// Whether the reply can do without `count`, which takes the whole answer. A server that can't leave it out sends it anyway.
+    /// Whether the reply may leave out `count`, which can only be computed from the whole answer. A server that can't leave it out sends it
+    /// anyway.
     pub uncounted: bool,
 }
 
-/// A line from the server, whose result is read later.
+/// A line from the server, whose result is decoded later.
 #[derive(Deserialize)]
 struct Line<'a> {
     #[serde(default)]
@@ -77,7 +78,7 @@ struct Line<'a> {
     error: Option<Refusal>,
 }
 
-/// Returns how long the server may wait before it replies.
+/// Returns how long the server may wait before it replies to this command.
 fn wait_of(command: &Command<'_>) -> Option<Duration> {
     let within = match command {
         Command::Reach(reach) => reach.within,
@@ -87,7 +88,7 @@ fn wait_of(command: &Command<'_>) -> Option<Duration> {
     Some(within.map_or(WITHIN, Duration::from_millis).min(MOST_WITHIN))
 }
 
-/// Returns the text of the query that is sent to the server.
+/// Returns the query text of this command, if it has one.
 fn query_of<'a>(command: &'a Command<'_>) -> Option<&'a str> {
     match command {
         Command::Query(wire::Query { query, .. }) => Some(query),
@@ -101,15 +102,15 @@ fn bad(error: impl std::fmt::Display) -> Error {
     Error::BadLine(error.to_string())
 }
 
-/// Gives access to the socket, so that you can poll it along with other files. It is readable once the server has sent something or closed
-/// the connection.
+/// Returns the socket's descriptor, so that you can poll it along with others. It becomes readable once the server has sent something or
+/// closed the connection.
 impl AsRawFd for Client {
     fn as_raw_fd(&self) -> RawFd {
         self.stream.as_raw_fd()
     }
 }
 
-/// Reads a line that isn't the reply to a request: a push, or the server's reason for closing the connection.
+/// Decodes a line that isn't the reply to a request: a push, or the server's reason for closing the connection.
 fn pushed(line: &[u8]) -> Result<Push> {
     let read: Line<'_> = serde_json::from_slice(line).map_err(bad)?;
     match (read.watch, read.id, read.error) {
@@ -120,7 +121,8 @@ fn pushed(line: &[u8]) -> Result<Push> {
 }
 
 impl Client {
-    /// Connects to the server at this socket, no matter who runs it. A reply may take a minute; [`Options`] sets another timeout.
+    /// Connects to the server at this socket, no matter which user runs it. The timeout for a reply is one minute; use [`Options`] to
+    /// change it.
     ///
     /// # Errors
     /// The same as [`Options::connect`].
@@ -128,7 +130,7 @@ impl Client {
         Options::new().connect(path.as_ref())
     }
 
-    /// Connects to the server that [`SocketPath::find`] finds.
+    /// Connects to the server at the socket that [`SocketPath::find`] returns.
     ///
     /// # Errors
     /// The same as [`Options::connect`].
@@ -155,7 +157,7 @@ impl Client {
         }
     }
 
-    /// Takes over the connection of another client.
+    /// Takes over another client's connection.
     pub(crate) fn continue_as(&mut self, other: Client) {
         *self = Client {
             last: self.last,
@@ -164,7 +166,7 @@ impl Client {
         };
     }
 
-    /// Sends a command, and returns the `ok` of its reply.
+    /// Sends a command, waits for its reply, and returns the reply's `ok` value.
     ///
     /// # Errors
     /// [`Error::Refused`], [`Error::Io`], [`Error::Closed`], [`Error::BadLine`], [`Error::TimedOut`].
@@ -173,7 +175,7 @@ impl Client {
         self.receive(id)
     }
 
-    /// Sends a command. [`receive`](Self::receive) receives its reply, after the replies to earlier commands.
+    /// Sends a command without waiting for its reply. Call [`receive`](Self::receive) to get the reply, after those to earlier commands.
     ///
     /// # Errors
     /// [`Error::Io`], [`Error::TimedOut`], and [`Error::Closed`] after a call that timed out.
@@ -198,14 +200,14 @@ impl Client {
         let mut line = serde_json::to_vec(&request).map_err(bad)?;
         line.push(b'\n');
         match self.stream.write_all(&line) {
-            // The server may have said why it closed the connection.
+            // The server may have sent its reason for closing the connection.
             Err(error) if matches!(error.kind(), ErrorKind::BrokenPipe | ErrorKind::ConnectionReset) => Ok(self.last),
             Err(error) => Err(self.failed(error)),
             Ok(()) => Ok(self.last),
         }
     }
 
-    /// Returns the error for a failed write. Nothing can follow part of a line.
+    /// Returns the error for a failed write. A partly sent line can't be continued, so the connection is over.
     fn failed(&mut self, error: io::Error) -> Error {
         let error = self.options.late_or(error);
         if matches!(error, Error::TimedOut(_)) {
@@ -217,11 +219,11 @@ impl Client {
     /// Closes the connection.
     fn end(&mut self) {
         self.is_over = true;
-        // This fails if the server has closed the connection, which then needs no closing.
+        // If the server has already closed the connection, this fails, and there is nothing left to close.
         let _ = self.stream.shutdown(Shutdown::Both);
     }
 
-    /// Receives the reply to the request with this number, which is the oldest one without a reply.
+    /// Receives the reply to the request with this number, which must be the oldest unanswered request.
     ///
     /// # Errors
     /// The same as [`call`](Self::call).
@@ -253,7 +255,7 @@ impl Client {
         }
     }
 
-    /// Reads a line. Returns `None` if it was a push.
+    /// Decodes a received line. Returns `None` if it was a push.
     fn reply<T: DeserializeOwned>(&mut self, id: u64, end: usize) -> Result<Option<Result<T>>> {
         let line: Line<'_> = serde_json::from_slice(&self.received[..end]).map_err(bad)?;
         if line.watch.is_some() {
@@ -268,7 +270,7 @@ impl Client {
         }
     }
 
-    /// Returns the length of the next line once it is received, or `None` when the time is up.
+    /// Waits for the next line and returns its length, or `None` if the time is up first.
     fn read_line(&mut self, until: Option<Instant>) -> Result<Option<usize>> {
         loop {
             let unseen = &self.received[self.searched..];
@@ -316,11 +318,11 @@ impl Client {
         }
     }
 
-    /// Returns the next line pushed for a live query, if one comes within the time. Lines that come while another call waits for its reply
-    /// are kept, up to [`Options::most_pushed`]. A push with an `error` is the last one of its live query.
+    /// Returns the next line pushed for a live query, or `None` if none arrives within this time. Lines that arrive while another call
+    /// waits for its reply are buffered, up to [`Options::most_pushed`]. A push with an `error` is the last one for its live query.
     ///
     /// # Errors
-    /// [`Error::Refused`]: the server's reason for closing the connection. [`Error::Io`], [`Error::Closed`], [`Error::BadLine`].
+    /// [`Error::Refused`] with the server's reason if it closed the connection. [`Error::Io`], [`Error::Closed`], [`Error::BadLine`].
     pub fn next_push(&mut self, within: Duration) -> Result<Option<Push>> {
         if let Some(push) = self.pushes.take() {
             return Ok(Some(push));
@@ -337,7 +339,7 @@ impl Client {
         Ok(None)
     }
 
-    /// Returns the versions and limits of the server.
+    /// Returns the server's versions and limits.
     ///
     /// # Errors
     /// The same as [`call`](Self::call), like all calls below.
@@ -345,9 +347,9 @@ impl Client {
         self.greet(false)
     }
 
-    /// Like [`hello`](Self::hello), for a client that sends a few requests and leaves. As the first request, it lets the client in even
-    /// when all places are taken: for 2 seconds, or until it sends nothing for a quarter of a second. Such a client can't wait for commits
-    /// or begin a live query.
+    /// Like [`hello`](Self::hello), but for a client that only sends a few requests and then leaves. If it is the first request, the server
+    /// admits the client even when it is full, but only for 2 seconds, or until the client has sent nothing for a quarter of a second. Such
+    /// a client can't wait for commits or begin a live query.
     ///
     /// # Errors
     /// The same as `call`.
@@ -364,13 +366,13 @@ impl Client {
         Ok(self.greeted(hello))
     }
 
-    /// Returns whether the server's reply to [`hello`](Self::hello) lists this among its `features`, such as `by` for pages in an order.
+    /// Returns whether the server's reply to [`hello`](Self::hello) lists this feature, such as `by` for pages in an order.
     #[must_use]
     pub fn has(&self, feature: &str) -> bool {
         self.features.iter().any(|it| it == feature)
     }
 
-    /// Writes all operations of the batch or none.
+    /// Writes the batch atomically: all of its operations or none.
     ///
     /// # Errors
     /// The same as `call`.
@@ -378,7 +380,7 @@ impl Client {
         self.write(batch, None, None)
     }
 
-    /// Writes like [`apply`](Self::apply), but only if the journal has exactly `expected` entries. If it doesn't, the error is `Conflict`.
+    /// Writes like [`apply`](Self::apply), but only if the journal has exactly `expected` entries. Otherwise the error is `Conflict`.
     ///
     /// # Errors
     /// The same as `call`.
@@ -386,8 +388,9 @@ impl Client {
         self.write(batch, Some(Numbers::One(expected)), None)
     }
 
-    /// Writes like [`apply`](Self::apply), but in this volume of a server that has several. Without a volume, the batch goes to the volume
-    /// of the nodes that it names, or to the volume with the most free pages. The returned commit number is the volume's.
+    /// Writes like [`apply`](Self::apply), but to the given volume of a server that has several. By contrast, `apply` writes to the volume
+    /// of the nodes that the batch names or, if it names none, to the volume with the most free pages. The returned commit number is the
+    /// volume's.
     ///
     /// # Errors
     /// The same as `call`.
@@ -410,7 +413,7 @@ impl Client {
             volume,
             ..wire::Write::default()
         };
-        // A new connection would lose the pin.
+        // A new connection wouldn't have the pinned snapshot.
         let until = self.repeats_until().filter(|_| !self.is_pinned);
         let written = self.write_until(write, until)?;
         Ok(Written {
@@ -419,9 +422,9 @@ impl Client {
         })
     }
 
-    /// Waits until the journal of each volume has at least this many entries, but no longer than `within`. A server with one
-    /// volume takes one number. Later reads of the current snapshot include the entries. The error is `NotReached` if they don't
-    /// come in time, or if the server has to end a pinned snapshot.
+    /// Waits up to `within` for the journal of each volume to reach this number of entries; for a server with one volume, pass one number.
+    /// Later reads of the current snapshot see these entries. The error is `NotReached` if the time is up first, or if the server takes
+    /// back the client's pinned snapshot.
     ///
     /// # Errors
     /// The same as `call`.
@@ -435,7 +438,7 @@ impl Client {
         }))
     }
 
-    /// Pins the current snapshot for reads, until [`unpin`](Self::unpin).
+    /// Pins the current snapshot: all reads see it until [`unpin`](Self::unpin).
     ///
     /// # Errors
     /// The same as `call`.
@@ -443,7 +446,7 @@ impl Client {
         self.call(Command::Pin(Nothing {}))
     }
 
-    /// Returns the number of the pinned snapshot, or of the current snapshot if none is pinned, and the number of the next node.
+    /// Returns the number of the snapshot (the pinned one, or otherwise the current one) and the number that the next new node will have.
     ///
     /// # Errors
     /// The same as `call`.
@@ -451,7 +454,7 @@ impl Client {
         self.call(Command::Next(Nothing {}))
     }
 
-    /// Makes the server copy the snapshot, so that the command `state` can read it without a pin.
+    /// Has the server copy the snapshot, so that the command `state` can read it without a pin.
     ///
     /// # Errors
     /// The same as `call`.
@@ -467,7 +470,7 @@ impl Client {
         self.call::<Nothing>(Command::Unpin(Nothing {})).map(drop)
     }
 
-    /// Returns an attribute, or `None` if the node or the attribute doesn't exist.
+    /// Returns the value of an attribute, or `None` if the node or the attribute doesn't exist.
     ///
     /// # Errors
     /// The same as `call`.
@@ -477,7 +480,7 @@ impl Client {
         Ok(read.value.map(|value| value.0))
     }
 
-    /// Returns the attributes of a node.
+    /// Returns all attributes of a node.
     ///
     /// # Errors
     /// The same as `call`.
@@ -487,8 +490,8 @@ impl Client {
         Ok(attributes.map(|(name, Json(value))| (name, value)).collect())
     }
 
-    /// Returns all nodes that the query finds, in ascending order. If they take more than one page, they come from one snapshot only if the
-    /// client is pinned.
+    /// Returns all nodes that the query finds, in ascending order. If they take more than one page, they come from the same snapshot only
+    /// if the client has one pinned.
     ///
     /// # Errors
     /// The same as `call`.
@@ -508,7 +511,7 @@ impl Client {
         }
     }
 
-    /// Returns a page of the nodes that a query finds, with columns.
+    /// Returns one page of the nodes that a query finds, with the requested attributes of each.
     ///
     /// # Errors
     /// The same as `call`.
@@ -537,7 +540,8 @@ impl Client {
         Ok(hits.count.unwrap_or_default())
     }
 
-    /// Begins a live query; [`next_push`](Self::next_push) returns its changes. Without a query, every commit is pushed.
+    /// Begins a live query, whose changes [`next_push`](Self::next_push) returns. If `query` is `None`, the server pushes a line for every
+    /// commit.
     ///
     /// # Errors
     /// The same as `call`.
@@ -546,8 +550,9 @@ impl Client {
         self.call(Command::Watch(wire::Watch { query }))
     }
 
-    /// Runs a live query now, or in the pinned snapshot, and returns what changed since the last line of the watch. Pushes that
-    /// [`next_push`](Self::next_push) hasn't returned yet come before that line. If `more` is set, call it again for the rest.
+    /// Brings a live query up to date now, on the pinned snapshot if there is one, and returns the changes since its last line. Any pushes
+    /// that [`next_push`](Self::next_push) hasn't returned yet are older than these changes. If `more` is set, call this again for the
+    /// rest.
     ///
     /// # Errors
     /// The same as `call`.
@@ -555,7 +560,7 @@ impl Client {
         self.call(Command::Refresh(wire::Watching { watch }))
     }
 
-    /// Ends a live query. Earlier pushes may still be waiting.
+    /// Ends a live query. [`next_push`](Self::next_push) may still return earlier pushes.
     ///
     /// # Errors
     /// The same as `call`.
@@ -580,7 +585,7 @@ impl Client {
         self.call(Command::Info(Nothing {}))
     }
 
-    /// Returns the clients that are connected.
+    /// Returns the connected clients.
     ///
     /// # Errors
     /// The same as `call`.
@@ -589,8 +594,8 @@ impl Client {
         Ok(read.clients)
     }
 
-    /// Ends the connection of the client with this number, as listed by [`clients`](Self::clients). Its snapshot is unpinned. A write that
-    /// the client has sent may still be made.
+    /// Disconnects the client with this number, as listed by [`clients`](Self::clients), and unpins its snapshot. A write that the client
+    /// has already sent may still take effect.
     ///
     /// # Errors
     /// The same as `call`; `NoClient`.
@@ -598,18 +603,18 @@ impl Client {
         self.call::<Nothing>(Command::Kick(wire::Kick { client })).map(drop)
     }
 
-    /// Returns what the server is doing in the log that machines share.
+    /// Returns the server's status in the log that machines share.
     ///
     /// # Errors
-    /// The same as `call`; `NoLog` if there is no such log.
+    /// The same as `call`; `NoLog` if the server doesn't use one.
     pub fn log(&mut self) -> Result<wire::LogStatus> {
         self.call(Command::Log(wire::OfLog::default()))
     }
 
-    /// Waits until the server has this entry of the log that machines share. Later reads see at least that entry.
+    /// Waits until the server has applied this entry of the log that machines share. Later reads see at least that entry.
     ///
     /// # Errors
-    /// The same as `call`; `NotReached` when the time is up, which is a minute at most; `NoLog`; `Pinned`.
+    /// The same as `call`; `NotReached` if the time is up first (at most a minute); `NoLog`; `Pinned`.
     pub fn wait_for_entry(&mut self, entry: u64, within: Duration) -> Result<wire::LogStatus> {
         self.call(Command::Log(wire::OfLog {
             entry: Some(entry),
@@ -617,7 +622,7 @@ impl Client {
         }))
     }
 
-    /// Returns a page of the journal, starting at the entry with this index.
+    /// Returns one page of the journal, starting at the entry with this index.
     ///
     /// # Errors
     /// The same as `call`.
@@ -628,7 +633,7 @@ impl Client {
         }))
     }
 
-    /// Like [`journal_from`](Self::journal_from), for this volume. If the server has several volumes, you have to give one.
+    /// Like [`journal_from`](Self::journal_from), for the given volume. If the server has several volumes, you must use this one.
     ///
     /// # Errors
     /// The same as `call`.
@@ -646,7 +651,7 @@ mod tests {
     use super::*;
     use crate::ErrorName;
 
-    /// Returns a client whose server sends these lines.
+    /// Returns a client of a mock server that sends these lines.
     fn client_of(lines: &str) -> (UnixStream, Client) {
         let (stream, mut server) = UnixStream::pair().unwrap();
         server.write_all(lines.as_bytes()).unwrap();

@@ -13,22 +13,22 @@ pub type Result<T> = std::result::Result<T, Error>;
 #[non_exhaustive]
 #[derive(Debug, thiserror::Error)]
 pub enum Error {
-    /// The server refused the request, and did nothing.
+    /// The server refused the request and did nothing.
     #[error("{0}")]
     Refused(Refusal),
-    /// The connection failed. A write may have been made or not.
+    /// The connection failed. A write may or may not have taken effect.
     #[error("the connection to the server: {0}")]
     Io(#[from] io::Error),
-    /// The server closed the connection. A write may have been made or not.
+    /// The server closed the connection. A write may or may not have taken effect.
     #[error("the server closed the connection")]
     Closed,
     /// The server sent a line that doesn't follow the protocol.
     #[error("the server sent a line that doesn't follow the protocol: {0}")]
     BadLine(String),
-    /// The server didn't reply within this time, and the connection is closed. A write may have been made or not.
+    /// The server didn't reply within this time, and the connection was closed. A write may or may not have taken effect.
     #[error("the server didn't reply within {0:?}; whether a write was made is not known")]
     TimedOut(Duration),
-    /// The server at a default path runs as another user, and nothing was sent to it.
+    /// The server at the default path runs as another user. Nothing was sent to it.
     #[error(
         "the server at {socket} runs as user {server}, and has to run as user {user} or as root; BESTORE_SOCKET or an \
          option can name the socket of a server that you trust"
@@ -36,31 +36,31 @@ pub enum Error {
     OtherUser {
         /// The path of the socket.
         socket: PathBuf,
-        /// The user that the server runs as.
+        /// The user ID that the server runs as.
         server: u32,
-        /// The effective user of this process.
+        /// The effective user ID of this process.
         user: u32,
     },
-    /// A change sets an attribute to a value of a kind that its index doesn't take. Nothing was written.
+    /// A change sets an attribute to a value whose kind its index doesn't accept. Nothing was written.
     #[error("{}", mismatch(.name, *.index, *.value))]
     KindMismatch {
         /// The name of the attribute.
         name: String,
-        /// The kind that the index takes.
+        /// The kind of values that the index accepts.
         index: Kind,
         /// The kind of the value.
         value: Kind,
     },
 }
 
-/// Returns the library's error for a value of a kind that its index doesn't take.
+/// Returns the library's error for a value whose kind its index doesn't accept.
 fn mismatch(name: &str, index: Kind, value: Kind) -> bestore_types::Error {
     let name = name.into();
     bestore_types::Error::KindMismatch { name, index, value }
 }
 
 impl Error {
-    /// Returns the server's refusal, if this is one.
+    /// Returns the server's refusal if this error is one.
     #[must_use]
     pub fn refusal(&self) -> Option<&Refusal> {
         match self {

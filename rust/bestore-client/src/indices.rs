@@ -1,14 +1,14 @@
-//! What a client does with indices that takes several requests.
+//! Index operations that take several requests.
 
 use crate::wire::{self, Command, ErrorName, Form, Nothing, Refusal};
 use crate::{Client, Error, Result};
 use bestore_types::{all_in, Hint, Kind, Node, Value};
 use std::collections::BTreeMap;
 
-/// The maximum number of operations in a batch, and of requests for nodes that are sent before the first reply is read.
+/// The maximum number of operations in a batch, and the number of requests sent before the first reply is read.
 const OPERATIONS: usize = 64;
 
-/// Returns how many of these ascending nodes can be in one batch: those in the same volume as the first node.
+/// Returns how many of these nodes, which are in ascending order, fit in one batch: those in the first node's volume.
 fn of_a_batch(nodes: &[u64]) -> usize {
     let volume = |node: &u64| Node::from(*node).volume;
     let first = nodes.first().map(volume);
@@ -20,7 +20,7 @@ fn of_a_batch(nodes: &[u64]) -> usize {
 }
 
 impl Client {
-    /// Returns the indices with their kinds.
+    /// Returns the names of the indices, with their kinds.
     ///
     /// # Errors
     /// The same as [`call`](Self::call).
@@ -38,7 +38,7 @@ impl Client {
             .ok_or_else(|| Error::Refused(Refusal::new(ErrorName::NoIndex, format!("there is no index {name:?}"))))
     }
 
-    /// Returns how many pairs of a value and a node the index with this name has.
+    /// Returns how many (value, node) pairs the index with this name holds.
     ///
     /// # Errors
     /// `NoIndex`; otherwise the same as [`call`](Self::call).
@@ -47,10 +47,10 @@ impl Client {
         self.count(&all_in(name, kind))
     }
 
-    /// Returns the comparisons in a query, from left to right. The server reads only the text, and nothing in its store.
+    /// Returns the comparisons in a query, from left to right. The server only parses the text; it doesn't read its store.
     ///
     /// # Errors
-    /// `Syntax`, `BadPattern`, `TooLong`, `TooDeep` or `TooMany`: the text isn't a query. `BadRequest`: the server is older, and doesn't
+    /// `Syntax`, `BadPattern`, `TooLong`, `TooDeep` or `TooMany` if the text isn't a valid query. `BadRequest` if the server is too old to
     /// [have](Self::has) `text`. Otherwise the same as [`call`](Self::call).
     pub fn comparisons(&mut self, query: &str) -> Result<Vec<wire::Comparison>> {
         let query = query.into();
@@ -58,7 +58,7 @@ impl Client {
         Ok(read.comparisons)
     }
 
-    /// Returns the comparisons in a query that are never true with the store's indices, such as `size>1.5`.
+    /// Returns the comparisons in a query that can never be true with the store's indices, such as `size>1.5`.
     ///
     /// # Errors
     /// The same as [`comparisons`](Self::comparisons).
@@ -81,8 +81,9 @@ impl Client {
         Ok(compared.into_iter().filter_map(hint).collect())
     }
 
-    /// Sets attributes that the index with this name lacks, because they were set before it was made, to the same values again. Each change
-    /// sets up to 64 attributes, so no newer value is lost. Returns how many were set. It reads each node that isn't in the index.
+    /// Indexes the attributes with this name that were set before their index was created, by setting them to the same values again.
+    /// Returns how many were set. The attributes are set in changes of up to 64, so no newer value is lost. This call reads every node that
+    /// isn't in the index.
     ///
     /// # Errors
     /// `NoIndex`; otherwise the same as [`change`](Self::change).
@@ -126,8 +127,8 @@ impl Client {
         Ok(lacking)
     }
 
-    /// Returns these nodes' attributes with this name, if the attributes are of this kind. All requests are sent before the first reply is
-    /// read.
+    /// Returns the values of these nodes' attributes with this name, omitting values of other kinds. All requests are sent before the first
+    /// reply is read.
     fn values_of(&mut self, nodes: &[u64], name: &str, kind: Kind) -> Result<Vec<(u64, Value)>> {
         let mut asked = Vec::with_capacity(nodes.len());
         for &node in nodes {

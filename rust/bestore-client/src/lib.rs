@@ -1,4 +1,4 @@
-//! A client of bestored, the server that shares an attribute store between a user's programs.
+//! A client for bestored, the server that shares an attribute store between a user's programs.
 //!
 //! ```no_run
 //! use bestore_client::{Batch, Client, Kind};
@@ -16,8 +16,8 @@
 //! # Ok::<(), bestore_client::Error>(())
 //! ```
 //!
-//! [`wire`] contains the lines of the protocol, and [`Client::call`] sends any of them. A client has no store, and doesn't load
-//! libbestore: it asks the server what a query's text means.
+//! [`wire`] defines the lines of the protocol, and [`Client::call`] sends any command. A client has no store of its own and doesn't load
+//! libbestore; it leaves the parsing of queries to the server.
 #![warn(missing_docs, missing_debug_implementations, rust_2018_idioms)]
 #![deny(unsafe_code)]
 

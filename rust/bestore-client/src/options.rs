@@ -1,20 +1,20 @@
-//! How a client connects.
+//! Options for connecting to a server.
 
 use crate::{os, Client, Error, Result, SocketPath};
 use std::io::{self, ErrorKind};
 use std::thread;
 use std::time::{Duration, Instant};
 
-/// How long a reply may take by default.
+/// The default timeout for a reply.
 const TIMEOUT: Duration = Duration::from_secs(60);
 
-/// How many bytes of pushed lines are kept by default.
+/// How many bytes of pushed lines are buffered by default.
 const PUSHED: usize = 64 << 20;
 
-/// How often to retry connecting while the server isn't there yet.
+/// The interval between attempts to connect to a server that isn't listening yet.
 const AGAIN: Duration = Duration::from_millis(10);
 
-/// Options for connecting a client, and how long it waits.
+/// Options for connecting a client, including how long it waits for replies.
 ///
 /// ```no_run
 /// use bestore_client::{Options, SocketPath};
@@ -52,51 +52,51 @@ impl Options {
         Self::default()
     }
 
-    /// Sets how long connecting and each reply may take: a minute by default, or forever if `None`. A command that waits on the server,
-    /// such as [`Client::reach`], gets its own waiting time in addition. When the time is up, the call fails with [`Error::TimedOut`], and
-    /// the connection is closed.
+    /// Sets the timeout for connecting and for each reply: one minute by default, or no timeout if `None`. A command that waits on the
+    /// server, such as [`Client::reach`], has its own waiting time in addition. When the time is up, the call fails with
+    /// [`Error::TimedOut`], and the connection is closed.
     pub fn timeout(&mut self, timeout: Option<Duration>) -> &mut Self {
-        // The system doesn't accept a time of zero.
+        // The system doesn't accept a timeout of zero.
         self.timeout = timeout.map(|time| time.max(Duration::from_millis(1)));
         self
     }
 
-    /// Sets how long [`connect`](Self::connect) waits for a server that is starting. By default it doesn't wait.
+    /// Sets how long [`connect`](Self::connect) waits for a server that is still starting. By default it doesn't wait.
     pub fn wait(&mut self, time: Duration) -> &mut Self {
         self.wait = time;
         self
     }
 
-    /// Sets how many bytes of pushed lines are kept for [`Client::next_push`], 64 MiB by default. If a line doesn't fit, its live
-    /// query loses all its lines and ends: its next push has the error `PushesLost`.
+    /// Sets how many bytes of pushed lines are buffered for [`Client::next_push`]: 64 MiB by default. If a line doesn't fit, its live query
+    /// loses all its lines and ends, and its next push has the error `PushesLost`.
     pub fn most_pushed(&mut self, bytes: usize) -> &mut Self {
         self.most_pushed = bytes;
         self
     }
 
-    /// Lets writes survive a restart of the server. If the reply to a write doesn't come, or the server can't keep the write for now, the
-    /// write is sent again for up to this time, on a new connection if necessary. It is made only once, since its token identifies it, and
-    /// returns the first outcome. [`Client::change`] runs its closure again.
+    /// Retries writes for up to this time, so that they survive a restart of the server. A write is sent again, on a new connection if
+    /// necessary, if its reply doesn't arrive or the server can't keep writes for now. A token identifies the write, so it takes effect
+    /// only once and returns its first outcome. [`Client::change`] runs its closure again.
     ///
-    /// A write isn't repeated while a snapshot is pinned (except by `change`), or if there were live queries: a new connection has neither.
-    /// The number for [`Client::apply_if`] belongs to the run that [`Client::run`] returns.
+    /// A write isn't retried while a snapshot is pinned (except by `change`), or if there were live queries, because a new connection would
+    /// have neither. The number that you pass to [`Client::apply_if`] belongs to the run that [`Client::run`] returns.
     pub fn repeat(&mut self, time: Duration) -> &mut Self {
         self.repeat = Some(time);
         self
     }
 
-    /// Connects to the server at this socket, which is a path or comes from [`SocketPath::find`].
+    /// Connects to the server at this socket: a path, or the result of [`SocketPath::find`].
     ///
     /// # Errors
-    /// [`Error::Io`]: there is no server. [`Error::OtherUser`]: nobody named the socket, and the server runs neither as the effective
-    /// user nor as root. [`Error::TimedOut`]. A server that refuses the connection does so at the first call.
+    /// [`Error::Io`] if no server is listening. [`Error::OtherUser`] if the path is the default one and the server runs neither as the
+    /// effective user nor as root. [`Error::TimedOut`]. If the server refuses the connection, the first call returns that error.
     pub fn connect(&self, socket: impl Into<SocketPath>) -> Result<Client> {
         let socket = socket.into();
         let until = Instant::now() + self.wait;
         loop {
             match self.connect_once(&socket) {
                 Err(Error::Io(error)) if may_start(&error) && Instant::now() < until => thread::sleep(AGAIN),
-                // The server has ended before it could send its run.
+                // The server stopped before it could send its run.
                 Err(Error::Closed) if self.repeat.is_some() && Instant::now() < until => thread::sleep(AGAIN),
                 answer => return answer,
             }
@@ -112,7 +112,7 @@ impl Options {
         Ok(client)
     }
 
-    /// Returns the error for a call that the system ended because the time was up, otherwise the connection's error.
+    /// Returns `TimedOut` if the system ended the call because the time was up, and the connection's error otherwise.
     pub(crate) fn late_or(&self, error: io::Error) -> Error {
         match (error.kind(), self.timeout) {
             (ErrorKind::WouldBlock | ErrorKind::TimedOut, Some(time)) => Error::TimedOut(time),
@@ -121,7 +121,7 @@ impl Options {
     }
 }
 
-/// Returns whether this may be a starting server that has no socket yet.
+/// Returns whether the error may mean that the server is still starting and isn't listening yet.
 fn may_start(error: &io::Error) -> bool {
     matches!(error.kind(), ErrorKind::NotFound | ErrorKind::ConnectionRefused)
 }

@@ -1,29 +1,29 @@
-//! Answers in the order of an index, and parts of answers.
+//! Answers in the order of an index, and partial answers.
 
 use crate::wire::{self, Columns, Command, Json, NODES};
 use crate::{Client, Error, Result};
 use bestore_types::{Cursor, Order, Page, Paging, Value};
 use std::borrow::Cow;
 
-/// A page in an order, with each node's values in the columns.
+/// A page of nodes in an order, with each node's values in the requested columns.
 #[derive(Clone, Debug, PartialEq, Eq)]
 pub struct PageOfRows {
-    /// The nodes, whether there are more nodes, and the position of the last one.
+    /// The nodes, whether more follow, and the position of the last one.
     pub page: Page,
-    /// Each node's values in the order of the columns, or `None` if the node has no value there.
+    /// For each node, its values in the order of the columns, with `None` where the node has no such attribute.
     pub rows: Vec<Vec<Option<Value>>>,
 }
 
-/// An iterator over the nodes that a query finds in an order, returned by [`Client::ordered`]. It reads page after page, each twice as long
-/// as the last one. An error ends it. Each page continues where the last one ended, even in a later snapshot; pin the client to read all
-/// pages from one snapshot.
+/// An iterator over the nodes that a query finds, in an order; returned by [`Client::ordered`]. It requests one page after another, each
+/// twice as long as the one before. An error ends the iteration. Each page continues where the previous one ended, even in a later
+/// snapshot; pin a snapshot first to read all pages from it.
 #[derive(Debug)]
 pub struct Ordered<'c> {
     asking: Asking<'c>,
     paging: Paging,
 }
 
-/// The client that pages are requested from, the query and its order.
+/// The client through which pages are requested, the query, and its order.
 #[derive(Debug)]
 struct Asking<'c> {
     client: &'c mut Client,
@@ -32,14 +32,14 @@ struct Asking<'c> {
 }
 
 impl Ordered<'_> {
-    /// Continues after this cursor, which must come from a page of the same query and order.
+    /// Starts after this cursor, which must come from a page of the same query and order.
     #[must_use]
     pub fn after(mut self, cursor: Cursor) -> Self {
         self.paging.set_after(cursor);
         self
     }
 
-    /// Returns the first `most` nodes as a page, 1 to 50,000.
+    /// Returns the first `most` nodes (1 to 50,000) as a page.
     ///
     /// # Errors
     /// The same as [`Client::page`].
@@ -47,8 +47,8 @@ impl Ordered<'_> {
         Ok(self.rows(most, &[])?.page)
     }
 
-    /// Like [`page`](Self::page), with these attributes of each node, in one request. The page has fewer nodes if not all rows fit on one
-    /// line; its `more` is then true.
+    /// Like [`page`](Self::page), but also returns these attributes of each node, in the same request. The page has fewer nodes if not all
+    /// rows fit on one line; its `more` is then true.
     ///
     /// # Errors
     /// The same as [`Client::page`].
@@ -98,8 +98,8 @@ impl Iterator for Ordered<'_> {
 impl std::iter::FusedIterator for Ordered<'_> {}
 
 impl Client {
-    /// Returns an iterator over the nodes that the query finds, in an order. The iterator reads page after page. A node without a value in
-    /// the index is left out.
+    /// Returns an iterator over the nodes that the query finds, in an order. The iterator requests one page after another. It leaves out
+    /// nodes without a value in the order's index.
     ///
     /// ```no_run
     /// # use bestore_client::Order;
@@ -120,11 +120,11 @@ impl Client {
         }
     }
 
-    /// Returns the first `most` nodes that a query finds in an order, 1 to 50,000, or the first ones after a cursor.
+    /// Returns the first `most` nodes (1 to 50,000) that a query finds in an order, starting after the cursor if there is one.
     ///
     /// # Errors
-    /// `NoIndex`: the order's index doesn't exist. `BadCursor`: the cursor belongs to another order or query, or the index has another kind
-    /// now. `BadRequest`: `most` isn't 1 to 50,000. Otherwise the same as [`call`](Self::call).
+    /// `NoIndex` if the order's index doesn't exist. `BadCursor` if the cursor belongs to another order or query, or the index now has
+    /// another kind. `BadRequest` if `most` isn't 1 to 50,000. Otherwise the same as [`call`](Self::call).
     pub fn page(&mut self, text: &str, order: &Order, after: Option<&Cursor>, most: usize) -> Result<Page> {
         let mut ordered = self.ordered(text, order.clone());
         if let Some(cursor) = after {
@@ -133,7 +133,7 @@ impl Client {
         ordered.page(most)
     }
 
-    /// Returns the first `most` nodes that the query finds, in ascending order, starting at the number `from`.
+    /// Returns the first `most` nodes that the query finds, in ascending order, starting at node number `from`.
     ///
     /// # Errors
     /// The same as [`call`](Self::call).
@@ -153,11 +153,11 @@ impl Client {
         Ok(found)
     }
 
-    /// Returns any `most` of the nodes that the query finds, 1 to 50,000, or all of them if there are fewer, in no particular order. If the
-    /// answer is large, this takes less time than finding all of it.
+    /// Returns any `most` (1 to 50,000) of the nodes that the query finds, or all of them if there are fewer, in no particular order. If
+    /// the answer is large, this takes less time than computing all of it.
     ///
     /// # Errors
-    /// `BadRequest`: `most` isn't 1 to 50,000. Otherwise the same as [`call`](Self::call).
+    /// `BadRequest` if `most` isn't 1 to 50,000. Otherwise the same as [`call`](Self::call).
     pub fn any(&mut self, text: &str, most: usize) -> Result<Vec<u64>> {
         let page: wire::Page = self.call(Command::Query(wire::Query {
             query: text.into(),

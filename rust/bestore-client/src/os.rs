@@ -1,4 +1,4 @@
-//! System calls that the standard library doesn't have. All unsafe code of the crate is here.
+//! System calls that the standard library doesn't provide. All of the crate's unsafe code is in this module.
 #![allow(unsafe_code)]
 #![deny(unsafe_op_in_unsafe_fn)]
 
@@ -19,21 +19,21 @@ fn check(answer: libc::c_int) -> io::Result<libc::c_int> {
     }
 }
 
-/// Returns the effective user of this process.
+/// Returns the effective user ID of this process.
 pub fn user() -> u32 {
-    // SAFETY: the call takes nothing and always succeeds.
+    // SAFETY: the call takes no arguments and always succeeds.
     unsafe { libc::geteuid() }
 }
 
-/// Returns the user that made the other end of the connection.
+/// Returns the user ID of the process that opened the other end of the connection.
 ///
 /// # Errors
-/// The system's error, if the connection isn't open.
+/// The system's error if the connection isn't open.
 pub fn peer_user(stream: &UnixStream) -> io::Result<u32> {
     Ok(credentials(stream)?.uid)
 }
 
-/// Returns the number of the process that connected, or that began to listen.
+/// Returns the ID of the process at the other end: the one that connected, or the one that began to listen.
 ///
 /// # Errors
 /// The same as [`peer_user`].
@@ -44,7 +44,7 @@ pub fn peer_process(stream: &UnixStream) -> io::Result<u32> {
 fn credentials(stream: &UnixStream) -> io::Result<libc::ucred> {
     let mut credentials = libc::ucred { pid: 0, uid: 0, gid: 0 };
     let mut length = mem::size_of::<libc::ucred>() as libc::socklen_t;
-    // SAFETY: the option writes a `ucred`, and `length` has its size.
+    // SAFETY: the option writes a `ucred`, and `length` is its size.
     check(unsafe {
         libc::getsockopt(
             stream.as_raw_fd(),
@@ -57,10 +57,10 @@ fn credentials(stream: &UnixStream) -> io::Result<libc::ucred> {
     Ok(credentials)
 }
 
-/// Connects to a socket. Connecting, and later each write, fails with `WouldBlock` when the time is up.
+/// Connects to a socket. Connecting, and each later write, fails with `WouldBlock` if it takes longer than `within`.
 pub fn connect(path: &Path, within: Option<Duration>) -> io::Result<UnixStream> {
     let address = address(path)?;
-    // SAFETY: the call takes only numbers, and nobody else has the new descriptor.
+    // SAFETY: the call takes only numbers, and nothing else owns the new descriptor.
     let stream = unsafe {
         let kind = libc::SOCK_STREAM | libc::SOCK_CLOEXEC;
         UnixStream::from_raw_fd(check(libc::socket(libc::AF_UNIX, kind, 0))?)
@@ -68,7 +68,7 @@ pub fn connect(path: &Path, within: Option<Duration>) -> io::Result<UnixStream> 
     stream.set_write_timeout(within)?;
     let length = mem::size_of_val(&address) as libc::socklen_t;
     loop {
-        // SAFETY: the address is as long as `length` says.
+        // SAFETY: `length` is the length of the address.
         match check(unsafe { libc::connect(stream.as_raw_fd(), ptr::addr_of!(address).cast(), length) }) {
             Err(error) if error.kind() == ErrorKind::Interrupted => {}
             answer => return answer.map(|_| stream),
@@ -77,11 +77,11 @@ pub fn connect(path: &Path, within: Option<Duration>) -> io::Result<UnixStream> 
 }
 
 fn address(path: &Path) -> io::Result<libc::sockaddr_un> {
-    // SAFETY: a `sockaddr_un` has only numbers, and all may be zero.
+    // SAFETY: a `sockaddr_un` consists only of integers, all of which may be zero.
     let mut address: libc::sockaddr_un = unsafe { mem::zeroed() };
     address.sun_family = libc::AF_UNIX as libc::sa_family_t;
     let bytes = path.as_os_str().as_bytes();
-    // A zero byte ends the path.
+    // A zero byte must follow the path.
     let most = address.sun_path.len() - 1;
     if bytes.is_empty() || bytes.len() > most || bytes.contains(&0) {
         let why = format!("the path of a socket has 1 to {most} bytes and no zero byte");
@@ -102,7 +102,7 @@ mod tests {
     fn connecting_to_a_server_that_accepts_nobody_ends() {
         let path = std::env::temp_dir().join(format!("bestore-client-{}", std::process::id()));
         let listener = UnixListener::bind(&path).unwrap();
-        // SAFETY: the call takes only numbers. From now on, one connection may wait.
+        // SAFETY: the call takes only numbers. From now on, only one connection can be pending.
         check(unsafe { libc::listen(listener.as_raw_fd(), 0) }).unwrap();
         let time = Some(Duration::from_millis(20));
         let waiting = connect(&path, time).unwrap();

@@ -1,9 +1,9 @@
-//! Pushed lines that no one has asked for yet.
+//! Pushed lines that the program hasn't asked for yet.
 
 use crate::wire::{ErrorName, Push, Refusal};
 use std::collections::{BTreeSet, VecDeque};
 
-/// Pushed lines with their lengths, up to a total number of bytes.
+/// Pushed lines with their lengths, up to a limit on their total size in bytes.
 #[derive(Debug)]
 pub struct Pushes {
     waiting: VecDeque<(usize, Push)>,
@@ -23,7 +23,7 @@ impl Pushes {
         }
     }
 
-    /// Adds a push, whose line had this many bytes. If it doesn't fit, all lines of its watch are lost, including later ones.
+    /// Adds a push whose line has this length in bytes. If it doesn't fit, its watch loses all its lines, including later ones.
     pub fn add(&mut self, length: usize, push: Push) {
         if self.lost.contains(&push.watch) {
             return;
@@ -38,14 +38,14 @@ impl Pushes {
         self.waiting.push_back((0, self.end_of(push)));
     }
 
-    /// Returns the oldest push.
+    /// Removes and returns the oldest push.
     pub fn take(&mut self) -> Option<Push> {
         let (length, push) = self.waiting.pop_front()?;
         self.bytes -= length;
         Some(push)
     }
 
-    /// Returns whether this push, which has just arrived, belongs to a watch that has lost lines.
+    /// Returns whether this newly received push belongs to a watch that has lost lines.
     pub fn is_lost(&self, push: &Push) -> bool {
         self.lost.contains(&push.watch)
     }
@@ -55,7 +55,7 @@ impl Pushes {
         self.bytes = self.waiting.iter().map(|(length, _)| length).sum();
     }
 
-    /// Returns the last push of a watch, which says that lines were lost.
+    /// Returns the final push of this push's watch, which reports that lines were lost.
     fn end_of(&self, push: Push) -> Push {
         let message = format!(
             "more than {} bytes of pushes wait to be taken, and those of watch {} are lost; begin it again",

@@ -1,4 +1,4 @@
-//! Writes that are sent again on a new connection until the server answers.
+//! Retries writes, on a new connection if necessary, until the server answers.
 
 use crate::wire::{self, Command, ErrorName, Hello, Token};
 use crate::{Client, Error, Result};
@@ -7,10 +7,10 @@ use std::sync::atomic::{AtomicU64, Ordering};
 use std::thread;
 use std::time::{Duration, Instant, SystemTime};
 
-/// How often to resend a write that the server can't keep now.
+/// The interval at which a write that the server can't keep now is sent again.
 const AGAIN: Duration = Duration::from_millis(50);
 
-/// A token that no other write has: made from this machine's time, the process and a count.
+/// Returns a token that no other write has, made from the time, the process ID and a counter.
 fn new_token() -> Option<Token> {
     static LAST: AtomicU64 = AtomicU64::new(0);
     let time = SystemTime::UNIX_EPOCH.elapsed().unwrap_or_default().as_nanos();
@@ -18,7 +18,7 @@ fn new_token() -> Option<Token> {
     Token::new(format!("{time:x}-{:x}-{number:x}", process::id()))
 }
 
-/// Returns whether the same write may succeed later.
+/// Returns whether the same write may succeed if sent again later.
 fn is_passing(error: &Error) -> bool {
     match error {
         Error::Io(_) | Error::Closed | Error::TimedOut(_) => true,
@@ -29,20 +29,20 @@ fn is_passing(error: &Error) -> bool {
 }
 
 impl Client {
-    /// Returns the run of the server that the client last connected to, if [`hello`](Self::hello) was called. Commit numbers start again
-    /// with each run.
+    /// Returns the run of the server that the client last connected to, provided that [`hello`](Self::hello) was called. Commit numbers
+    /// start over with each run.
     #[must_use]
     pub fn run(&self) -> Option<&str> {
         self.run.as_deref()
     }
 
-    /// Returns when to give up on writes that begin now, if writes are repeated at all.
+    /// Returns the time at which to give up on a write that begins now, or `None` if writes aren't retried.
     pub(crate) fn repeats_until(&self) -> Option<Instant> {
         self.options.repeat.map(|time| Instant::now() + time)
     }
 
-    /// Returns whether the call may be made again after this error, before that time: on this connection, or on a new one that is made
-    /// here. A client with live queries keeps its connection, since the live queries would be lost.
+    /// Returns whether to make the call again after this error and before that time. If a new connection is needed, makes it first. A
+    /// client with live queries keeps its connection, because the live queries would be lost with it.
     pub(crate) fn may_repeat(&mut self, error: &Error, until: Option<Instant>) -> bool {
         let until = match until {
             Some(until) if is_passing(error) && !self.has_watches && Instant::now() < until => until,
@@ -52,7 +52,7 @@ impl Client {
         error.refusal().is_some() && !error.is(ErrorName::NoPass) || self.connect_again(until)
     }
 
-    /// Connects to the same socket. Returns whether it succeeded before that time.
+    /// Reconnects to the same socket. Returns whether this succeeded before that time.
     fn connect_again(&mut self, until: Instant) -> bool {
         while Instant::now() < until {
             let mut options = self.options;
@@ -73,7 +73,7 @@ impl Client {
         false
     }
 
-    /// Sends `hello` to a server that the client has just connected to, if its run has to be known.
+    /// Sends `hello` to a newly connected server if the client needs to know its run.
     pub(crate) fn greet_if_repeating(&mut self) -> Result<()> {
         match self.options.repeat {
             None => Ok(()),
@@ -86,7 +86,8 @@ impl Client {
         hello
     }
 
-    /// Writes once. If the write may have to be sent again, it gets a token.
+    /// Makes a write, and retries it until that time if there is one. A write that may be retried gets a token, so that it takes effect
+    /// only once.
     pub(crate) fn write_until(&mut self, mut write: wire::Write, until: Option<Instant>) -> Result<wire::Written> {
         if until.is_none() {
             return self.call(Command::Batch(write));

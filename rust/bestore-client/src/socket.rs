@@ -1,4 +1,4 @@
-//! Where the socket of a server is, and which users' servers are trusted there. The server and all clients follow the same rule.
+//! Where to find a server's socket, and which users' servers to trust there. The server and all clients follow the same rule.
 
 use crate::{os, Error, Result};
 use std::env;
@@ -8,21 +8,21 @@ use std::path::{Path, PathBuf};
 
 pub use crate::os::{peer_process, peer_user, user};
 
-/// The path of a server's socket, and whether someone chose that path.
+/// The path of a server's socket, and whether that path was chosen explicitly.
 #[derive(Clone, Debug, PartialEq, Eq)]
 pub enum SocketPath {
-    /// An option or the variable `BESTORE_SOCKET` names this path.
+    /// A path given by an option or by the variable `BESTORE_SOCKET`.
     Named(PathBuf),
-    /// Nothing names a socket; servers listen at this path by default.
+    /// The path where servers listen by default, used if no path is given.
     Default(PathBuf),
 }
 
 impl SocketPath {
-    /// Returns the socket that an option names. Without an option, it is the first of these:
+    /// Returns the socket given by the option. Without an option, returns the first of these:
     ///
-    /// 1. the path in `BESTORE_SOCKET`, unless that is empty;
-    /// 2. `bestore/socket` in the folder of `XDG_RUNTIME_DIR`, unless that is empty or relative;
-    /// 3. `/tmp/bestore-UID/socket`, with the number of the effective user.
+    /// 1. the path in `BESTORE_SOCKET`, unless it is empty;
+    /// 2. `bestore/socket` in the folder `XDG_RUNTIME_DIR`, unless that path is empty or relative;
+    /// 3. `/tmp/bestore-UID/socket`, where UID is the effective user ID.
     #[must_use]
     pub fn find(option: Option<PathBuf>) -> Self {
         Self::find_in(option, |name| env::var_os(name), os::user())
@@ -49,8 +49,8 @@ impl SocketPath {
         }
     }
 
-    /// Refuses another user's server at a default path, since anyone can create a socket in the folder for temporary files. If
-    /// you name a path, you trust the server there.
+    /// Refuses another user's server at the default path, because anyone can create a socket in the folder for temporary files. Giving a
+    /// path means trusting the server there.
     pub(crate) fn check_server(&self, stream: &UnixStream) -> Result<()> {
         let socket = match self {
             Self::Named(_) => return Ok(()),
@@ -65,7 +65,7 @@ impl SocketPath {
 }
 
 impl<P: AsRef<Path>> From<P> for SocketPath {
-    /// A path that someone has chosen.
+    /// Returns a path that was chosen explicitly.
     fn from(path: P) -> Self {
         Self::Named(path.as_ref().into())
     }
@@ -75,7 +75,7 @@ impl<P: AsRef<Path>> From<P> for SocketPath {
 mod tests {
     use super::*;
 
-    /// `BESTORE_SOCKET`, `XDG_RUNTIME_DIR`, and the socket of user 7.
+    /// The values of `BESTORE_SOCKET` and `XDG_RUNTIME_DIR`, and the socket that user 7 gets.
     type Case = (Option<&'static str>, Option<&'static str>, SocketPath);
 
     fn named(path: &str) -> SocketPath {

@@ -1,4 +1,4 @@
-//! The attributes that a file has in the store.
+//! A file's attributes in the store.
 
 use super::mail::{self, Side};
 use super::stat::{Form, Stat};
@@ -14,7 +14,7 @@ use std::os::unix::ffi::OsStrExt;
 use std::os::unix::fs::OpenOptionsExt;
 use std::path::Path;
 
-/// The attributes that an import sets and removes. All others are the user's.
+/// The attributes that an import sets and removes. All others belong to the user.
 pub const OWN: [&str; 18] = [
     "name",
     "size",
@@ -38,16 +38,16 @@ pub const OWN: [&str; 18] = [
 
 /// The node of the folder that contains the file.
 pub const PARENT: &str = "FILE:parent";
-/// An imported folder's path.
+/// The path of an imported folder.
 pub const ROOT: &str = "FILE:root";
-/// The bytes of a name that isn't valid UTF-8.
+/// The bytes of a file name that isn't valid UTF-8.
 pub const NAME: &str = "FILE:name";
 /// Identifies the file, and shows whether it has changed.
 pub const STAT: &str = "FILE:stat";
 /// The names of the attributes that come from the file's extended attributes, separated by zero bytes.
 pub const XATTRS: &str = "FILE:xattrs";
 
-/// The indices that an import makes.
+/// The indices that an import creates.
 pub const INDICES: [(&str, Kind); 9] = [
     ("name", Kind::Text),
     ("size", Kind::Int64),
@@ -67,27 +67,27 @@ const MOST: usize = 64;
 const VALUE: usize = 255;
 const NAME_LENGTH: usize = 63;
 
-/// How many bytes to read from a file to find its type.
+/// How many bytes of a file to read in order to determine its type.
 const BEGIN: usize = 1 << 12;
 
-/// A file's attributes, except for the folder that contains it.
+/// A file's attributes, except the one that records its folder.
 #[derive(Debug, Default)]
 pub struct Content {
     pub values: BTreeMap<String, Value>,
-    /// How many extended attributes the store can't hold.
+    /// How many extended attributes were left out because the store can't hold them.
     pub left_out: usize,
 }
 
-/// Reads files' attributes.
+/// Reads the attributes of files.
 #[derive(Debug)]
 pub struct Reader {
     pub types: Types,
-    /// The indices' kinds, by name.
+    /// The kinds of the indices, by name.
     pub indices: BTreeMap<String, Kind>,
 }
 
 impl Reader {
-    /// Reads a file's attributes. Whatever can't be read is left out.
+    /// Reads a file's attributes. Anything that can't be read is left out.
     pub fn content(&self, found: &Found) -> Content {
         let Found { path, stat } = found;
         let mut content = Content::default();
@@ -115,7 +115,7 @@ impl Reader {
         content
     }
 
-    /// Returns the file's type, and its mail attributes if it is a mail.
+    /// Returns the file's type and, if it is a mail, its mail attributes.
     fn mime(&self, path: &Path, stat: &Stat, name: &str) -> (String, Vec<(&'static str, Value)>) {
         if let Some(mime) = stat.form.mime() {
             return (mime.into(), Vec::new());
@@ -132,7 +132,7 @@ impl Reader {
         (mail::TYPE.into(), mail::attributes(&begin, side, name_in(path)))
     }
 
-    /// Returns the type that the name implies. If it implies none or several, the content decides.
+    /// Returns the type that the name implies. If it implies no type or several, the content decides.
     fn mime_of_file(&self, path: &Path, name: &str) -> &str {
         match self.types.of_name(name)[..] {
             [mime] => mime,
@@ -143,7 +143,7 @@ impl Reader {
         }
     }
 
-    /// Adds the extended attributes `user.*`.
+    /// Adds the file's `user.*` extended attributes.
     fn add_extended(&self, path: &Path, content: &mut Content) {
         let mut listed: Vec<u8> = Vec::new();
         for full in xattr::list(path).into_iter().flatten() {
@@ -168,7 +168,7 @@ impl Reader {
         }
     }
 
-    /// Converts an extended attribute to an attribute of the store, if possible.
+    /// Converts an extended attribute to one that the store can hold, if possible.
     fn extended(&self, path: &Path, full: &OsStr, name: &[u8]) -> Option<(String, Value)> {
         let name = std::str::from_utf8(name).ok()?;
         if OWN.contains(&name) || name.is_empty() || name.len() > NAME_LENGTH {
@@ -179,8 +179,8 @@ impl Reader {
         Some((name.into(), value))
     }
 
-    /// Converts the bytes to a value of the index's kind if there is an index with this name; otherwise to text, or to raw if it
-    /// isn't text.
+    /// Converts the bytes to a value. If there is an index with this name, the value has its kind; otherwise it is a string, or raw bytes
+    /// if they aren't text.
     fn value_of(&self, name: &str, bytes: Vec<u8>) -> Option<Value> {
         let kind = self.indices.get(name).copied().unwrap_or(Kind::Text);
         if let Some(value) = std::str::from_utf8(&bytes)
@@ -198,7 +198,7 @@ impl Reader {
     }
 }
 
-/// Returns how many bytes of a list of names fit into a value without cutting a name.
+/// Returns how many bytes of a list of names fit into a value without cutting a name short.
 pub fn whole_names(listed: &[u8]) -> usize {
     if listed.len() <= VALUE {
         return listed.len();
@@ -211,8 +211,8 @@ pub fn name_in(path: &Path) -> &OsStr {
     path.file_name().unwrap_or(path.as_os_str())
 }
 
-/// Reads up to this many bytes from the start of the file. It follows no symlink and never waits: a FIFO in the file's place
-/// isn't read.
+/// Reads up to this many bytes from the start of the file. It doesn't follow symlinks and never blocks: if a FIFO has taken the file's
+/// place, it isn't read.
 fn begin_of(path: &Path, most: usize) -> io::Result<Vec<u8>> {
     let flags = libc::O_NONBLOCK | libc::O_NOFOLLOW | libc::O_NOCTTY;
     let file: File = OpenOptions::new().read(true).custom_flags(flags).open(path)?;
@@ -223,14 +223,14 @@ fn begin_of(path: &Path, most: usize) -> io::Result<Vec<u8>> {
     Ok(begin)
 }
 
-/// Returns the bytes of an extended attribute with this value. Numbers are written as digits.
+/// Returns this value as the bytes of an extended attribute. Numbers are written as digits.
 pub fn bytes_of(value: &Value) -> Vec<u8> {
     value
         .as_bytes()
         .map_or_else(|| value.to_string().into_bytes(), <[u8]>::to_vec)
 }
 
-/// Returns whether two values are equal apart from their kinds, which extended attributes don't have.
+/// Returns whether two values are equal when their kinds are ignored, since extended attributes have no kinds.
 pub fn is_same(one: &Value, other: &Value) -> bool {
     one == other || bytes_of(one) == bytes_of(other)
 }

@@ -1,4 +1,4 @@
-//! Changes to the nodes of known files.
+//! Changes to the nodes of files that already have one.
 
 use super::content::{is_same, OWN, PARENT, ROOT, STAT, XATTRS};
 use bestore_types::{Batch, Value};
@@ -13,7 +13,7 @@ pub enum Edit {
     Remove,
 }
 
-/// All changes to a node.
+/// All changes to one node.
 #[derive(Clone, Debug)]
 pub struct Edits {
     pub path: PathBuf,
@@ -22,7 +22,7 @@ pub struct Edits {
 }
 
 impl Edits {
-    /// Removes a node.
+    /// Returns the change that removes a node.
     pub fn remove(path: PathBuf, node: u64) -> Self {
         let edits = vec![Edit::Remove];
         Self { path, node, edits }
@@ -40,7 +40,7 @@ impl Edits {
     }
 }
 
-/// Returns the changes that turn a node's attributes into its file's. Attributes set by a user stay.
+/// Returns the changes that turn a node's attributes into its file's. Attributes that users have set are preserved.
 pub fn between(had: &BTreeMap<String, Value>, wanted: &BTreeMap<String, Value>) -> Vec<Edit> {
     let listed = names_listed(had);
     let is_from_file = |name: &&String| OWN.contains(&name.as_str()) || listed.contains(name.as_str());
@@ -56,13 +56,13 @@ pub fn between(had: &BTreeMap<String, Value>, wanted: &BTreeMap<String, Value>) 
     unset.chain(set).collect()
 }
 
-/// Returns the attributes with `FILE:stat` last. If they don't fit into one batch, it is written only after all the others.
+/// Returns the attributes with `FILE:stat` last, so that if they take more than one batch, it is written only after all the others.
 pub fn stat_last(values: &BTreeMap<String, Value>) -> impl Iterator<Item = (&String, &Value)> {
     let others = values.iter().filter(|(name, _)| *name != STAT);
     others.chain(values.get_key_value(STAT))
 }
 
-/// Returns the names of the attributes that came from extended attributes.
+/// Returns the names of the attributes that come from the file's extended attributes.
 pub fn names_listed(attributes: &BTreeMap<String, Value>) -> BTreeSet<String> {
     let bytes = attributes.get(XATTRS).and_then(Value::as_bytes).unwrap_or_default();
     let names = bytes.split(|byte| *byte == 0).filter(|name| !name.is_empty());

@@ -1,9 +1,9 @@
-//! Encoded words in headers, as defined by RFC 2047.
+//! Encoded words in mail headers, as defined by RFC 2047.
 
 use encoding_rs::{Encoding, WINDOWS_1252};
 use std::borrow::Cow;
 
-/// Decodes bytes as UTF-8 if they are valid, otherwise as windows-1252.
+/// Decodes bytes as UTF-8 if they are valid UTF-8, and as windows-1252 otherwise.
 pub fn text_of(bytes: &[u8]) -> Cow<'_, str> {
     match std::str::from_utf8(bytes) {
         Ok(text) => text.into(),
@@ -11,7 +11,7 @@ pub fn text_of(bytes: &[u8]) -> Cow<'_, str> {
     }
 }
 
-/// Decodes the encoded words in a text. Words that can't be decoded stay as they are.
+/// Decodes the encoded words in a text, leaving those that can't be decoded unchanged.
 pub fn decoded(text: &str) -> String {
     let mut said = Said::default();
     let mut rest = text;
@@ -31,14 +31,14 @@ pub fn decoded(text: &str) -> String {
     said.text
 }
 
-/// An encoded word: its bytes, and their character encoding.
+/// An encoded word: its decoded bytes, and their character encoding.
 struct Word {
     encoding: &'static Encoding,
     bytes: Vec<u8>,
 }
 
 impl Word {
-    /// Reads `=?charset?encoding?text?=`, and returns the word and the rest of the text.
+    /// Parses `=?charset?encoding?text?=`, and returns the word and the rest of the text.
     fn read(text: &str) -> Option<(Self, &str)> {
         let (charset, rest) = text.strip_prefix("=?")?.split_once('?')?;
         let (form, rest) = rest.split_once('?')?;
@@ -57,7 +57,7 @@ impl Word {
     }
 }
 
-/// Decodes a text in the encoding `Q`.
+/// Decodes text in the `Q` encoding.
 fn quoted(text: &str) -> Option<Vec<u8>> {
     let mut bytes = Vec::with_capacity(text.len());
     let mut left = text.bytes();
@@ -74,7 +74,7 @@ fn quoted(text: &str) -> Option<Vec<u8>> {
     Some(bytes)
 }
 
-/// Collects the decoded text. Blanks between two encoded words are dropped, and a character may be split between the two.
+/// Collects the decoded text. Spaces between two encoded words are dropped, and a character may be split across the two words.
 #[derive(Default)]
 struct Said {
     text: String,

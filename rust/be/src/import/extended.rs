@@ -1,4 +1,4 @@
-//! `--xattr`: writes nodes' attributes to extended attributes of their files.
+//! `--xattr`: writes the attributes of nodes to extended attributes of their files.
 
 use super::content::{bytes_of, whole_names, OWN, STAT, XATTRS};
 use super::edit::{Edit, Edits};
@@ -14,7 +14,7 @@ use std::io;
 use std::path::{Path, PathBuf};
 
 impl Import<'_> {
-    /// Writes the attributes that users have set on nodes into the files, each attribute `NAME` as `user.NAME`.
+    /// Writes the attributes that users have set on nodes to the nodes' files. Attribute `NAME` becomes the extended attribute `user.NAME`.
     pub fn write_extended(&mut self, mut summary: Summary) -> Result<Summary, Failure> {
         let nodes: Vec<(PathBuf, u64)> = self
             .tree
@@ -41,7 +41,7 @@ impl Import<'_> {
         Ok(summary)
     }
 
-    /// Returns the changes to record on the node once its attributes are in the file.
+    /// Returns the changes to make to the node once its attributes are in the file.
     fn written(&mut self, path: PathBuf, node: u64, attributes: &BTreeMap<String, Value>, stat: Stat) -> Edits {
         let text = stat.text();
         if let Some(known) = self.tree.files.get_mut(&path) {
@@ -58,12 +58,12 @@ impl Import<'_> {
     }
 }
 
-/// The attributes that users have set.
+/// Returns the attributes that users have set.
 fn users(attributes: &BTreeMap<String, Value>) -> impl Iterator<Item = (&String, &Value)> {
     attributes.iter().filter(|(name, _)| !OWN.contains(&name.as_str()))
 }
 
-/// Writes the attributes that the file lacks. Returns how many, and what the file system then reports about the file.
+/// Writes the attributes that the file doesn't have yet. Returns how many it wrote, and what the file system then reports about the file.
 fn write_all(path: &Path, attributes: &BTreeMap<String, Value>) -> io::Result<(usize, Stat)> {
     let stat = Stat::from(&fs::symlink_metadata(path)?);
     if !matches!(stat.form, Form::File | Form::Folder) {

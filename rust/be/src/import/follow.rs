@@ -1,4 +1,4 @@
-//! `--follow`: writes the changes that inotify(7) reports for the folder. If the server goes away, waits for it to come back.
+//! `--follow`: writes the changes that inotify(7) reports for the folder. If the server goes away, waits until it is back.
 
 use super::known::Known;
 use super::summary::Summary;
@@ -16,25 +16,25 @@ use std::path::{Path, PathBuf};
 use std::thread;
 use std::time::{Duration, Instant};
 
-/// Changes in quick succession are written together once there has been no other change for this long.
+/// Changes in quick succession are written together, once no further change has occurred for this long.
 const QUIET: Duration = Duration::from_millis(60);
 
-/// Changes wait no longer than this, so that files that are written constantly are followed too.
+/// No change waits longer than this, so that files that change constantly are followed too.
 const LONGEST: Duration = Duration::from_millis(400);
 
-/// The maximum wait for the second half of a move.
+/// How long to wait for the second half of a move.
 const MOVE: Duration = Duration::from_millis(100);
 
-/// Refused changes are retried after the first of these pauses, which doubles up to the second.
+/// Refused changes are retried after a pause, which doubles each time. These are the shortest and the longest pause.
 const PAUSES: (Duration, Duration) = (Duration::from_secs(1), Duration::from_secs(300));
 
-/// If the server is gone, connecting is retried after the first of these pauses, which doubles up to the second.
+/// If the server is gone, connecting is retried after a pause, which doubles each time. These are the shortest and the longest pause.
 const AWAY: (Duration, Duration) = (Duration::from_millis(100), Duration::from_secs(5));
 
 /// The size of the buffer for events, in bytes.
 const EVENTS: usize = 1 << 16;
 
-/// The folders that are watched.
+/// The watched folders.
 pub struct Watches {
     inotify: Inotify,
     folders: HashMap<WatchDescriptor, PathBuf>,
@@ -44,19 +44,20 @@ pub struct Watches {
 /// What has changed since the last write.
 #[derive(Debug, Default)]
 struct Dirty {
-    /// Paths where files were added, changed or removed. `true`: if it is a folder, everything below it has to be read too.
+    /// Paths where files were added, changed or removed. The value `true` means that if the path is a folder, everything below it must be
+    /// read too.
     paths: BTreeMap<PathBuf, bool>,
-    /// Events were lost, so the whole folder has to be read.
+    /// Whether events were lost, so that the whole folder must be read.
     lost: bool,
-    /// The folder itself is gone.
+    /// Whether the imported folder itself is gone.
     gone: bool,
     /// Moves whose second half hasn't arrived yet.
     moves: Vec<u32>,
-    /// The server has sent something unrequested, or has closed the connection.
+    /// Whether the server has sent something unrequested or closed the connection.
     is_server_heard: bool,
 }
 
-/// When to retry what the store has refused.
+/// When to retry changes that the store has refused.
 #[derive(Debug)]
 struct Again {
     due: Option<Instant>,
@@ -71,7 +72,7 @@ impl Again {
         }
     }
 
-    /// Records that the whole folder was read.
+    /// Records that the whole folder has been read.
     fn scanned(&mut self, is_refused: bool) {
         self.due = is_refused.then(|| Instant::now() + self.pause);
         self.pause = match is_refused {
@@ -80,14 +81,14 @@ impl Again {
         };
     }
 
-    /// Records that some files were read.
+    /// Records that some files have been read.
     fn stepped(&mut self, is_refused: bool) {
         if is_refused && self.due.is_none() {
             self.due = Some(Instant::now() + self.pause);
         }
     }
 
-    /// Returns how long to wait until the next retry, if something was refused.
+    /// Returns how long to wait until the next retry, if anything was refused.
     fn left(&self) -> Option<Duration> {
         self.due.map(|due| due.saturating_duration_since(Instant::now()))
     }
@@ -97,17 +98,17 @@ impl Again {
     }
 }
 
-/// What was found at some paths, and what was known there before.
+/// What was found at some paths, and what was known about them before.
 #[derive(Default)]
 struct Seen {
     walked: Walked,
     known: Vec<(PathBuf, Known)>,
-    /// The last path that was read together with everything below it.
+    /// The last path that was read along with everything below it.
     below: Option<PathBuf>,
 }
 
 impl Seen {
-    /// Returns whether the path was read along with a folder above it. Paths have to be passed in order.
+    /// Returns whether the path was read along with a folder above it. Paths must be passed in ascending order.
     fn has(&self, path: &Path) -> bool {
         self.below.as_ref().map_or(false, |folder| path.starts_with(folder))
     }
@@ -123,7 +124,7 @@ impl Watches {
         })
     }
 
-    /// Watches a folder. A folder that is gone or unreadable isn't watched.
+    /// Watches a folder. Does nothing if the folder is gone or unreadable.
     pub fn add(&mut self, folder: &Path) -> Result<(), Failure> {
         let mask = WatchMask::CREATE
             | WatchMask::DELETE
@@ -141,13 +142,13 @@ impl Watches {
                 self.folders.insert(watch, folder.into());
                 Ok(())
             }
-            // ENOSPC: the system allows no more watches.
+            // ENOSPC: the limit on the number of watches has been reached.
             Err(error) if error.raw_os_error() == Some(libc::ENOSPC) => Err(Failure::Watch(folder.into(), error)),
             Err(_) => Ok(()),
         }
     }
 
-    /// Waits for a change or for the server, but no longer than the given time. Then gathers changes until there is a pause.
+    /// Waits for a change or for the server, up to the given time. Then collects changes until there is a pause.
     fn wait(&mut self, server: RawFd, within: Option<Duration>) -> Result<Dirty, Failure> {
         let mut dirty = Dirty {
             is_server_heard: self.wait_readable(server, within),
@@ -169,8 +170,8 @@ impl Watches {
         }
     }
 
-    /// Waits up to this time for events or for the server, and returns whether it was the server. A signal may end the wait
-    /// early.
+    /// Waits up to the given time for events or for the server. Returns whether the server has sent something or closed the connection. A
+    /// signal may end the wait early.
     fn wait_readable(&self, server: RawFd, within: Option<Duration>) -> bool {
         let mut polled = [self.inotify.as_raw_fd(), server].map(|fd| libc::pollfd {
             fd,
@@ -178,12 +179,12 @@ impl Watches {
             revents: 0,
         });
         let most = within.map_or(-1, |within| i32::try_from(within.as_millis()).unwrap_or(i32::MAX));
-        // SAFETY: poll reads and writes only these two entries.
+        // SAFETY: poll accesses only these two entries.
         let count = unsafe { libc::poll(polled.as_mut_ptr(), 2, most) };
         count > 0 && polled[1].revents != 0
     }
 
-    /// Reads the available events. Returns whether there were any.
+    /// Reads the available events, and returns whether there were any.
     fn read(&mut self, room: &mut [u8], dirty: &mut Dirty) -> Result<bool, Failure> {
         let events = match self.inotify.read_events(room) {
             Ok(events) => events,
@@ -228,7 +229,7 @@ impl Dirty {
         let names = EventMask::CREATE | EventMask::DELETE | EventMask::MOVED_FROM | EventMask::MOVED_TO;
         let is_named = event.mask.intersects(names);
         if is_named {
-            // This changes the folder's own time too.
+            // This also changes the modification time of the folder.
             self.paths.entry(folder.into()).or_insert(false);
         }
         *self.paths.entry(path).or_insert(false) |= is_named;
@@ -236,7 +237,7 @@ impl Dirty {
 }
 
 impl Import<'_> {
-    /// Follows the folder until it is gone. `is_refused`: the store refused something during the first scan.
+    /// Follows the folder until it is gone. `is_refused` is true if the store refused anything during the first scan.
     pub fn follow(&mut self, mut watches: Watches, is_refused: bool, output: &mut Output) -> Result<(), Failure> {
         let mut again = Again::new();
         again.scanned(is_refused);
@@ -253,9 +254,9 @@ impl Import<'_> {
         }
     }
 
-    /// Waits for changes and writes them.
+    /// Waits for changes, and writes them.
     fn turn(&mut self, watches: &mut Watches, again: &mut Again) -> Result<Summary, Failure> {
-        // If a file is missing, look for it once more before removing its node.
+        // If a file is missing, look for it again before removing its node.
         let within = match self.missing.is_empty() {
             true => again.left(),
             false => Some(Duration::ZERO),
@@ -275,7 +276,7 @@ impl Import<'_> {
         Ok(summary)
     }
 
-    /// Fails if the folder isn't at its path any more.
+    /// Fails if the imported folder is no longer at its path.
     fn look_for_folder(&self, is_gone: bool) -> Result<(), Failure> {
         match is_gone || fs::symlink_metadata(&self.folder).is_err() {
             true => Err(Failure::Gone(self.folder.clone())),
@@ -283,7 +284,7 @@ impl Import<'_> {
         }
     }
 
-    /// Waits for the server to come back, and writes what has changed meanwhile.
+    /// Waits until the server is back, and writes what has changed in the meantime.
     fn catch_up(&mut self, failure: &Failure, watches: &mut Watches, again: &mut Again) -> Result<Summary, Failure> {
         self.connect_again(failure)?;
         let summary = self.scan_until_done(watches, Self::scan)?;
@@ -291,7 +292,7 @@ impl Import<'_> {
         Ok(summary)
     }
 
-    /// Scans the folder. If the server goes away meanwhile, waits for it and starts again.
+    /// Scans the folder. If the server goes away during the scan, waits until it is back and starts over.
     pub fn scan_until_done(
         &mut self,
         watches: &mut Watches,
@@ -305,7 +306,7 @@ impl Import<'_> {
         }
     }
 
-    /// Waits until the server is back, and reads what it knows about the folder.
+    /// Waits until the server is back, and loads what it knows about the folder.
     fn connect_again(&mut self, failure: &Failure) -> Result<(), Failure> {
         complain(&format!("{failure}; waiting for the server"));
         let (mut pause, longest) = AWAY;
@@ -347,7 +348,7 @@ impl Import<'_> {
         }
     }
 
-    /// Looks at what is at a path now. A new folder is read with everything below it.
+    /// Reads what is at a path now. A new folder is read along with everything below it.
     fn see(&mut self, path: PathBuf, is_named: bool, walk: &mut Walk<'_>, seen: &mut Seen) {
         let there = fs::symlink_metadata(&path);
         let is_folder = there.as_ref().map_or(false, fs::Metadata::is_dir);
@@ -372,7 +373,7 @@ impl Import<'_> {
     }
 }
 
-/// Returns a message that says why no more folders can be watched.
+/// Returns a message that explains why no more folders can be watched.
 pub fn shown(folder: &Path, error: &io::Error) -> String {
     let folder = crate::text::escaped(&folder.to_string_lossy());
     match error.raw_os_error() {

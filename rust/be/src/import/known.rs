@@ -1,4 +1,4 @@
-//! What the store knows about the files of a folder.
+//! What the store knows about the files in a folder.
 
 use super::content::STAT;
 use super::stat::Identity;
@@ -11,11 +11,11 @@ use bestore_types::Value;
 use std::collections::{BTreeMap, HashMap, HashSet};
 use std::path::{Path, PathBuf};
 
-/// A file with a node.
+/// A file that has a node.
 #[derive(Clone, Debug, PartialEq, Eq)]
 pub struct Known {
     pub node: u64,
-    /// The folder's node. `None` for the imported folder itself.
+    /// The node of the folder that contains the file. `None` for the imported folder itself.
     pub parent: Option<u64>,
     /// The value of `FILE:stat`.
     pub stat: String,
@@ -27,20 +27,20 @@ impl Known {
     }
 }
 
-/// A folder's files that have nodes.
+/// The files of a folder that have nodes.
 #[derive(Debug, Default)]
 pub struct Tree {
-    /// Files by path. In this order, a folder's contents follow it.
+    /// The files by path. This order puts a folder's contents after the folder.
     pub files: BTreeMap<PathBuf, Known>,
-    /// Further nodes at paths that `files` already has. This happens if a file was renamed onto another during a scan, or if two
-    /// imports ran at once.
+    /// Extra nodes for paths that are already in `files`. They exist if a file was renamed onto another during a scan, or if two imports
+    /// ran at the same time.
     pub doubles: Vec<(PathBuf, Known)>,
     /// Files whose folder no longer has a node.
     pub lost: Vec<Known>,
 }
 
 impl Tree {
-    /// Reads what the store knows about the folder and everything below it, but skips these nodes.
+    /// Loads what the store knows about the folder and everything below it, skipping the nodes in `without`.
     pub fn read(client: &mut Client, folder: &Path, without: &HashSet<u64>) -> Result<Self, Failure> {
         let columns: Vec<&str> = COLUMNS.into_iter().chain([STAT]).collect();
         let (steps, mut stats) = pinned(client, |client| {
@@ -83,7 +83,7 @@ impl Tree {
         }
     }
 
-    /// Removes the file at this path and everything below it from the tree, and returns them.
+    /// Removes and returns the file at this path and everything below it.
     pub fn take_below(&mut self, path: &Path) -> Vec<(PathBuf, Known)> {
         let range = self.files.range(path.to_path_buf()..);
         let below: Vec<PathBuf> = range

@@ -1,5 +1,5 @@
-//! The contents that identify file types, from `magic` in the Shared MIME-info Database. They decide between types that fit a
-//! name equally well.
+//! Identifies file types by content, using `magic` from the Shared MIME-info Database. The content decides between types that fit a name
+//! equally well.
 
 use std::cmp::Reverse;
 use std::collections::HashMap;
@@ -7,22 +7,22 @@ use std::fs;
 use std::ops::Range;
 use std::path::Path;
 
-/// The first bytes of the database's `magic`.
+/// The first bytes of the database file `magic`.
 const HEAD: &[u8] = b"MIME-Magic\0\n";
 
-/// By the specification, a file is text if its first bytes, this many, have no control characters.
+/// According to the specification, a file is text if this many bytes at its beginning contain no control characters.
 const TEXT: usize = 128;
 
-/// The maximum number of steps from a type to its ancestors. More would mean a cycle.
+/// The maximum number of steps from a type to an ancestor. More would mean a cycle.
 const STEPS: usize = 16;
 
 /// The ancestor of all text types.
 const PLAIN: &str = "text/plain";
 
-/// A line of the database: bytes that the content must have at one of these places.
+/// A line of the database: bytes that the content must have at one of these positions.
 #[derive(Debug)]
 struct Line {
-    /// A line is a further condition on the last line before it with a smaller indent.
+    /// The line's depth. A line adds a condition to the nearest line before it that has a smaller indent.
     indent: usize,
     places: Range<usize>,
     value: Vec<u8>,
@@ -43,8 +43,8 @@ pub struct Magic {
     parents: HashMap<String, Vec<String>>,
 }
 
-/// How well a file's content fits a type: first by the priority of the matching section, then by the number of steps from the
-/// type to the one with that section. `Other` means that no section matches.
+/// How well a file's content fits a type. Matches are ordered by the priority of the matching section, and then by the number of steps from
+/// the type to the ancestor with that section. `Other` means that no section matches.
 #[derive(Clone, Copy, Debug, PartialEq, Eq, PartialOrd, Ord)]
 enum Fit {
     /// The type is a text type, but the content isn't text.
@@ -55,7 +55,7 @@ enum Fit {
 }
 
 impl Magic {
-    /// Reads the database in this folder. If it can't be read, it is empty.
+    /// Reads the database in this folder. If it can't be read, returns an empty one.
     pub fn read(database: &Path) -> Self {
         let magic = fs::read(database.join("magic")).unwrap_or_default();
         let subclasses = fs::read_to_string(database.join("subclasses")).unwrap_or_default();
@@ -73,14 +73,13 @@ impl Magic {
         }
     }
 
-    /// Returns the type that the content fits best, out of those that the name fits equally well. If several fit best, returns
-    /// the first.
+    /// Returns the type that fits the content best, out of several that fit the name equally well. If there is a tie, returns the first.
     pub fn choose<'a>(&self, mimes: &[&'a str], begin: &[u8]) -> Option<&'a str> {
         if begin.is_empty() {
             return mimes.first().copied();
         }
         let is_text = !begin.iter().take(TEXT).any(|byte| is_control(*byte));
-        // Of several equals, `max_by_key` takes the last.
+        // If several elements are equal, `max_by_key` returns the last.
         let from_last = mimes.iter().rev();
         from_last.copied().max_by_key(|mime| self.fit(mime, begin, is_text))
     }
@@ -103,7 +102,7 @@ impl Magic {
         })
     }
 
-    /// Returns the type and its ancestors, with the number of steps to each.
+    /// Returns the type and its ancestors, each with its number of steps from the type.
     fn with_those_above<'a>(&'a self, mime: &'a str) -> Vec<(&'a str, usize)> {
         let mut all = vec![(mime, 0)];
         let mut next = 0;
@@ -118,7 +117,7 @@ impl Magic {
         all
     }
 
-    /// Returns the highest priority among this type's sections that match the content.
+    /// Returns the highest priority among the type's sections that match the content.
     fn priority(&self, mime: &str, begin: &[u8]) -> Option<u32> {
         let sections = self.sections.get(mime)?.iter();
         let had = sections.filter(|section| has_one(&section.lines, 0, begin));
@@ -126,12 +125,12 @@ impl Magic {
     }
 }
 
-/// Whether this is a control character that doesn't occur in text.
+/// Returns whether this is a control character that doesn't occur in text.
 fn is_control(byte: u8) -> bool {
     byte < b' ' && !matches!(byte, b'\t' | b'\n' | b'\r' | b'\x08' | b'\x0c' | b'\x1b')
 }
 
-/// Whether the content matches one of the lines with this indent, and, if that has lines below it, one of those.
+/// Returns whether the content matches one of the lines with this indent and, if that line has lines below it, one of those too.
 fn has_one(lines: &[Line], indent: usize, begin: &[u8]) -> bool {
     let places = (0..lines.len()).filter(|at| lines[*at].indent == indent);
     places.into_iter().any(|at| {
@@ -154,7 +153,7 @@ impl Line {
     }
 }
 
-/// Reads the file's sections, up to the first that is invalid.
+/// Parses the sections of the file up to the first invalid one.
 fn sections_of(file: &[u8]) -> HashMap<String, Vec<Section>> {
     let mut sections: HashMap<String, Vec<Section>> = HashMap::new();
     let mut bytes = Bytes(file.strip_prefix(HEAD).unwrap_or_default());
@@ -164,11 +163,11 @@ fn sections_of(file: &[u8]) -> HashMap<String, Vec<Section>> {
     sections
 }
 
-/// The part of the file that remains to be read.
+/// The unread rest of the file.
 struct Bytes<'a>(&'a [u8]);
 
 impl<'a> Bytes<'a> {
-    /// Reads `[50:image/png]`, a newline, and lines.
+    /// Parses a section: `[50:image/png]`, a newline, and lines.
     fn section(&mut self) -> Option<(String, Section)> {
         self.skip(b"[")?;
         let end = self.0.iter().position(|byte| *byte == b']')?;
@@ -183,8 +182,8 @@ impl<'a> Bytes<'a> {
         Some((mime.into(), Section { priority, lines }))
     }
 
-    /// Reads `1>28=`, the value's length in two bytes, and the value. A mask after `&`, a word size after `~` and a number of
-    /// places after `+` may follow. Words have this machine's byte order.
+    /// Parses a line: `1>28=`, the value's length in two bytes, and the value. It may be followed by a mask after `&`, a word size after
+    /// `~` and a number of positions after `+`. Words are in this machine's byte order.
     fn line(&mut self) -> Option<Line> {
         let indent = self.number().unwrap_or(0);
         self.skip(b">")?;
@@ -215,7 +214,7 @@ impl<'a> Bytes<'a> {
         })
     }
 
-    /// Reads the number after this sign, if the sign is there.
+    /// Parses the number after this sign, if the sign is there.
     fn after(&mut self, sign: &[u8]) -> Option<Option<usize>> {
         match self.skip(sign) {
             Some(()) => self.number().map(Some),

@@ -1,4 +1,4 @@
-//! Reads a mail's header into attributes with the names that BeOS uses.
+//! Converts a mail's headers to attributes with the names that BeOS uses.
 
 use super::encoded_words::{decoded, text_of};
 use bestore_types::Value;
@@ -10,10 +10,10 @@ use std::path::Path;
 /// The type that BeOS uses for mails.
 pub const TYPE: &str = "text/x-email";
 
-/// How many bytes of a mail to read. Headers after that are ignored.
+/// How many bytes of a mail to read. Any headers beyond that are ignored.
 pub const HEAD: usize = 1 << 18;
 
-/// The headers that are copied to attributes unchanged, with the attributes' names.
+/// The headers that are copied to attributes unchanged, with the names of those attributes.
 const ATTRIBUTES: [(&str, &str); 5] = [
     ("from", "MAIL:from"),
     ("to", "MAIL:to"),
@@ -22,7 +22,7 @@ const ATTRIBUTES: [(&str, &str); 5] = [
     ("subject", "MAIL:subject"),
 ];
 
-/// Which folder of a Maildir contains the file.
+/// The folder of a Maildir that contains the file.
 #[derive(Clone, Copy, Debug, PartialEq, Eq)]
 pub enum Side {
     New,
@@ -30,7 +30,7 @@ pub enum Side {
 }
 
 impl Side {
-    /// Recognises a Maildir's folder: `cur` or `new`, with a `tmp` next to it.
+    /// Recognises a Maildir folder: it is named `cur` or `new`, and has a `tmp` next to it.
     pub fn of_folder(folder: &Path) -> Option<Self> {
         let side = match folder.file_name()?.as_bytes() {
             b"cur" => Side::Current,
@@ -42,7 +42,7 @@ impl Side {
         all.then_some(side)
     }
 
-    /// Returns the mail's status. A mail is read if its name has the flag `S`, which counts only in `cur`.
+    /// Returns the mail's status. A mail has been read if it is in `cur` and its name has the flag `S`.
     fn status(self, name: &OsStr) -> &'static str {
         let name = name.as_bytes();
         let flags = name
@@ -56,7 +56,7 @@ impl Side {
     }
 }
 
-/// Returns a mail's attributes, given its first bytes.
+/// Returns the attributes of a mail that begins with these bytes.
 pub fn attributes(begin: &[u8], side: Option<Side>, name: &OsStr) -> Vec<(&'static str, Value)> {
     let headers = headers(begin);
     let first = |wanted: &str| headers.iter().find(|(name, _)| name == wanted).map(|(_, value)| value);
@@ -78,7 +78,7 @@ pub fn attributes(begin: &[u8], side: Option<Side>, name: &OsStr) -> Vec<(&'stat
     values
 }
 
-/// Returns as much of a text as fits into a value, without bytes that a value can't contain.
+/// Returns as much of a text as fits into a value, leaving out bytes that a value can't contain.
 pub fn cut(text: &str) -> String {
     let mut kept = String::new();
     for character in text.chars().filter(|character| *character != '\0') {
@@ -90,7 +90,7 @@ pub fn cut(text: &str) -> String {
     kept
 }
 
-/// Returns the headers, with lower-case names. Lines that aren't headers are skipped.
+/// Returns the headers, with their names in lower case. Lines that aren't headers are skipped.
 fn headers(begin: &[u8]) -> Vec<(String, String)> {
     let mut headers: Vec<(String, Vec<u8>)> = Vec::new();
     for line in begin.split(|byte| *byte == b'\n') {
@@ -119,7 +119,7 @@ fn header(line: &[u8]) -> Option<(String, Vec<u8>)> {
     is_name.then(|| (name.to_ascii_lowercase(), line[colon + 1..].to_vec()))
 }
 
-/// Returns the name before an address in angle brackets.
+/// Returns the name that precedes an address in angle brackets.
 fn name_of(from: &str) -> Option<String> {
     let (before, _) = from.split_once('<')?;
     let before = before.trim();
@@ -128,7 +128,7 @@ fn name_of(from: &str) -> Option<String> {
     (!name.is_empty()).then_some(name)
 }
 
-/// Converts an RFC 5322 date to seconds since 1970. A wrong weekday isn't an error.
+/// Converts an RFC 5322 date to seconds since 1970. A wrong weekday is ignored.
 fn seconds(date: &str) -> Option<i64> {
     let without_weekday = date.split_once(',').map_or(date, |(_, rest)| rest);
     let without_comment = without_weekday

@@ -1,4 +1,5 @@
-//! Decides which node each file has. A file keeps its node when it is changed, renamed or moved, so what a user has set stays.
+//! Decides which node belongs to each file. A file keeps its node when it is changed, renamed or moved, so the attributes that users have
+//! set are preserved.
 
 use super::known::Known;
 use super::stat::Identity;
@@ -6,21 +7,21 @@ use super::walk::Found;
 use std::collections::{HashMap, HashSet};
 use std::path::PathBuf;
 
-/// A file with its earlier node, and the path it had then.
+/// A file with its existing node, and the path that it had before.
 #[derive(Debug)]
 pub struct Matched {
     pub found: Found,
     pub known: Option<(PathBuf, Known)>,
 }
 
-/// Files with their nodes, and the nodes that no longer have a file.
+/// Files matched with their nodes, and the nodes that no longer have a file.
 #[derive(Debug, Default)]
 pub struct Matching {
     pub files: Vec<Matched>,
     pub gone: Vec<(PathBuf, Known)>,
 }
 
-/// The nodes that haven't been given to a file yet.
+/// The nodes that haven't been assigned to a file yet.
 struct Left {
     nodes: HashMap<u64, (PathBuf, Known)>,
     by_path: HashMap<PathBuf, Vec<u64>>,
@@ -48,13 +49,13 @@ impl Left {
         self.nodes.remove(&node)
     }
 
-    /// Returns the node at this file's path, if no other file has got it.
+    /// Returns the node at this file's path, unless it has been assigned to another file.
     fn at_path(&self, found: &Found) -> Option<u64> {
         let nodes = self.by_path.get(&found.path)?;
         nodes.iter().copied().find(|node| self.nodes.contains_key(node))
     }
 
-    /// Sorts the nodes at this file's path, so that the one to keep comes first.
+    /// Sorts the nodes at this file's path so that the one to keep comes first.
     fn sort_at_path<E>(&mut self, found: &Found, has_more: &mut impl FnMut(u64) -> Result<bool, E>) -> Result<(), E> {
         let several = match self.by_path.get(&found.path) {
             Some(nodes) if nodes.len() > 1 => nodes,
@@ -71,7 +72,7 @@ impl Left {
         Ok(())
     }
 
-    /// Returns a node of the same file, if no other file has got it.
+    /// Returns a node of the same file, unless it has been assigned to another file.
     fn same_file(&self, found: &Found) -> Option<u64> {
         let nodes = self.by_identity.get(&found.stat.identity)?;
         nodes.iter().copied().find(|node| self.nodes.contains_key(node))
@@ -82,15 +83,15 @@ impl Left {
     }
 }
 
-/// Gives each file its node. `has_more` says whether a node has attributes that a user has set.
+/// Assigns the nodes to the files. `has_more` returns whether a node has attributes that a user has set.
 ///
-/// 1. The same file at the same path keeps its node.
-/// 2. The same file at another path does too.
-/// 3. Another file at the same path takes over the node there. This happens when an editor replaces the file.
-/// 4. All other files have no node.
+/// 1. A file that is still at the same path keeps its node.
+/// 2. A file that is now at another path keeps its node too.
+/// 3. A different file at the same path takes over the node there, as when an editor has replaced the file.
+/// 4. Every other file has no node yet.
 ///
-/// If one file is moved onto another, rules 2 and 3 name different nodes. Rule 2 wins, unless a user has set attributes only on
-/// rule 3's node.
+/// If one file was moved onto another, rules 2 and 3 give different nodes. Rule 2 wins, unless a user has set attributes only on rule 3's
+/// node.
 ///
 /// If several nodes have the same path, a node on which a user has set attributes comes first, then the same file's node, then
 /// the oldest.
@@ -137,7 +138,7 @@ mod tests {
     use super::*;
     use std::fs;
 
-    /// Each name is a different file, whatever its path is.
+    /// Each name stands for a different file, whatever its path.
     struct Files {
         folder: PathBuf,
     }
@@ -181,7 +182,7 @@ mod tests {
             files.iter().map(known).collect()
         }
 
-        /// Returns the nodes that the files get, and those that no longer have a file.
+        /// Returns the nodes assigned to the files, and those that no longer have a file.
         fn nodes(
             &self,
             found: &[(&str, &str)],
@@ -228,7 +229,7 @@ mod tests {
         assert_eq!(files.nodes(&found, &known, &[]), (vec![Some(1)], vec![2]));
         assert_eq!(files.nodes(&found, &known, &[2]), (vec![Some(2)], vec![1]));
         assert_eq!(files.nodes(&found, &known, &[1, 2]), (vec![Some(1)], vec![2]));
-        // The file that was there is elsewhere now.
+        // The file that was there has moved elsewhere.
         let found = [("/b", "A"), ("/c", "B")];
         assert_eq!(files.nodes(&found, &known, &[2]), (vec![Some(1), Some(2)], vec![]));
     }
@@ -253,7 +254,7 @@ mod tests {
                 );
             }
         }
-        // One node's file is elsewhere.
+        // The file of one of these nodes is elsewhere.
         let known = [(1, "/a", "A"), (2, "/a", "B")];
         for more in [&[][..], &[1], &[2]] {
             let found = [("/a", "A"), ("/b", "B")];

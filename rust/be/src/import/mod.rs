@@ -1,4 +1,4 @@
-//! `import`: makes a node for each file of a folder. A file keeps its node when it is changed, renamed or moved.
+//! `import`: creates a node for each file in a folder. A file keeps its node when it is changed, renamed or moved.
 
 pub mod content;
 mod edit;
@@ -38,11 +38,10 @@ use types::Types;
 use volume::Volume;
 use walk::Walk;
 
-/// The maximum number of bytes in an imported folder's path, since the path has to fit into a value.
+/// The maximum number of bytes in an imported folder's path, because the path must fit into a value.
 const ROOT: usize = 255;
 
-/// How many times the folder is read at most while files are missing. In a folder that keeps changing, some may be missing each
-/// time.
+/// The maximum number of times to read the folder while files are missing. In a folder that keeps changing, some may be missing each time.
 const SCANS: u32 = 4;
 
 /// Connects to the server.
@@ -52,16 +51,16 @@ type Connect<'a> = &'a dyn Fn() -> Result<Client, Failure>;
 pub struct Import<'a> {
     folder: PathBuf,
     connect: Connect<'a>,
-    /// If given, only folders on this file system are read.
+    /// If set, only folders on this file system are read.
     device: Option<u64>,
     line: &'a Line,
     client: Client,
     volumes: Vec<Volume>,
     reader: Reader,
     tree: Tree,
-    /// Files that weren't at their paths when these were last read.
+    /// Files that weren't at their paths when the paths were last read.
     missing: Vec<(PathBuf, Known)>,
-    /// Files that were missing twice, but whose nodes the store refused to remove.
+    /// Files that were missing twice in a row but whose nodes the store has refused to remove.
     unremoved: Vec<(PathBuf, Known)>,
 }
 
@@ -84,11 +83,11 @@ pub fn run(connect: Connect<'_>, line: &Line, output: &mut Output) -> Result<(),
     }
 }
 
-/// Returns the folder's absolute path, without symlinks.
+/// Returns the folder's absolute path, with symlinks resolved.
 fn folder_of(folder: &Path) -> Result<PathBuf, Failure> {
     let failed = |error| Failure::File(folder.into(), error);
     let whole = fs::canonicalize(folder).map_err(failed)?;
-    // Check that it is a folder and can be read.
+    // Check that it is a readable folder.
     fs::read_dir(&whole).map_err(failed)?;
     match whole.as_os_str().len() <= ROOT {
         true => Ok(whole),
@@ -117,7 +116,7 @@ impl<'a> Import<'a> {
         })
     }
 
-    /// Reads the whole folder and writes what differs from the store. With `--xattr`, writes extended attributes too.
+    /// Reads the whole folder and writes what differs from the store. With `--xattr`, also writes extended attributes.
     fn scan_first(&mut self, watches: Option<&mut Watches>) -> Result<Summary, Failure> {
         let summary = self.scan(watches)?;
         match self.line.xattr {
@@ -138,8 +137,8 @@ impl<'a> Import<'a> {
         Ok(summary)
     }
 
-    /// Reloads what the store knows about the folder, and scans it. After a refusal, the store may have more or less than this
-    /// program believes.
+    /// Reloads what the store knows about the folder, and scans the folder. After a refusal, the store may contain more or less than this
+    /// program assumes.
     fn scan_again(&mut self, watches: &mut Watches) -> Result<Summary, Failure> {
         self.missing = std::mem::take(&mut self.unremoved);
         let missing = self.missing.iter().map(|(_, known)| known.node).collect();
@@ -180,13 +179,13 @@ impl<'a> Import<'a> {
     }
 }
 
-/// Returns the file system that a folder is on.
+/// Returns the device number of the file system that a folder is on.
 fn device_of(folder: &Path) -> Result<u64, Failure> {
     let about = fs::symlink_metadata(folder).map_err(|error| Failure::File(folder.into(), error))?;
     Ok(about.dev())
 }
 
-/// Makes the missing indices, and returns all indices' kinds.
+/// Creates the missing indices, and returns the kinds of all indices.
 fn make_indices(client: &mut Client) -> Result<BTreeMap<String, Kind>, Failure> {
     let kinds = |names: BTreeMap<String, String>| -> BTreeMap<String, Kind> {
         let kind = |(name, kind): (String, String)| kind_named(&kind).map(|kind| (name, kind));

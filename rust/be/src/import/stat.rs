@@ -1,4 +1,4 @@
-//! What the file system reports about a file, and how to recognise a file.
+//! What the file system reports about a file, and what identifies a file.
 
 use std::fmt::{self, Write as _};
 use std::fs::Metadata;
@@ -31,7 +31,7 @@ impl Form {
         }
     }
 
-    /// Returns the MIME type that the Shared MIME-info specification gives to files that aren't regular.
+    /// Returns the MIME type that the Shared MIME-info specification assigns to a file that isn't regular.
     pub fn mime(self) -> Option<&'static str> {
         match self {
             Form::File => None,
@@ -45,18 +45,18 @@ impl Form {
     }
 }
 
-/// Identifies a file, whatever its name: the device, the inode, and the inode's creation time if the file system knows it. A
-/// reused inode has a different creation time.
+/// Identifies a file regardless of its name, by the device, the inode, and the inode's creation time if the file system records it. When an
+/// inode number is reused, the creation time is different.
 #[derive(Clone, Copy, Debug, PartialEq, Eq, Hash)]
 pub struct Identity {
     device: u64,
     inode: u64,
-    /// Nanoseconds since 1970.
+    /// The creation time, in nanoseconds since 1970.
     birth: Option<i64>,
 }
 
 impl Identity {
-    /// Reads the identity from a text made by [`Stat::text`].
+    /// Parses the identity in a text made by [`Stat::text`].
     pub fn read(text: &str) -> Option<Self> {
         let mut parts = text.split(':');
         let device = u64::from_str_radix(parts.next()?, 16).ok()?;
@@ -84,13 +84,13 @@ impl fmt::Display for Identity {
 pub struct Stat {
     pub identity: Identity,
     pub form: Form,
-    /// The size of a regular file in bytes, otherwise 0.
+    /// The size of a regular file in bytes; 0 for other files.
     pub size: i64,
-    /// Seconds since 1970.
+    /// The modification time, in seconds since 1970.
     pub modified: i64,
-    /// Seconds since 1970, if the file system knows it.
+    /// The creation time, in seconds since 1970, if the file system records it.
     pub created: Option<i64>,
-    /// When the content, an attribute or the name last changed: seconds and nanoseconds.
+    /// When the content, an attribute or the name last changed, in seconds and nanoseconds.
     change: (i64, i64),
 }
 
@@ -118,7 +118,7 @@ impl From<&Metadata> for Stat {
 }
 
 impl Stat {
-    /// Returns the value for `FILE:stat`: the identity, and the time of the last change. If the file changes, so does this text.
+    /// Returns the value for `FILE:stat`: the identity, and the time of the last change. Whenever the file changes, so does this text.
     pub fn text(&self) -> String {
         let (seconds, nanoseconds) = self.change;
         format!("{}:{seconds}.{nanoseconds:09}", self.identity)

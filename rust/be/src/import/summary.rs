@@ -1,4 +1,4 @@
-//! What an import did, and what it couldn't do.
+//! What an import has done, and what it couldn't do.
 
 use super::walk::Unread;
 use crate::command_line::Import as Line;
@@ -12,10 +12,10 @@ use std::path::{Path, PathBuf};
 /// The maximum number of pages in a store.
 const MOST_PAGES: u64 = 16_384;
 
-/// How many paths are printed for each problem.
+/// The maximum number of paths to print for each problem.
 const SHOWN: usize = 10;
 
-/// Server errors after which the same write may succeed later.
+/// Server errors after which the same write may succeed if retried later.
 const PASSING: [ErrorName; 7] = [
     ErrorName::Full,
     ErrorName::Busy,
@@ -47,32 +47,31 @@ impl Fate {
     }
 }
 
-/// What an import did.
+/// What an import has done.
 #[derive(Debug, Default, Serialize)]
 pub struct Summary {
-    /// How many files are in the store.
+    /// The number of files in the store.
     pub files: usize,
     pub new: usize,
     pub changed: usize,
     pub renamed: usize,
     pub removed: usize,
-    /// How many files didn't fit into the store.
+    /// The number of files that didn't fit into the store.
     pub left: usize,
-    /// How many extended attributes don't fit into the store.
+    /// The number of extended attributes that didn't fit into the store.
     pub xattrs_left: usize,
-    /// How many extended attributes were written to files.
+    /// The number of extended attributes written to files.
     pub xattrs_written: usize,
-    /// How many pages the store has, and how many are used.
+    /// The number of pages in the store, and how many of them are used.
     pub pages: u64,
     pub used: u64,
     pub volumes: u64,
     #[serde(serialize_with = "count")]
     pub unread: Vec<Unread>,
-    /// The files for which the store refused something, or which refused an attribute, and the
-    /// reasons.
+    /// The files for which the store refused a change, or to which an attribute couldn't be written, with the reasons.
     #[serde(serialize_with = "count")]
     pub refused: Vec<(PathBuf, String)>,
-    /// Whether the store may later accept what it refused.
+    /// Whether the store may later accept what it has refused.
     #[serde(skip)]
     is_passing: bool,
     #[serde(skip)]
@@ -94,18 +93,18 @@ impl Summary {
         self.fates.push((fate, path));
     }
 
-    /// Records that the store has refused something about a file.
+    /// Records that the store has refused a change for a file.
     pub fn refuse(&mut self, path: PathBuf, error: &Error) {
         self.is_passing |= error.refusal().map_or(false, |refusal| PASSING.contains(&refusal.name));
         self.refused.push((path, message(error)));
     }
 
-    /// Returns whether the store may later accept what it refused.
+    /// Returns whether the store may later accept what it has refused.
     pub fn is_worth_a_retry(&self) -> bool {
         self.is_passing || self.left > 0
     }
 
-    /// Combines the summaries of this import and of the next one of the same folder.
+    /// Combines this summary with that of the next import of the same folder.
     pub fn and_then(self, next: Self) -> Self {
         Self {
             new: self.new + next.new,
@@ -157,7 +156,7 @@ impl Summary {
         Ok(())
     }
 
-    /// Prints what isn't in the store.
+    /// Prints what is missing from the store.
     pub fn complain(&self) {
         let unread = self.unread.iter().map(|it| (it.path.as_path(), it.error.to_string()));
         complain_of(unread, "can't be read");
@@ -179,10 +178,10 @@ impl Summary {
     }
 }
 
-/// Returns limits that would be enough for all files, judging by the files in the store.
+/// Returns a message with limits that would be enough for all files, estimated from the files in the store.
 fn what_helps(files: usize, left: usize, pages: u64, used: u64, volumes: u64) -> String {
     let (files, left, volumes) = (files.max(1) as u64, left as u64, volumes.max(1));
-    // Add a tenth, since files differ.
+    // Add a tenth, because files differ.
     let needed = (used * (files + left) / files * 11 / 10).max(pages + 1);
     let each = (needed + volumes - 1) / volumes;
     let words = match (each <= MOST_PAGES, volumes) {

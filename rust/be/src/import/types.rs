@@ -1,7 +1,7 @@
-//! Finds files' MIME types: by name or, if the name fits no type or several, by the first bytes of the content.
+//! Determines the MIME types of files by name or, if the name fits no type or several, by the first bytes of the content.
 //!
-//! The names come from `globs2` in the Shared MIME-info Database, which is in the package shared-mime-info. Without it, the
-//! extensions in `/etc/mime.types` of the package media-types are used.
+//! The names come from `globs2` in the Shared MIME-info Database, which the package shared-mime-info provides. Without it, the extensions
+//! in `/etc/mime.types` from the package media-types are used.
 
 use super::magic::Magic;
 use glob::{MatchOptions, Pattern};
@@ -15,15 +15,15 @@ pub const UNKNOWN: &str = "application/octet-stream";
 const DATABASE: &str = "/usr/share/mime";
 const EXTENSIONS: &str = "/etc/mime.types";
 
-/// Matches a glob in any case, which the specification requires for globs without the flag `cs`.
+/// Matches a glob without regard to case, as the specification requires for globs without the flag `cs`.
 const ANY_CASE: MatchOptions = MatchOptions {
     case_sensitive: false,
     require_literal_separator: false,
     require_literal_leading_dot: false,
 };
 
-/// A glob's types, in the order in which they are listed. Of the globs that match a name, the one with the greatest weight wins,
-/// and then the longest.
+/// A glob's types, in the order in which they are listed. Of the globs that match a name, the one with the greatest weight wins; among
+/// equal weights, the longest.
 #[derive(Clone, Debug)]
 struct Rule {
     weight: u32,
@@ -40,20 +40,21 @@ impl Rule {
 /// The known types, by file name.
 #[derive(Debug, Default)]
 pub struct Types {
-    /// By whole name, and by what follows a `*` that is the glob's only wildcard. Both exist in lower case and in exact case.
+    /// The types by whole name, and by the ending that follows a `*` if this is the glob's only wildcard. Both exist in lower case and in
+    /// exact case.
     names: HashMap<String, Rule>,
     endings: HashMap<String, Rule>,
     exact_endings: HashMap<String, Rule>,
     others: Vec<(Pattern, Rule)>,
     magic: Magic,
-    /// Which database the types come from, in words.
+    /// The name of the database that the types come from, for people.
     source: &'static str,
-    /// Whether the database knows file contents.
+    /// Whether the database can identify files by content.
     has_contents: bool,
 }
 
 impl Types {
-    /// Loads the types that this machine knows.
+    /// Loads the types known on this machine.
     pub fn of_machine() -> Self {
         if let Ok(globs) = fs::read_to_string(Path::new(DATABASE).join("globs2")) {
             return Self {
@@ -77,7 +78,7 @@ impl Types {
         }
     }
 
-    /// Returns which database the types come from, in words.
+    /// Returns the name of the database that the types come from, for people.
     pub fn source(&self) -> &'static str {
         self.source
     }
@@ -98,7 +99,7 @@ impl Types {
         types
     }
 
-    /// Reads lines with a type and its extensions.
+    /// Parses lines that consist of a type and its extensions.
     fn from_extensions(text: &str) -> Self {
         let mut types = Self::default();
         for line in text.lines().filter(|line| !line.starts_with('#')) {
@@ -118,7 +119,7 @@ impl Types {
         let is_plain = |text: &str| !text.contains(|sign| "*?[".contains(sign));
         match glob.strip_prefix('*') {
             Some(ending) if is_plain(ending) && exact => better(&mut self.exact_endings, ending.into(), rule),
-            // For programs that don't know the flag, the database repeats such a glob without it.
+            // For programs that don't know the flag, the database lists such a glob again without it.
             Some(ending) if is_plain(ending) && self.exact_endings.contains_key(ending) => {}
             Some(ending) if is_plain(ending) => better(&mut self.endings, ending.to_lowercase(), rule),
             None if is_plain(glob) => better(&mut self.names, glob.to_lowercase(), rule),
@@ -126,8 +127,8 @@ impl Types {
         }
     }
 
-    /// Returns the types that fit the name in exact case, otherwise those that fit in any case. There are several if they fit
-    /// equally well.
+    /// Returns the types that fit the name in exact case or, if there are none, those that fit in any case. There may be several if they
+    /// fit equally well.
     pub fn of_name(&self, name: &str) -> Vec<&str> {
         let best = self.best(name);
         if best.is_empty() {
@@ -154,7 +155,7 @@ impl Types {
         best.iter().flat_map(|rule| &rule.mimes).map(String::as_str).collect()
     }
 
-    /// Returns the type of a file that begins with these bytes, and whose name fits these types.
+    /// Returns the type of a file whose name fits these types and whose content begins with these bytes.
     pub fn of_content<'a>(&self, mimes: &[&'a str], begin: &[u8]) -> &'a str {
         if let Some(mime) = self.magic.choose(mimes, begin) {
             return mime;
@@ -172,7 +173,7 @@ impl Types {
     }
 }
 
-/// Keeps the better of two rules. If they are equally good, keeps the types of both.
+/// Keeps the better of two rules or, if they are equally good, the types of both.
 fn better(rules: &mut HashMap<String, Rule>, key: String, rule: Rule) {
     match rules.get_mut(&key) {
         Some(kept) if kept.rank() > rule.rank() => {}
@@ -185,7 +186,7 @@ fn better(rules: &mut HashMap<String, Rule>, key: String, rule: Rule) {
     }
 }
 
-/// The rules whose endings match the name.
+/// Returns the rules whose endings match the name.
 fn endings<'a: 'n, 'n>(rules: &'a HashMap<String, Rule>, name: &'n str) -> impl Iterator<Item = &'a Rule> + 'n {
     let places = name.char_indices().map(|(at, _)| at);
     places.filter_map(move |at| rules.get(&name[at..]))

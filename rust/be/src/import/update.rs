@@ -1,4 +1,4 @@
-//! Writes files into the store as they were found.
+//! Updates the store to match the files that were found.
 
 use super::content::{Content, Reader};
 use super::edit::{between, has_more, place, Edits};
@@ -16,18 +16,18 @@ use std::collections::{BTreeMap, HashMap, HashSet};
 use std::path::{Path, PathBuf};
 use std::thread;
 
-/// How many files are read and written at once.
+/// How many files are read and written at a time.
 const SLICE: usize = 8_192;
 
 /// The maximum number of operations in a batch.
 const OPERATIONS: usize = 64;
 
-/// About how many entries of the store's trees fit on a page.
+/// Approximately how many entries of the store's trees fit on a page.
 const ENTRIES: u64 = 8;
 
 impl Import<'_> {
-    /// Writes what was found. If a known file wasn't found, its node is removed only when that happens twice in a row. A file
-    /// that is moved while folders are being read can be missing at both of its paths once.
+    /// Writes what was found. If a known file wasn't found, its node is removed only if that happens twice in a row, because a file that is
+    /// moved while folders are being read can be missed once at both of its paths.
     pub fn update(&mut self, walked: Walked, known: Vec<(PathBuf, Known)>) -> Result<Summary, Failure> {
         let Walked { found, unread } = walked;
         self.refuse_another(&found, &known)?;
@@ -63,8 +63,8 @@ impl Import<'_> {
         Ok(summary)
     }
 
-    /// Removes the nodes of files that were missing before. Remembers the other missing files, and those whose nodes the store
-    /// doesn't remove. Whatever is below an unreadable folder stays.
+    /// Removes the nodes of files that were already missing before. Remembers the other missing files, and those whose nodes the store
+    /// refuses to remove. Nodes for anything below an unreadable folder are preserved.
     fn remove(
         &mut self,
         gone: Vec<(PathBuf, Known)>,
@@ -94,7 +94,7 @@ impl Import<'_> {
         Ok(())
     }
 
-    /// Puts files into the tree, and returns those that differ from the store.
+    /// Adds the files that have nodes to the tree, and returns those that differ from the store.
     fn keep_unchanged(&mut self, files: Vec<Matched>) -> Vec<Matched> {
         let mut nodes: HashMap<PathBuf, u64> = HashMap::new();
         for file in &files {
@@ -128,8 +128,8 @@ impl Import<'_> {
         changed
     }
 
-    /// Refuses a folder that is empty and isn't the same as before, such as the mount point of an unmounted disk. Otherwise its
-    /// files' nodes, and everything users have set on them, would be removed.
+    /// Refuses a folder that is empty and isn't the same as before, such as the mount point of an unmounted disk. Otherwise the nodes of
+    /// its files would be removed, along with everything that users have set on them.
     fn refuse_another(&self, found: &[Found], known: &[(PathBuf, Known)]) -> Result<(), Failure> {
         let was = known.iter().find(|(path, _)| self.is_root(path));
         match (was, found) {
@@ -164,7 +164,7 @@ impl Import<'_> {
         is_placed
     }
 
-    /// Changes the nodes of these files.
+    /// Updates the nodes of these files.
     fn change(&mut self, files: Vec<Matched>, summary: &mut Summary) -> Result<(), Failure> {
         let progress = bar("changed files", files.len());
         for files in slices(files) {
@@ -205,7 +205,7 @@ impl Import<'_> {
         Ok(())
     }
 
-    /// Records what the store now has for a file.
+    /// Records what the store now knows about a file.
     fn keep(&mut self, found: &Found) {
         let parent = found.path.parent().and_then(|folder| self.node_at(folder));
         let is_root = self.is_root(&found.path);
@@ -217,13 +217,13 @@ impl Import<'_> {
         }
     }
 
-    /// Writes changes. Changes to several nodes go into one batch; if it is refused, each node's changes are written
-    /// individually. Returns the files for which something was refused.
+    /// Writes changes. Changes to several nodes go into one batch; if that is refused, each node's changes are written individually.
+    /// Returns the files for which a change was refused.
     pub fn write(&mut self, edits: &[Edits], summary: &mut Summary) -> Result<HashSet<PathBuf>, Failure> {
         let mut refused = HashSet::new();
         let mut at = 0;
         while at < edits.len() {
-            // A file's last part, `FILE:stat`, would claim that everything has been written.
+            // Writing the file's last part, which has `FILE:stat`, would mean that everything has been written.
             if refused.contains(&edits[at].path) {
                 at += 1;
                 continue;
@@ -251,7 +251,7 @@ impl Import<'_> {
             let mut batch = Batch::new();
             edit.add_to(&mut batch);
             match self.write_batch(batch) {
-                // Another program has removed the node. The next import makes it again if the file is there.
+                // Another program has removed the node. If the file still exists, the next import creates a new node.
                 Err(error) if error.is(ErrorName::NoNode) => self.forget(edit),
                 Err(error @ Error::Refused(_)) => {
                     summary.refuse(edit.path.clone(), &error);
@@ -270,12 +270,12 @@ impl Import<'_> {
         }
     }
 
-    /// Writes a batch in one volume. If it has too many operations for one batch, it is split.
+    /// Writes a batch to one volume, split into several if it has too many operations.
     fn write_batch(&mut self, batch: Batch) -> Result<(), Error> {
         crate::server::apply(&mut self.client, &batch)
     }
 
-    /// Makes nodes for these files.
+    /// Creates nodes for these files.
     fn make(&mut self, files: Vec<Found>, summary: &mut Summary) -> Result<(), Failure> {
         let progress = bar("new files", files.len());
         for files in slices(files) {
@@ -310,7 +310,7 @@ impl Import<'_> {
         Ok(())
     }
 
-    /// Asks how full the store is.
+    /// Asks the server how full the store is.
     fn look(&mut self, summary: &mut Summary) -> Result<(), Failure> {
         self.volumes.iter_mut().try_for_each(Volume::look)?;
         summary.files = self.tree.files.len();
@@ -325,7 +325,7 @@ fn volume_of(edits: &Edits) -> u32 {
     Node::from(edits.node).volume
 }
 
-/// Groups folders by depth, shallowest first.
+/// Groups folders by depth, the shallowest first.
 fn by_depth(folders: Vec<Found>) -> impl Iterator<Item = Vec<Found>> {
     let mut levels: BTreeMap<usize, Vec<Found>> = BTreeMap::new();
     for folder in folders {
@@ -342,7 +342,7 @@ fn slices<T>(files: Vec<T>) -> impl Iterator<Item = Vec<T>> {
     })
 }
 
-/// Reads files on all processors.
+/// Reads files in parallel, using all processors.
 fn read(reader: &Reader, files: &[&Found]) -> Vec<Content> {
     let processors = thread::available_parallelism().map_or(1, |count| count.get());
     let part = (files.len() / processors).max(64);
@@ -359,7 +359,7 @@ fn read(reader: &Reader, files: &[&Found]) -> Vec<Content> {
     })
 }
 
-/// Makes nodes for these files in all volumes at once. Files that don't fit into one volume go to the others.
+/// Creates nodes for these files in all volumes in parallel. Files that don't fit into one volume go to the others.
 fn make_in(volumes: &mut [Volume], files: Vec<New>, done: &(dyn Fn(u64) + Sync)) -> Result<Made, Failure> {
     let mut all = Made {
         left: files,
@@ -388,7 +388,7 @@ fn make_in(volumes: &mut [Volume], files: Vec<New>, done: &(dyn Fn(u64) + Sync))
     Ok(all)
 }
 
-/// Decides which files each volume takes: the next file goes to the volume with the most free space.
+/// Decides which files go to which volume. Each file goes to the volume with the most free space at that point.
 fn share(volumes: &[Volume], files: Vec<New>) -> Vec<Vec<New>> {
     let mut rooms: Vec<i64> = volumes
         .iter()

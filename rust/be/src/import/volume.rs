@@ -1,4 +1,4 @@
-//! A volume of the server: one of the stores that its queries search. A server with a single store has one volume.
+//! A volume of the server, which is one of the stores that its queries search. A server with a single store has one volume.
 
 use super::edit::stat_last;
 use crate::failure::Failure;
@@ -15,13 +15,13 @@ use std::time::Duration;
 /// The maximum number of operations in a batch.
 const OPERATIONS: usize = 64;
 
-/// The maximum number of connections that the volumes share. A server allows up to 62.
+/// The maximum number of connections shared by the volumes. A server allows up to 62.
 const CONNECTIONS: u32 = 8;
 
-/// How many batches to write before asking the volume how full it is again.
+/// How many batches to write before asking again how full the volume is.
 const LOOK: u32 = 16;
 
-/// One page in this many stays free, so that a full volume can still be written to.
+/// One in this many pages is left free, so that a full volume can still be written to.
 const RESERVE: u64 = 64;
 
 /// How many times to retry a write while another client is writing.
@@ -34,10 +34,10 @@ pub struct New {
     pub values: BTreeMap<String, Value>,
 }
 
-/// What happened to files without nodes.
+/// The result of creating nodes for files.
 #[derive(Debug, Default)]
 pub struct Made {
-    /// The nodes that were made.
+    /// The nodes that were created.
     pub nodes: Vec<(New, u64)>,
     /// The files that didn't fit into the volume.
     pub left: Vec<New>,
@@ -45,12 +45,12 @@ pub struct Made {
     pub refused: Vec<(PathBuf, Error)>,
 }
 
-/// A volume, with a connection that it may share with other volumes.
+/// A volume, with a connection that other volumes may share.
 pub struct Volume {
     client: Arc<Mutex<Client>>,
     /// The volume's number, if the server has several.
     number: Option<u32>,
-    /// The volume's commit number and its next node's number, as far as known.
+    /// The volume's commit number and its next node number, as last reported.
     commit: u64,
     next: u64,
     pub pages: u64,
@@ -105,7 +105,7 @@ impl Volume {
         Ok(())
     }
 
-    /// Asks for the commit number and the next node.
+    /// Asks for the commit number and the next node number.
     fn meet(&mut self) -> Result<(), Failure> {
         let next: Next = self.client().call(Command::Next(Nothing {}))?;
         let at = self.number.map_or(0, |number| number as usize);
@@ -114,7 +114,7 @@ impl Volume {
         Ok(())
     }
 
-    /// Writes the batch if no one else has written to this volume since it was last asked.
+    /// Writes the batch, provided that no one else has written to this volume since its numbers were last requested.
     fn write(&mut self, batch: &Batch) -> Result<Written, Error> {
         let mut client = self.client();
         match self.number {
@@ -123,7 +123,7 @@ impl Volume {
         }
     }
 
-    /// Makes nodes for the files, with as many in a batch as fit. Calls `done` with how many were made.
+    /// Creates nodes for the files, with batches as large as possible. Calls `done` with the number of nodes created.
     pub fn make(&mut self, files: Vec<New>, done: &dyn Fn(u64)) -> Result<Made, Failure> {
         let mut made = Made::default();
         let mut files = files.into_iter().peekable();
@@ -134,7 +134,7 @@ impl Volume {
                 operations += 1 + file.values.len();
                 together.push(file);
             }
-            // A file with 64 attributes doesn't fit into a batch together with its new node.
+            // If a file has 64 attributes, the batch that creates its node can't hold them all.
             if together.is_empty() {
                 together.extend(files.next());
             }
@@ -146,7 +146,7 @@ impl Volume {
         Ok(made)
     }
 
-    /// Makes nodes for files that fit into one batch. If the batch is refused, makes the nodes one by one.
+    /// Creates the nodes for files that fit into one batch. If the batch is refused, creates the nodes one by one.
     fn make_together(&mut self, files: Vec<New>, made: &mut Made) -> Result<(), Failure> {
         if self.batches % LOOK == 0 {
             self.look()?;
@@ -171,7 +171,7 @@ impl Volume {
         Ok(())
     }
 
-    /// Writes a batch based on what is known about the volume. If another client has written meanwhile, builds the batch again.
+    /// Writes a batch that relies on the volume's known numbers. If another client has written in the meantime, builds the batch again.
     fn try_to_make(&mut self, files: &[New]) -> Result<Vec<u64>, Failure> {
         let mut left = TRIES;
         loop {
@@ -195,7 +195,7 @@ impl Volume {
     }
 }
 
-/// Returns a batch that makes a node for each file, from this number on, and the operations that don't fit into it.
+/// Returns a batch that creates a node for each file, numbered from `first`, and the operations that don't fit into that batch.
 fn batch_of(files: &[New], first: u64) -> (Batch, Option<Batch>) {
     let (mut batch, mut rest) = (Batch::new(), Batch::new());
     for (node, file) in (first..).zip(files) {

@@ -1,4 +1,4 @@
-//! Walks a folder: finds its files and everything below it.
+//! Walks a folder, finding everything in it and below it.
 
 use super::stat::{Form, Stat};
 use std::collections::HashSet;
@@ -8,7 +8,7 @@ use std::os::unix::ffi::OsStrExt;
 use std::os::unix::fs::MetadataExt;
 use std::path::{Path, PathBuf};
 
-/// The suffixes of the files of kept stores.
+/// The suffixes of the files that belong to kept stores.
 const STORES: [&[u8]; 4] = [b".bestore", b".bestore-wal", b".bestore-shm", b".bestore-journal"];
 
 /// A file, and what the file system reports about it.
@@ -25,30 +25,30 @@ pub struct Unread {
     pub error: io::Error,
 }
 
-/// What a walk found. A folder comes before its contents.
+/// What a walk has found. Each folder comes before its contents.
 #[derive(Debug, Default)]
 pub struct Walked {
     pub found: Vec<Found>,
     pub unread: Vec<Unread>,
 }
 
-/// Whether a file belongs to a kept store, including the files that SQLite puts next to it. Such a file is left out, since
-/// recording its changes would change it again.
+/// Returns whether a file belongs to a kept store, including the files that SQLite puts next to it. Such files are left out, because
+/// recording a change to one would change it again.
 pub fn is_of_a_store(path: &Path) -> bool {
     let name = path.file_name().map_or(&b""[..], OsStrExt::as_bytes);
     STORES.iter().any(|end| name.ends_with(end))
 }
 
-/// A walk. It doesn't follow symlinks, and skips files of kept stores.
+/// A walk. It doesn't follow symlinks, and skips the files of kept stores.
 pub struct Walk<'a> {
     /// Called with each folder before it is read.
     pub before: &'a mut dyn FnMut(&Path),
-    /// If given, folders on other file systems are found but not read.
+    /// If set, folders on other file systems are found but not read.
     pub device: Option<u64>,
 }
 
 impl Walk<'_> {
-    /// Returns the file or folder and everything below it. Anything that disappears meanwhile isn't found.
+    /// Returns the file or folder and everything below it, except for anything that disappears in the meantime.
     pub fn below(&mut self, path: &Path) -> Walked {
         let mut walked = Walked::default();
         match fs::symlink_metadata(path) {
@@ -82,14 +82,14 @@ impl Walk<'_> {
     }
 }
 
-/// Whether the folder is on another file system.
+/// Returns whether the folder is on another file system.
 fn is_elsewhere(folder: &Path, device: u64) -> bool {
     fs::symlink_metadata(folder).map_or(false, |about| about.dev() != device)
 }
 
 impl Walked {
-    /// If a file was found several times, keeps the last. A large folder may list a name again if it is removed and recreated
-    /// during the reading.
+    /// If a file was found several times, keeps only the last. The listing of a large folder may contain a name twice if the file is
+    /// removed and recreated while the folder is being read.
     fn keep_last(&mut self) {
         let mut seen = HashSet::new();
         self.found.reverse();
@@ -120,7 +120,7 @@ impl Walked {
         }
     }
 
-    /// Records why a file can't be read, unless it is gone.
+    /// Records why a file can't be read, unless the file is gone.
     fn failed(&mut self, path: &Path, error: io::Error) {
         if error.kind() != ErrorKind::NotFound {
             self.unread.push(Unread {

@@ -1,4 +1,4 @@
-//! Folders of files for tests that import them.
+//! Folders of files, for tests that import them.
 
 use super::{Said, Server};
 use std::collections::BTreeSet;
@@ -8,7 +8,7 @@ use std::os::unix::ffi::{OsStrExt, OsStringExt};
 use std::path::{Path, PathBuf};
 use std::sync::atomic::{AtomicU32, Ordering};
 
-/// A folder that is removed when the test ends.
+/// A folder that is removed at the end of the test.
 pub struct Folder(pub PathBuf);
 
 impl Folder {
@@ -20,7 +20,7 @@ impl Folder {
         Self(path.canonicalize().unwrap())
     }
 
-    /// A server, and a folder for it. `None` if the server isn't built.
+    /// Starts a server, and creates a folder to import. Returns `None` if the server isn't built.
     pub fn with_server() -> Option<(Server, Self)> {
         Some((Server::start()?, Self::new()))
     }
@@ -29,12 +29,12 @@ impl Folder {
         self.0.join(name.as_ref())
     }
 
-    /// The path of one of its files, as a command-line argument.
+    /// Returns the path of one of the folder's files, as a command-line argument.
     pub fn word(&self, name: &str) -> String {
         self.path(name).to_str().unwrap().into()
     }
 
-    /// The folder itself, as a command-line argument.
+    /// Returns the path of the folder itself, as a command-line argument.
     pub fn all(&self) -> String {
         self.0.to_str().unwrap().into()
     }
@@ -55,7 +55,7 @@ impl Folder {
         fs::rename(self.path(from), self.path(to)).unwrap();
     }
 
-    /// The paths of the folder and everything below it, as the file system reports them.
+    /// Returns the paths of the folder and everything below it, as the file system reports them.
     pub fn paths(&self) -> BTreeSet<PathBuf> {
         let mut paths = BTreeSet::from([self.0.clone()]);
         let mut waiting = vec![self.0.clone()];
@@ -85,7 +85,7 @@ impl Server {
         counts(&json)
     }
 
-    /// The paths of the files that a query finds.
+    /// Returns the paths of the files that a query finds.
     pub fn paths(&self, query: &str) -> BTreeSet<PathBuf> {
         let paths = self.listed(query);
         let count = paths.len();
@@ -94,7 +94,7 @@ impl Server {
         set
     }
 
-    /// The paths of the nodes that a query finds, sorted. While an import writes, two nodes may briefly have the same path.
+    /// Returns the paths of the nodes that a query finds, sorted. While an import is writing, two nodes may briefly have the same path.
     pub fn listed(&self, query: &str) -> Vec<PathBuf> {
         let output = self.command(&["query", "-0", "--path", query]).output().unwrap();
         assert!(output.status.success(), "{output:?}");
@@ -108,7 +108,7 @@ impl Server {
         paths
     }
 
-    /// The text of a file's attribute, as `catattr --raw` prints it.
+    /// Returns the value of a file's attribute, as `catattr --raw` prints it.
     pub fn value(&self, name: &str, path: &Path) -> String {
         let said: Said = self
             .command(&[
@@ -124,7 +124,7 @@ impl Server {
         said.out
     }
 
-    /// How many nodes each volume has, judging by the printed node numbers.
+    /// Returns how many nodes each volume has, according to the printed node numbers.
     pub fn spread(&self, volumes: usize) -> Vec<usize> {
         let mut spread = vec![0; volumes];
         for line in self.done(&["query", "name==*"]).lines() {
@@ -134,20 +134,20 @@ impl Server {
         spread
     }
 
-    /// How many entries the journal has.
+    /// Returns how many entries the journal has.
     pub fn entries(&self) -> u64 {
         let status: serde_json::Value = serde_json::from_str(&self.done(&["status", "--json"])).unwrap();
         status["entries"].as_u64().unwrap()
     }
 }
 
-/// The counts of `import --json`.
+/// Returns the counts that `import --json` printed.
 pub fn counts(json: &str) -> [u64; 4] {
     let read: serde_json::Value = serde_json::from_str(json).unwrap();
     ["new", "changed", "renamed", "removed"].map(|name| read[name].as_u64().unwrap())
 }
 
-/// A name that isn't UTF-8.
+/// Returns a name that isn't UTF-8.
 pub fn name_of_bytes(bytes: &[u8]) -> &OsStr {
     OsStr::from_bytes(bytes)
 }

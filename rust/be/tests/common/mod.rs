@@ -1,4 +1,4 @@
-//! A separate server for each test, and the tool as a process. Not every test uses all of this.
+//! Runs a separate server for each test, and the tool as a process. Not every test uses all of this.
 #![allow(dead_code, unused_macros)]
 
 pub mod files;
@@ -16,7 +16,7 @@ use std::sync::Once;
 use std::time::{Duration, Instant};
 use std::{env, fs, thread};
 
-/// Unwraps the server, or leaves the test. A line has already said why.
+/// Unwraps the server, or returns from the test. The reason has already been printed.
 macro_rules! server {
     ($server:expr) => {
         match $server {
@@ -29,14 +29,14 @@ macro_rules! server {
 /// The tool.
 pub const BE: &str = env!("CARGO_BIN_EXE_be");
 
-/// A server, in a folder that is removed with it.
+/// A server, in a folder that is removed along with it.
 pub struct Server {
     child: Child,
     folder: PathBuf,
     options: Vec<String>,
 }
 
-/// What a run of the tool printed, and its exit status.
+/// What the tool printed in one run, and its exit status.
 #[derive(Debug, PartialEq, Eq)]
 pub struct Said {
     pub status: i32,
@@ -54,14 +54,14 @@ impl From<Output> for Said {
     }
 }
 
-/// The program `bestored`: next to the tool, or where the environment says.
+/// Returns the path of the program `bestored`: next to the tool, or where the environment says.
 pub fn server_program() -> Option<PathBuf> {
     let beside = Path::new(BE).with_file_name("bestored");
     let program = env::var_os("BESTORED").map_or(beside, PathBuf::from);
     program.exists().then_some(program)
 }
 
-/// Starts a server in its folder, where it may also keep its store.
+/// Starts a server in its own folder, where it may also keep its store.
 fn spawn(program: &Path, folder: &Path, options: &[String]) -> Child {
     let mut command = Command::new(program);
     command.arg("--socket").arg(folder.join("socket"));
@@ -95,7 +95,7 @@ impl Server {
         Some(server)
     }
 
-    /// Restarts a server that has ended.
+    /// Restarts a server that has stopped.
     pub fn start_again(&mut self) {
         let program = server_program().expect("it has been there");
         self.child = spawn(&program, &self.folder, &self.options);
@@ -120,7 +120,7 @@ impl Server {
         self.child.wait().unwrap();
     }
 
-    /// The tool with these arguments, ready to run in an environment where no library is found.
+    /// Returns the tool with these arguments, ready to run in an environment where the library can't be found.
     pub fn command(&self, words: &[impl AsRef<OsStr>]) -> Command {
         let mut command = Command::new(BE);
         command.env_remove("LD_LIBRARY_PATH");
@@ -134,8 +134,7 @@ impl Server {
         self.command(words).output().unwrap().into()
     }
 
-    /// Runs the tool with these arguments, which has to succeed without an error. Returns what it
-    /// printed.
+    /// Runs the tool with these arguments. It must succeed and print no errors. Returns what it printed.
     pub fn done(&self, words: &[&str]) -> String {
         let said = self.be(words);
         assert_eq!((said.status, said.error.as_str()), (0, ""), "{words:?}");
@@ -155,7 +154,7 @@ impl Server {
         child.wait_with_output().unwrap().into()
     }
 
-    /// Makes this many nodes with this attribute through the client library.
+    /// Creates this many nodes with this attribute through the client library.
     pub fn make(&self, count: u64, name: &str, value: &str) {
         let mut client = Client::connect(self.socket()).unwrap();
         for _ in 0..count {
@@ -168,14 +167,15 @@ impl Server {
         }
     }
 
-    /// A store with an index of this name for texts.
+    /// Starts a server whose store has an index of strings with this name.
     pub fn with_index(name: &str) -> Option<Self> {
         let server = Self::start()?;
         server.done(&["mkindex", name]);
         Some(server)
     }
 
-    /// A store with indices `name` and `size`, and nodes 1 to 3: `a` of 10, `b` of 20, and `c` without a size.
+    /// Starts a server whose store has the indices `name` and `size`, and nodes 1 to 3: `a` of size 10, `b` of size 20, and `c` without a
+    /// size.
     pub fn with_three() -> Option<Self> {
         let server = Self::with_index("name")?;
         server.done(&["mkindex", "-t", "int64", "size"]);

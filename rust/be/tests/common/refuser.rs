@@ -1,4 +1,4 @@
-//! Sits between clients and their server, and refuses writes when a test says so.
+//! A proxy between clients and their server, which refuses writes when a test asks for it.
 
 use super::files::Folder;
 use super::Server;
@@ -9,14 +9,14 @@ use std::path::{Path, PathBuf};
 use std::sync::{Arc, Mutex, MutexGuard};
 use std::thread;
 
-/// The operation whose writes are refused, and those refused so far.
+/// The operation for which writes are refused, and the writes refused so far.
 #[derive(Debug, Default)]
 struct State {
     refuses: Option<&'static str>,
     refused: Vec<String>,
 }
 
-/// A socket whose requests are forwarded to a server until the program ends.
+/// A socket whose requests are forwarded to a server until the program exits.
 #[derive(Debug)]
 pub struct Refuser {
     socket: PathBuf,
@@ -39,7 +39,7 @@ impl Refuser {
         Self { socket, state }
     }
 
-    /// A server, a refuser between it and its clients, and a folder. `None` if the server isn't built.
+    /// Starts a server with a refuser between it and its clients, and creates a folder. Returns `None` if the server isn't built.
     pub fn with_server() -> Option<(Server, Self, Folder)> {
         let (server, folder) = Folder::with_server()?;
         let refuser = Self::start(&server);
@@ -54,7 +54,7 @@ impl Refuser {
         self.state.lock().unwrap()
     }
 
-    /// From now on, refuses writes that contain this operation.
+    /// Starts refusing writes that contain this operation.
     pub fn refuse(&self, operation: &'static str) {
         self.state().refuses = Some(operation);
     }
@@ -64,7 +64,7 @@ impl Refuser {
         self.state().refuses = None;
     }
 
-    /// Whether a write with this operation has been refused.
+    /// Returns whether a write with this operation has been refused.
     pub fn has_refused(&self, operation: &str) -> bool {
         self.state().refused.iter().any(|line| line.contains(operation))
     }
@@ -76,7 +76,7 @@ impl Drop for Refuser {
     }
 }
 
-/// Starts threads that forward what each side sends to the other.
+/// Starts threads that forward everything that each side sends to the other.
 fn forward(client: UnixStream, server: UnixStream, state: Arc<Mutex<State>>) {
     let (mut replies, mut to) = (server.try_clone().unwrap(), client.try_clone().unwrap());
     thread::spawn(move || io::copy(&mut replies, &mut to));
@@ -91,7 +91,7 @@ fn forward(client: UnixStream, server: UnixStream, state: Arc<Mutex<State>>) {
     });
 }
 
-/// The reply to a write if it is to be refused.
+/// Returns the reply to a write if the write is to be refused.
 fn refusal(line: &str, state: &Mutex<State>) -> Option<String> {
     let request: serde_json::Value = serde_json::from_str(line).unwrap();
     let mut state = state.lock().unwrap();

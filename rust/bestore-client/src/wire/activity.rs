@@ -1,4 +1,4 @@
-//! Replies that describe what the server is doing.
+//! Replies that describe the server's activity.
 
 replies! {
     /// The reply to `info`.
@@ -7,104 +7,104 @@ replies! {
         pub server: String,
         /// The server's run.
         pub run: String,
-        /// The number of its process.
+        /// The process ID.
         pub process: u32,
-        /// How many seconds it has been running.
+        /// How long the server has been running, in seconds.
         pub seconds: u64,
         /// How many clients are connected.
         pub clients: u64,
-        /// How many requests clients have sent since the server started.
+        /// How many requests the server has received since it started.
         pub requests: u64,
-        /// How many live queries the clients have.
+        /// The total number of live queries.
         pub watches: u64,
         /// How many writes the server has made since it started.
         pub writes: u64,
-        /// How many writes per second it made in the last 10 seconds, rounded down.
+        /// The number of writes per second over the last 10 seconds, rounded down.
         pub writes_per_second: u64,
-        /// How long these writes took, including the time to keep them. Missing if there were no writes.
+        /// How long the writes of those 10 seconds took, including the time to save them. Missing if there were none.
         pub latency?: Latency,
-        /// How many writes are in progress, or are waiting for other writes or for the disk.
+        /// How many writes are in progress, or waiting for other writes or the disk.
         pub writing: u64,
-        /// The number of pages.
+        /// The total number of pages.
         pub pages: u64,
-        /// The pages that a write can use.
+        /// The number of pages that a write can use.
         pub free: u64,
-        /// The pages of older snapshots.
+        /// The number of pages that only older snapshots use.
         pub retired: u64,
-        /// The oldest snapshot that is read.
+        /// The oldest snapshot that is being read, and its reader.
         pub oldest?: OldestReader,
-        /// The files of a kept server.
+        /// The sizes of the files, if the server keeps any.
         pub files?: Files,
-        /// What the server is doing in a log.
+        /// The server's role in the log that machines share, if it uses one.
         pub log?: Role,
-        /// Why writes aren't being kept now, if they aren't.
+        /// Why writes can't be saved at the moment, if that is the case.
         pub trouble?: String,
     }
 
-    /// How long writes took, in µs. The first two say how long the faster half, or 99 of 100, took at most, to within a fifth.
+    /// How long writes took, in µs. The first two are the median and the 99th percentile, accurate to within a fifth.
     Latency {
-        /// The time that half of the writes took at most.
+        /// The median: half of the writes took at most this long.
         pub p50: u64,
-        /// The time that 99 of 100 writes took at most.
+        /// The 99th percentile: 99 of 100 writes took at most this long.
         pub p99: u64,
-        /// The time of the longest write.
+        /// The time that the slowest write took.
         pub most: u64,
     }
 
     /// The reader of the oldest snapshot.
     OldestReader {
-        /// The number of the snapshot in its volume.
+        /// The snapshot's commit number in its volume.
         pub commit: u64,
-        /// The volume, if there are several.
+        /// The snapshot's volume, if there are several volumes.
         pub volume?: u32,
-        /// The number of the client, if the reader isn't the server itself.
+        /// The number of the client, unless the reader is the server itself.
         pub client?: u64,
-        /// The number of the client's process.
+        /// The process ID of the client.
         pub process?: u32,
-        /// How many milliseconds ago the snapshot was pinned.
+        /// How long ago the snapshot was pinned, in milliseconds.
         pub milliseconds?: u64,
-        /// Whether the reader keeps the memory that the volume had before the server freed its journal.
+        /// Whether the reader holds the memory that the volume used before the server freed its journal.
         #[serde(default, skip_serializing_if = "std::ops::Not::not")]
         pub earlier: bool,
     }
 
-    /// The size in bytes of the files of all volumes.
+    /// The total sizes of all volumes' files, in bytes.
     Files {
-        /// The files.
+        /// The size of the files, without the `-wal` files.
         pub bytes: u64,
-        /// The files with `-wal`.
+        /// The size of the `-wal` files.
         pub wal_bytes: u64,
     }
 
-    /// What the server does in the log that machines share.
+    /// The server's role in the log that machines share.
     Role {
         /// `leader` or `follower`.
         pub role: String,
-        /// Which leader the server is, counted from the first one, if it leads.
+        /// The server's term, which counts the leaders, if this server leads.
         pub term?: u64,
         /// The last log entry that the server has.
         pub entry: u64,
-        /// How many entries a follower still has to get, or a leader still has to add.
+        /// How many entries a follower has yet to apply, or a leader has yet to add.
         pub lag: u64,
     }
 
     /// The reply to `clients`.
     Clients {
-        /// The clients, sorted by number.
+        /// The connected clients, sorted by number.
         pub clients: Vec<ClientInfo>,
     }
 
-    /// A client.
+    /// A connected client.
     ClientInfo {
-        /// Its number, which `kick` takes.
+        /// The client's number, as accepted by `kick`.
         pub client: u64,
-        /// The number of its process.
+        /// The process ID.
         pub process: u32,
-        /// How many seconds it has been connected.
+        /// How long the client has been connected, in seconds.
         pub seconds: u64,
-        /// How many requests it has sent.
+        /// How many requests the client has sent.
         pub requests: u64,
-        /// The command that it is waiting for now.
+        /// The command for which the client is waiting now.
         pub command?: String,
         /// The snapshot that the client has pinned.
         pub pinned?: PinnedBy,
@@ -117,7 +117,7 @@ replies! {
     PinnedBy {
         /// Its number.
         pub commit: u64,
-        /// How many milliseconds ago it was pinned.
+        /// How long ago the snapshot was pinned, in milliseconds.
         pub milliseconds: u64,
     }
 }

@@ -12,7 +12,7 @@ pub enum Form {
     Number,
     /// Any other string.
     Text,
-    /// A pattern, which matches more than one string.
+    /// A pattern, which may match more than one string.
     Pattern,
 }
 
@@ -25,28 +25,28 @@ pub struct Comparison {
     pub operator: String,
     /// The value to compare with.
     pub value: String,
-    /// The form of that value.
+    /// The form of the value.
     pub form: Form,
     /// The byte offset in the text at which the comparison begins.
     pub offset: u64,
     /// The length of the comparison in bytes.
     pub length: u64,
-    /// Whether the comparison is inside an odd number of `!`, and so is negated.
+    /// Whether the comparison is negated, being inside an odd number of `!` operators.
     #[serde(default, skip_serializing_if = "std::ops::Not::not")]
     pub negated: bool,
-    /// The names of the kinds of indices for which the comparison is never true.
+    /// The names of the index kinds for which the comparison is never true.
     #[serde(default, skip_serializing_if = "Vec::is_empty")]
     pub never: Vec<String>,
 }
 
 impl Comparison {
-    /// Returns whether the comparison is never true, if the index of its name has this kind.
+    /// Returns whether the comparison can never be true, given that its attribute's index has this kind.
     #[must_use]
     pub fn is_never(&self, kind: Kind) -> bool {
         self.never.iter().any(|name| kind_named(name) == Some(kind))
     }
 
-    /// Returns the names of these kinds, for [`never`](Self::never).
+    /// Returns the names of these kinds, as [`never`](Self::never) lists them.
     #[must_use]
     pub fn names_of(kinds: &[Kind]) -> Vec<String> {
         kinds.iter().map(|kind| kind_name(*kind).into()).collect()

@@ -20,7 +20,7 @@ macro_rules! names {
             /// Every error that this client knows.
             pub const ALL: &'static [ErrorName] = &[$(ErrorName::$name),*];
 
-            /// The name in the protocol.
+            /// Returns the name in the protocol.
             #[must_use]
             pub fn as_str(&self) -> &str {
                 match self {
@@ -29,7 +29,7 @@ macro_rules! names {
                 }
             }
 
-            /// Returns the number in `bestore.h`, if the error comes from the library.
+            /// Returns the error's number in `bestore.h` if it is one of the library's errors.
             #[must_use]
             pub const fn number(&self) -> Option<u32> {
                 match self {
@@ -38,8 +38,7 @@ macro_rules! names {
                 }
             }
 
-            /// Returns what a program can do about the error. If the error is unknown, it is assumed that the same request won't
-            /// succeed later.
+            /// Returns what a program can do about the error. For an unknown error, this assumes that retrying the same request won't help.
             #[must_use]
             pub const fn class(&self) -> Class {
                 match self {
@@ -227,7 +226,7 @@ impl<'de> Deserialize<'de> for ErrorName {
     }
 }
 
-/// Reads a class by its name. A class that this client doesn't know is dropped.
+/// Reads a class from its name. A name that this client doesn't know gives `None`.
 pub(super) mod class {
     use bestore_types::Class;
     use serde::{Deserialize, Deserializer, Serializer};

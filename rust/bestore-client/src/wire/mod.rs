@@ -1,14 +1,15 @@
 //! The protocol: requests, replies and values as JSON. `docs/SERVER.md` describes it.
 
-/// Defines replies, each as a struct. A field `name?: T` may be missing. `commit and commits` are a snapshot: its number, and the number of
-/// each volume if there are several. `pages to oldest` are how full a store is.
+/// Defines replies, each as a struct. A field `name?: T` may be missing. `commit and commits` stands for the fields that identify a
+/// snapshot: its number and, if there are several volumes, each volume's number. `pages to oldest` stands for the fields that tell how full
+/// a store is.
 macro_rules! replies {
     ($($(#$attribute:tt)* $name:ident { $($fields:tt)* })*) => {
         $(reply! { [$(#$attribute)* $name] {} $($fields)* })*
     };
 }
 
-/// Defines one reply. It takes one field at a time; the fields in braces are done.
+/// Defines one reply, converting one field at a time. The fields in braces have been converted.
 macro_rules! reply {
     ([$(#$attribute:tt)* $name:ident] { $($fields:tt)* }) => {
         $(#$attribute)*
@@ -22,7 +23,7 @@ macro_rules! reply {
                 $($fields)*
                 $(#$attribute)*
                 pub commit: u64,
-                /// The snapshot of each volume, if there are several.
+                /// The snapshot's number in each volume, if there are several volumes.
                 #[serde(default, skip_serializing_if = "Vec::is_empty")]
                 pub commits: Vec<u64>,
             }
@@ -34,11 +35,11 @@ macro_rules! reply {
             $reply
             {
                 $($fields)*
-                /// The number of pages.
+                /// The total number of pages.
                 pub pages: u64,
-                /// The pages that a write can use.
+                /// The number of pages that a write can use.
                 pub free: u64,
-                /// The pages of older snapshots.
+                /// The number of pages that only older snapshots use.
                 pub retired: u64,
                 /// How many entries the journal has.
                 pub entries: u64,
@@ -91,7 +92,7 @@ pub use request::{
 pub use token::Token;
 pub use value::{kind_name, kind_named, Json};
 
-/// Returns the volumes' numbers as replies have them: none if there is one volume.
+/// Returns the volumes' numbers in the form that replies use: an empty list if there is only one volume.
 #[must_use]
 pub fn several(numbers: &[u64]) -> Vec<u64> {
     match numbers {
@@ -103,14 +104,15 @@ pub fn several(numbers: &[u64]) -> Vec<u64> {
 /// The version of the protocol.
 pub const PROTOCOL: u64 = 1;
 
-/// The parameters of `query` that the first servers of this protocol refuse. A server's `features` name those that it accepts.
+/// The parameters of `query` that the first servers with this protocol didn't accept. A server lists those that it accepts in its
+/// `features`.
 pub const QUERY_FEATURES: [&str; 3] = ["by", "any", "uncounted"];
 
-/// The maximum number of nodes on a line.
+/// The maximum number of nodes in one line.
 pub const NODES: usize = 50_000;
 
-/// The maximum number of bytes in a request, including the end of its line.
+/// The maximum length of a request in bytes, including the newline.
 pub const LINE: usize = 1 << 20;
 
-/// The greatest integer that is written as a JSON number. Some JSON readers round greater ones.
+/// The greatest integer that is written as a JSON number. Some JSON parsers round larger ones.
 pub const EXACT: u64 = (1 << 53) - 1;

@@ -6,15 +6,15 @@ use serde::de::{self, Deserialize, DeserializeSeed, Deserializer, IgnoredAny, Se
 use serde::ser::{Serialize, SerializeSeq, Serializer};
 use std::fmt;
 
-/// How many operations are kept if a list is too long.
+/// The maximum number of operations that are kept from a list.
 const KEPT: usize = 64;
 
-/// The operations of a batch, read from JSON. If the list is too long, the first 64 are kept.
+/// The operations of a batch, read from JSON. Of a list that is too long, only the first 64 are kept.
 #[derive(Clone, Debug, Default, PartialEq, Eq)]
 pub struct Operations {
     /// The operations.
     pub batch: Batch,
-    /// How many operations there were.
+    /// How many operations the list had.
     pub count: usize,
 }
 
@@ -37,7 +37,7 @@ impl<'de> Deserialize<'de> for Operations {
     }
 }
 
-/// The operations in a request. The server numbers their new nodes.
+/// The operations in a request. Their new nodes have no numbers yet; the server assigns them.
 pub(super) mod asked_operations {
     use super::{made, Deserializer, ListVisitor, Operations, Serialize, Serializer};
 
@@ -55,7 +55,7 @@ pub(super) mod asked_operations {
     }
 }
 
-/// Reads a list of operations. New nodes have a number if they have already been made.
+/// Reads a list of operations. New nodes have numbers only if they have already been created.
 struct ListVisitor {
     are_made: bool,
 }
@@ -86,7 +86,7 @@ impl<'de> Visitor<'de> for ListVisitor {
     }
 }
 
-/// Reads one operation, and adds it to the end of a batch.
+/// Reads one operation, and appends it to a batch.
 struct OneOperation<'a> {
     batch: &'a mut Batch,
     is_made: bool,
@@ -174,7 +174,7 @@ fn kind<E: de::Error>(name: Text<'_>) -> Result<Kind, E> {
     kind_named(&name.0).ok_or_else(|| E::custom(super::value::NO_KIND))
 }
 
-/// Gives this number to the last operation that makes a node.
+/// Sets the node number in the last operation that creates a node.
 fn set_last_node(batch: &mut Batch, node: u64) {
     let mut made: Vec<u64> = made(batch).collect();
     if let Some(last) = made.last_mut() {

@@ -14,52 +14,52 @@ replies! {
         pub server: String,
         /// The version of the library.
         pub library: String,
-        /// A different string for each run of a server. Commit numbers start again with each run.
+        /// A string that is different for each run of a server. Commit numbers start over with each run.
         pub run: String,
-        /// The number of the connection's pass.
+        /// The number of this connection's pass.
         pub pass: u64,
-        /// When writes are saved in the file: after `each` write, at most `every` so often, or `no` if there is no file.
+        /// When writes are saved to the file: `each` means at each write, `every` means at intervals, and `no` means that there is no file.
         pub kept: String,
-        /// The limits.
+        /// The limits of the store and of the connection.
         pub limits: Limits,
         /// How many volumes the server has.
         #[serde(default = "one", skip_serializing_if = "is_one")]
         pub volumes: u32,
-        /// The server's features that the first servers with this protocol lack.
+        /// The server's features, listing those that the first servers with this protocol lacked.
         #[serde(default, skip_serializing_if = "Vec::is_empty")]
         pub features: Vec<String>,
     }
 
     /// The limits of the store, and of the requests on a connection.
     Limits {
-        /// Pages of 4 KiB.
+        /// The number of pages, of 4 KiB each.
         pub pages: u64,
-        /// Clients at the same time.
+        /// The maximum number of simultaneous clients.
         pub passes: u64,
-        /// Entries of the journal.
+        /// The maximum number of journal entries.
         pub commits: u64,
-        /// Operations of a batch.
+        /// The maximum number of operations in a batch.
         pub operations: u64,
-        /// Bytes of a request.
+        /// The maximum length of a request in bytes.
         pub line: u64,
-        /// Live queries of a connection.
+        /// The maximum number of live queries on a connection.
         pub watches: u64,
     }
 
     /// The reply to `batch`.
     Written {
-        /// The volume that was written to, if there are several.
+        /// The volume that was written to, if there are several volumes.
         pub volume?: u32,
-        /// The commit number, in the volume that was written to.
+        /// The commit number in that volume.
         pub commit: u64,
-        /// The number of each volume, if all volumes were written to.
+        /// The commit number in each volume, if all volumes were written to.
         #[serde(default, skip_serializing_if = "Vec::is_empty")]
         pub commits: Vec<u64>,
-        /// The nodes that were made.
+        /// The nodes that were created.
         pub nodes: Vec<u64>,
-        /// The number of the entry in the log, if the server has one.
+        /// The number of the write's log entry, if the server uses a log.
         pub entry?: u64,
-        /// Whether a batch with this token was written before. A snapshot with the number `commit` includes it.
+        /// Whether a batch with this token had already been written. If so, the snapshot numbered `commit` includes it.
         #[serde(default, skip_serializing_if = "is_false")]
         pub repeated: bool,
     }
@@ -68,25 +68,26 @@ replies! {
     LogStatus {
         /// `leader` or `follower`.
         pub role: String,
-        /// The server that leads, as far as this one knows: its machine and its socket.
+        /// The machine and socket of the server that leads, as far as this server knows.
         pub leader: String,
-        /// Which leader the server is, counted from the first one, if it leads.
+        /// The server's term, which counts the leaders, if this server leads.
         pub term?: u64,
-        /// The last entry of the log that is in the store.
+        /// The last log entry that the store includes.
         pub entry: u64,
-        /// Its commit number in the store.
+        /// The commit number of that entry in the store.
         pub commit: u64,
-        /// Why the log can't be reached for now, if that is so.
+        /// Why the log can't be reached at the moment, if that is the case.
         pub trouble?: String,
     }
 
-    /// The reply to `pin` and `next`: a snapshot, and the number of the next node.
+    /// The reply to `pin` and `next`: a snapshot, and the number that the next new node will have.
     Next {
         /// The snapshot.
         pub commit and commits,
-        /// The next node.
+        /// The next node number.
         pub next: u64,
-        /// The next node of each volume, if there are several. `next` is the next node of the volume with the most free pages.
+        /// The next node number in each volume, if there are several volumes; `next` is then the one in the volume with the most free
+        /// pages.
         #[serde(default, skip_serializing_if = "Vec::is_empty")]
         pub nexts: Vec<u64>,
     }
@@ -95,29 +96,29 @@ replies! {
     Hits {
         /// The snapshot.
         pub commit and commits,
-        /// How many nodes the query finds from `from` on. Missing if the request was uncounted.
+        /// How many nodes the query finds, starting at node number `from`. Missing if the request was uncounted.
         pub count?: u64,
-        /// The nodes of this page. Missing if only the count was asked for.
+        /// The nodes in this page. Missing if the request was only for the count.
         pub nodes?: Vec<u64>,
         /// Each node's values in the columns.
         pub rows?: Vec<Vec<Option<Json>>>,
-        /// Where the next page begins.
+        /// The beginning of the next page, if there is one.
         pub more?: u64,
     }
 
-    /// The reply to `query` in the order of an index, or for any nodes.
+    /// The reply to a `query` with `by` or `any`.
     Page {
         /// The snapshot.
         pub commit and commits,
-        /// The nodes, in order if an order was asked for.
+        /// The nodes, sorted if the request gave an order.
         pub nodes: Vec<u64>,
         /// Each node's values in the columns.
         pub rows?: Vec<Vec<Option<Json>>>,
-        /// Whether there are more nodes. If any nodes were asked for: whether some rows didn't fit on the line.
+        /// Whether there are more nodes. If the request was for any nodes, whether some rows didn't fit on the line.
         #[serde(default, skip_serializing_if = "is_false")]
         pub more: bool,
-        /// The position of the last node in the order. If the page is empty, it is the cursor in the request, and it is missing if the
-        /// request had none.
+        /// The position of the last node in the order. If the page is empty, this is the request's cursor, or missing if the request had
+        /// none.
         pub cursor?: String,
     }
 
@@ -133,7 +134,7 @@ replies! {
     Rows {
         /// The snapshot.
         pub commit and commits,
-        /// Each node's values in the order of the names. If they don't all fit on the line, only the first nodes' values.
+        /// Each node's values, in the order of the names. If not all of them fit on the line, this has the rows of the first nodes only.
         pub rows: Vec<Vec<Option<Json>>>,
     }
 
@@ -141,7 +142,7 @@ replies! {
     Attributes {
         /// The snapshot.
         pub commit and commits,
-        /// The attributes by their names.
+        /// The attributes' values, by name.
         pub attributes: BTreeMap<String, Json>,
     }
 
@@ -149,9 +150,9 @@ replies! {
     Indices {
         /// The snapshot.
         pub commit and commits,
-        /// The names of the kinds, by the names of the indices.
+        /// The name of each index, with the name of its kind.
         pub indices: BTreeMap<String, String>,
-        /// The indices that some volumes lack or have with another kind, and the volumes that have them.
+        /// The indices that some volumes lack or have with another kind, each with the volumes that have it.
         #[serde(default, skip_serializing_if = "BTreeMap::is_empty")]
         pub partial: BTreeMap<String, Vec<u32>>,
     }
@@ -160,9 +161,9 @@ replies! {
     Nodes {
         /// The snapshot.
         pub commit and commits,
-        /// The nodes of this page.
+        /// The nodes in this page.
         pub nodes: Vec<u64>,
-        /// Where the next page begins.
+        /// The beginning of the next page, if there is one.
         pub more?: u64,
     }
 
@@ -170,7 +171,7 @@ replies! {
     Explained {
         /// The snapshot.
         pub commit and commits,
-        /// The chosen indices and the cost.
+        /// The indices chosen for the query, and its cost.
         pub text: String,
     }
 
@@ -180,9 +181,9 @@ replies! {
         pub watch: u64,
         /// The snapshot.
         pub commit and commits,
-        /// The nodes that the query finds.
+        /// The nodes that the query finds now.
         pub nodes?: Vec<u64>,
-        /// Whether the next push belongs to this reply.
+        /// Whether the reply continues in the next push.
         #[serde(default, skip_serializing_if = "is_false")]
         pub more: bool,
     }
@@ -192,11 +193,11 @@ replies! {
         pub pages to oldest,
         /// How many clients are connected.
         pub clients: u64,
-        /// How many live queries the clients have.
+        /// The total number of live queries.
         pub watches: u64,
-        /// Why writes can't be kept for now, if that is so.
+        /// Why writes can't be saved at the moment, if that is the case.
         pub trouble?: String,
-        /// Each volume, if there are several. The numbers above are their sums.
+        /// The status of each volume, if there are several. The numbers above are then sums over all volumes.
         #[serde(default, skip_serializing_if = "Vec::is_empty")]
         pub volumes: Vec<VolumeStatus>,
     }
@@ -208,9 +209,9 @@ replies! {
 
     /// The oldest active reader of a store.
     HeldBy {
-        /// The snapshot that it may read.
+        /// The snapshot that the reader may read.
         pub snapshot: u64,
-        /// The number of its pass.
+        /// The number of the reader's pass.
         pub pass: u64,
         /// The volume of the snapshot, if there are several volumes.
         pub volume?: u32,
@@ -218,11 +219,11 @@ replies! {
 
     /// The reply to `journal`.
     Journal {
-        /// How many entries the journal has.
+        /// The number of entries in the journal.
         pub length: u64,
-        /// The entries of this page.
+        /// The entries in this page.
         pub entries: Vec<JournalEntry>,
-        /// Where the next page begins.
+        /// The beginning of the next page, if there is one.
         pub more?: u64,
     }
 
@@ -230,9 +231,9 @@ replies! {
     JournalEntry {
         /// The commit number.
         pub commit: u64,
-        /// The pass that wrote it.
+        /// The pass that wrote the entry.
         pub pass: u64,
-        /// The operations, with the number of each new node filled in.
+        /// The operations, with the numbers of new nodes filled in.
         pub operations: Operations,
     }
 
@@ -242,9 +243,9 @@ replies! {
         pub commit: u64,
         /// The number that the next node will have.
         pub next: u64,
-        /// The batches of this page.
+        /// The batches in this page.
         pub batches: Vec<Operations>,
-        /// Where the next page begins.
+        /// The beginning of the next page, if there is one.
         pub more?: u64,
     }
 
@@ -258,36 +259,37 @@ replies! {
     Push {
         /// The number of the watch.
         pub watch: u64,
-        /// The snapshot that the changes lead to.
+        /// The snapshot that these changes lead to.
         pub commit and commits,
-        /// The nodes that joined the answer.
+        /// The nodes that entered the answer.
         #[serde(default)]
         pub created: Vec<u64>,
         /// The nodes that left the answer.
         #[serde(default)]
         pub removed: Vec<u64>,
-        /// Whether the next push of this watch belongs to the same snapshot. In a reply: whether `refresh` has more.
+        /// Whether this watch's next push continues the changes up to the same snapshot. In a reply, whether `refresh` has more changes to
+        /// return.
         #[serde(default, skip_serializing_if = "is_false")]
         pub more: bool,
         /// Why the watch has ended.
         pub error?: Refusal,
     }
 
-    /// Why a request did nothing, with details.
+    /// Why a request was refused, with details.
     Refusal {
         /// The name of the error.
         pub name: ErrorName,
-        /// Its number in `bestore.h`, if it has one.
+        /// The error's number in `bestore.h`, if it has one.
         pub number?: u32,
-        /// A message for people.
+        /// A message for the user.
         pub message: String,
-        /// What a client can do about the error, if the server says so. Otherwise [`Refusal::class`] knows.
+        /// What a client can do about the error, if the server has sent this. [`Refusal::class`] returns it in any case.
         #[serde(default, skip_serializing_if = "Option::is_none", with = "super::error_name::class")]
         pub class: Option<Class>,
-        /// The details that come with the error, by name.
+        /// The details of the error, by name.
         #[serde(flatten)]
         pub details: BTreeMap<String, serde_json::Value>,
-        /// The text of the refused query, as sent by this client.
+        /// The text of the refused query, as this client sent it.
         #[serde(skip)]
         pub query: Option<String>,
     }
@@ -306,7 +308,7 @@ fn is_one(value: &u32) -> bool {
 }
 
 impl Refusal {
-    /// Returns an error with this message.
+    /// Returns a refusal with this error and message.
     #[must_use]
     pub fn new(name: ErrorName, message: impl Into<String>) -> Self {
         Refusal {
@@ -324,14 +326,14 @@ impl Refusal {
         self.class.unwrap_or_else(|| self.name.class())
     }
 
-    /// Returns a number that comes with the error.
+    /// Returns the detail with this name if it is a number.
     #[must_use]
     pub fn number_of(&self, detail: &str) -> Option<u64> {
         self.details.get(detail)?.as_u64()
     }
 }
 
-/// Shows the name and the message. If the error is in a query, the query's text follows, with a caret under the position of the error.
+/// Shows the name and the message. If the error is in a query, the query's text follows, with a caret below the position of the error.
 impl fmt::Display for Refusal {
     fn fmt(&self, f: &mut fmt::Formatter<'_>) -> fmt::Result {
         write!(f, "{}: {}", self.name, self.message)?;

@@ -27,13 +27,13 @@ macro_rules! parameters_with_texts {
     )*};
 }
 
-/// Reads an optional parameter. `null` isn't the same as leaving it out.
+/// Reads an optional parameter. Giving it as `null` isn't the same as omitting it.
 fn given<'de, T: Deserialize<'de>, D: Deserializer<'de>>(from: D) -> Result<Option<T>, D::Error> {
     T::deserialize(from).map(Some)
 }
 
 parameters! {
-    /// The parameters of a command that takes none.
+    /// The empty parameters of a command that takes none.
     Nothing {}
 
     /// The parameters of `hello`.
@@ -41,7 +41,7 @@ parameters! {
         /// The version of the protocol that the client speaks.
         #[serde(default, deserialize_with = "given", skip_serializing_if = "Option::is_none")]
         pub protocol: Option<u64>,
-        /// Whether the client sends a few requests and leaves, so that it is let in even when all places are taken.
+        /// Whether the client will leave after a few requests, so that the server admits it even when it is full.
         #[serde(default, skip_serializing_if = "std::ops::Not::not")]
         pub visit: bool,
     }
@@ -51,13 +51,13 @@ parameters! {
         /// The operations.
         #[serde(with = "asked_operations")]
         pub operations: Operations,
-        /// How many entries the journal has to have.
+        /// How many entries the journal must have.
         #[serde(default, deserialize_with = "given", skip_serializing_if = "Option::is_none")]
         pub expected: Option<Numbers>,
         /// The volume to write to.
         #[serde(default, deserialize_with = "given", skip_serializing_if = "Option::is_none")]
         pub volume: Option<u32>,
-        /// Makes it safe to send the batch again: it is written only once.
+        /// Identifies the batch, which makes it safe to resend: it is written only once.
         #[serde(default, deserialize_with = "given", skip_serializing_if = "Option::is_none")]
         pub token: Option<Token>,
         /// The run of the server that `expected` belongs to.
@@ -73,7 +73,7 @@ parameters! {
 
     /// The parameters of `nodes`.
     NodesFrom {
-        /// The lowest node.
+        /// The lowest node number to return.
         #[serde(default)]
         pub from: u64,
         /// The maximum number of nodes.
@@ -102,10 +102,10 @@ parameters! {
 
     /// The parameters of `log`.
     OfLog {
-        /// The entry of the log that the server has to have.
+        /// The log entry that the server must have applied before it replies.
         #[serde(default, deserialize_with = "given", skip_serializing_if = "Option::is_none")]
         pub entry: Option<u64>,
-        /// How many milliseconds to wait for it.
+        /// How long to wait for it, in milliseconds.
         #[serde(default, deserialize_with = "given", skip_serializing_if = "Option::is_none")]
         pub within: Option<u64>,
     }
@@ -122,15 +122,15 @@ parameters! {
 
     /// The parameters of `kick`.
     Kick {
-        /// The number of the client, from the reply to `clients`.
+        /// The number of the client, as given in the reply to `clients`.
         pub client: u64,
     }
 
     /// The parameters of `reach`.
     Reach {
-        /// How many entries the journal has to have.
+        /// How many entries the journal must have.
         pub commit: Numbers,
-        /// How many milliseconds to wait.
+        /// How long to wait, in milliseconds.
         #[serde(default, deserialize_with = "given", skip_serializing_if = "Option::is_none")]
         pub within: Option<u64>,
     }
@@ -139,13 +139,13 @@ parameters! {
 /// The maximum length of a list of numbers.
 const NUMBERS: usize = 64;
 
-/// A commit number, or the commit number of each volume.
+/// One commit number, or one for each volume.
 #[derive(Clone, Debug, PartialEq, Eq, serde::Serialize)]
 #[serde(untagged)]
 pub enum Numbers {
-    /// The number for a store or for one volume.
+    /// The commit number of a store or of one volume.
     One(u64),
-    /// The number of each volume.
+    /// The commit number of each volume.
     Each(Vec<u64>),
 }
 
@@ -192,31 +192,31 @@ parameters_with_texts! {
         /// The query.
         #[serde(borrow)]
         pub query: Cow<'a, str>,
-        /// The attributes that the reply contains for each node.
+        /// The attributes to include in the reply for each node.
         #[serde(borrow, default, deserialize_with = "given", skip_serializing_if = "Option::is_none")]
         pub columns: Option<Columns<'a>>,
         /// The maximum number of nodes.
         #[serde(default, deserialize_with = "given", skip_serializing_if = "Option::is_none")]
         pub limit: Option<u64>,
-        /// The lowest node.
+        /// The lowest node number to return.
         #[serde(default)]
         pub from: u64,
-        /// Whether only the number of nodes is wanted.
+        /// Whether to return only the number of nodes.
         #[serde(default)]
         pub count: bool,
-        /// Whether the reply omits `count`, which takes the whole answer to find.
+        /// Whether the reply may omit `count`, which can only be computed from the whole answer.
         #[serde(default, skip_serializing_if = "std::ops::Not::not")]
         pub uncounted: bool,
-        /// The index that orders the nodes. Nodes that have no value in it are left out.
+        /// The index by which to sort the nodes. Nodes without a value in it are left out.
         #[serde(borrow, default, deserialize_with = "given", skip_serializing_if = "Option::is_none")]
         pub by: Option<Cow<'a, str>>,
-        /// Whether the greatest values come first.
+        /// Whether to sort in descending order.
         #[serde(default, skip_serializing_if = "std::ops::Not::not")]
         pub descending: bool,
-        /// The cursor of the previous page.
+        /// The cursor from the previous page.
         #[serde(borrow, default, deserialize_with = "given", skip_serializing_if = "Option::is_none")]
         pub after: Option<Cow<'a, str>>,
-        /// How many nodes are wanted; any of them will do.
+        /// How many nodes to return; any nodes that the query finds will do.
         #[serde(default, deserialize_with = "given", skip_serializing_if = "Option::is_none")]
         pub any: Option<u64>,
     }
@@ -230,7 +230,7 @@ parameters_with_texts! {
 
     /// The parameters of `watch`.
     Watch {
-        /// The query, if its nodes are to be watched.
+        /// The query to watch; every commit is pushed if there is none.
         #[serde(borrow, default, deserialize_with = "given", skip_serializing_if = "Option::is_none")]
         pub query: Option<Cow<'a, str>>,
     }
@@ -254,7 +254,7 @@ parameters_with_texts! {
     }
 }
 
-/// Names of attributes, up to 64.
+/// A list of up to 64 attribute names.
 #[derive(Clone, Debug, Default, PartialEq, Eq)]
 pub struct Columns<'a>(pub Vec<Cow<'a, str>>);
 
@@ -291,9 +291,9 @@ impl<'de: 'a, 'a> Deserialize<'de> for Columns<'a> {
     }
 }
 
-/// What is read from an object.
+/// A type that is read from a JSON object.
 trait FromObject<'de>: Sized {
-    /// What the object is, for the text of an error.
+    /// What the object should be, for error texts.
     const EXPECTED: &'static str;
 
     fn read_from<A: MapAccess<'de>>(map: A) -> Result<Self, A::Error>;
@@ -317,7 +317,7 @@ fn read_object<'de, T: FromObject<'de>, D: Deserializer<'de>>(from: D) -> Result
     from.deserialize_map(ObjectVisitor(PhantomData))
 }
 
-/// The parameters, which must be an object: otherwise a list of their values in order would be accepted too.
+/// Parameters that must be given as an object. Without this type, a list of their values in order would be accepted too.
 struct Object<T>(T);
 
 impl<'de, T: Deserialize<'de>> FromObject<'de> for Object<T> {
@@ -369,9 +369,9 @@ macro_rules! commands {
 }
 
 commands! {
-    /// Returns versions and limits.
+    /// Returns the versions and limits.
     Hello(Greeting) = "hello";
-    /// Writes.
+    /// Writes a batch.
     Batch(Write) = "batch";
     /// Pins a snapshot.
     Pin(Nothing) = "pin";
@@ -381,7 +381,7 @@ commands! {
     Query(Query<'a>) = "query";
     /// Reads an attribute.
     Get(Get<'a>) = "get";
-    /// Reads some attributes of many nodes.
+    /// Reads the given attributes of many nodes.
     Columns(ColumnsOf<'a>) = "columns";
     /// Reads all attributes of a node.
     Attributes(Node) = "attributes";
@@ -393,11 +393,11 @@ commands! {
     Next(Nothing) = "next";
     /// Returns which indices a query uses.
     Explain(QueryText<'a>) = "explain";
-    /// Returns the comparisons in a query's text.
+    /// Returns the comparisons in a query.
     Text(QueryText<'a>) = "text";
     /// Begins a live query.
     Watch(Watch<'a>) = "watch";
-    /// Runs a live query now, and returns what changed.
+    /// Brings a live query up to date now, and returns the changes.
     Refresh(Watching) = "refresh";
     /// Ends a live query.
     Unwatch(Watching) = "unwatch";
@@ -405,30 +405,30 @@ commands! {
     Status(Nothing) = "status";
     /// Returns entries of the journal.
     Journal(JournalFrom) = "journal";
-    /// Returns the batches that rebuild the snapshot.
+    /// Returns batches that recreate the snapshot's contents.
     State(From) = "state";
-    /// Copies the snapshot, so that `state` reads it without a pin.
+    /// Copies the snapshot, so that `state` can read it without a pin.
     Collect(Nothing) = "collect";
-    /// Waits for the journal.
+    /// Waits until the journal has enough entries.
     Reach(Reach) = "reach";
-    /// Waits for the file.
+    /// Waits until all writes are saved in the file.
     Flush(Nothing) = "flush";
-    /// Rewrites the state in the file.
+    /// Rewrites the file with the current state.
     Compact(Nothing) = "compact";
-    /// Returns what the server is doing in the log that machines share. Waits for an entry.
+    /// Returns the server's status in the log that machines share, after waiting for an entry if one is given.
     Log(OfLog) = "log";
-    /// Returns what the server is doing.
+    /// Returns the server's activity.
     Info(Nothing) = "info";
-    /// Returns the clients that are connected.
+    /// Returns the connected clients.
     Clients(Nothing) = "clients";
-    /// Ends the connection of a client.
+    /// Disconnects a client.
     Kick(Kick) = "kick";
 }
 
 /// A request.
 #[derive(Clone, Debug, PartialEq, Eq)]
 pub struct Request<'a> {
-    /// The number of the request, which its reply repeats.
+    /// The number of the request, which the reply repeats.
     pub id: u64,
     /// The command.
     pub command: Command<'a>,
@@ -477,7 +477,7 @@ impl<'de> FromObject<'de> for Request<'de> {
     }
 }
 
-/// The `id` of an object, whatever else it has.
+/// The `id` of an object, ignoring everything else in it.
 struct Id(Option<u64>);
 
 impl<'de> FromObject<'de> for Id {
@@ -496,7 +496,7 @@ impl<'de> FromObject<'de> for Id {
     }
 }
 
-/// Returns the `id` in a line that isn't a request, if it can be read.
+/// Returns the `id` in a line that isn't a valid request, if it can be read.
 #[must_use]
 pub fn id_of(line: &[u8]) -> Option<u64> {
     let Id(id) = read_object(&mut serde_json::Deserializer::from_slice(line)).ok()?;

@@ -6,20 +6,20 @@ use serde::Serialize;
 /// The maximum number of bytes in a token.
 const MOST: usize = 64;
 
-/// A string of 1 to 64 bytes that makes it safe to send a batch again. The client chooses a different token for each batch.
+/// A string of 1 to 64 bytes that makes it safe to resend a batch. The client chooses a different token for each batch.
 #[derive(Clone, Debug, PartialEq, Eq, Serialize)]
 #[serde(transparent)]
 pub struct Token(String);
 
 impl Token {
-    /// Makes a token from the text. Returns `None` if the text is empty or has more than 64 bytes.
+    /// Returns a token with this text, or `None` if the text is empty or longer than 64 bytes.
     #[must_use]
     pub fn new(text: impl Into<String>) -> Option<Self> {
         let text = text.into();
         (1..=MOST).contains(&text.len()).then_some(Self(text))
     }
 
-    /// Returns the token as text.
+    /// Returns the token's text.
     #[must_use]
     pub fn as_str(&self) -> &str {
         &self.0

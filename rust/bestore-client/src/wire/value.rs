@@ -8,7 +8,7 @@ use std::borrow::Cow;
 use std::fmt;
 use std::str::FromStr;
 
-/// Returns the name of a kind in the protocol.
+/// Returns a kind's name in the protocol.
 #[must_use]
 pub const fn kind_name(kind: Kind) -> &'static str {
     match kind {
@@ -24,7 +24,7 @@ pub const fn kind_name(kind: Kind) -> &'static str {
     }
 }
 
-/// The error for an unknown name.
+/// The error text for an unknown name.
 // surface.toml: list of kinds
 pub(super) const NO_KIND: &str = "no kind has this name; they are text, int32, int64, mime, raw, uint32, uint64";
 // surface.toml: end
@@ -35,7 +35,7 @@ pub fn kind_named(name: &str) -> Option<Kind> {
     Kind::ALL.into_iter().find(|kind| kind_name(*kind) == name)
 }
 
-/// A value as the protocol writes it: a string and an int64 as they are, any other value with the name of its kind.
+/// A value in the protocol's form: strings and int64 values are plain JSON, and all other values carry the name of their kind.
 #[derive(Clone, Debug, PartialEq, Eq)]
 pub struct Json(pub Value);
 
@@ -140,14 +140,14 @@ fn raw<E: de::Error>(text: Text<'_>) -> Result<Vec<u8>, E> {
     base64::decode(text.0.as_bytes()).map_err(|error| E::custom(format_args!("bytes are base64 with padding: {error}")))
 }
 
-/// A string, borrowed from the line if it has no escapes.
+/// A string, borrowed from the line if it contains no escapes.
 #[derive(serde::Deserialize)]
 pub(super) struct Text<'a>(#[serde(borrow)] pub(super) Cow<'a, str>);
 
-/// The JSON form of an integer with a kind.
+/// What an integer of a given kind must look like in JSON.
 const INTEGER: &str = "an integer of its kind, or the digits of one as a text, such as \"-5\"";
 
-/// An integer, or its digits as a string.
+/// An integer, read from a JSON number or from a string of digits.
 struct Integer<T>(T);
 
 impl<'de, T> Deserialize<'de> for Integer<T>
