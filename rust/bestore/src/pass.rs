@@ -644,7 +644,7 @@ impl Pass {
         self.apply(Batch::new().remove_index(name)).map(drop)
     }
 
-    /// Adds attributes to the index of this name that it lacks because they were set before it was created, by setting them to the same
+    /// Adds to the index of this name the attributes that it lacks because they were set before it was created, by setting them to the same
     /// values again. It uses changes of up to 64 attributes each, so no newer value is lost. Returns how many attributes were set. The cost
     /// is to read every node and to write each of these attributes.
     ///
