@@ -512,7 +512,7 @@ uint32_t bes_move_draft(bes_draft *draft, bes_draft *other);
 
 /* Runs a query in the pinned snapshot.
  * [in] text           the query; bestore's QUERIES.md describes the language
- * [out] nodes    the first nodes that match the query, ascending; at most nodes_room
+ * [out] nodes    the first nodes that match the query, in ascending order; at most nodes_room
  * [out] count    how many nodes match; if more than nodes_room match, run the query again with a larger array
  * BES_CLOSED, BES_NOT_UTF8, BES_TOO_LONG.
  * BES_SYNTAX, BES_BAD_PATTERN, BES_TOO_MANY, BES_TOO_DEEP: the leftmost error in the text. For BES_SYNTAX and BES_BAD_PATTERN, count is its
@@ -576,8 +576,8 @@ uint32_t bes_query_prepared(bes_pass *pass, bes_prepared *prepared, uint64_t *no
 
 /* Writes the nodes that the handle's last bes_query_prepared found, starting at an index. Use it to read a result that didn't fit without
  * running the query again, or to read a long result in parts. No pin is needed.
- * [in] from      the index of the first node to write, from 0
- * [out] nodes    the nodes, ascending; at most nodes_room
+ * [in] from      the index of the first node to write, counting from 0
+ * [out] nodes    the nodes, in ascending order; at most nodes_room
  * [out] count    how many nodes the whole result has; 0 before the query is first run, and after an error
  * BES_CLOSED.
  * Cost: the time to copy the nodes. */

@@ -380,7 +380,7 @@ uint32_t bes_operations_to_bytes(const bes_operation *operations, size_t operati
 uint32_t bes_operations_from_bytes(const uint8_t *bytes, size_t length, bes_counts *counts, bes_operation *operations,
                                    size_t operations_room, uint8_t *parts, size_t parts_room, uint64_t *place);
 
-/* The most bytes that bes_batch_to_bytes writes. */
+/* The maximum number of bytes that bes_batch_to_bytes writes. */
 #define BES_BATCH_BYTES (5 + 64 * (1 + 8 + 1 + 63 + 4 + 1 + 255))
 
 /* Encodes a batch as bytes that can be stored or sent, in the format described in bestore's KEPT.md. bes_batch_from_bytes decodes them.

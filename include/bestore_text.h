@@ -24,7 +24,7 @@ typedef struct bes_comparison {
     size_t value_length;
 } bes_comparison;
 
-/* The most comparisons that a query can have, and the most bytes that their plain names and values can have. */
+/* The maximum number of comparisons in a query, and the maximum total size of their plain names and values, in bytes. */
 enum { BES_COMPARISONS = 256, BES_COMPARISONS_BYTES = 64 * 256 + 4 * 4096 };
 
 /* The comparisons in a query, from left to right. The list takes 55 KB. */
@@ -86,8 +86,8 @@ static inline const bes_operation *bes_index_of(const bes_index_list *list, cons
  * Returns the errors of bes_indices and bes_query_comparisons, and costs the same as the two together. */
 uint32_t bes_uncovered(bes_pass *pass, const char *text, size_t length, size_t *at);
 
-/* Returns whether the kind of the index on its name makes it impossible for a node to match a listed comparison: for size>1.5 any integer
- * kind does, and for size<0 any unsigned kind. */
+/* Returns whether no node can match a listed comparison because of the kind of the index on its name: for size>1.5 any integer kind, for
+ * size<0 any unsigned kind. */
 static inline bool bes_is_never_true(const bes_index_list *list, const bes_comparison_list *comparisons, const bes_compared *comparison)
 {
     const bes_operation *index = bes_index_of(list, comparisons, comparison);
@@ -112,7 +112,7 @@ bool bes_next_never_true(const bes_index_list *list, const char *text, size_t le
 
 /* Counts an index's entries in the pinned snapshot: the nodes that have an attribute of this name that the index holds.
  * BES_NO_INDEX, and the errors of bes_query_items.
- * Cost: as for bes_query_items, a walk over the whole index, and memory for its nodes. */
+ * Cost: that of bes_query_items, which here is a walk over the whole index and memory for its nodes. */
 uint32_t bes_pairs(bes_pass *pass, const char *name, uint64_t *count);
 
 /* Sets every attribute of this name again if its value is of the index's kind. The index then also holds the attributes that were set

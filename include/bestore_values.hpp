@@ -205,7 +205,7 @@ inline void check(std::uint32_t error, std::uint64_t carried = 0, Place place = 
         throw Refusal(error, carried, place);
 }
 
-// Makes a call that writes one number, and returns that number.
+// Calls a function that writes one number, and returns that number.
 template <class Call, class... Arguments> std::uint64_t number_from(Call call, Arguments... arguments)
 {
     std::uint64_t number = 0;
