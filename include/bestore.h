@@ -424,9 +424,9 @@ uint32_t bes_apply_if(bes_pass *pass, uint64_t expected, const bes_operation *op
 uint32_t bes_next(bes_pass *pass, uint64_t *node);
 
 /* Writes a batch as a change to the pinned snapshot. It does what bes_apply_if does with the snapshot's number, but first checks each
- * BES_SET: if its name has an index, taking the batch's earlier operations into account, the value must be of the index's kind. The store
- * would accept a value of another kind, but no query on that name would find the node. Without an index, a value of any kind is accepted.
- * New nodes are numbered from the number that bes_next returns. bes_change ends with this call.
+ * BES_SET operation: if its name has an index, taking the batch's earlier operations into account, the value must be of the index's kind.
+ * The store would accept a value of another kind, but no query on that name would find the node. Without an index, a value of any kind is
+ * accepted. New nodes are numbered from the number that bes_next returns. bes_change ends with this call.
  * [in] operations, bytes  as for bes_apply
  * [out] number   the commit number
  * BES_CLOSED, BES_BAD_COUNT, BES_NO_MEMORY, and the errors for an invalid operation, as for bes_apply.
@@ -755,8 +755,8 @@ uint32_t bes_move_place(bes_place *place, bes_place *other);
  * Cost: time and memory for the whole text. Writes by other passes return BES_BUSY while the call runs. */
 uint32_t bes_journal(bes_pass *pass, uint8_t *bytes, size_t bytes_room, uint64_t *count);
 
-/* Reads one entry of the journal, whether the pass is pinned or not. The entry is a batch in the form that bes_apply takes; for
- * BES_NEW_NODE, node is the node that the operation created. bes_batch_entry calls this function.
+/* Reads one entry of the journal, whether the pass is pinned or not. The entry is a batch in the form that bes_apply takes; in a
+ * BES_NEW_NODE operation, node is the node that it created. bes_batch_entry calls this function.
  * [in] from      the entry's index, counting from 0: the entry has the commit number from + 1
  * [out] by       the number of the pass that wrote the entry
  * [out] counts   how many operations and bytes the entry has; 0 operations if from isn't less than the journal's length

@@ -22,7 +22,7 @@ const char *bes_strerror(uint32_t error);
 const char *bes_error_name(uint32_t error);
 
 /* Returns what a program can do about an error: BES_CLASS_RETRY, BES_CLASS_MINE, BES_CLASS_FULL or BES_CLASS_GONE. For BES_OK it returns
- * BES_CLASS_NONE. For an unknown number it returns BES_CLASS_MINE, on the assumption that repeating the call won't help. */
+ * BES_CLASS_NONE; for an unknown number it returns BES_CLASS_MINE, on the assumption that repeating the call won't help. */
 uint32_t bes_class(uint32_t error);
 
 /* Returns whether this type code is that of an integer kind. */

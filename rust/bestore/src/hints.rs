@@ -48,7 +48,7 @@ pub struct Compared {
 /// ```
 ///
 /// # Errors
-/// [`Error::Query`](crate::Error::Query): the text isn't a query. [`Error::OutOfMemory`](crate::Error::OutOfMemory).
+/// [`Error::Query`](crate::Error::Query) if the text isn't a query. [`Error::OutOfMemory`](crate::Error::OutOfMemory).
 pub fn compared(query: &str) -> Result<Vec<Compared>> {
     let found = comparisons(query).map_err(|refused| of_query(refused, || query.into()))?;
     Ok(found.list.iter().map(|one| read(&found, one)).collect())

@@ -638,7 +638,7 @@ fn length_of(bytes: &[u8]) -> u32 {
     u32::try_from(bytes.len()).unwrap_or(u32::MAX)
 }
 
-/// What a pass has seen.
+/// A record of what a pass has seen.
 #[derive(Debug)]
 pub(crate) struct RawWitness {
     handle: Handle<bes_witness>,
@@ -674,7 +674,7 @@ pub(crate) fn of_cursor(order: &Order, check: u32, raw: &bes_cursor) -> Cursor {
 
 /// Returns the version of the running library, in the form of `BES_VERSION_NUMBER` in its header.
 pub(crate) fn version() -> u32 {
-    // SAFETY: the call takes nothing.
+    // SAFETY: the call takes no arguments.
     unsafe { sys::bes_version() }
 }
 

@@ -127,8 +127,8 @@ impl Store {
     /// on](Self::carry_on), the text begins with the state at that time.
     ///
     /// # Errors
-    /// [`Error::InUse`] if another clone or a pass is open; [`Error::OutOfMemory`]; [`Error::Forked`]. The error comes with the store,
-    /// unchanged.
+    /// [`Error::InUse`] if another clone or a pass is open; [`Error::OutOfMemory`]; [`Error::Forked`]. The unchanged store is returned
+    /// along with the error.
     pub fn finish(self) -> std::result::Result<String, (Self, Error)> {
         let Shared { own, succession, task } = match Arc::try_unwrap(self.0) {
             Ok(shared) => shared,
@@ -174,8 +174,8 @@ impl Store {
     }
 
     /// Returns whether it is time to carry on the store: whether the entries since [`carry_on`](Self::carry_on), or since the store was
-    /// opened, take more memory than half of its pages, and more than 1 MiB. After a failed `carry_on`, the entries must grow by the same
-    /// amount again.
+    /// opened, take more memory than half of the pages do, and more than 1 MiB. After a failed `carry_on`, the entries must grow by the
+    /// same amount again.
     #[must_use]
     pub fn is_due(&self) -> bool {
         self.0.succession.is_due()

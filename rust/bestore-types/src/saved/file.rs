@@ -39,8 +39,8 @@ pub struct About {
 const MOST_TOKENS: usize = super::TOKENS;
 const TOKENS_AT_ONCE: usize = 1_024;
 
-/// The state is rewritten once the entries take half as many bytes, so that replaying them takes about a fifth of the time to open the
-/// file. It isn't rewritten until they take at least this many.
+/// The state is rewritten once the entries take half as many bytes as it does, so that replaying them takes about a fifth of the time to
+/// open the file. It isn't rewritten until they take at least this many.
 const LEAST_DUE: u64 = 512 << 10;
 
 /// About how many bytes a row has in addition to its batch.

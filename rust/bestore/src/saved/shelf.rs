@@ -16,8 +16,8 @@ pub struct SavedShelf {
 }
 
 impl Options {
-    /// Opens the volumes in the folder, each in its own file: `0.bestore`, `1.bestore` and so on. If `volumes` is given, which is 1 to 64,
-    /// creates the folder and any missing volumes. A new volume gets the indices that the others have. The options apply to each volume.
+    /// Opens the volumes in the folder, each in its own file: `0.bestore`, `1.bestore` and so on. If `volumes` is given (1 to 64), creates
+    /// the folder and any missing volumes. A new volume gets the indices that the others have. The options apply to each volume.
     ///
     /// # Errors
     /// The same as [`open`](Self::open), in [`Error::OfVolume`]. [`Error::Folder`] if the folder can't be read or created. [`Error::Fewer`]
