@@ -51,7 +51,7 @@ extern "C" {
 #define BES_VERSION "0.4.0"
 #define BES_VERSION_NUMBER (BES_VERSION_MAJOR * 1000000 + BES_VERSION_MINOR * 1000 + BES_VERSION_PATCH)
 
-/* Both fields belong to the library. */
+/* Both fields are private to the library. */
 typedef struct bes_pass {
     bool live;
     void *at;
@@ -59,7 +59,7 @@ typedef struct bes_pass {
 
 #define BES_PASS_INIT { false, NULL }
 
-/* Both fields belong to the library. */
+/* Both fields are private to the library. */
 typedef struct bes_prepared {
     bool live;
     void *at;
@@ -67,7 +67,7 @@ typedef struct bes_prepared {
 
 #define BES_PREPARED_INIT { false, NULL }
 
-/* Both fields belong to the library. */
+/* Both fields are private to the library. */
 typedef struct bes_place {
     bool live;
     void *at;
@@ -75,7 +75,7 @@ typedef struct bes_place {
 
 #define BES_PLACE_INIT { false, NULL }
 
-/* Both fields belong to the library. */
+/* Both fields are private to the library. */
 typedef struct bes_witness {
     bool live;
     void *at;
@@ -83,7 +83,7 @@ typedef struct bes_witness {
 
 #define BES_WITNESS_INIT { false, NULL }
 
-/* Both fields belong to the library. */
+/* Both fields are private to the library. */
 typedef struct bes_draft {
     bool live;
     void *at;
@@ -237,7 +237,7 @@ typedef struct bes_item {
     uint64_t number;
 } bes_item;
 
-/* What bes_get writes about a value. */
+/* A value, as written by bes_get. */
 typedef struct bes_attribute {
     uint32_t code;    /* the type code */
     uint64_t length;  /* for a text or raw value: its length in bytes */
@@ -251,7 +251,7 @@ typedef struct bes_name {
     uint8_t bytes[64];
 } bes_name;
 
-/* What bes_columns writes about a node's attribute. If the node has no such attribute, every field except error and offset is 0. */
+/* A node's attribute, as written by bes_columns. If the node has no such attribute, every field except error and offset is 0. */
 typedef struct bes_cell {
     uint32_t error;   /* BES_OK, BES_NO_ATTRIBUTE, or BES_NO_NODE */
     uint32_t code;    /* the type code */
@@ -283,7 +283,7 @@ typedef struct bes_updates {
 typedef struct bes_cursor {
     uint32_t kind;     /* the type code of the index's kind; 0 at the beginning */
     uint32_t length;   /* the length of the key in bytes; 0 at the beginning */
-    uint8_t key[264];  /* the value's bytes as the index orders them, then the node in 8 bytes, the highest byte first
+    uint8_t key[264];  /* the value's bytes in the form that the index orders, then the node in 8 bytes, highest byte first
                         * (bestore's ARCHITECTURE.md, Keys of an index) */
 } bes_cursor;
 

@@ -9,7 +9,7 @@
 //     for (bestore::Node found : pin.query("MAIL:from==ann"))
 //         std::cout << found << '\n';
 //
-// What bestore.h says about a call's errors, cost and threading rules applies here too. Where a C function returns an error, the C++ call
+// What bestore.h says about a call's errors, cost and threading rules applies here too. If a C function returns an error, the C++ call
 // throws a Refusal, which carries the number that comes with the error, and has changed nothing. Store, Pass, Pin, State, Prepared, Live
 // and Witness are movable but not copyable. Destroy a Pin before its pass, and a State before its Pin; in the meantime the pass may be
 // moved. Give each thread its own Pass, and make only one call at a time on an object. In a forked child the parent's objects are dead:
@@ -89,8 +89,8 @@ private:
         return made;
     }
 
-    // Writes the operations if no other transaction has been committed since the snapshot, and unpins. Returns the error, and the commit
-    // number or the error's number.
+    // Writes the operations if no other transaction has been committed since the snapshot, and unpins. Returns the error, together with the
+    // commit number or the number that comes with the error.
     std::uint32_t commit(std::uint64_t *number)
     {
         const auto error = bes_end_change(handle(), &draft_, number);

@@ -619,7 +619,7 @@ private:
         return count;
     }
 
-    // Returns the error. For BES_NOT_COVERED, writes the offset of the comparison without an index to `place`.
+    // Returns the error. For BES_NOT_COVERED, sets `place` to the offset of the comparison that has no index.
     std::uint32_t located(std::uint32_t error, std::string_view text, std::uint64_t *place)
     {
         if (error == BES_NOT_COVERED)

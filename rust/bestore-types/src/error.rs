@@ -35,7 +35,7 @@ pub enum Error {
     },
     /// No page can continue from the cursor.
     BadCursor(CursorFault),
-    /// A page has at least one node.
+    /// A page must have at least one node.
     NoRoom,
     /// There are already 32 indices.
     TooManyIndices,
@@ -62,12 +62,12 @@ pub enum Error {
         /// Which operation of the batch, counting from 0.
         operation: Option<u64>,
     },
-    /// A name or a string has a zero byte.
+    /// A name or a string contains a zero byte.
     HasNul {
         /// Which operation of the batch, counting from 0.
         operation: Option<u64>,
     },
-    /// A limit of the store is out of its range.
+    /// One of the store's limits is out of range.
     BadLimits,
     /// Every pass of the store is in use.
     NoPass,
@@ -121,7 +121,7 @@ pub enum Error {
     InVolume {
         /// The volume.
         volume: u32,
-        /// The error in that volume.
+        /// The volume's error.
         error: Box<Error>,
     },
     /// Bytes that aren't a batch.

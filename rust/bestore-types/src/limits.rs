@@ -1,4 +1,4 @@
-//! How large a store may grow.
+//! A store's limits.
 
 /// The maximum number of passes in a store, not counting the store's own.
 pub const MOST_PASSES: u64 = 63;
@@ -6,7 +6,7 @@ pub const MOST_PASSES: u64 = 63;
 /// The maximum number of volumes in a shelf.
 pub const MOST_VOLUMES: u32 = 64;
 
-/// How large a store may grow.
+/// A store's limits.
 ///
 /// ```
 /// use bestore_types::Limits;

@@ -76,7 +76,7 @@ mod tests {
     use super::*;
     use crate::{Order, Value};
 
-    /// Returns the nodes after a cursor up to a last one, sorted by number.
+    /// Returns a page of the nodes after a cursor, up to `last`, in ascending order.
     fn page(last: u64, after: Option<&Cursor>, most: usize) -> Page {
         let first = after.and_then(Cursor::node).unwrap_or(0) + 1;
         let nodes: Vec<u64> = (first..=last).take(most).collect();

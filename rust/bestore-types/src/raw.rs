@@ -13,7 +13,7 @@ pub const OPERATIONS: usize = 64;
 #[repr(C)]
 #[derive(Clone, Copy, Debug, Default, PartialEq, Eq)]
 pub struct RawOperation {
-    /// Which operation it is.
+    /// The kind of operation.
     pub kind: u32,
     /// The type code of the value or the index.
     pub code: u32,

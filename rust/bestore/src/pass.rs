@@ -1,4 +1,4 @@
-//! Passes: one thread's handle to a store.
+//! Passes, each of which is one thread's handle to a store.
 
 use crate::raw::{Answer, RawDraft, RawPass, RawWitness};
 use crate::refused::of_write;

@@ -370,7 +370,7 @@ impl RawPass {
         })
     }
 
-    /// Returns any nodes that a query finds.
+    /// Returns arbitrary nodes that a query finds.
     pub(crate) fn any(&self, prepared: &RawPrepared, most: usize) -> Answer<Vec<u64>> {
         let (pass, prepared) = (self.handle.get()?, prepared.0.get()?);
         some(self.next()?, most, |nodes, room, count| {

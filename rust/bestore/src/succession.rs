@@ -136,7 +136,7 @@ pub(crate) struct Succession {
     /// About how many bytes the newest generation's journal takes, and the number of bytes at which the next generation is due.
     journal_bytes: AtomicU64,
     due_bytes: AtomicU64,
-    /// After how many bytes of entries the next generation is due.
+    /// The number of bytes of entries after which the next generation is due.
     due_after: AtomicU64,
     /// The generation before the newest one. It is locked while the store is being carried on.
     before: Mutex<Weak<Generation>>,
@@ -398,7 +398,7 @@ mod tests {
         let entered = succession.enter().unwrap();
         thread::scope(|scope| {
             let carrying = scope.spawn(|| store.carry_on().unwrap());
-            // Nobody else can enter once the gate is about to be closed.
+            // Once a thread is waiting to close the gate, no other can enter.
             while !succession.is_closed() {
                 assert!(!carrying.is_finished());
                 thread::yield_now();

@@ -60,7 +60,7 @@ pub enum Error {
         /// The newest version that can be read.
         known: i64,
     },
-    /// Another process, or another store of this one, has the file open.
+    /// The file is open in another process, or in another store of this process.
     Held {
         /// The file.
         path: PathBuf,
@@ -163,7 +163,7 @@ pub enum Error {
     OfVolume {
         /// The volume.
         volume: u32,
-        /// The error in that volume.
+        /// The volume's error.
         error: Box<Error>,
     },
     /// An error from the store.
@@ -191,7 +191,7 @@ impl Error {
         }
     }
 
-    /// Returns the error for a file that lacks what should be at this position.
+    /// Returns the error for a file in which the contents of this position are missing.
     pub(super) fn missing(place: Place) -> Self {
         let why = match place {
             Place::State(_) => "the batch is missing",

@@ -91,7 +91,7 @@ impl Shelf {
         &self.volumes
     }
 
-    /// Carries on each volume for which this [is due](Store::is_due), one after another, like [`Store::carry_on`].
+    /// Carries on each volume that [is due](Store::is_due), one after another, like [`Store::carry_on`].
     ///
     /// # Errors
     /// The same as `Store::carry_on`, for the first volume that can't be carried on. All others are carried on.
