@@ -99,8 +99,8 @@ private:
     }
 
     mutable bes_draft draft_ = BES_DRAFT_INIT;
-    mutable Batch batch_; // what batch() has read
-    std::string parts_;   // of an operation: its name and its value
+    mutable Batch batch_; // the operations that batch() last returned
+    std::string parts_;   // an operation's name and value
     Node next_ = 0;       // the number of the first new node
     std::uint64_t size_ = 0;
 };
@@ -164,11 +164,11 @@ struct Status {
         std::uint64_t pass_number;
     };
 
-    std::uint64_t pages;        // all pages
-    std::uint64_t free;         // pages that a write may take
-    std::uint64_t retired;      // pages of older versions, which wait until no pass may read them
+    std::uint64_t pages;        // the total number of pages
+    std::uint64_t free;         // pages available to writes
+    std::uint64_t retired;      // pages of older versions, kept until no pass can read them any more
     std::uint64_t entries;      // how many transactions the journal has
-    std::uint64_t commits;      // how many it may have
+    std::uint64_t commits;      // how many it can have
     std::optional<Held> oldest; // empty if no pass has published a version
 };
 
@@ -368,7 +368,7 @@ private:
     }
 
     detail::Handle<bes_pass, bes_close> handle_;
-    std::uint64_t store_; // which store it belongs to
+    std::uint64_t store_; // the number of its store
 };
 
 namespace detail {

@@ -182,7 +182,7 @@ private:
     bes_witness *handle() const { return handle_.get(); }
 
     detail::Handle<bes_witness, bes_dismiss> handle_;
-    std::uint64_t store_; // as for a pass
+    std::uint64_t store_; // the number of its store
 };
 
 // The nodes that a live query's result has gained, and those that it has lost, both in ascending order.

@@ -433,8 +433,8 @@ struct Operation {
     Action action;
     Node node;                  // for new_node: the node that it created, if the batch comes from the journal or from a Change
     std::string name;           // empty if the operation has none
-    std::optional<Kind> kind;   // of the value or the index
-    std::optional<Value> value; // of set
+    std::optional<Kind> kind;   // the kind of the value or the index
+    std::optional<Value> value; // the value that set gives the attribute
 };
 
 // A list of 1 to 64 operations. A pass applies either all of them or none.

@@ -182,7 +182,7 @@ impl Batch {
     pub(crate) fn add(&mut self, kind: u32, node: u64, name: &str, code: u32, number: u64, value: &[u8]) -> &mut Self {
         let List { operations, bytes } = &mut self.list;
         if operations.is_empty() {
-            bytes.reserve(64); // for a few names and values, so that they aren't moved at each of the first ones
+            bytes.reserve(64); // room for a few names and values, so that the first ones don't each cause a move
         }
         let name_at = bytes.len();
         bytes.extend_from_slice(name.as_bytes());

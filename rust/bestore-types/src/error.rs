@@ -454,8 +454,8 @@ impl QueryError {
         self.fault
     }
 
-    /// For [`QueryFault::NotCovered`], returns the first name in the text that has no index. It isn't known if the canonical text has more
-    /// than 4,096 bytes, as a prepared query's may.
+    /// For [`QueryFault::NotCovered`], returns the first name in the text that has no index. If the canonical text has more than 4,096
+    /// bytes, as a prepared query's can, the name isn't known.
     #[must_use]
     pub fn missing(&self) -> Option<&str> {
         self.missing.as_deref()

@@ -68,8 +68,8 @@ impl<'a> Change<'a> {
         crate::snapshot::value_read(answer, &bytes)
     }
 
-    /// Accepts values of any kind from now on. Before this call, setting a value of another kind than its index is an error, because no
-    /// query would find the value.
+    /// Accepts values of any kind from now on. Before this call, setting a value whose kind differs from that of its index is an error,
+    /// because no query would find the value.
     pub fn any_kind(&mut self) -> &mut Self {
         // Fails only in a forked child, where every other call does too.
         let _ = self.draft.any_kind();
@@ -182,8 +182,8 @@ impl<'a> Change<'a> {
         Err(of_write(at_operation, index + 1, None))
     }
 
-    /// Adds an operation without a value, and returns whether it was added. If one can't be added, the change will fail with its error, so
-    /// nothing more is added.
+    /// Adds an operation without a value, and returns whether it was added. Once an operation can't be added, the change will fail with its
+    /// error, so no more are added.
     fn collect_or_keep_error(&mut self, kind: u32, node: u64, name: &str) -> bool {
         if self.refused.is_some() {
             return false;

@@ -5,7 +5,7 @@ use crate::{Batch, Pass, Result};
 /// An entry of the journal: a committed transaction.
 #[derive(Clone, Debug, PartialEq, Eq)]
 pub struct Entry {
-    /// The commit number. The first entry's is 1.
+    /// The commit number. The first entry has number 1.
     pub number: u64,
     /// The number of the pass that wrote it.
     pub pass: u64,

@@ -601,8 +601,8 @@ impl RawDraft {
         check(unsafe { sys::bes_change_any_kind(self.0.get()?) }, 0)
     }
 
-    /// Adds an operation. Returns the node that it creates, or 0. If the value is of another kind than its index, the error comes with the
-    /// index's type code.
+    /// Adds an operation. Returns the node that it creates, or 0. If the value's kind differs from that of its index, the error comes with
+    /// the index's type code.
     pub(crate) fn add(&self, parts: &Parts<'_>) -> Answer<u64> {
         let (mut short, long);
         let (name, value) = (parts.name.as_bytes(), parts.value);

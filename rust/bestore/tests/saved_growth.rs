@@ -57,8 +57,8 @@ fn write_until_due(saved: &Saved, pass: &Pass, nodes: u64) {
     }
 }
 
-/// Writes until the state is due to be rewritten for the last of so many times, and then closes the file. At that moment, opening it
-/// applies the most operations. Returns how many.
+/// Writes until the state has become due to be rewritten this many times, and then closes the file. This is when opening it has to apply
+/// the most operations. Returns how many.
 fn operations_after(folder: &Folder, nodes: u64, times: u64) -> (usize, usize) {
     let saved = folder.open_lazily(PAGES);
     let pass = saved.pass().unwrap();

@@ -168,7 +168,7 @@ fn a_volume_that_cant_be_saved_stops_alone() {
         .change(|change| change.set(nodes[1], "size", 7_i64).map(drop))
         .unwrap_err();
     assert!(matches!(stopped.without_volume(), bestore::Error::Stopped(_)));
-    // The other volumes still work, and reads see the contents of memory.
+    // The other volumes still work, and reads see what is in memory.
     pass.set(nodes[0], "size", 6_i64).unwrap();
     let third = make_sized(&mut pass, 2, 6);
     assert_eq!(
